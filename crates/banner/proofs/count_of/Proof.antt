@@ -1,0 +1,12 @@
+use Rattle.banner.specs.Bits.{ones-count}
+use Rattle.banner.proofs.count_of.Statement.{statement}
+use Rattle.banner.proofs.count_of.Tie as tie
+use Rattle.banner.proofs.count_of.Reads as reads
+use Rattle.banner.proofs.count_of.Lts as lts
+
+-- src/judge.rt:43:1
+returns : tie.Need-returns
+returns c = ones-count 64 (c .args .bits) (c .fits .bits .fits)
+
+pub count-of-spec : {M : Type 1} → statement M
+count-of-spec = tie.close (tie.spec returns)

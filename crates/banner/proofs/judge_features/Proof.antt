@@ -1,0 +1,48 @@
+use Rattle.banner.specs.Banner.{judgeFeatures, judgeMissing}
+use Rattle.refusal.specs.Refusals.{judgedBy}
+use Rattle.refusal.specs.Refusals.{or-else-last}
+use borrow.Author.Needs.{needs}
+use Rattle.banner.proofs.judge_features.Statement.{statement}
+use Rattle.banner.proofs.judge_features.Tie as tie
+use Rattle.banner.proofs.judge_features.Reads as reads
+use Rattle.banner.proofs.judge_features.Lts as lts
+use Rattle.banner.proofs.judge_lacking.Reads as judge-lacking-reads
+use Rattle.banner.proofs.judge_required.Reads as judge-required-reads
+use Rattle.banner.proofs.missing_of.Reads as missing-of-reads
+use Rattle.refusal.proofs.or_else.Reads as or-else-reads
+
+-- src/judge.rt:84:33
+missing-of-requires : tie.Need-missing-of-requires
+missing-of-requires c κs = search needs
+
+-- src/judge.rt:84:9
+judge-required-requires : tie.Need-judge-required-requires
+judge-required-requires c κs = search needs
+
+-- src/judge.rt:85:30
+missing-of-requires-2 : tie.Need-missing-of-requires-2
+missing-of-requires-2 c κs = search needs
+
+-- src/judge.rt:85:9
+judge-lacking-requires : tie.Need-judge-lacking-requires
+judge-lacking-requires c κs = search needs
+
+-- src/judge.rt:86:5
+or-else-requires : tie.Need-or-else-requires
+or-else-requires c κs = search needs
+
+-- src/judge.rt:81:1
+returns : tie.Need-returns
+unfolding judgeFeatures
+returns c = cc (or-else-last (judgedBy (c .before .judge-lacking .result)))
+
+pub judge-features-spec : {M : Type 1} → statement M
+judge-features-spec =
+    tie.close
+    (tie.spec
+    missing-of-requires
+    judge-required-requires
+    missing-of-requires-2
+    judge-lacking-requires
+    or-else-requires
+    returns)

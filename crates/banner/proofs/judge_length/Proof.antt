@@ -1,0 +1,22 @@
+use borrow.Author.Needs.{needs}
+use Rattle.banner.proofs.judge_length.Statement.{statement}
+use Rattle.banner.proofs.judge_length.Tie as tie
+use Rattle.banner.proofs.judge_length.Reads as reads
+use Rattle.banner.proofs.judge_length.Lts as lts
+use Rattle.refusal.proofs.both.Reads as both-reads
+use Rattle.refusal.proofs.unless_ok.Reads as unless-ok-reads
+
+-- src/judge.rt:115:15
+both-requires : tie.Need-both-requires
+both-requires c κs = search needs
+
+-- src/judge.rt:115:5
+unless-ok-requires : tie.Need-unless-ok-requires
+unless-ok-requires c κs = search needs
+
+-- src/judge.rt:112:1
+returns : tie.Need-returns
+returns c = cc
+
+pub judge-length-spec : {M : Type 1} → statement M
+judge-length-spec = tie.close (tie.spec both-requires unless-ok-requires returns)

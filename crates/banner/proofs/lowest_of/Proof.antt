@@ -1,0 +1,12 @@
+use Rattle.banner.specs.Bits.{zeros-lowest}
+use Rattle.banner.proofs.lowest_of.Statement.{statement}
+use Rattle.banner.proofs.lowest_of.Tie as tie
+use Rattle.banner.proofs.lowest_of.Reads as reads
+use Rattle.banner.proofs.lowest_of.Lts as lts
+
+-- src/judge.rt:37:1
+returns : tie.Need-returns
+returns c = zeros-lowest 64 (c .args .bits)
+
+pub lowest-of-spec : {M : Type 1} → statement M
+lowest-of-spec = tie.close (tie.spec returns)

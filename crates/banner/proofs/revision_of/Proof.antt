@@ -1,0 +1,22 @@
+use mathlib.Core.Path.{sym, _∙_}
+use borrow.Author.Needs.{needs}
+use Rattle.banner.proofs.revision_of.Statement.{statement}
+use Rattle.banner.proofs.revision_of.Tie as tie
+use Rattle.banner.proofs.revision_of.Reads as reads
+use Rattle.banner.proofs.revision_of.Lts as lts
+use Rattle.refusal.proofs.both.Reads as both-reads
+
+-- src/judge.rt:93:8
+both-requires : tie.Need-both-requires
+both-requires c κs = search needs
+
+-- src/judge.rt:90:1
+returns : tie.Need-returns
+returns c = simp (sym (c .before .both .ensures) ∙ c .if1 .taken)
+
+-- src/judge.rt:90:1
+returns-2 : tie.Need-returns-2
+returns-2 c = simp (sym (c .before .both .ensures) ∙ c .if1 .left)
+
+pub revision-of-spec : {M : Type 1} → statement M
+revision-of-spec = tie.close (tie.spec both-requires returns returns-2)

@@ -1,0 +1,66 @@
+-- The banner (000, "Banner"; 01, "Banner" and refusals 1 to 4 and 16).
+use mathlib.Core.List.{List, [], _∷_, _++_}
+use mathlib.Core.Bool.{Bool, true, false, cond, _&&_}
+use Prim.Native.Nat.{ℕ, suc, _%_}
+use lib.ListN.{getD}
+use lib.Dec.{leb, ltb, eqb}
+use Rattle.buffer.specs.Le.{le, numberAt}
+use Rattle.refusal.specs.Refusals.{Judged, fine, refused, row, firstOf, unless}
+use Rattle.banner.specs.declared.Features.{Features}
+use Rattle.banner.specs.declared.Revision.{Revision}
+use Rattle.banner.specs.declared.Revision.the-variants.{Msgr20, Msgr21}
+use Rattle.banner.specs.Bits.{missing, lowestBit, bitCount}
+
+-- ---- bytes
+
+-- "ceph v2" and a line feed
+abbrev pub magic : List ℕ
+magic = 0x63 ∷ 0x65 ∷ 0x70 ∷ 0x68 ∷ 0x20 ∷ 0x76 ∷ 0x32 ∷ 0x0A ∷ []
+
+-- the payload that we send: supported and required features
+abbrev pub payloadLength : ℕ
+payloadLength = 16
+
+abbrev pub bannerBytes : ℕ → ℕ → List ℕ
+bannerBytes supported required = magic ++ le 2 payloadLength ++ le 8 supported ++ le 8 required
+
+-- ---- features
+
+-- own features: no bit but bit 0, and none required that is not supported
+abbrev pub judgeOwn : ℕ → ℕ → Judged
+judgeOwn supported required = unless (ltb supported 2 && ltb required 2 && eqb (missing 64 required supported) 0) 16 0
+
+-- bits that one side requires and the other does not support: they, the lowest one's number, how many
+abbrev pub judgeMissing : ℕ → ℕ → Judged
+judgeMissing number bits = cond (eqb bits 0) fine (refused (row number bits (lowestBit 64 bits) (bitCount 64 bits)))
+
+unfoldable pub judgeFeatures : ℕ → ℕ → ℕ → ℕ → Judged
+judgeFeatures ownSupported ownRequired supported required =
+    firstOf (judgeMissing 3 (missing 64 required ownSupported) ∷ judgeMissing 4 (missing 64 ownRequired supported) ∷ [])
+
+-- msgr2.1 exactly when both sides support bit 0
+abbrev pub revisionOf : ℕ → ℕ → Revision
+revisionOf ownSupported supported = cond (eqb (ownSupported % 2) 1 && eqb (supported % 2) 1) Msgr21 Msgr20
+
+-- the features in a banner's payload: supported, required
+abbrev pub featuresOf : List ℕ → Features
+featuresOf payload = record { supported = numberAt 8 0 payload; required = numberAt 8 8 payload }
+
+-- ---- banner
+
+-- the bytes from place i on are ms
+abbrev pub sameFrom : ℕ → List ℕ → List ℕ → Bool
+sameFrom i [] bytes = true
+sameFrom i (m ∷ ms) bytes = eqb (getD bytes i 0) m && sameFrom (suc i) ms bytes
+
+abbrev pub judgeMagic : List ℕ → Judged
+judgeMagic bytes = unless (sameFrom 0 magic bytes) 1 0
+
+abbrev pub leastPayload : ℕ
+leastPayload = 16
+
+abbrev pub mostPayload : ℕ
+mostPayload = 1024
+
+abbrev pub judgeLength : ℕ → Judged
+judgeLength n = unless (leb leastPayload n && leb n mostPayload) 2 n

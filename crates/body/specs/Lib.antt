@@ -1,0 +1,3 @@
+pub mod Body
+pub mod End
+pub mod Laws

@@ -1,0 +1,94 @@
+use mathlib.Core.Path.{_≡_, _∙_, refl, sym, ap, ap₂}
+use mathlib.Core.List.{List}
+use Prim.Native.Nat.{ℕ, _+_, _-_, _≤_}
+use native.Mathlib.Omega.{arith}
+use lib.ListN.{length}
+use Rattle.buffer.specs.Splice.{rest, length-rest, placed, laid-over}
+use Rattle.refusal.specs.Refusals.{judgedBy}
+use Rattle.body.specs.Body.{frameBytes}
+use Rattle.builder.specs.Build.{frameDone, done, wrote}
+use Rattle.builder.proofs.Accepted.{accepted}
+use borrow.Author.Needs.{needs}
+use Rattle.builder.proofs.build_frame.Statement.{statement}
+use Rattle.builder.proofs.build_frame.Tie as tie
+use Rattle.builder.proofs.build_frame.Reads as reads
+use Rattle.builder.proofs.build_frame.Lts as lts
+use Rattle.body.proofs.wire_length.Reads as wire-length-reads
+use Rattle.builder.proofs.judge_frame.Reads as judge-frame-reads
+use Rattle.builder.proofs.put_frame.Reads as put-frame-reads
+
+-- src/lib.rt:237:9
+judge-frame-requires : tie.Need-judge-frame-requires
+judge-frame-requires c κs = search needs
+
+-- src/lib.rt:239:26
+enum-known-verdict : tie.Need-enum-known-verdict
+enum-known-verdict c = search needs
+
+-- src/lib.rt:241:23
+enum-told : tie.Need-enum-told
+enum-told c = search needs
+
+-- src/lib.rt:241:23
+sub-put-frame : tie.Need-sub-put-frame
+sub-put-frame c =
+    let g = c .before .before .before .before .before .args in
+    let f = accepted (g .revision) (g .header) (g .abort) (length (g .source .now)) (length (g .buf .now)) (g .queued) (sym (c .before .before .judge-frame .ensures) ∙ ap judgedBy (c .enum-told .given .1)) in
+    omega arith
+
+-- src/lib.rt:241:23
+part-put-frame-start : tie.Need-part-put-frame-start
+part-put-frame-start c =
+    let g = c .before .before .before .before .before .args in
+    let f = accepted (g .revision) (g .header) (g .abort) (length (g .source .now)) (length (g .buf .now)) (g .queued) (sym (c .before .before .judge-frame .ensures) ∙ ap judgedBy (c .enum-told .given .1)) in
+    omega arith
+
+-- src/lib.rt:241:23
+part-put-frame-end : tie.Need-part-put-frame-end
+part-put-frame-end c = search needs
+
+-- src/lib.rt:241:13
+put-frame-requires : tie.Need-put-frame-requires
+put-frame-requires c κs =
+    let g = c .before .before .before .before .before .before .args in
+    let f = accepted (g .revision) (g .header) (g .abort) (length (g .source .now)) (length (g .buf .now)) (g .queued) (sym (c .before .before .before .judge-frame .ensures) ∙ ap judgedBy (c .before .enum-told .given .1)) in
+    let b : length (rest (g .buf .now) (g .queued)) ≡ length (g .buf .now) - g .queued = length-rest (g .buf .now) (g .queued) in
+    (f .whole, omega arith)
+
+-- src/lib.rt:242:26
+wire-length-requires : tie.Need-wire-length-requires
+wire-length-requires c κs = search needs
+
+-- src/lib.rt:234:1
+returns : tie.Need-returns
+unfolding frameDone
+returns c = rw (sym (c .before .before .before .judge-frame .ensures) ∙ ap judgedBy (c .before .verdict .given .1))
+
+-- src/lib.rt:234:1
+same-length : tie.Need-same-length
+same-length c = search needs
+
+-- src/lib.rt:234:1
+returns-2 : tie.Need-returns-2
+unfolding frameDone
+returns-2 c =
+    let g = c .before .before .before .before .before .before .before .before .before .before .args in
+    let frame : List ℕ = frameBytes (g .revision) (g .header) (g .abort) (g .source .now) in
+    rw (sym (c .before .before .before .before .before .before .before .judge-frame .ensures) ∙ ap judgedBy (c .before .before .before .before .before .enum-told .given .1))
+    (ap₂ (λ (n : ℕ) (b : List ℕ). done (wrote n) b) (c .wire-length .ensures) (placed (g .buf .now) frame (c .before .before .before .put-frame .last .0) (g .queued) (c .before .before .before .put-frame .ensures)))
+
+pub build-frame-spec : {M : Type 1} → statement M
+build-frame-spec =
+    tie.close
+    (tie.spec
+    judge-frame-requires
+    enum-known-verdict
+    enum-told
+    sub-put-frame
+    part-put-frame-start
+    part-put-frame-end
+    put-frame-requires
+    wire-length-requires
+    returns
+    same-length
+    returns-2)

@@ -1,0 +1,89 @@
+use mathlib.Core.Path.{_≡_, _∙_, refl, sym, ap₂}
+use Rattle.refusal.specs.Refusals.{judgedBy, orElse, or-else-last}
+use Rattle.preamble.specs.Layout.{total}
+use Rattle.body.specs.Body.{wireLength}
+use Rattle.builder.specs.Build.{judgeFrame, judgeRoom, judgeSource}
+use borrow.Author.Needs.{needs}
+use Rattle.builder.proofs.judge_frame.Statement.{statement}
+use Rattle.builder.proofs.judge_frame.Tie as tie
+use Rattle.builder.proofs.judge_frame.Reads as reads
+use Rattle.builder.proofs.judge_frame.Lts as lts
+use Rattle.body.proofs.wire_length.Reads as wire-length-reads
+use Rattle.builder.proofs.judge_abort.Reads as judge-abort-reads
+use Rattle.builder.proofs.room.Reads as room-reads
+use Rattle.preamble.proofs.judge_header.Reads as judge-header-reads
+use Rattle.preamble.proofs.total_of.Reads as total-of-reads
+use Rattle.refusal.proofs.or_else.Reads as or-else-reads
+use Rattle.refusal.proofs.unless_ok.Reads as unless-ok-reads
+
+-- src/lib.rt:72:9
+wire-length-requires : tie.Need-wire-length-requires
+wire-length-requires c κs = search needs
+
+-- src/lib.rt:73:26
+room-requires : tie.Need-room-requires
+room-requires c κs = search needs
+
+-- src/lib.rt:73:9
+unless-ok-requires : tie.Need-unless-ok-requires
+unless-ok-requires c κs = search needs
+
+-- src/lib.rt:74:23
+judge-abort-requires : tie.Need-judge-abort-requires
+judge-abort-requires c κs = search needs
+
+-- src/lib.rt:74:9
+or-else-requires : tie.Need-or-else-requires
+or-else-requires c κs = search needs
+
+-- src/lib.rt:75:9
+total-of-requires : tie.Need-total-of-requires
+total-of-requires c κs = search needs
+
+-- src/lib.rt:76:23
+unless-ok-requires-2 : tie.Need-unless-ok-requires-2
+unless-ok-requires-2 c κs = search needs
+
+-- src/lib.rt:76:9
+or-else-requires-2 : tie.Need-or-else-requires-2
+or-else-requires-2 c κs = search needs
+
+-- src/lib.rt:77:13
+judge-header-requires : tie.Need-judge-header-requires
+judge-header-requires c κs = search needs
+
+-- src/lib.rt:77:5
+or-else-requires-3 : tie.Need-or-else-requires-3
+or-else-requires-3 c κs = search needs
+
+-- src/lib.rt:69:1
+returns : tie.Need-returns
+unfolding judgeFrame
+returns c =
+    let a = c .before .before .before .before .before .before .before .before .before .before .args in
+    let room : judgedBy (c .before .before .before .before .before .before .before .unless-ok .result) ≡ judgeRoom (wireLength (a .revision) (a .h)) (a .space) (a .queued) =
+    rw (c .before .before .before .before .before .before .before .before .room .ensures, c .before .before .before .before .before .before .before .before .before .wire-length .ensures) at (c .before .before .before .before .before .before .before .unless-ok .ensures)
+    in
+    let source : judgedBy (c .before .before .before .unless-ok2 .result) ≡ judgeSource (a .source) (total (a .h)) =
+    rw (c .before .before .before .before .total-of .ensures) at (c .before .before .before .unless-ok2 .ensures)
+    in
+    let last = sym (or-else-last (judgedBy (c .before .before .before .before .before .before .before .unless-ok .result))) ∙ ap₂ orElse room refl in
+    let v15 = c .before .before .before .before .before .or-else .ensures ∙ ap₂ orElse (c .before .before .before .before .before .before .judge-abort .ensures) last in
+    let v13 = c .before .before .or-else2 .ensures ∙ ap₂ orElse source v15 in
+    c .or-else3 .ensures ∙ ap₂ orElse (c .before .judge-header .ensures) v13
+
+pub judge-frame-spec : {M : Type 1} → statement M
+judge-frame-spec =
+    tie.close
+    (tie.spec
+    wire-length-requires
+    room-requires
+    unless-ok-requires
+    judge-abort-requires
+    or-else-requires
+    total-of-requires
+    unless-ok-requires-2
+    or-else-requires-2
+    judge-header-requires
+    or-else-requires-3
+    returns)

@@ -1,0 +1,98 @@
+use mathlib.Core.Path.{_≡_, _∙_, ap}
+use mathlib.Core.List.{List}
+use Prim.Native.Nat.{ℕ}
+use native.Mathlib.Omega.{arith}
+use lib.ListN.{length}
+use Rattle.buffer.specs.Le.{le}
+use Rattle.buffer.specs.Splice.{over, laid, laid-over, next-laid}
+use Rattle.crc32c.specs.Crc.{crcOf}
+use Rattle.preamble.specs.Layout.{preambleFront, preambleBytes}
+use Rattle.preamble.specs.Laws.{front-is, length-front}
+use borrow.Author.Needs.{needs}
+use Rattle.builder.proofs.put_preamble.Statement.{statement}
+use Rattle.builder.proofs.put_preamble.Tie as tie
+use Rattle.builder.proofs.put_preamble.Reads as reads
+use Rattle.builder.proofs.put_preamble.Lts as lts
+use Rattle.buffer.proofs.put.Reads as put-reads
+use Rattle.buffer.proofs.word_bytes.Reads as word-bytes-reads
+use Rattle.crc32c.proofs.checksum.Reads as checksum-reads
+use Rattle.preamble.proofs.preamble_front.Reads as preamble-front-reads
+
+-- src/lib.rt:95:17
+preamble-front-requires : tie.Need-preamble-front-requires
+preamble-front-requires c κs = search needs
+
+-- src/lib.rt:96:14
+slice-aggregate-put : tie.Need-slice-aggregate-put
+slice-aggregate-put c = search needs
+
+-- src/lib.rt:96:5
+put-requires : tie.Need-put-requires
+put-requires c κs = search needs
+
+-- src/lib.rt:97:38
+slice-aggregate-checksum : tie.Need-slice-aggregate-checksum
+slice-aggregate-checksum c = search needs
+
+-- src/lib.rt:97:26
+checksum-requires : tie.Need-checksum-requires
+checksum-requires c κs = search needs
+
+-- src/lib.rt:97:15
+word-bytes-requires : tie.Need-word-bytes-requires
+word-bytes-requires c κs = search needs
+
+-- src/lib.rt:98:9
+sub-put : tie.Need-sub-put
+sub-put c = search needs
+
+-- src/lib.rt:98:9
+part-put-start : tie.Need-part-put-start
+part-put-start c = search needs
+
+-- src/lib.rt:98:9
+part-put-end : tie.Need-part-put-end
+part-put-end c = search needs
+
+-- src/lib.rt:98:25
+slice-aggregate-put-2 : tie.Need-slice-aggregate-put-2
+slice-aggregate-put-2 c = search needs
+
+-- src/lib.rt:98:5
+put-requires-2 : tie.Need-put-requires-2
+put-requires-2 c κs = search needs
+
+-- src/lib.rt:91:1
+same-length : tie.Need-same-length
+same-length c = search needs
+
+-- src/lib.rt:91:1
+returns : tie.Need-returns
+unfolding preambleBytes
+returns c =
+    let out = c .before .before .before .before .before .before .before .before .before .before .before .before .before .before .before .args .out .now in
+    let h = c .before .before .before .before .before .before .before .before .before .before .before .before .before .before .before .args .h in
+    let front : List ℕ = preambleFront h in
+    let f = c .before .before .before .before .before .before .before .before .before .before .before .before .before .preamble-front .ensures ∙ front-is h in
+    let n = length-front h in
+    let e : c .before .before .before .before .before .before .before .before .before .before .put .last .0 ≡ over front out = rw f at (c .before .before .before .before .before .before .before .before .before .before .put .ensures) ∙ laid-over front out (omega arith) in
+    let s = c .before .before .before .before .before .word-bytes .ensures ∙ ap (le 4) (c .before .before .before .before .before .before .checksum .ensures ∙ ap (crcOf 0) f) in
+    next-laid out (c .before .before .before .before .before .before .before .before .before .before .put .last .0) front (le 4 (crcOf 0 front)) (c .before .before .put2 .last .0) 28 n (omega arith) e (rw s at (c .before .before .put2 .ensures))
+
+pub put-preamble-spec : {M : Type 1} → statement M
+put-preamble-spec =
+    tie.close
+    (tie.spec
+    preamble-front-requires
+    slice-aggregate-put
+    put-requires
+    slice-aggregate-checksum
+    checksum-requires
+    word-bytes-requires
+    sub-put
+    part-put-start
+    part-put-end
+    slice-aggregate-put-2
+    put-requires-2
+    same-length
+    returns)

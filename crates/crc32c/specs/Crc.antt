@@ -1,0 +1,30 @@
+-- CRC32-C (01, "Checksums"), bit by bit, low bit first: the reflected polynomial 82F63B78, any start value, no complement at the end.
+use mathlib.Core.Path.{_≡_}
+use mathlib.Core.List.{List, [], _∷_}
+use Prim.Native.Nat.{ℕ, zero, suc, _*_, _/_, _%_, _<_}
+use lib.Bits.{bitXor}
+use lib.ListN.{getD}
+
+abbrev pub poly : ℕ
+poly = 0x82F63B78
+
+-- one bit: shift right, and xor the polynomial where the low bit was set
+unfoldable pub step : ℕ → ℕ
+step c = bitXor (c / 2) (c % 2 * poly)
+
+unfoldable pub steps : ℕ → ℕ → ℕ
+steps zero c = c
+steps (suc n) c = steps n (step c)
+
+-- one byte: it is xored into the low bits, and eight bits are shifted out
+abbrev pub crcByte : ℕ → ℕ → ℕ
+crcByte c b = steps 8 (bitXor c b)
+
+-- the checksum of a list of bytes from a start value
+unfoldable pub crcOf : ℕ → List ℕ → ℕ
+crcOf c [] = c
+crcOf c (b ∷ bs) = crcOf (crcByte c b) bs
+
+-- a table for a byte: the entry at k is eight bit steps from k
+pub record Ruled (t : List ℕ) : Type 0 where
+  pub at : (k : ℕ) → k < 256 → getD t k 0 ≡ steps 8 k

@@ -1,0 +1,34 @@
+use Rattle.preamble.proofs.Faults.{first-last}
+use borrow.Author.Needs.{needs}
+use Rattle.preamble.proofs.judge_flags.Statement.{statement}
+use Rattle.preamble.proofs.judge_flags.Tie as tie
+use Rattle.preamble.proofs.judge_flags.Reads as reads
+use Rattle.preamble.proofs.judge_flags.Lts as lts
+use Rattle.preamble.proofs.fault_when.Reads as fault-when-reads
+use Rattle.preamble.proofs.first.Reads as first-reads
+use Rattle.refusal.proofs.unless_ok.Reads as unless-ok-reads
+
+-- src/judge.rt:190:19
+fault-when-requires : tie.Need-fault-when-requires
+fault-when-requires c κs = search needs
+
+-- src/judge.rt:190:47
+fault-when-requires-2 : tie.Need-fault-when-requires-2
+fault-when-requires-2 c κs = search needs
+
+-- src/judge.rt:190:9
+first-requires : tie.Need-first-requires
+first-requires c κs = search needs
+
+-- src/judge.rt:191:5
+unless-ok-requires : tie.Need-unless-ok-requires
+unless-ok-requires c κs = search needs
+
+-- src/judge.rt:187:1
+returns : tie.Need-returns
+returns c = cc (first-last (c .before .before .fault-when2 .result))
+
+pub judge-flags-spec : {M : Type 1} → statement M
+judge-flags-spec =
+    tie.close
+    (tie.spec fault-when-requires fault-when-requires-2 first-requires unless-ok-requires returns)

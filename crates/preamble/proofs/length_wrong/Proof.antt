@@ -1,0 +1,26 @@
+use borrow.Author.Tests.{lt-ltb, le-ltb}
+use borrow.Author.Needs.{needs}
+use Rattle.preamble.proofs.length_wrong.Statement.{statement}
+use Rattle.preamble.proofs.length_wrong.Tie as tie
+use Rattle.preamble.proofs.length_wrong.Reads as reads
+use Rattle.preamble.proofs.length_wrong.Lts as lts
+use Rattle.refusal.proofs.both.Reads as both-reads
+
+-- src/judge.rt:153:14
+both-requires : tie.Need-both-requires
+both-requires c κs = search needs
+
+-- src/judge.rt:153:9
+both-requires-2 : tie.Need-both-requires-2
+both-requires-2 c κs = search needs
+
+-- src/judge.rt:147:1
+returns : tie.Need-returns
+returns c = simp (lt-ltb _ _ (c .if1 .taken))
+
+-- src/judge.rt:147:1
+returns-2 : tie.Need-returns-2
+returns-2 c = simp (le-ltb _ _ (c .before .before .if1 .left), c .both2 .ensures, c .before .both .ensures)
+
+pub length-wrong-spec : {M : Type 1} → statement M
+length-wrong-spec = tie.close (tie.spec both-requires both-requires-2 returns returns-2)

@@ -1,0 +1,26 @@
+use borrow.Author.Needs.{needs}
+use Rattle.preamble.proofs.segment_at.Statement.{statement}
+use Rattle.preamble.proofs.segment_at.Tie as tie
+use Rattle.preamble.proofs.segment_at.Reads as reads
+use Rattle.preamble.proofs.segment_at.Lts as lts
+use Rattle.buffer.proofs.half_at.Reads as half-at-reads
+use Rattle.buffer.proofs.word_at.Reads as word-at-reads
+
+-- src/lib.rt:170:14
+word-at-requires : tie.Need-word-at-requires
+word-at-requires c κs = search needs
+
+-- src/lib.rt:171:27
+add-half-at : tie.Need-add-half-at
+add-half-at c = search needs
+
+-- src/lib.rt:171:16
+half-at-requires : tie.Need-half-at-requires
+half-at-requires c κs = search needs
+
+-- src/lib.rt:165:1
+returns : tie.Need-returns
+returns c = simp (c .before .word-at .ensures, c .half-at .ensures)
+
+pub segment-at-spec : {M : Type 1} → statement M
+segment-at-spec = tie.close (tie.spec word-at-requires add-half-at half-at-requires returns)

@@ -1,0 +1,273 @@
+// The preamble: its bytes, its fields and the judgements on them, each a small function that needs nothing of its caller.
+use buffer::byte_at;
+use buffer::half_at;
+use buffer::part;
+use buffer::word_at;
+use crc32c::checksum;
+use refusal::Refusal;
+use refusal::Verdict;
+use refusal::both;
+use refusal::or_else;
+use refusal::unless_ok;
+ghost use mathlib.Core.Path.{_≡_};
+ghost use Prim.Native.Nat.{_<_};
+ghost use Rattle.refusal.specs.Refusals.{judgedBy};
+ghost use Rattle.preamble.specs.Layout.{total, frontList};
+ghost use Rattle.preamble.specs.Laws.{ReadsBack};
+ghost use Rattle.preamble.specs.Judge.{first, faultWhen, lengthWrong, segmentFault, shapeFault, judgeShape, judgeFlags, judgeTag, above, limitFault, judgeLimits, judgeStore, judgeHeader, segmentAt, headerOf, preambleOf, judgeFields, judgePreamble};
+
+// At most so many bytes in a segment, and in all segments of a frame.
+pub const SEGMENT_LIMIT: u64 = 16384;
+
+pub const SUM_LIMIT: u64 = 32768;
+
+// A segment's two fields in a preamble.
+pub struct Segment {
+    pub len: u32,
+    pub align: u16,
+}
+
+// What a preamble says of its frame. Four named segments: an array of structs would cost each function a longer proof.
+pub struct Header {
+    pub tag: u8,
+    pub count: u8,
+    pub s1: Segment,
+    pub s2: Segment,
+    pub s3: Segment,
+    pub s4: Segment,
+}
+
+// All fields of a preamble.
+pub struct Preamble {
+    pub header: Header,
+    pub flags: u8,
+    pub reserved: u8,
+    pub checksum: u32,
+}
+
+fn first(a: u8, b: u8) -> u8
+    ensures { λ r. ⌜ r ≡ first a b ⌝ }
+{
+    if a == 0 { b } else { a }
+}
+
+fn fault_when(wrong: bool, place: u8) -> u8
+    ensures { λ r. ⌜ r ≡ faultWhen wrong place ⌝ }
+{
+    if wrong { place } else { 0 }
+}
+
+fn length_wrong(count: u8, k: u8, n: u32) -> bool
+    ensures { λ r. ⌜ r ≡ lengthWrong count k n ⌝ }
+{
+    if count < k {
+        n != 0
+    } else {
+        both(both(k == count, 1 < count), n == 0)
+    }
+}
+
+// Segment k, whose length stands at place and whose alignment four bytes on.
+fn segment_fault(count: u8, k: u8, place: u8, s: Segment) -> u8
+    requires { ⌜ place < 250 ⌝ }
+    ensures { λ r. ⌜ r ≡ segmentFault count k place s ⌝ }
+{
+    let n = fault_when(length_wrong(count, k, s.len), place);
+    let a = fault_when(both(count < k, s.align != 0), place + 4);
+    first(n, a)
+}
+
+fn shape_fault(h: Header) -> u8
+    ensures { λ r. ⌜ r ≡ shapeFault h ⌝ }
+{
+    let c = h.count;
+    let f4 = segment_fault(c, 4, 20, h.s4);
+    let f3 = first(segment_fault(c, 3, 14, h.s3), f4);
+    let f2 = first(segment_fault(c, 2, 8, h.s2), f3);
+    let f1 = first(segment_fault(c, 1, 2, h.s1), f2);
+    let known = both(1 <= c, c <= 4);
+    first(fault_when(!known, 1), f1)
+}
+
+fn judge_shape(h: Header) -> Verdict
+    ensures { λ r. ⌜ judgedBy r ≡ judgeShape h ⌝ }
+{
+    unless_ok(shape_fault(h) == 0, Refusal::Shape)
+}
+
+fn judge_flags(flags: u8, reserved: u8) -> Verdict
+    ensures { λ r. ⌜ judgedBy r ≡ judgeFlags flags reserved ⌝ }
+{
+    let f = first(fault_when(flags != 0, 26), fault_when(reserved != 0, 27));
+    unless_ok(f == 0, Refusal::Flags)
+}
+
+fn judge_tag(tag: u8) -> Verdict
+    ensures { λ r. ⌜ judgedBy r ≡ judgeTag tag ⌝ }
+{
+    unless_ok(both(1 <= tag, tag <= 20), Refusal::Tag(tag))
+}
+
+fn above(limit: u64, place: u8, n: u64) -> u8
+    ensures { λ r. ⌜ r ≡ above limit place n ⌝ }
+{
+    fault_when(limit < n, place)
+}
+
+// The sum of a frame's lengths, in 64 bits, where four 32-bit numbers cannot wrap.
+pub fn total_of(h: Header) -> u64
+    ensures { λ r. ⌜ r ≡ total h ⌝ }
+{
+    let a = h.s1.len;
+    let b = h.s2.len;
+    let c = h.s3.len;
+    let d = h.s4.len;
+    a as u64 + b as u64 + c as u64 + d as u64
+}
+
+fn limit_fault(h: Header) -> u8
+    ensures { λ r. ⌜ r ≡ limitFault h ⌝ }
+{
+    let a = h.s1.len as u64;
+    let b = h.s2.len as u64;
+    let c = h.s3.len as u64;
+    let d = h.s4.len as u64;
+    let s34 = first(
+        above(SUM_LIMIT, 14, a + b + c),
+        above(SUM_LIMIT, 20, a + b + c + d),
+    );
+    let s24 = first(above(SUM_LIMIT, 8, a + b), s34);
+    let s14 = first(above(SUM_LIMIT, 2, a), s24);
+    let n4 = first(above(SEGMENT_LIMIT, 20, d), s14);
+    let n3 = first(above(SEGMENT_LIMIT, 14, c), n4);
+    let n2 = first(above(SEGMENT_LIMIT, 8, b), n3);
+    first(above(SEGMENT_LIMIT, 2, a), n2)
+}
+
+fn judge_limits(h: Header) -> Verdict
+    ensures { λ r. ⌜ judgedBy r ≡ judgeLimits h ⌝ }
+{
+    unless_ok(limit_fault(h) == 0, Refusal::Limit)
+}
+
+// The store has the bytes that a frame needs.
+fn judge_store(needed: u64, store: usize) -> Verdict
+    ensures { λ r. ⌜ judgedBy r ≡ judgeStore needed store ⌝ }
+{
+    unless_ok(needed <= store as u64, Refusal::StoreShort(needed))
+}
+
+// What the builder and the receiver both ask of a header: 6, 8, 9.
+pub fn judge_header(h: Header) -> Verdict
+    ensures { λ r. ⌜ judgedBy r ≡ judgeHeader h ⌝ }
+{
+    let last = or_else(judge_tag(h.tag), judge_limits(h));
+    or_else(judge_shape(h), last)
+}
+
+// The segment fields from place i on.
+fn segment_at(b: &[u8], i: usize) -> Segment
+    requires { ⌜ i < 250 ⌝ }
+    ensures { λ r. ⌜ r ≡ segmentAt i (now (b .entry)) ⌝ }
+{
+    Segment {
+        len: word_at(b, i),
+        align: half_at(b, i + 4),
+    }
+}
+
+// The fields of a header in a preamble's bytes.
+pub fn read_header(b: &[u8]) -> Header
+    ensures { λ r. ⌜ r ≡ headerOf (now (b .entry)) ⌝ }
+{
+    Header {
+        tag: byte_at(b, 0),
+        count: byte_at(b, 1),
+        s1: segment_at(b, 2),
+        s2: segment_at(b, 8),
+        s3: segment_at(b, 14),
+        s4: segment_at(b, 20),
+    }
+}
+
+// All fields of a preamble's 32 bytes.
+fn read_preamble(b: &[u8]) -> Preamble
+    ensures { λ r. ⌜ r ≡ preambleOf (now (b .entry)) ⌝ }
+{
+    Preamble {
+        header: read_header(b),
+        flags: byte_at(b, 26),
+        reserved: byte_at(b, 27),
+        checksum: word_at(b, 28),
+    }
+}
+
+fn judge_fields(p: Preamble, store: usize) -> Verdict
+    ensures { λ r. ⌜ judgedBy r ≡ judgeFields p store ⌝ }
+{
+    let h = p.header;
+    let last = or_else(judge_limits(h), judge_store(total_of(h), store));
+    let tag = or_else(judge_tag(h.tag), last);
+    let flags = or_else(judge_flags(p.flags, p.reserved), tag);
+    or_else(judge_shape(h), flags)
+}
+
+// All judgements at a preamble's last byte, in order.
+pub fn judge_preamble(bytes: &[u8], store: usize) -> Verdict
+    ensures { λ r. ⌜ judgedBy r ≡ judgePreamble (now (bytes .entry)) store ⌝ }
+{
+    let p = read_preamble(bytes);
+    let sum = checksum(0, part(bytes, 0, 28));
+    let stored = p.checksum;
+    let first = unless_ok(sum == stored, Refusal::PreambleChecksum);
+    or_else(first, judge_fields(p, store))
+}
+
+// Bytes 0 to 27 of a preamble, those that its checksum covers.
+pub fn preamble_front(h: Header) -> [u8; 28]
+    ensures { λ r. ⌜ r ≡ frontList h ⌝ }
+{
+    let n1 = h.s1.len;
+    let a1 = h.s1.align;
+    let n2 = h.s2.len;
+    let a2 = h.s2.align;
+    let n3 = h.s3.len;
+    let a3 = h.s3.align;
+    let n4 = h.s4.len;
+    let a4 = h.s4.align;
+    [
+        h.tag,
+        h.count,
+        (n1 % 256) as u8,
+        (n1 / 256 % 256) as u8,
+        (n1 / 256 / 256 % 256) as u8,
+        (n1 / 256 / 256 / 256 % 256) as u8,
+        (a1 % 256) as u8,
+        (a1 / 256 % 256) as u8,
+        (n2 % 256) as u8,
+        (n2 / 256 % 256) as u8,
+        (n2 / 256 / 256 % 256) as u8,
+        (n2 / 256 / 256 / 256 % 256) as u8,
+        (a2 % 256) as u8,
+        (a2 / 256 % 256) as u8,
+        (n3 % 256) as u8,
+        (n3 / 256 % 256) as u8,
+        (n3 / 256 / 256 % 256) as u8,
+        (n3 / 256 / 256 / 256 % 256) as u8,
+        (a3 % 256) as u8,
+        (a3 / 256 % 256) as u8,
+        (n4 % 256) as u8,
+        (n4 / 256 % 256) as u8,
+        (n4 / 256 / 256 % 256) as u8,
+        (n4 / 256 / 256 / 256 % 256) as u8,
+        (a4 % 256) as u8,
+        (a4 / 256 % 256) as u8,
+        0,
+        0,
+    ]
+}
+
+// Reading what was laid out gives it back. The body does nothing: the promise is a theorem about the definitions.
+pub fn reads_back()
+    ensures { λ _. ⌜ ReadsBack ⌝ }
+{}

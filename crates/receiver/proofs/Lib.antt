@@ -1,0 +1,14 @@
+pub mod Machine
+pub mod Runs
+pub mod Placed
+pub mod Stages
+pub mod Frames
+pub mod Streams
+pub mod Live
+pub mod Due
+pub mod Chain
+pub mod Rooms
+pub mod Midway
+pub mod Drives
+pub mod Tied
+pub mod Sounds

@@ -1,0 +1,12 @@
+use Rattle.receiver.proofs.Chain.{demand3}
+use Rattle.receiver.proofs.every_cutting.Statement.{statement}
+use Rattle.receiver.proofs.every_cutting.Tie as tie
+use Rattle.receiver.proofs.every_cutting.Reads as reads
+use Rattle.receiver.proofs.every_cutting.Lts as lts
+
+-- src/lib.rt:142:1
+returns : tie.Need-returns
+returns c = demand3
+
+pub every-cutting-spec : {M : Type 1} → statement M
+every-cutting-spec = tie.close (tie.spec returns)

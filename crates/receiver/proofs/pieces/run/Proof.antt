@@ -1,0 +1,113 @@
+use mathlib.Core.Path.{_≡_, _∙_, refl, sym, ap}
+use mathlib.Core.Bool.{true, false}
+use Prim.Native.Nat.{ℕ, _+_, _-_, _≤_, _<_}
+use native.Mathlib.Omega.{arith}
+use borrow.Author.Needs.{needs}
+use borrow.Author.Tests.{not-true, not-false}
+use lib.ListN.{length}
+use Rattle.receiver.proofs.Midway.{Midway, begin, taken, some, inside, onward, reported, finished}
+use Rattle.receiver.proofs.pieces.run.Statement.{statement}
+use Rattle.receiver.proofs.pieces.run.Tie as tie
+use Rattle.receiver.proofs.pieces.run.Reads as reads
+use Rattle.receiver.proofs.pieces.run.Lts as lts
+use Rattle.receiver.proofs.pieces.is_more.Reads as is-more-reads
+use Rattle.receiver.proofs.pieces.step.Reads as step-reads
+
+abbrev Inv-loop : tie.InvT-loop
+Inv-loop piece store₀ st₀ at₀ store st at = Midway piece store₀ st₀ store st at
+
+abbrev μ-loop : tie.MeasureT-loop
+μ-loop piece store₀ st₀ at₀ store st at = length piece - at
+
+-- src/pieces.rt:143:5
+loop-holds : tie.Need-loop-holds Inv-loop μ-loop
+loop-holds c = begin (c .before .before .args .piece .now) (c .before .before .args .store .now) (c .before .before .args .state) (c .before .before .pre)
+
+-- src/pieces.rt:144:26
+sub-step : tie.Need-sub-step Inv-loop μ-loop
+sub-step c = search needs
+
+-- src/pieces.rt:144:26
+part-step-start : tie.Need-part-step-start Inv-loop μ-loop
+part-step-start c = search needs
+
+-- src/pieces.rt:144:26
+part-step-end : tie.Need-part-step-end Inv-loop μ-loop
+part-step-end c = search needs
+
+-- src/pieces.rt:144:13
+step-requires : tie.Need-step-requires Inv-loop μ-loop
+step-requires c κs = (c .before .before .before .loop .inv .running .inside, c .before .before .before .loop .inv .running .fits)
+
+-- src/pieces.rt:145:9
+add-at : tie.Need-add-at Inv-loop μ-loop
+add-at c =
+    let l = c .before .before .before .before .before .before .before .loop in
+    let p = c .before .before .before .before .before .before .before .before .before .before .args .piece .now in
+    let s = c .before .before .before .before .before .before .before .before .before .before .args .store .now in
+    let i = inside p s (c .before .before .before .before .before .before .before .before .before .before .args .state) (l .store) (l .st) (l .at) (l .inv) (c .before .before .before .before .before .before .loop-test .taken) (c .before .before .before .step .result) (c .before .before .before .step .last .1 .1 .0) (c .before .before .before .step .ensures) (c .before .before .before .step .kept .1 .1 .0) in
+    omega (arith, i, c .before .before .before .before .before .before .before .before .before .before .good .1 .0 .0)
+
+-- src/pieces.rt:148:13
+is-more-requires : tie.Need-is-more-requires Inv-loop μ-loop
+is-more-requires c κs = search needs
+
+-- src/pieces.rt:149:13
+same-length : tie.Need-same-length Inv-loop μ-loop
+same-length c = c .before .before .before .before .before .before .step .kept .1 .1 .0 ∙ c .before .before .before .before .before .before .before .before .before .before .loop .inv .same
+
+-- src/pieces.rt:149:13
+returns : tie.Need-returns Inv-loop μ-loop
+returns c =
+    let l = c .before .before .before .before .before .before .before .before .before .before .loop in
+    let p = c .before .before .before .before .before .before .before .before .before .before .before .before .before .args .piece .now in
+    let s = c .before .before .before .before .before .before .before .before .before .before .before .before .before .args .store .now in
+    reported p s (c .before .before .before .before .before .before .before .before .before .before .before .before .before .args .state) (l .store) (l .st) (l .at) (l .inv) (c .before .before .before .before .before .before .before .before .before .loop-test .taken) (c .before .before .before .before .before .before .step .result) (c .before .before .before .before .before .before .step .last .1 .1 .0) (c .before .before .before .before .before .before .step .ensures) (c .before .before .before .before .before .before .step .kept .1 .1 .0)
+    (sym (c .before .is-more .ensures) ∙ not-true (c .before .is-more .result) (c .if1 .taken))
+
+-- src/pieces.rt:143:5
+loop-less : tie.Need-loop-less Inv-loop μ-loop
+loop-less c =
+    let l = c .before .before .before .before .before .before .before .before .before .before .loop in
+    let p = c .before .before .before .before .before .before .before .before .before .before .before .before .before .args .piece .now in
+    let s = c .before .before .before .before .before .before .before .before .before .before .before .before .before .args .store .now in
+    let t = taken p s (c .before .before .before .before .before .before .before .before .before .before .before .before .before .args .state) (l .store) (l .st) (l .at) (l .inv) (c .before .before .before .before .before .before .before .before .before .loop-test .taken) (c .before .before .before .before .before .before .step .result) (c .before .before .before .before .before .before .step .last .1 .1 .0) (c .before .before .before .before .before .before .step .ensures) (c .before .before .before .before .before .before .step .kept .1 .1 .0) in
+    let k = some p s (c .before .before .before .before .before .before .before .before .before .before .before .before .before .args .state) (l .store) (l .st) (l .at) (l .inv) (c .before .before .before .before .before .before .before .before .before .loop-test .taken) (c .before .before .before .before .before .before .step .result) (c .before .before .before .before .before .before .step .last .1 .1 .0) (c .before .before .before .before .before .before .step .ensures) (c .before .before .before .before .before .before .step .kept .1 .1 .0) in
+    omega (arith, t, k, c .before .before .before .before .before .before .before .before .before .loop-test .taken)
+
+-- src/pieces.rt:143:5
+loop-again : tie.Need-loop-again Inv-loop μ-loop
+loop-again c =
+    let l = c .before .before .before .before .before .before .before .before .before .before .loop in
+    let p = c .before .before .before .before .before .before .before .before .before .before .before .before .before .args .piece .now in
+    let s = c .before .before .before .before .before .before .before .before .before .before .before .before .before .args .store .now in
+    onward p s (c .before .before .before .before .before .before .before .before .before .before .before .before .before .args .state) (l .store) (l .st) (l .at) (l .inv) (c .before .before .before .before .before .before .before .before .before .loop-test .taken) (c .before .before .before .before .before .before .step .result) (c .before .before .before .before .before .before .step .last .1 .1 .0) (c .before .before .before .before .before .before .step .ensures) (c .before .before .before .before .before .before .step .kept .1 .1 .0)
+    (sym (c .before .is-more .ensures) ∙ not-false (c .before .is-more .result) (c .if1 .left))
+
+-- src/pieces.rt:137:1
+same-length-2 : tie.Need-same-length-2 Inv-loop μ-loop
+same-length-2 c = c .before .loop .inv .same
+
+-- src/pieces.rt:137:1
+returns-2 : tie.Need-returns-2 Inv-loop μ-loop
+returns-2 c = finished (c .before .before .before .before .args .piece .now) (c .before .before .before .before .args .store .now) (c .before .before .before .before .args .state) (c .before .loop .store) (c .before .loop .st) (c .before .loop .at) (c .before .loop .inv) (c .loop-test .left)
+
+pub run-spec : {M : Type 1} → statement M
+run-spec =
+    tie.close
+    (tie.spec
+    Inv-loop
+    μ-loop
+    loop-holds
+    sub-step
+    part-step-start
+    part-step-end
+    step-requires
+    add-at
+    is-more-requires
+    same-length
+    returns
+    loop-less
+    loop-again
+    same-length-2
+    returns-2)

@@ -1,0 +1,29 @@
+use borrow.Author.Tests.{le-leb, lt-leb}
+use borrow.Author.Needs.{needs}
+use Rattle.receiver.proofs.states.epilogue_length.Statement.{statement}
+use Rattle.receiver.proofs.states.epilogue_length.Tie as tie
+use Rattle.receiver.proofs.states.epilogue_length.Reads as reads
+use Rattle.receiver.proofs.states.epilogue_length.Lts as lts
+
+-- src/states.rt:229:29
+enum-told : tie.Need-enum-told
+enum-told c = search needs
+
+-- src/states.rt:231:16
+enum-told-2 : tie.Need-enum-told-2
+enum-told-2 c = search needs
+
+-- src/states.rt:225:1
+returns : tie.Need-returns
+returns c = search needs
+
+-- src/states.rt:225:1
+returns-2 : tie.Need-returns-2
+returns-2 c = simp (c .before .before .enum-told2 .given .1, le-leb _ _ (c .if1 .taken))
+
+-- src/states.rt:225:1
+returns-3 : tie.Need-returns-3
+returns-3 c = simp (c .before .before .enum-told2 .given .1, lt-leb _ _ (c .if1 .left))
+
+pub epilogue-length-spec : {M : Type 1} → statement M
+epilogue-length-spec = tie.close (tie.spec enum-told enum-told-2 returns returns-2 returns-3)

@@ -1,0 +1,22 @@
+use borrow.Author.Needs.{needs}
+use Rattle.receiver.proofs.states.is_given.Statement.{statement}
+use Rattle.receiver.proofs.states.is_given.Tie as tie
+use Rattle.receiver.proofs.states.is_given.Reads as reads
+use Rattle.receiver.proofs.states.is_given.Lts as lts
+use Rattle.receiver.proofs.states.either.Reads as either-reads
+use Rattle.refusal.proofs.both.Reads as both-reads
+
+-- src/states.rt:328:9
+both-requires : tie.Need-both-requires
+both-requires c κs = search needs
+
+-- src/states.rt:329:5
+either-requires : tie.Need-either-requires
+either-requires c κs = search needs
+
+-- src/states.rt:325:1
+returns : tie.Need-returns
+returns c = cc
+
+pub is-given-spec : {M : Type 1} → statement M
+is-given-spec = tie.close (tie.spec both-requires either-requires returns)

@@ -1,0 +1,17 @@
+use borrow.Author.Needs.{needs}
+use Rattle.receiver.proofs.turns.framed.Statement.{statement}
+use Rattle.receiver.proofs.turns.framed.Tie as tie
+use Rattle.receiver.proofs.turns.framed.Reads as reads
+use Rattle.receiver.proofs.turns.framed.Lts as lts
+use Rattle.receiver.proofs.states.moved.Reads as moved-reads
+
+-- src/turns.rt:91:16
+moved-requires : tie.Need-moved-requires
+moved-requires c κs = search needs
+
+-- src/turns.rt:86:1
+returns : tie.Need-returns
+returns c = λ s. rw (c .moved .ensures)
+
+pub framed-spec : {M : Type 1} → statement M
+framed-spec = tie.close (tie.spec moved-requires returns)

@@ -1,0 +1,36 @@
+use mathlib.Core.Path.{_≡_, _∙_, ap}
+use Prim.Native.Nat.{ℕ}
+use native.Mathlib.Omega.{arith}
+use lib.ListN.{length, replicate, length-replicate}
+use Rattle.buffer.specs.Splice.{laid, laid-over}
+use Rattle.preamble.specs.Layout.{total}
+use borrow.Author.Needs.{needs}
+use Rattle.receiver.proofs.turns.wipe.Statement.{statement}
+use Rattle.receiver.proofs.turns.wipe.Tie as tie
+use Rattle.receiver.proofs.turns.wipe.Reads as reads
+use Rattle.receiver.proofs.turns.wipe.Lts as lts
+use Rattle.buffer.proofs.put_zeros.Reads as put-zeros-reads
+use Rattle.preamble.proofs.total_of.Reads as total-of-reads
+
+-- src/turns.rt:176:22
+total-of-requires : tie.Need-total-of-requires
+total-of-requires c κs = search needs
+
+-- src/turns.rt:176:5
+put-zeros-requires : tie.Need-put-zeros-requires
+put-zeros-requires c κs = search needs
+
+-- src/turns.rt:172:1
+same-length : tie.Need-same-length
+same-length c = search needs
+
+-- src/turns.rt:172:1
+returns : tie.Need-returns
+returns c =
+    let s = c .before .before .before .before .before .before .args .store .now in
+    let t : ℕ = total (c .before .before .before .before .before .before .args .h) in
+    let n : length (replicate {A = ℕ} t 0) ≡ t = length-replicate t 0 in
+    c .before .before .put-zeros .ensures ∙ ap (λ (k : ℕ). laid (replicate k 0) s) (c .before .before .before .total-of .ensures) ∙ laid-over (replicate t 0) s (omega (arith, c .before .before .before .before .before .before .pre))
+
+pub wipe-spec : {M : Type 1} → statement M
+wipe-spec = tie.close (tie.spec total-of-requires put-zeros-requires same-length returns)

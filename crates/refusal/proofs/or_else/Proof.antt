@@ -1,0 +1,27 @@
+use mathlib.Core.Path.{sym, ap}
+use Rattle.refusal.specs.Refusals.{orElse, judgedBy}
+use Rattle.refusal.specs.declared.Verdict.{Verdict}
+use borrow.Author.Needs.{needs}
+use Rattle.refusal.proofs.or_else.Statement.{statement}
+use Rattle.refusal.proofs.or_else.Tie as tie
+use Rattle.refusal.proofs.or_else.Reads as reads
+use Rattle.refusal.proofs.or_else.Lts as lts
+
+-- src/verdicts.rt:62:26
+enum-told : tie.Need-enum-told
+enum-told c = search needs
+
+-- src/verdicts.rt:63:26
+enum-known-a : tie.Need-enum-known-a
+enum-known-a c = search needs
+
+-- src/verdicts.rt:58:1
+returns : tie.Need-returns
+returns c = search needs
+
+-- src/verdicts.rt:58:1
+returns-2 : tie.Need-returns-2
+returns-2 c = sym (ap (λ (v : Verdict). orElse (judgedBy v) (judgedBy (c .before .before .before .args .b))) (c .before .a .given .1))
+
+pub or-else-spec : {M : Type 1} → statement M
+or-else-spec = tie.close (tie.spec enum-told enum-known-a returns returns-2)

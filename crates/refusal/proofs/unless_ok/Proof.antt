@@ -1,0 +1,16 @@
+use borrow.Author.Needs.{needs}
+use Rattle.refusal.proofs.unless_ok.Statement.{statement}
+use Rattle.refusal.proofs.unless_ok.Tie as tie
+use Rattle.refusal.proofs.unless_ok.Reads as reads
+use Rattle.refusal.proofs.unless_ok.Lts as lts
+
+-- src/verdicts.rt:68:1
+returns : tie.Need-returns
+returns c = search needs
+
+-- src/verdicts.rt:68:1
+returns-2 : tie.Need-returns-2
+returns-2 c = simp (c .if1 .left)
+
+pub unless-ok-spec : {M : Type 1} → statement M
+unless-ok-spec = tie.close (tie.spec returns returns-2)

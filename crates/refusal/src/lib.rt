@@ -1,0 +1,121 @@
+// What can be turned away, as 01's table has it: cases, their numbers and details, and verdicts put in order.
+ghost use mathlib.Core.Path.{_≡_};
+ghost use mathlib.Core.Bool.{cond, _&&_};
+ghost use Rattle.refusal.specs.Refusals.{fine, row, numbersOf, told, judgedBy, orElse};
+
+// Feature bits that one side requires and the other does not support.
+pub struct Missing {
+    pub bits: u64,
+    pub lowest: u32,
+    pub count: u32,
+}
+
+// Refusals: a case for each number of the rules, with the values that its details are made of.
+pub enum Refusal {
+    Magic,
+    BannerLength(u16),
+    PeerRequires(Missing),
+    PeerLacks(Missing),
+    PreambleChecksum,
+    Shape,
+    Flags,
+    Tag(u8),
+    Limit,
+    StoreShort(u64),
+    SegmentChecksum(u8),
+    LateStatus(u8),
+    SourceLength,
+    NoRoom(u64),
+    AbortOneSegment,
+    OwnFeatures,
+    StateContradicts,
+}
+
+// What a judgement comes to.
+pub enum Verdict {
+    Fine,
+    Refused(Refusal),
+}
+
+// A refusal as numbers.
+pub struct Numbers {
+    pub number: u8,
+    pub first: u64,
+    pub second: u64,
+    pub third: u64,
+}
+
+fn one(number: u8, first: u64) -> Numbers
+    ensures { λ r. ⌜ r ≡ row number first 0 0 ⌝ }
+{
+    Numbers {
+        number: number,
+        first: first,
+        second: 0,
+        third: 0,
+    }
+}
+
+fn three(number: u8, m: Missing) -> Numbers
+    ensures { λ r. ⌜ r ≡ row number (m .bits) (m .lowest) (m .count) ⌝ }
+{
+    Numbers {
+        number: number,
+        first: m.bits,
+        second: m.lowest as u64,
+        third: m.count as u64,
+    }
+}
+
+// A refusal's number and details.
+pub fn in_numbers(refusal: Refusal) -> Numbers
+    ensures { λ r. ⌜ r ≡ numbersOf refusal ⌝ }
+{
+    match refusal {
+        Refusal::Magic => one(1, 0),
+        Refusal::BannerLength(n) => one(2, n as u64),
+        Refusal::PeerRequires(m) => three(3, m),
+        Refusal::PeerLacks(m) => three(4, m),
+        Refusal::PreambleChecksum => one(5, 0),
+        Refusal::Shape => one(6, 0),
+        Refusal::Flags => one(7, 0),
+        Refusal::Tag(t) => one(8, t as u64),
+        Refusal::Limit => one(9, 0),
+        Refusal::StoreShort(n) => one(10, n),
+        Refusal::SegmentChecksum(k) => one(11, k as u64),
+        Refusal::LateStatus(b) => one(12, b as u64),
+        Refusal::SourceLength => one(13, 0),
+        Refusal::NoRoom(n) => one(14, n),
+        Refusal::AbortOneSegment => one(15, 0),
+        Refusal::OwnFeatures => one(16, 0),
+        Refusal::StateContradicts => one(26, 0),
+    }
+}
+
+// The first of two verdicts that is a refusal.
+pub fn or_else(a: Verdict, b: Verdict) -> Verdict
+    ensures { λ r. ⌜ judgedBy r ≡ orElse (judgedBy a) (judgedBy b) ⌝ }
+{
+    match a {
+        Verdict::Fine => b,
+        Verdict::Refused(refusal) => Verdict::Refused(refusal),
+    }
+}
+
+// The refusal, unless a test held.
+pub fn unless_ok(ok: bool, refusal: Refusal) -> Verdict
+    ensures { λ r. ⌜ judgedBy r ≡ cond ok fine (told refusal) ⌝ }
+{
+    if ok {
+        Verdict::Fine
+    } else {
+        Verdict::Refused(refusal)
+    }
+}
+
+// Both tests hold. A function, so that a chain of tests is one equation and no joined branches.
+pub fn both(a: bool, b: bool) -> bool
+    ensures { λ r. ⌜ r ≡ (a && b) ⌝ }
+{
+    if a { b } else { false }
+}

@@ -1,0 +1,152 @@
+//! The list of a stream's entries, defined over the whole stream at once: a
+//! check on the receiver, which it doesn't use, and a guide to where calls end.
+
+use crate::banner::{judge_magic, judge_payload_length, Features, HEAD_LENGTH, MAGIC_LENGTH};
+use crate::epilogue::{judge_epilogue, judge_first_checksum, Ending};
+use crate::frame::{Frame, PREAMBLE_LENGTH};
+use crate::refusal::Refusal;
+use crate::report::Report;
+use crate::wire::{epilogue_length, wire_length, Revision, CHECKSUM_LENGTH};
+
+/// A banner, frame, drop or refusal.
+#[derive(Clone, Debug, PartialEq, Eq)]
+pub struct Entry {
+    pub report: Report,
+    /// How many stream bytes there are up to and including it.
+    pub byte: usize,
+    /// The store right after it.
+    pub store: Vec<u8>,
+}
+
+#[derive(Clone, Debug, PartialEq, Eq)]
+pub struct List {
+    pub entries: Vec<Entry>,
+    /// The store after all bytes of the stream.
+    pub store: Vec<u8>,
+}
+
+/// A report and its byte, counted from where its banner or frame begins;
+/// nothing where the byte lies past the stream's end.
+type Judged = Option<(Report, usize)>;
+
+fn refused(refusal: Refusal, byte: usize) -> Judged {
+    Some((Report::Refused(refusal), byte))
+}
+
+fn judge_banner(own: Features, stream: &[u8]) -> Judged {
+    let magic = stream.get(..MAGIC_LENGTH)?;
+    if let Err(refusal) = judge_magic(magic) {
+        return refused(refusal, MAGIC_LENGTH);
+    }
+    let length = stream[MAGIC_LENGTH..].first_chunk()?;
+    let length = u16::from_le_bytes(*length);
+    if let Err(refusal) = judge_payload_length(length) {
+        return refused(refusal, HEAD_LENGTH);
+    }
+    let end = HEAD_LENGTH + usize::from(length);
+    let peer = Features::read(stream.get(HEAD_LENGTH..end)?);
+    match own.judge_peer(&peer) {
+        Ok(revision) => Some((Report::Banner { peer, revision }, end)),
+        Err(refusal) => refused(refusal, end),
+    }
+}
+
+/// Where a body's segment bytes lie on the wire: msgr2.1 has segment 1's
+/// checksum in between.
+fn put_segments(revision: Revision, frame: &Frame, body: &[u8], store: &mut [u8]) {
+    let all = frame.sum() as usize;
+    let first = match revision {
+        Revision::Msgr20 => all,
+        Revision::Msgr21 => frame.segments[0].length as usize,
+    };
+    let gap = if first > 0 { CHECKSUM_LENGTH } else { 0 };
+    for (place, stored) in store.iter_mut().enumerate().take(all) {
+        let on_wire = if place < first { place } else { place + gap };
+        if let Some(byte) = body.get(on_wire) {
+            *stored = *byte;
+        }
+    }
+}
+
+/// Judges a body behind a good preamble; `store` has its segment bytes, and
+/// `wire` begins with the preamble.
+fn judge_body(revision: Revision, frame: &Frame, wire: &[u8], store: &[u8]) -> Judged {
+    let first = frame.segments[0].length as usize;
+    if revision == Revision::Msgr21 && first > 0 {
+        let end = 36 + first;
+        let field = wire.get(32 + first..end)?;
+        if let Err(refusal) = judge_first_checksum(frame, field, store) {
+            return refused(refusal, end);
+        }
+    }
+    let length = wire_length(revision, frame) as usize;
+    let whole = wire.get(..length)?;
+    let epilogue = &whole[length - epilogue_length(revision, frame)..];
+    let ending = if epilogue.is_empty() {
+        Ok(Ending::Complete)
+    } else {
+        judge_epilogue(revision, frame, epilogue, store)
+    };
+    match ending {
+        Ok(Ending::Complete) => Some((Report::Frame(*frame), length)),
+        Ok(Ending::Aborted) => Some((Report::Dropped(*frame), length)),
+        Err(refusal) => refused(refusal, length),
+    }
+}
+
+/// The entry of the frame that `wire` begins with; changes the store.
+fn judge_frame(revision: Revision, wire: &[u8], store: &mut [u8]) -> Judged {
+    let preamble = wire.first_chunk::<PREAMBLE_LENGTH>()?;
+    let fits = |frame: Frame| frame.judge_store(store.len()).map(|()| frame);
+    let frame = match Frame::read(preamble).and_then(fits) {
+        Ok(frame) => frame,
+        Err(refusal) => return refused(refusal, PREAMBLE_LENGTH),
+    };
+    put_segments(revision, &frame, &wire[PREAMBLE_LENGTH..], store);
+    let judged = judge_body(revision, &frame, wire, store)?;
+    if !matches!(judged.0, Report::Frame(_)) {
+        frame.wipe(store);
+    }
+    Some(judged)
+}
+
+impl List {
+    fn push(&mut self, report: Report, byte: usize) {
+        let store = self.store.clone();
+        self.entries.push(Entry {
+            report,
+            byte,
+            store,
+        });
+    }
+}
+
+/// The entries of a stream for a receiver with our own features and the store
+/// as it is at the start.
+pub fn entries(own: Features, stream: &[u8], store: &[u8]) -> List {
+    let mut list = List {
+        entries: Vec::new(),
+        store: store.to_vec(),
+    };
+    if own.judge_own().is_err() {
+        return list;
+    }
+    let Some((report, mut place)) = judge_banner(own, stream) else {
+        return list;
+    };
+    list.push(report, place);
+    let Report::Banner { revision, .. } = report else {
+        return list;
+    };
+    while let Some((report, length)) = judge_frame(revision, &stream[place..], &mut list.store) {
+        place += length;
+        list.push(report, place);
+        if let Report::Refused(_) = report {
+            break;
+        }
+    }
+    list
+}
+
+#[cfg(test)]
+mod tests;

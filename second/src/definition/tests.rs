@@ -1,0 +1,187 @@
+//! The definition by itself, and the receiver held to it over many cuttings.
+
+use super::*;
+use crate::generate::receiver::records;
+use crate::random::Random;
+use crate::receiver::Receiver;
+use crate::records::{ReceiverRecord, Record};
+use crate::vectors::{banner, empty, three_aborted, three_frame, three_source, three_whole};
+
+#[test]
+fn entries_of_a_stream() {
+    let revision = Revision::Msgr21;
+    let mut last = three_whole(revision);
+    last[32] ^= 1;
+    let stream = [
+        banner(revision),
+        three_whole(revision),
+        three_aborted(revision),
+        empty(revision),
+        last,
+    ];
+    let list = entries(Features::new(1, 0), &stream.concat(), &[9; 43]);
+    let bytes: Vec<usize> = list.entries.iter().map(|entry| entry.byte).collect();
+    assert_eq!(bytes, [26, 116, 206, 238, 283]);
+    let frame = &list.entries[1];
+    assert_eq!(frame.report, Report::Frame(three_frame()));
+    assert_eq!(frame.store, [three_source().as_slice(), &[9, 9]].concat());
+    let zeroed = [[0; 41].as_slice(), &[9, 9]].concat();
+    assert_eq!(list.entries[2].report, Report::Dropped(three_frame()));
+    assert_eq!(list.entries[2].store, zeroed);
+    let refusal = Report::Refused(Refusal::segment_checksum(0));
+    assert_eq!(list.entries[4].report, refusal);
+    assert_eq!(list.store, zeroed);
+}
+
+#[test]
+fn judgements_past_the_end_are_not_made() {
+    for revision in [Revision::Msgr20, Revision::Msgr21] {
+        let stream = [banner(revision), three_whole(revision)].concat();
+        for (length, count) in [(7, 0), (25, 0), (26, 1), (57, 1), (115, 1), (116, 2)] {
+            let list = entries(Features::new(1, 0), &stream[..length], &[9; 43]);
+            assert_eq!(list.entries.len(), count, "{length} bytes");
+        }
+        let list = entries(Features::new(1, 0), &stream[..60], &[9; 43]);
+        assert_eq!(list.store, [b"12".as_slice(), &[9; 41]].concat());
+    }
+}
+
+#[test]
+fn a_refused_start_has_no_entries() {
+    let list = entries(Features::new(0, 1), &banner(Revision::Msgr21), &[7]);
+    assert_eq!(list.entries, []);
+    assert_eq!(list.store, [7]);
+}
+
+fn generated(seed: u64, count: u64) -> impl Iterator<Item = ReceiverRecord> {
+    records(seed, count).map(|record| match record {
+        Record::Receiver(record) => record,
+        other => panic!("{other:?}"),
+    })
+}
+
+/// A stream under way: what the calls so far have left.
+struct Calls<'a> {
+    record: &'a ReceiverRecord,
+    list: List,
+    receiver: Receiver,
+    store: Vec<u8>,
+    taken: usize,
+    reported: Vec<Entry>,
+}
+
+impl<'a> Calls<'a> {
+    fn start(record: &'a ReceiverRecord) -> Self {
+        let store = record.store.bytes();
+        Self {
+            record,
+            list: entries(record.own, &record.stream, &store),
+            receiver: Receiver::start(record.own).0,
+            store,
+            taken: 0,
+            reported: Vec::new(),
+        }
+    }
+
+    fn is_refused(&self) -> bool {
+        let last = self.reported.last();
+        let refused = last.is_some_and(|entry| matches!(entry.report, Report::Refused(_)));
+        refused || self.record.own.judge_own().is_err()
+    }
+
+    fn has_ended(&self) -> bool {
+        self.is_refused() || self.taken == self.record.stream.len()
+    }
+
+    /// One call: it must take the piece up to the next entry, or whole.
+    fn call(&mut self, length: usize) {
+        let left = &self.record.stream[self.taken..];
+        let piece = &left[..left.len().min(length)];
+        let refused = self.is_refused();
+        let next = self.list.entries.get(self.reported.len());
+        let offered = self.taken + piece.len();
+        let (taken, report) = self.receiver.receive(piece, &mut self.store);
+        self.taken += taken;
+        match next {
+            _ if refused => assert!(taken == 0 && matches!(report, Report::Refused(_))),
+            Some(entry) if entry.byte <= offered && entry.byte > offered - piece.len() => {
+                let store = self.store.clone();
+                let byte = self.taken;
+                self.reported.push(Entry {
+                    report,
+                    byte,
+                    store,
+                });
+                assert_eq!(self.reported.last(), Some(entry));
+            }
+            _ => assert_eq!((self.taken, report), (offered, Report::More)),
+        }
+    }
+
+    /// The store must be the one defined for the bytes taken.
+    fn judge_store(&self) {
+        let taken = &self.record.stream[..self.taken];
+        let defined = entries(self.record.own, taken, &self.record.store.bytes());
+        assert_eq!(self.store, defined.store);
+        assert_eq!(self.reported, defined.entries);
+    }
+
+    fn judge_end(&self) {
+        assert!(self.has_ended());
+        assert_eq!(self.reported, self.list.entries);
+        assert_eq!(self.store, self.list.store);
+    }
+}
+
+/// Pieces of up to `most` bytes, some of them empty, and calls behind the end.
+fn cut_at_random<'a>(record: &'a ReceiverRecord, random: &mut Random, most: u32) -> Calls<'a> {
+    let mut calls = Calls::start(record);
+    while !calls.has_ended() {
+        calls.call(random.between(0, most) as usize);
+    }
+    for length in [0, 3, 70_000] {
+        calls.call(length);
+    }
+    calls.judge_end();
+    calls
+}
+
+#[test]
+fn reports_do_not_depend_on_the_cuts() {
+    let mut random = Random::new(5);
+    for record in generated(11, 2_500) {
+        let whole = cut_at_random(&record, &mut random, 140_000);
+        for most in [1, 3, 17, 60, 400] {
+            let cut = cut_at_random(&record, &mut random, most);
+            assert_eq!(cut.receiver, whole.receiver);
+        }
+    }
+}
+
+#[test]
+fn generated_calls_leave_the_defined_store_each_time() {
+    for record in generated(12, 2_500) {
+        let mut calls = Calls::start(&record);
+        for &piece in &record.pieces {
+            calls.call(piece as usize);
+            calls.judge_store();
+        }
+        calls.judge_end();
+    }
+}
+
+#[test]
+fn two_pieces_with_the_same_bytes_leave_the_same_state() {
+    for record in generated(13, 400) {
+        let mut bytewise = Calls::start(&record);
+        for length in 0..record.stream.len().min(200) {
+            let mut once = Calls::start(&record);
+            while once.taken < length && !once.has_ended() {
+                once.call(length - once.taken);
+            }
+            assert_eq!(once.receiver, bytewise.receiver);
+            assert_eq!(once.store, bytewise.store);
+            bytewise.call(1);
+        }
+    }
+}

@@ -1,0 +1,72 @@
+//! What is judged of a body: its segments' checksums and its late byte.
+//! `segments` always stands for the frame's segments one after the other, as
+//! they lie at the store's front.
+
+use crate::checksum::{checksum, SEGMENT_START};
+use crate::frame::Frame;
+use crate::refusal::Refusal;
+use crate::wire::{Revision, CHECKSUM_LENGTH};
+
+/// How a body that isn't refused ends.
+#[derive(Clone, Copy, Debug, PartialEq, Eq)]
+pub enum Ending {
+    Complete,
+    Aborted,
+}
+
+const STATUS_COMPLETE: u8 = 0x0E;
+const STATUS_ABORTED: u8 = 0x01;
+const FLAG_ABORTED: u8 = 0x01;
+
+/// Reads the byte at the front of an epilogue. Late flags can't be wrong: all
+/// but one of their bits mean nothing.
+fn judge_late_byte(revision: Revision, late: u8) -> Result<Ending, Refusal> {
+    match (revision, late) {
+        (Revision::Msgr20, flags) if flags & FLAG_ABORTED != 0 => Ok(Ending::Aborted),
+        (Revision::Msgr20, _) => Ok(Ending::Complete),
+        (Revision::Msgr21, STATUS_COMPLETE) => Ok(Ending::Complete),
+        (Revision::Msgr21, STATUS_ABORTED) => Ok(Ending::Aborted),
+        (Revision::Msgr21, other) => Err(Refusal::late_status(other)),
+    }
+}
+
+fn judge_checksum(
+    frame: &Frame,
+    place: usize,
+    field: &[u8],
+    segments: &[u8],
+) -> Result<(), Refusal> {
+    let sum = checksum(SEGMENT_START, frame.segment(place, segments));
+    if sum.to_le_bytes() == field {
+        Ok(())
+    } else {
+        Err(Refusal::segment_checksum(place))
+    }
+}
+
+/// Judges the checksum that msgr2.1 has right behind segment 1.
+pub fn judge_first_checksum(frame: &Frame, field: &[u8], segments: &[u8]) -> Result<(), Refusal> {
+    judge_checksum(frame, 0, field, segments)
+}
+
+/// Judges a whole epilogue. The late byte comes first: an aborted frame's
+/// checksums are not compared. Fields of unused segments are never looked at.
+pub fn judge_epilogue(
+    revision: Revision,
+    frame: &Frame,
+    epilogue: &[u8],
+    segments: &[u8],
+) -> Result<Ending, Refusal> {
+    let (late, fields) = epilogue.split_first().expect("an epilogue has bytes");
+    let ending = judge_late_byte(revision, *late)?;
+    if ending == Ending::Aborted {
+        return Ok(ending);
+    }
+    // msgr2.1 has judged segment 1 already.
+    let first_listed = usize::from(revision == Revision::Msgr21);
+    let used = first_listed..usize::from(frame.count);
+    for (place, field) in used.zip(fields.chunks_exact(CHECKSUM_LENGTH)) {
+        judge_checksum(frame, place, field, segments)?;
+    }
+    Ok(ending)
+}

@@ -1,0 +1,124 @@
+//! The fixed case files, each under its name.
+
+mod bad;
+mod bench;
+mod boundaries;
+mod examples;
+mod published;
+mod receiver;
+mod request;
+
+use crate::records::Record;
+
+/// A case file and how many lines its run must print.
+pub struct CaseFile {
+    pub bytes: Vec<u8>,
+    pub lines: usize,
+}
+
+impl CaseFile {
+    fn of(records: &[Record]) -> Self {
+        Self {
+            bytes: records.iter().flat_map(Record::to_bytes).collect(),
+            lines: records.iter().map(Record::lines).sum(),
+        }
+    }
+}
+
+type Maker = fn() -> Vec<Record>;
+
+/// Good files under their names, and bad ones that are numbered.
+struct Family {
+    good: &'static [(&'static str, Maker)],
+    bad_name: &'static str,
+    bad: fn() -> Vec<CaseFile>,
+}
+
+/// Checksums and builders.
+const BUILDER: Family = Family {
+    good: &[
+        ("rfc3720", published::rfc3720),
+        ("checksums", published::checksums),
+        ("examples", examples::examples),
+        ("bench", bench::bench),
+        ("boundaries", boundaries::boundaries),
+    ],
+    bad_name: "bad",
+    bad: bad::files,
+};
+
+const RECEIVER: Family = Family {
+    good: &[
+        ("receiver-bench", receiver::bench::bench),
+        ("receiver-boundaries", receiver::boundaries::boundaries),
+        ("receiver-cuts", receiver::cuts::cuts),
+    ],
+    bad_name: "receiver-bad",
+    bad: receiver::bad::files,
+};
+
+impl Family {
+    fn names(&self) -> Vec<String> {
+        let good = self.good.iter().map(|(name, _)| (*name).to_string());
+        let numbers = 1..=(self.bad)().len();
+        let bad = numbers.map(|number| format!("{}{number}", self.bad_name));
+        good.chain(bad).collect()
+    }
+
+    fn case_file(&self, name: &str) -> Option<CaseFile> {
+        if let Some((_, make)) = self.good.iter().find(|(good, _)| *good == name) {
+            return Some(CaseFile::of(&make()));
+        }
+        let place = self.names().iter().position(|known| known == name)?;
+        (self.bad)().into_iter().nth(place - self.good.len())
+    }
+}
+
+/// The files without receiver records.
+pub fn names() -> Vec<String> {
+    BUILDER.names()
+}
+
+pub fn receiver_names() -> Vec<String> {
+    RECEIVER.names()
+}
+
+pub fn case_file(name: &str) -> Option<CaseFile> {
+    let families = [BUILDER, RECEIVER];
+    families.iter().find_map(|family| family.case_file(name))
+}
+
+#[cfg(test)]
+mod tests {
+    use super::*;
+    use crate::run::run;
+
+    #[test]
+    fn each_file_prints_its_lines() {
+        for name in [names(), receiver_names()].concat() {
+            let file = case_file(&name).expect("a listed name");
+            let mut printed = Vec::new();
+            run(&file.bytes, &mut printed).expect("writing to memory");
+            let text = String::from_utf8(printed).expect("plain text");
+            let bad = text.lines().position(|line| line == "bad record");
+            assert_eq!(text.lines().count(), file.lines, "{name}");
+            let expected = name.contains("bad").then(|| file.lines - 1);
+            assert_eq!(bad, expected, "{name}");
+        }
+    }
+
+    #[test]
+    fn unknown_names() {
+        for name in [
+            "",
+            "bad0",
+            "bad999",
+            "list",
+            "bad",
+            "receiver-bad",
+            "list-r",
+        ] {
+            assert!(case_file(name).is_none());
+        }
+    }
+}

@@ -1,0 +1,231 @@
+//! Generated streams: a banner and frames, as they should be or with a fault.
+
+use super::{alignment, feature_bits, payload};
+use crate::banner::Features;
+use crate::frame::{Frame, Segment, PLACES, PREAMBLE_LENGTH, SEGMENT_LIMIT};
+use crate::random::Random;
+use crate::spoil::WireFrame;
+use crate::wire::{can_abort, Revision};
+
+/// How long segments get.
+#[derive(Clone, Copy, PartialEq, Eq)]
+pub enum Size {
+    /// A few bytes, for streams that are cut at every byte.
+    Small,
+    /// Mostly a few bytes, now and then up to the limit.
+    Any,
+}
+
+/// A stream and our own features, its parts apart while faults are put in.
+pub struct Link {
+    pub own: Features,
+    pub banner: Vec<u8>,
+    pub frames: Vec<WireFrame>,
+}
+
+impl Link {
+    pub fn bytes(&self) -> Vec<u8> {
+        let mut bytes = self.banner.clone();
+        bytes.extend(self.frames.iter().flat_map(|frame| &frame.bytes));
+        bytes
+    }
+}
+
+fn own_features(random: &mut Random) -> Features {
+    if random.once_in(12) {
+        return Features::new(feature_bits(random), feature_bits(random));
+    }
+    let (supported, required) = random.pick(&[(0, 0), (1, 0), (1, 0), (1, 1)]);
+    Features::new(supported, required)
+}
+
+/// Mostly features that go with ours.
+fn peer_features(random: &mut Random, own: Features) -> Features {
+    let others = feature_bits(random);
+    if random.once_in(10) {
+        return Features::new(others, feature_bits(random));
+    }
+    let bit = u64::from(random.between(0, 1));
+    let supported = random.pick(&[1, 1, bit, others]) | own.required;
+    let required = random.pick(&[0, 0, 0, bit]) & own.supported;
+    Features::new(supported, required)
+}
+
+/// The banner, mostly with the shortest payload.
+fn banner(random: &mut Random, peer: Features, size: Size) -> Vec<u8> {
+    let mut banner = peer.banner();
+    let most = match random.between(1, 20) {
+        1 | 2 => 20,
+        3 if size == Size::Any => 1_008,
+        _ => 0,
+    };
+    let more = random.between(0, most);
+    banner.extend(random.bytes(more));
+    let length = 16 + more as u16;
+    banner[8..10].copy_from_slice(&length.to_le_bytes());
+    banner
+}
+
+fn segment_length(random: &mut Random, size: Size) -> u32 {
+    match random.between(1, 1_000) {
+        1..=250 => 0,
+        251..=700 => random.between(1, 6),
+        _ if size == Size::Small => random.between(1, 12),
+        701..=950 => random.between(1, 40),
+        951..=985 => random.between(1, 300),
+        986..=997 => random.between(1, 2_048),
+        _ => random.between(1, SEGMENT_LIMIT / 2),
+    }
+}
+
+fn good_frame(random: &mut Random, size: Size) -> Frame {
+    let count = random.between(1, 4) as usize;
+    let mut segments = [Segment::default(); PLACES];
+    for segment in &mut segments[..count] {
+        segment.length = segment_length(random, size);
+        segment.alignment = alignment(random);
+    }
+    let last = &mut segments[count - 1];
+    if count > 1 && last.length == 0 {
+        last.length = random.between(1, 6);
+    }
+    Frame {
+        tag: random.between(1, 20) as u8,
+        count: count as u8,
+        segments,
+    }
+}
+
+fn wire_frame(random: &mut Random, revision: Revision, size: Size) -> WireFrame {
+    let frame = good_frame(random, size);
+    let abort = can_abort(revision, &frame) && random.once_in(4);
+    let source = payload(random, frame.sum() as u32);
+    WireFrame::new(revision, frame, abort, &source)
+}
+
+/// A stream without faults, but for features that may not go together.
+pub fn link(random: &mut Random, size: Size) -> Link {
+    let own = own_features(random);
+    let peer = peer_features(random, own);
+    // Behind a refused banner any frame will do.
+    let revision = own.judge_peer(&peer).unwrap_or(Revision::Msgr21);
+    let most = if size == Size::Small { 3 } else { 6 };
+    let count = random.between(0, most);
+    let frames = (0..count).map(|_| wire_frame(random, revision, size));
+    let frames = frames.collect();
+    Link {
+        own,
+        banner: banner(random, peer, size),
+        frames,
+    }
+}
+
+/// Puts a fault into one frame; later ones are then mostly not reached.
+pub fn spoil_frame(random: &mut Random, link: &mut Link) {
+    if link.frames.is_empty() {
+        return;
+    }
+    let place = random.between(0, link.frames.len() as u32 - 1) as usize;
+    let frame = &mut link.frames[place];
+    match random.between(1, 40) {
+        1 => frame.bytes[..PREAMBLE_LENGTH].fill(0),
+        2..=16 => {
+            let count = random.pick(&[1, 1, 1, 2, 3]);
+            let tag = frame.frame.tag;
+            let changes = (0..count).map(|_| preamble_change(random, tag)).collect();
+            change_preamble(frame, changes);
+        }
+        17..=24 => spoil_late_byte(random, frame),
+        25..=32 => spoil_checksums(random, frame),
+        33..=36 => {
+            spoil_late_byte(random, frame);
+            spoil_checksums(random, frame);
+        }
+        _ => fill_unused_fields(random, frame),
+    }
+}
+
+/// A byte of the preamble and what is put over it bit by bit.
+type Change = (usize, u8);
+
+/// Mostly bits by which a refusal of its own is given, else any byte.
+fn preamble_change(random: &mut Random, tag: u8) -> Change {
+    // The first places are used more often.
+    let segment = 2 + 6 * random.pick(&[0, 0, 0, 1, 1, 2, 3]);
+    let any = random.u8();
+    let bit = 1 << random.between(0, 7);
+    match random.between(1, 12) {
+        1..=3 => (0, tag ^ random.pick(&[0, 21, 255, any])),
+        4 => (1, random.between(1, 7) as u8),
+        5 => (segment, random.between(1, 3) as u8),
+        6 | 7 => (segment + 1, random.pick(&[64, 65, 128, bit])),
+        8 => (segment + random.pick(&[2, 3]), bit),
+        9 => (segment + random.pick(&[4, 5]), bit),
+        10 | 11 => (random.pick(&[26, 27]), bit),
+        _ => (random.between(0, PREAMBLE_LENGTH as u32 - 5) as usize, any),
+    }
+}
+
+fn change_preamble(frame: &mut WireFrame, changes: Vec<Change>) {
+    frame.change_preamble(|preamble| {
+        for (place, bits) in changes {
+            preamble[place] ^= bits;
+        }
+    });
+}
+
+fn spoil_late_byte(random: &mut Random, frame: &mut WireFrame) {
+    let any = random.u8();
+    let bit = 1 << random.between(0, 7);
+    if let Some(late) = frame.late_byte_mut() {
+        *late = random.pick(&[0x00, 0x01, 0x0E, 0x0F, 0x1E, 0xE1, any, *late ^ bit]);
+    }
+}
+
+/// One bit in up to three places: checksums, or segment bytes.
+fn spoil_checksums(random: &mut Random, frame: &mut WireFrame) {
+    for _ in 0..random.between(1, 3) {
+        let place = random.between(0, u32::from(frame.frame.count) - 1) as usize;
+        let field = match frame.checksum_mut(place) {
+            Some(field) if random.once_in(2) => field,
+            _ => frame.segment_mut(place),
+        };
+        flip_a_bit(random, field);
+    }
+}
+
+/// Fields of unused segments aren't looked at.
+fn fill_unused_fields(random: &mut Random, frame: &mut WireFrame) {
+    for place in usize::from(frame.frame.count)..PLACES {
+        if let Some(field) = frame.checksum_mut(place) {
+            field.copy_from_slice(&random.u32().to_le_bytes());
+        }
+    }
+}
+
+/// Another payload length, mostly near those we take, or another fixed byte.
+pub fn spoil_banner(random: &mut Random, link: &mut Link) {
+    let any = random.u16();
+    let near_least = random.between(12, 20) as u16;
+    let near_most = random.between(1_020, 1_028) as u16;
+    let near_first = random.between(0, 24) as u16;
+    let lengths = [near_least, near_least, near_most, near_first, any];
+    let length = random.pick(&lengths);
+    if random.once_in(4) {
+        flip_a_bit(random, &mut link.banner[..8]);
+        return;
+    }
+    link.banner[8..10].copy_from_slice(&length.to_le_bytes());
+    if random.once_in(2) {
+        // As many bytes as it says, but for lengths that are far too long.
+        let told = 10 + usize::from(length.min(1_100));
+        link.banner.resize(told, 0xA7);
+    }
+}
+
+pub fn flip_a_bit(random: &mut Random, bytes: &mut [u8]) {
+    if !bytes.is_empty() {
+        let place = random.between(0, bytes.len() as u32 - 1) as usize;
+        bytes[place] ^= 1 << random.between(0, 7);
+    }
+}

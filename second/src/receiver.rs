@@ -1,0 +1,254 @@
+//! The receiver: it is given a stream in any pieces and reports the banner,
+//! then the frames, or why the stream is turned away.
+
+use crate::banner::{judge_magic, judge_payload_length, Features, HEAD_LENGTH, MAGIC_LENGTH};
+use crate::epilogue::{judge_epilogue, judge_first_checksum, Ending};
+use crate::frame::{Frame, PREAMBLE_LENGTH};
+use crate::refusal::Refusal;
+use crate::report::Report;
+use crate::wire::{epilogue_length, first_checksum_length, Revision};
+use std::collections::VecDeque;
+
+#[derive(Clone, Debug, PartialEq, Eq)]
+pub struct Receiver {
+    own: Features,
+    stage: Stage,
+}
+
+#[derive(Clone, Debug, PartialEq, Eq)]
+enum Stage {
+    /// The banner's bytes so far.
+    Banner(Vec<u8>),
+    Preamble {
+        revision: Revision,
+        bytes: Vec<u8>,
+    },
+    Body(Body),
+    /// Repeated at every later call.
+    Refused(Refusal),
+}
+
+/// A stretch of a body that is judged, if at all, when it is complete.
+#[derive(Clone, Copy, Debug, PartialEq, Eq)]
+enum Part {
+    /// Segment bytes, until this many are in the store.
+    SegmentsUpTo(usize),
+    FirstChecksum,
+    Epilogue,
+}
+
+#[derive(Clone, Debug, PartialEq, Eq)]
+struct Body {
+    revision: Revision,
+    frame: Frame,
+    /// What is still to come, the part under way first.
+    parts: VecDeque<Part>,
+    /// Segment bytes in the store.
+    stored: usize,
+    /// Bytes so far of the checksum or the epilogue under way.
+    held: Vec<u8>,
+}
+
+/// The payload length a banner gives in its head.
+fn payload_length(banner: &[u8]) -> u16 {
+    u16::from_le_bytes([banner[MAGIC_LENGTH], banner[MAGIC_LENGTH + 1]])
+}
+
+/// How long the banner must be for its next judgement.
+fn next_banner_length(bytes: &[u8]) -> usize {
+    match bytes.len() {
+        0..MAGIC_LENGTH => MAGIC_LENGTH,
+        MAGIC_LENGTH..HEAD_LENGTH => HEAD_LENGTH,
+        _ => HEAD_LENGTH + usize::from(payload_length(bytes)),
+    }
+}
+
+/// Judges a banner that has just grown to one of those lengths. Only a whole
+/// one tells the peer's features.
+fn judge_banner(own: Features, bytes: &[u8]) -> Result<Option<(Features, Revision)>, Refusal> {
+    match bytes.len() {
+        MAGIC_LENGTH => judge_magic(bytes).map(|()| None),
+        HEAD_LENGTH => judge_payload_length(payload_length(bytes)).map(|()| None),
+        _ => {
+            let peer = Features::read(&bytes[HEAD_LENGTH..]);
+            let revision = own.judge_peer(&peer)?;
+            Ok(Some((peer, revision)))
+        }
+    }
+}
+
+impl Body {
+    fn new(revision: Revision, frame: Frame) -> Self {
+        let mut parts = VecDeque::new();
+        if first_checksum_length(revision, &frame) > 0 {
+            parts.push_back(Part::SegmentsUpTo(frame.sum_before(1)));
+            parts.push_back(Part::FirstChecksum);
+        }
+        parts.push_back(Part::SegmentsUpTo(frame.sum() as usize));
+        if epilogue_length(revision, &frame) > 0 {
+            parts.push_back(Part::Epilogue);
+        }
+        Self {
+            revision,
+            frame,
+            parts,
+            stored: 0,
+            held: Vec::new(),
+        }
+    }
+
+    /// Bytes missing from the part under way.
+    fn wanted(&self) -> usize {
+        match self.parts[0] {
+            Part::SegmentsUpTo(end) => end - self.stored,
+            Part::FirstChecksum => {
+                first_checksum_length(self.revision, &self.frame) - self.held.len()
+            }
+            Part::Epilogue => epilogue_length(self.revision, &self.frame) - self.held.len(),
+        }
+    }
+
+    fn take(&mut self, bytes: &[u8], store: &mut [u8]) {
+        if let Part::SegmentsUpTo(_) = self.parts[0] {
+            let end = self.stored + bytes.len();
+            store[self.stored..end].copy_from_slice(bytes);
+            self.stored = end;
+        } else {
+            self.held.extend(bytes);
+        }
+    }
+
+    /// Judges the part that is now complete by the store's own bytes.
+    fn judge_part(&self, store: &[u8]) -> Result<Ending, Refusal> {
+        match self.parts[0] {
+            Part::SegmentsUpTo(_) => Ok(Ending::Complete),
+            Part::FirstChecksum => {
+                judge_first_checksum(&self.frame, &self.held, store).map(|()| Ending::Complete)
+            }
+            Part::Epilogue => judge_epilogue(self.revision, &self.frame, &self.held, store),
+        }
+    }
+
+    /// Leaves a complete part; the last one tells how the frame ends.
+    fn finish_part(&mut self, store: &mut [u8]) -> Result<Option<Ending>, Refusal> {
+        let judged = self.judge_part(store);
+        if judged != Ok(Ending::Complete) {
+            self.frame.wipe(store);
+        }
+        let ending = judged?;
+        self.parts.pop_front();
+        self.held.clear();
+        Ok(self.parts.is_empty().then_some(ending))
+    }
+}
+
+impl Stage {
+    fn preamble(revision: Revision) -> Self {
+        let bytes = Vec::with_capacity(PREAMBLE_LENGTH);
+        Self::Preamble { revision, bytes }
+    }
+
+    /// Bytes missing before the next judgement.
+    fn wanted(&self) -> usize {
+        match self {
+            Stage::Banner(bytes) => next_banner_length(bytes) - bytes.len(),
+            Stage::Preamble { bytes, .. } => PREAMBLE_LENGTH - bytes.len(),
+            Stage::Body(body) => body.wanted(),
+            Stage::Refused(_) => 0,
+        }
+    }
+
+    fn take(&mut self, taken: &[u8], store: &mut [u8]) {
+        match self {
+            Stage::Banner(bytes) | Stage::Preamble { bytes, .. } => bytes.extend(taken),
+            Stage::Body(body) => body.take(taken, store),
+            Stage::Refused(_) => {}
+        }
+    }
+}
+
+impl Receiver {
+    /// Starts a receiver with our own features. One whose start is refused
+    /// comes back too, and repeats the refusal.
+    pub fn start(own: Features) -> (Self, Result<(), Refusal>) {
+        let judged = own.judge_own();
+        let stage = match judged {
+            Ok(()) => Stage::Banner(Vec::new()),
+            Err(refusal) => Stage::Refused(refusal),
+        };
+        (Self { own, stage }, judged)
+    }
+
+    /// Takes bytes of the piece up to and including the one that completes a
+    /// report; answers how many, and the report.
+    pub fn receive(&mut self, piece: &[u8], store: &mut [u8]) -> (usize, Report) {
+        if let Err(refusal) = self.judge_call(store) {
+            return (0, self.refuse(refusal));
+        }
+        let mut taken = 0;
+        loop {
+            let left = &piece[taken..];
+            let wanted = self.stage.wanted();
+            let count = wanted.min(left.len());
+            self.stage.take(&left[..count], store);
+            taken += count;
+            if count < wanted {
+                return (taken, Report::More);
+            }
+            match self.step(store) {
+                Ok(Some(report)) => return (taken, report),
+                Ok(None) => {}
+                Err(refusal) => return (taken, self.refuse(refusal)),
+            }
+        }
+    }
+
+    /// What turns a call away before it takes a byte. A body under way must
+    /// find the whole room it was promised, whatever the piece.
+    fn judge_call(&self, store: &[u8]) -> Result<(), Refusal> {
+        match &self.stage {
+            Stage::Refused(refusal) => Err(*refusal),
+            Stage::Body(body) => body.frame.judge_store(store.len()),
+            Stage::Banner(_) | Stage::Preamble { .. } => Ok(()),
+        }
+    }
+
+    fn refuse(&mut self, refusal: Refusal) -> Report {
+        self.stage = Stage::Refused(refusal);
+        Report::Refused(refusal)
+    }
+
+    /// Judges what is now complete and goes on to what follows it.
+    fn step(&mut self, store: &mut [u8]) -> Result<Option<Report>, Refusal> {
+        match &mut self.stage {
+            Stage::Banner(bytes) => {
+                let Some((peer, revision)) = judge_banner(self.own, bytes)? else {
+                    return Ok(None);
+                };
+                self.stage = Stage::preamble(revision);
+                Ok(Some(Report::Banner { peer, revision }))
+            }
+            Stage::Preamble { revision, bytes } => {
+                let frame = Frame::read(bytes.first_chunk().expect("a whole preamble"))?;
+                frame.judge_store(store.len())?;
+                self.stage = Stage::Body(Body::new(*revision, frame));
+                Ok(None)
+            }
+            Stage::Body(body) => {
+                let Some(ending) = body.finish_part(store)? else {
+                    return Ok(None);
+                };
+                let report = match ending {
+                    Ending::Complete => Report::Frame(body.frame),
+                    Ending::Aborted => Report::Dropped(body.frame),
+                };
+                self.stage = Stage::preamble(body.revision);
+                Ok(Some(report))
+            }
+            Stage::Refused(refusal) => Err(*refusal),
+        }
+    }
+}
+
+#[cfg(test)]
+mod tests;

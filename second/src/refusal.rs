@@ -1,0 +1,108 @@
+//! The numbers a stream or a request is turned away with, and the detail of
+//! each.
+
+/// A refusal's number and its three detail values, 0 where there are fewer.
+#[derive(Clone, Copy, Debug, PartialEq, Eq)]
+pub struct Refusal {
+    pub number: u8,
+    pub detail: [u64; 3],
+}
+
+impl Refusal {
+    const fn new(number: u8, detail: u64) -> Self {
+        Self {
+            number,
+            detail: [detail, 0, 0],
+        }
+    }
+
+    /// Feature bits that are missing: which, the lowest one's number, how many.
+    const fn missing(number: u8, bits: u64) -> Self {
+        let lowest = bits.trailing_zeros() as u64;
+        let how_many = bits.count_ones() as u64;
+        Self {
+            number,
+            detail: [bits, lowest, how_many],
+        }
+    }
+
+    /// The stream doesn't begin with the banner's fixed bytes.
+    pub const fn magic() -> Self {
+        Self::new(1, 0)
+    }
+
+    /// The banner's payload is shorter or longer than we take.
+    pub const fn payload_length(length: u16) -> Self {
+        Self::new(2, length as u64)
+    }
+
+    /// The peer requires bits that we don't support.
+    pub const fn we_lack(bits: u64) -> Self {
+        Self::missing(3, bits)
+    }
+
+    /// We require bits that the peer doesn't support.
+    pub const fn peer_lacks(bits: u64) -> Self {
+        Self::missing(4, bits)
+    }
+
+    /// The preamble's checksum differs.
+    pub const fn preamble_checksum() -> Self {
+        Self::new(5, 0)
+    }
+
+    /// The segment count or the shape is wrong.
+    pub const fn shape() -> Self {
+        Self::new(6, 0)
+    }
+
+    /// The flags or the reserved byte of a preamble are set.
+    pub const fn flags() -> Self {
+        Self::new(7, 0)
+    }
+
+    /// The tag is none that we know.
+    pub const fn tag(tag: u8) -> Self {
+        Self::new(8, tag as u64)
+    }
+
+    /// A segment or the sum of the segments is too long.
+    pub const fn limit() -> Self {
+        Self::new(9, 0)
+    }
+
+    /// The store is shorter than this many bytes.
+    pub const fn store(needed: u64) -> Self {
+        Self::new(10, needed)
+    }
+
+    /// The checksum of the segment at this place, counted from 0, differs.
+    pub const fn segment_checksum(place: usize) -> Self {
+        Self::new(11, place as u64 + 1)
+    }
+
+    /// The late status is no code word.
+    pub const fn late_status(byte: u8) -> Self {
+        Self::new(12, byte as u64)
+    }
+
+    /// The source does not hold exactly the segments' bytes.
+    pub const fn source() -> Self {
+        Self::new(13, 0)
+    }
+
+    /// The send buffer has no room for this many bytes.
+    pub const fn room(needed: u64) -> Self {
+        Self::new(14, needed)
+    }
+
+    /// The frame has no epilogue that could say it is aborted.
+    pub const fn abort() -> Self {
+        Self::new(15, 0)
+    }
+
+    /// Our own feature bits are unknown or contradict each other.
+    pub const fn features() -> Self {
+        Self::new(16, 0)
+    }
+}
