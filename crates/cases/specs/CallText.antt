@@ -11,26 +11,25 @@ use Rattle.receiver.specs.declared.Report.{Report}
 use Rattle.receiver.specs.declared.Report.the-variants as report
 use Rattle.cases.specs.Text.{decimalBy, numberText, sumText, whyText}
 
-unfoldable pub fourText : ℕ → ℕ → ℕ → ℕ → List ℕ
-fourText a b c d = numberText a ++ numberText b ++ numberText c ++ numberText d
+-- a word and four numbers
+unfoldable pub fourText : List ℕ → ℕ → ℕ → ℕ → ℕ → List ℕ
+fourText word a b c d = word ++ numberText a ++ numberText b ++ numberText c ++ numberText d
 
--- "lengths " and the four segments' lengths
-unfoldable pub lengthsText : Header → List ℕ
-lengthsText h = (108 ∷ 101 ∷ 110 ∷ 103 ∷ 116 ∷ 104 ∷ 115 ∷ 32 ∷ []) ++ fourText (h .s1 .len) (h .s2 .len) (h .s3 .len) (h .s4 .len)
-
--- "alignments " and their alignments
-unfoldable pub alignmentsText : Header → List ℕ
-alignmentsText h = (97 ∷ 108 ∷ 105 ∷ 103 ∷ 110 ∷ 109 ∷ 101 ∷ 110 ∷ 116 ∷ 115 ∷ 32 ∷ []) ++ fourText (h .s1 .align) (h .s2 .align) (h .s3 .align) (h .s4 .align)
-
--- "tag ", the tag, "segments ", their count, and those two
+-- "tag ", "segments ", "lengths " and "alignments ", each with its numbers
 unfoldable pub headerText : Header → List ℕ
-headerText h = (116 ∷ 97 ∷ 103 ∷ 32 ∷ []) ++ numberText (h .tag) ++ (115 ∷ 101 ∷ 103 ∷ 109 ∷ 101 ∷ 110 ∷ 116 ∷ 115 ∷ 32 ∷ []) ++ numberText (h .count) ++ lengthsText h ++ alignmentsText h
+headerText h =
+    (116 ∷ 97 ∷ 103 ∷ 32 ∷ [])
+    ++ numberText (h .tag)
+    ++ (115 ∷ 101 ∷ 103 ∷ 109 ∷ 101 ∷ 110 ∷ 116 ∷ 115 ∷ 32 ∷ [])
+    ++ numberText (h .count)
+    ++ fourText (108 ∷ 101 ∷ 110 ∷ 103 ∷ 116 ∷ 104 ∷ 115 ∷ 32 ∷ []) (h .s1 .len) (h .s2 .len) (h .s3 .len) (h .s4 .len)
+    ++ fourText (97 ∷ 108 ∷ 105 ∷ 103 ∷ 110 ∷ 109 ∷ 101 ∷ 110 ∷ 116 ∷ 115 ∷ 32 ∷ []) (h .s1 .align) (h .s2 .align) (h .s3 .align) (h .s4 .align)
 
 abbrev pub revisionNumber : Revision → ℕ
 revisionNumber Msgr20 = 0
 revisionNumber Msgr21 = 1
 
--- "more taken " and the bytes taken; each report below has these, too
+-- "more taken " and the bytes taken
 unfoldable pub moreText : ℕ → List ℕ
 moreText n = (109 ∷ 111 ∷ 114 ∷ 101 ∷ 32 ∷ 116 ∷ 97 ∷ 107 ∷ 101 ∷ 110 ∷ 32 ∷ []) ++ numberText n
 
@@ -46,13 +45,17 @@ bannerText n f r =
     ++ (114 ∷ 101 ∷ 118 ∷ 105 ∷ 115 ∷ 105 ∷ 111 ∷ 110 ∷ 32 ∷ [])
     ++ numberText (revisionNumber r)
 
--- "frame taken " and the header
-unfoldable pub frameText : ℕ → Header → List ℕ
-frameText n h = (102 ∷ 114 ∷ 97 ∷ 109 ∷ 101 ∷ 32 ∷ 116 ∷ 97 ∷ 107 ∷ 101 ∷ 110 ∷ 32 ∷ []) ++ numberText n ++ headerText h
+-- "frame taken "
+unfoldable pub frameWord : List ℕ
+frameWord = 102 ∷ 114 ∷ 97 ∷ 109 ∷ 101 ∷ 32 ∷ 116 ∷ 97 ∷ 107 ∷ 101 ∷ 110 ∷ 32 ∷ []
 
--- "dropped taken " and the header
-unfoldable pub droppedText : ℕ → Header → List ℕ
-droppedText n h = (100 ∷ 114 ∷ 111 ∷ 112 ∷ 112 ∷ 101 ∷ 100 ∷ 32 ∷ 116 ∷ 97 ∷ 107 ∷ 101 ∷ 110 ∷ 32 ∷ []) ++ numberText n ++ headerText h
+-- "dropped taken "
+unfoldable pub droppedWord : List ℕ
+droppedWord = 100 ∷ 114 ∷ 111 ∷ 112 ∷ 112 ∷ 101 ∷ 100 ∷ 32 ∷ 116 ∷ 97 ∷ 107 ∷ 101 ∷ 110 ∷ 32 ∷ []
+
+-- one of these words, the bytes taken and the header
+unfoldable pub frameText : List ℕ → ℕ → Header → List ℕ
+frameText word n h = word ++ numberText n ++ headerText h
 
 -- "refused taken ", "number " and the refusal
 unfoldable pub callRefusedText : ℕ → Numbers → List ℕ
@@ -61,8 +64,8 @@ callRefusedText n w = (114 ∷ 101 ∷ 102 ∷ 117 ∷ 115 ∷ 101 ∷ 100 ∷ 3
 abbrev pub reportText : Report → ℕ → List ℕ
 reportText report.More n = moreText n
 reportText (report.Banner f r) n = bannerText n f r
-reportText (report.Frame h) n = frameText n h
-reportText (report.Dropped h) n = droppedText n h
+reportText (report.Frame h) n = frameText frameWord n h
+reportText (report.Dropped h) n = frameText droppedWord n h
 reportText (report.Refused w) n = callRefusedText n w
 
 -- the line of a call: its report, the bytes taken and the store's checksum

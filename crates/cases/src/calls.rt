@@ -31,12 +31,13 @@ ghost use Prim.Native.Nat.{_+_, _≤_};
 ghost use lib.ListN.{length};
 ghost use Rattle.refusal.specs.Refusals.{judgedBy};
 ghost use Rattle.cases.specs.Text.{Put};
-ghost use Rattle.cases.specs.CallText.{fourText, lengthsText, alignmentsText, headerText, revisionNumber, moreText, bannerText, frameText, droppedText, callRefusedText, reportText, startRefusedText, startText};
+ghost use Rattle.cases.specs.CallText.{fourText, headerText, revisionNumber, moreText, bannerText, frameText, callRefusedText, reportText, startRefusedText, startText};
 ghost use Rattle.cases.specs.Calls.{piecesGood, receiverGood, CallDid, ReceiverDid};
 
-// The longest stream and the most calls that a record may give.
+// The longest stream that a record may give.
 const STREAM: usize = 131072;
 
+// The most calls.
 const CALLS: usize = 4096;
 
 // What a call leaves: the receiver's state, how many bytes were taken, and where the text now ends.
@@ -48,48 +49,17 @@ struct Called {
 
 // ---- printing
 
-// Four numbers.
-fn put_four(text: &mut [u8], at: usize, a: u64, b: u64, c: u64, d: u64) -> usize
-    requires { ⌜ at + 84 ≤ length (now text) ⌝ }
-    ensures { λ r. ⌜ Put (now (text .entry)) at (fourText a b c d) (now (text .exit)) r ⌝ }
-    ensures { λ r. ⌜ r ≤ at + 84 ⌝ }
+// A word, and a number for each of four segments.
+fn put_four(text: &mut [u8], at: usize, word: &[u8], a: u32, b: u32, c: u32, d: u32) -> usize
+    requires { ⌜ (at + 95 ≤ length (now text)) × (length (now word) ≤ 11) ⌝ }
+    ensures { λ r. ⌜ Put (now (text .entry)) at (fourText (now (word .entry)) a b c d) (now (text .exit)) r ⌝ }
+    ensures { λ r. ⌜ r ≤ at + length (now (word .entry)) + 84 ⌝ }
 {
-    let e = put_number(text, at, a);
-    let f = put_number(text, e, b);
-    let g = put_number(text, f, c);
-    put_number(text, g, d)
-}
-
-fn put_lengths(text: &mut [u8], at: usize, h: Header) -> usize
-    requires { ⌜ at + 92 ≤ length (now text) ⌝ }
-    ensures { λ r. ⌜ Put (now (text .entry)) at (lengthsText h) (now (text .exit)) r ⌝ }
-    ensures { λ r. ⌜ r ≤ at + 92 ⌝ }
-{
-    let a = put(text, at, b"lengths ");
-    put_four(
-        text,
-        a,
-        h.s1.len as u64,
-        h.s2.len as u64,
-        h.s3.len as u64,
-        h.s4.len as u64,
-    )
-}
-
-fn put_alignments(text: &mut [u8], at: usize, h: Header) -> usize
-    requires { ⌜ at + 95 ≤ length (now text) ⌝ }
-    ensures { λ r. ⌜ Put (now (text .entry)) at (alignmentsText h) (now (text .exit)) r ⌝ }
-    ensures { λ r. ⌜ r ≤ at + 95 ⌝ }
-{
-    let a = put(text, at, b"alignments ");
-    put_four(
-        text,
-        a,
-        h.s1.align as u64,
-        h.s2.align as u64,
-        h.s3.align as u64,
-        h.s4.align as u64,
-    )
+    let e = put(text, at, word);
+    let f = put_number(text, e, a as u64);
+    let g = put_number(text, f, b as u64);
+    let h = put_number(text, g, c as u64);
+    put_number(text, h, d as u64)
 }
 
 fn put_header(text: &mut [u8], at: usize, h: Header) -> usize
@@ -101,8 +71,16 @@ fn put_header(text: &mut [u8], at: usize, h: Header) -> usize
     let b = put_number(text, a, h.tag as u64);
     let c = put(text, b, b"segments ");
     let d = put_number(text, c, h.count as u64);
-    let e = put_lengths(text, d, h);
-    put_alignments(text, e, h)
+    let e = put_four(text, d, b"lengths ", h.s1.len, h.s2.len, h.s3.len, h.s4.len);
+    put_four(
+        text,
+        e,
+        b"alignments ",
+        h.s1.align as u32,
+        h.s2.align as u32,
+        h.s3.align as u32,
+        h.s4.align as u32,
+    )
 }
 
 fn revision_number(revision: Revision) -> u64
@@ -138,22 +116,13 @@ fn put_banner(text: &mut [u8], at: usize, taken: usize, peer: Features, revision
     put_number(text, g, revision_number(revision))
 }
 
-fn put_frame(text: &mut [u8], at: usize, taken: usize, h: Header) -> usize
-    requires { ⌜ at + 277 ≤ length (now text) ⌝ }
-    ensures { λ r. ⌜ Put (now (text .entry)) at (frameText taken h) (now (text .exit)) r ⌝ }
+// A frame that is handed over or dropped, after the word for it.
+fn put_frame(text: &mut [u8], at: usize, word: &[u8], taken: usize, h: Header) -> usize
+    requires { ⌜ (at + 277 ≤ length (now text)) × (length (now word) ≤ 14) ⌝ }
+    ensures { λ r. ⌜ Put (now (text .entry)) at (frameText (now (word .entry)) taken h) (now (text .exit)) r ⌝ }
     ensures { λ r. ⌜ r ≤ at + 277 ⌝ }
 {
-    let a = put(text, at, b"frame taken ");
-    let b = put_number(text, a, taken as u64);
-    put_header(text, b, h)
-}
-
-fn put_dropped(text: &mut [u8], at: usize, taken: usize, h: Header) -> usize
-    requires { ⌜ at + 277 ≤ length (now text) ⌝ }
-    ensures { λ r. ⌜ Put (now (text .entry)) at (droppedText taken h) (now (text .exit)) r ⌝ }
-    ensures { λ r. ⌜ r ≤ at + 277 ⌝ }
-{
-    let a = put(text, at, b"dropped taken ");
+    let a = put(text, at, word);
     let b = put_number(text, a, taken as u64);
     put_header(text, b, h)
 }
@@ -177,8 +146,8 @@ fn put_report(text: &mut [u8], at: usize, taken: usize, report: Report) -> usize
     match report {
         Report::More => put_more(text, at, taken),
         Report::Banner(peer, revision) => put_banner(text, at, taken, peer, revision),
-        Report::Frame(h) => put_frame(text, at, taken, h),
-        Report::Dropped(h) => put_dropped(text, at, taken, h),
+        Report::Frame(h) => put_frame(text, at, b"frame taken ", taken, h),
+        Report::Dropped(h) => put_frame(text, at, b"dropped taken ", taken, h),
         Report::Refused(why) => put_call_refused(text, at, taken, why),
     }
 }
@@ -280,7 +249,7 @@ fn make_calls(
     end
 }
 
-pub fn receiver_record(s: &[u8], space: &mut [u8], text: &mut [u8], at: usize) -> Step
+pub(crate) fn receiver_record(s: &[u8], space: &mut [u8], text: &mut [u8], at: usize) -> Step
     requires { ⌜ (65536 ≤ length (now space)) × (at + 290 ≤ length (now text)) ⌝ }
     ensures { λ r. ⌜ ReceiverDid (now (s .entry)) (now (text .entry)) at (now (text .exit)) r ⌝ }
 {

@@ -4,7 +4,6 @@ use Rattle.banner.proofs.count_of.Tie as tie
 use Rattle.banner.proofs.count_of.Reads as reads
 use Rattle.banner.proofs.count_of.Lts as lts
 
--- src/judge.rt:43:1
 returns : tie.Need-returns
 returns c = ones-count 64 (c .args .bits) (c .fits .bits .fits)
 

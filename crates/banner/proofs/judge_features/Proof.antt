@@ -11,27 +11,21 @@ use Rattle.banner.proofs.judge_required.Reads as judge-required-reads
 use Rattle.banner.proofs.missing_of.Reads as missing-of-reads
 use Rattle.refusal.proofs.or_else.Reads as or-else-reads
 
--- src/judge.rt:84:33
 missing-of-requires : tie.Need-missing-of-requires
 missing-of-requires c κs = search needs
 
--- src/judge.rt:84:9
 judge-required-requires : tie.Need-judge-required-requires
 judge-required-requires c κs = search needs
 
--- src/judge.rt:85:30
 missing-of-requires-2 : tie.Need-missing-of-requires-2
 missing-of-requires-2 c κs = search needs
 
--- src/judge.rt:85:9
 judge-lacking-requires : tie.Need-judge-lacking-requires
 judge-lacking-requires c κs = search needs
 
--- src/judge.rt:86:5
 or-else-requires : tie.Need-or-else-requires
 or-else-requires c κs = search needs
 
--- src/judge.rt:81:1
 returns : tie.Need-returns
 unfolding judgeFeatures
 returns c = cc (or-else-last (judgedBy (c .before .judge-lacking .result)))

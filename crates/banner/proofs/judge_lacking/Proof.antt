@@ -6,15 +6,12 @@ use Rattle.banner.proofs.judge_lacking.Lts as lts
 use Rattle.banner.proofs.detail_of.Reads as detail-of-reads
 use Rattle.refusal.proofs.unless_ok.Reads as unless-ok-reads
 
--- src/judge.rt:77:45
 detail-of-requires : tie.Need-detail-of-requires
 detail-of-requires c κs = search needs
 
--- src/judge.rt:77:5
 unless-ok-requires : tie.Need-unless-ok-requires
 unless-ok-requires c κs = search needs
 
--- src/judge.rt:74:1
 returns : tie.Need-returns
 returns c = cc
 

@@ -10,71 +10,54 @@ use Rattle.buffer.proofs.byte_at.Reads as byte-at-reads
 use Rattle.refusal.proofs.both.Reads as both-reads
 use Rattle.refusal.proofs.unless_ok.Reads as unless-ok-reads
 
--- src/lib.rt:99:19
 byte-at-requires : tie.Need-byte-at-requires
 byte-at-requires c κs = search needs
 
--- src/lib.rt:99:42
 byte-at-requires-2 : tie.Need-byte-at-requires-2
 byte-at-requires-2 c κs = search needs
 
--- src/lib.rt:99:9
 both-requires : tie.Need-both-requires
 both-requires c κs = search needs
 
--- src/lib.rt:100:19
 byte-at-requires-3 : tie.Need-byte-at-requires-3
 byte-at-requires-3 c κs = search needs
 
--- src/lib.rt:100:47
 byte-at-requires-4 : tie.Need-byte-at-requires-4
 byte-at-requires-4 c κs = search needs
 
--- src/lib.rt:100:42
 both-requires-2 : tie.Need-both-requires-2
 both-requires-2 c κs = search needs
 
--- src/lib.rt:100:9
 both-requires-3 : tie.Need-both-requires-3
 both-requires-3 c κs = search needs
 
--- src/lib.rt:101:19
 byte-at-requires-5 : tie.Need-byte-at-requires-5
 byte-at-requires-5 c κs = search needs
 
--- src/lib.rt:101:47
 byte-at-requires-6 : tie.Need-byte-at-requires-6
 byte-at-requires-6 c κs = search needs
 
--- src/lib.rt:101:42
 both-requires-4 : tie.Need-both-requires-4
 both-requires-4 c κs = search needs
 
--- src/lib.rt:101:9
 both-requires-5 : tie.Need-both-requires-5
 both-requires-5 c κs = search needs
 
--- src/lib.rt:102:19
 byte-at-requires-7 : tie.Need-byte-at-requires-7
 byte-at-requires-7 c κs = search needs
 
--- src/lib.rt:102:47
 byte-at-requires-8 : tie.Need-byte-at-requires-8
 byte-at-requires-8 c κs = search needs
 
--- src/lib.rt:102:42
 both-requires-6 : tie.Need-both-requires-6
 both-requires-6 c κs = search needs
 
--- src/lib.rt:102:9
 both-requires-7 : tie.Need-both-requires-7
 both-requires-7 c κs = search needs
 
--- src/lib.rt:103:5
 unless-ok-requires : tie.Need-unless-ok-requires
 unless-ok-requires c κs = search needs
 
--- src/lib.rt:96:1
 returns : tie.Need-returns
 returns c = cc (and-true (eqb (getD (c .before .before .before .before .before .before .before .before .before .before .before .before .before .before .before .before .before .args .b .now) 7 0) 10))
 

@@ -7,23 +7,18 @@ use Rattle.banner.proofs.missing_of.Reads as missing-of-reads
 use Rattle.refusal.proofs.both.Reads as both-reads
 use Rattle.refusal.proofs.unless_ok.Reads as unless-ok-reads
 
--- src/judge.rt:63:9
 missing-of-requires : tie.Need-missing-of-requires
 missing-of-requires c κs = search needs
 
--- src/judge.rt:64:9
 both-requires : tie.Need-both-requires
 both-requires c κs = search needs
 
--- src/judge.rt:65:15
 both-requires-2 : tie.Need-both-requires-2
 both-requires-2 c κs = search needs
 
--- src/judge.rt:65:5
 unless-ok-requires : tie.Need-unless-ok-requires
 unless-ok-requires c κs = search needs
 
--- src/judge.rt:60:1
 returns : tie.Need-returns
 returns c = cc
 

@@ -4,7 +4,6 @@ use Rattle.banner.proofs.lowest_of.Tie as tie
 use Rattle.banner.proofs.lowest_of.Reads as reads
 use Rattle.banner.proofs.lowest_of.Lts as lts
 
--- src/judge.rt:37:1
 returns : tie.Need-returns
 returns c = zeros-lowest 64 (c .args .bits)
 

@@ -4,7 +4,6 @@ use Rattle.banner.proofs.missing_of.Tie as tie
 use Rattle.banner.proofs.missing_of.Reads as reads
 use Rattle.banner.proofs.missing_of.Lts as lts
 
--- src/judge.rt:31:1
 returns : tie.Need-returns
 returns c = missing-is 64 (c .args .required) (c .args .supported) (c .fits .required .fits) (c .fits .supported .fits)
 

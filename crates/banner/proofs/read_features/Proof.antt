@@ -5,15 +5,12 @@ use Rattle.banner.proofs.read_features.Reads as reads
 use Rattle.banner.proofs.read_features.Lts as lts
 use Rattle.buffer.proofs.long_at.Reads as long-at-reads
 
--- src/lib.rt:117:20
 long-at-requires : tie.Need-long-at-requires
 long-at-requires c κs = search needs
 
--- src/lib.rt:118:19
 long-at-requires-2 : tie.Need-long-at-requires-2
 long-at-requires-2 c κs = search needs
 
--- src/lib.rt:113:1
 returns : tie.Need-returns
 returns c = simp (c .before .long-at .ensures, c .long-at2 .ensures)
 

@@ -6,15 +6,12 @@ use Rattle.banner.proofs.revision_of.Reads as reads
 use Rattle.banner.proofs.revision_of.Lts as lts
 use Rattle.refusal.proofs.both.Reads as both-reads
 
--- src/judge.rt:93:8
 both-requires : tie.Need-both-requires
 both-requires c κs = search needs
 
--- src/judge.rt:90:1
 returns : tie.Need-returns
 returns c = simp (sym (c .before .both .ensures) ∙ c .if1 .taken)
 
--- src/judge.rt:90:1
 returns-2 : tie.Need-returns-2
 returns-2 c = simp (sym (c .before .both .ensures) ∙ c .if1 .left)
 

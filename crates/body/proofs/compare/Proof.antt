@@ -6,15 +6,12 @@ use Rattle.body.proofs.compare.Lts as lts
 use Rattle.body.proofs.either.Reads as either-reads
 use Rattle.refusal.proofs.unless_ok.Reads as unless-ok-reads
 
--- src/lib.rt:228:15
 either-requires : tie.Need-either-requires
 either-requires c κs = search needs
 
--- src/lib.rt:228:5
 unless-ok-requires : tie.Need-unless-ok-requires
 unless-ok-requires c κs = search needs
 
--- src/lib.rt:225:1
 returns : tie.Need-returns
 returns c = cc
 

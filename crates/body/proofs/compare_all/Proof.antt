@@ -20,39 +20,30 @@ use Rattle.buffer.proofs.part.Reads as part-reads
 use Rattle.buffer.proofs.word_at.Reads as word-at-reads
 use Rattle.refusal.proofs.or_else.Reads as or-else-reads
 
--- src/lib.rt:248:13
 cast-n : tie.Need-cast-n
 cast-n c = search needs
 
--- src/lib.rt:250:34
 part-requires : tie.Need-part-requires
 part-requires c κs = search needs
 
--- src/lib.rt:250:9
 field-of-requires : tie.Need-field-of-requires
 field-of-requires c κs = search needs
 
--- src/lib.rt:251:35
 word-at-requires : tie.Need-word-at-requires
 word-at-requires c κs = search needs
 
--- src/lib.rt:251:9
 compare-requires : tie.Need-compare-requires
 compare-requires c κs = search needs
 
--- src/lib.rt:252:42
 behind-requires : tie.Need-behind-requires
 behind-requires c κs = search needs
 
--- src/lib.rt:252:20
 compare-rest-requires : tie.Need-compare-rest-requires
 compare-rest-requires c κs = search needs
 
--- src/lib.rt:252:5
 or-else-requires : tie.Need-or-else-requires
 or-else-requires c κs = search needs
 
--- src/lib.rt:245:1
 returns : tie.Need-returns
 returns c =
     let h = c .before .before .before .before .before .before .before .before .before .before .args .h in

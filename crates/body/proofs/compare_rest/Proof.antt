@@ -18,51 +18,39 @@ use Rattle.refusal.proofs.or_else.Reads as or-else-reads
 one : (count k : ℕ) {stored sum x y : ℕ} {j : Judged} → j ≡ unless (ltb count k || eqb stored sum) 11 k → stored ≡ x → sum ≡ y → j ≡ unless (ltb count k || eqb x y) 11 k
 one count k {stored} {sum} {x} {y} {j} e a b = e ∙ ap₂ (λ (p q : ℕ). unless (ltb count k || eqb p q) 11 k) a b
 
--- src/lib.rt:237:9
 rest-fields-requires : tie.Need-rest-fields-requires
 rest-fields-requires c κs = search needs
 
--- src/lib.rt:238:32
 word-at-requires : tie.Need-word-at-requires
 word-at-requires c κs = search needs
 
--- src/lib.rt:238:9
 compare-requires : tie.Need-compare-requires
 compare-requires c κs = search needs
 
--- src/lib.rt:239:43
 add-word-at : tie.Need-add-word-at
 add-word-at c = search needs
 
--- src/lib.rt:239:32
 word-at-requires-2 : tie.Need-word-at-requires-2
 word-at-requires-2 c κs = search needs
 
--- src/lib.rt:239:9
 compare-requires-2 : tie.Need-compare-requires-2
 compare-requires-2 c κs = search needs
 
--- src/lib.rt:240:43
 add-word-at-2 : tie.Need-add-word-at-2
 add-word-at-2 c = search needs
 
--- src/lib.rt:240:32
 word-at-requires-3 : tie.Need-word-at-requires-3
 word-at-requires-3 c κs = search needs
 
--- src/lib.rt:240:9
 compare-requires-3 : tie.Need-compare-requires-3
 compare-requires-3 c κs = search needs
 
--- src/lib.rt:241:17
 or-else-requires : tie.Need-or-else-requires
 or-else-requires c κs = search needs
 
--- src/lib.rt:241:5
 or-else-requires-2 : tie.Need-or-else-requires-2
 or-else-requires-2 c κs = search needs
 
--- src/lib.rt:232:1
 returns : tie.Need-returns
 returns c =
     let k = c .before .before .before .before .before .before .before .before .before .before .before .args .h .count in

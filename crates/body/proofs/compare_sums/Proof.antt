@@ -13,35 +13,27 @@ use Rattle.body.proofs.compare_all.Reads as compare-all-reads
 use Rattle.body.proofs.compare_rest.Reads as compare-rest-reads
 use Rattle.buffer.proofs.behind.Reads as behind-reads
 
--- src/lib.rt:267:13
 cast-n : tie.Need-cast-n
 cast-n c = search needs
 
--- src/lib.rt:269:29
 enum-told : tie.Need-enum-told
 enum-told c = search needs
 
--- src/lib.rt:269:29
 compare-all-requires : tie.Need-compare-all-requires
 compare-all-requires c κs = search needs
 
--- src/lib.rt:270:51
 enum-told-2 : tie.Need-enum-told-2
 enum-told-2 c = search needs
 
--- src/lib.rt:270:51
 behind-requires : tie.Need-behind-requires
 behind-requires c κs = search needs
 
--- src/lib.rt:270:29
 compare-rest-requires : tie.Need-compare-rest-requires
 compare-rest-requires c κs = search needs
 
--- src/lib.rt:264:1
 returns : tie.Need-returns
 returns c = rw (c .before .enum-told .given .1) (c .compare-all .ensures)
 
--- src/lib.rt:264:1
 returns-2 : tie.Need-returns-2
 returns-2 c =
     let h = c .before .before .before .before .before .before .before .args .h in

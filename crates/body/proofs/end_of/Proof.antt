@@ -14,58 +14,46 @@ use Rattle.body.proofs.no_epilogue.Reads as no-epilogue-reads
 use Rattle.body.proofs.read_late.Reads as read-late-reads
 use Rattle.buffer.proofs.byte_at.Reads as byte-at-reads
 
--- src/lib.rt:287:8
 no-epilogue-requires : tie.Need-no-epilogue-requires
 no-epilogue-requires c κs = search needs
 
--- src/lib.rt:288:9
 returns : tie.Need-returns
 unfolding ending
 returns c = rw (sym (c .before .no-epilogue .ensures) ∙ c .if1 .taken)
 
--- src/lib.rt:290:9
 byte-at-requires : tie.Need-byte-at-requires
 byte-at-requires c κs = search needs
 
--- src/lib.rt:291:9
 read-late-requires : tie.Need-read-late-requires
 read-late-requires c κs = search needs
 
--- src/lib.rt:293:40
 enum-told : tie.Need-enum-told
 enum-told c = search needs
 
--- src/lib.rt:294:26
 enum-told-2 : tie.Need-enum-told-2
 enum-told-2 c = search needs
 
--- src/lib.rt:295:33
 enum-told-3 : tie.Need-enum-told-3
 enum-told-3 c = search needs
 
--- src/lib.rt:295:33
 compare-sums-requires : tie.Need-compare-sums-requires
 compare-sums-requires c κs = search needs
 
--- src/lib.rt:295:27
 ended-requires : tie.Need-ended-requires
 ended-requires c κs = search needs
 
--- src/lib.rt:284:1
 returns-2 : tie.Need-returns-2
 unfolding ending
 returns-2 c =
     let b = c .before .before .before .byte-at .ensures in
     rw (sym (c .before .before .before .before .before .no-epilogue .ensures) ∙ c .before .before .before .before .if1 .left, ap (lateOf (c .before .before .before .before .before .before .before .before .args .revision)) (sym b) ∙ sym (c .before .before .read-late .ensures) ∙ c .enum-told .given .1, ← b)
 
--- src/lib.rt:284:1
 returns-3 : tie.Need-returns-3
 unfolding ending
 returns-3 c =
     let b = c .before .before .before .byte-at .ensures in
     rw (sym (c .before .before .before .before .before .no-epilogue .ensures) ∙ c .before .before .before .before .if1 .left, ap (lateOf (c .before .before .before .before .before .before .before .before .args .revision)) (sym b) ∙ sym (c .before .before .read-late .ensures) ∙ c .enum-told2 .given .1)
 
--- src/lib.rt:284:1
 returns-4 : tie.Need-returns-4
 unfolding ending
 returns-4 c =

@@ -8,19 +8,15 @@ use Rattle.body.proofs.ended.Tie as tie
 use Rattle.body.proofs.ended.Reads as reads
 use Rattle.body.proofs.ended.Lts as lts
 
--- src/lib.rt:259:26
 enum-told : tie.Need-enum-told
 enum-told c = search needs
 
--- src/lib.rt:260:26
 enum-known-v : tie.Need-enum-known-v
 enum-known-v c = search needs
 
--- src/lib.rt:255:1
 returns : tie.Need-returns
 returns c = search needs
 
--- src/lib.rt:255:1
 returns-2 : tie.Need-returns-2
 returns-2 c = sym (ap (λ (v : Verdict). endedBy (judgedBy v)) (c .before .v .given .1))
 

@@ -6,15 +6,12 @@ use Rattle.body.proofs.field_of.Reads as reads
 use Rattle.body.proofs.field_of.Lts as lts
 use Rattle.crc32c.proofs.checksum.Reads as checksum-reads
 
--- src/layout.rt:104:9
 checksum-requires : tie.Need-checksum-requires
 checksum-requires c κs = search needs
 
--- src/layout.rt:100:1
 returns : tie.Need-returns
 returns c = simp (le-leb _ _ (c .before .if1 .taken), c .checksum .ensures)
 
--- src/layout.rt:100:1
 returns-2 : tie.Need-returns-2
 returns-2 c = simp (lt-leb _ _ (c .if1 .left))
 

@@ -4,19 +4,15 @@ use Rattle.body.proofs.no_epilogue.Tie as tie
 use Rattle.body.proofs.no_epilogue.Reads as reads
 use Rattle.body.proofs.no_epilogue.Lts as lts
 
--- src/lib.rt:278:29
 enum-told : tie.Need-enum-told
 enum-told c = search needs
 
--- src/lib.rt:279:29
 enum-told-2 : tie.Need-enum-told-2
 enum-told-2 c = search needs
 
--- src/lib.rt:274:1
 returns : tie.Need-returns
 returns c = search needs
 
--- src/lib.rt:274:1
 returns-2 : tie.Need-returns-2
 returns-2 c = simp (c .before .enum-told2 .given .1)
 

@@ -8,31 +8,24 @@ use Rattle.body.proofs.read_late.Tie as tie
 use Rattle.body.proofs.read_late.Reads as reads
 use Rattle.body.proofs.read_late.Lts as lts
 
--- src/judge.rt:304:16
 enum-told : tie.Need-enum-told
 enum-told c = search needs
 
--- src/judge.rt:311:16
 enum-told-2 : tie.Need-enum-told-2
 enum-told-2 c = search needs
 
--- src/judge.rt:312:17
 returns : tie.Need-returns
 returns c = simp (c .before .enum-told2 .given .1, eq-eqb _ _ (c .if2 .taken))
 
--- src/judge.rt:315:17
 returns-2 : tie.Need-returns-2
 returns-2 c = simp (c .before .before .enum-told2 .given .1, ne-eqb _ _ (c .before .if2 .left), eq-eqb _ _ (c .if3 .taken))
 
--- src/judge.rt:299:1
 returns-3 : tie.Need-returns-3
 returns-3 c = simp (c .before .enum-told .given .1, eq-eqb _ _ (c .if1 .taken))
 
--- src/judge.rt:299:1
 returns-4 : tie.Need-returns-4
 returns-4 c = simp (c .before .enum-told .given .1, ne-eqb _ _ (c .if1 .left))
 
--- src/judge.rt:299:1
 returns-5 : tie.Need-returns-5
 returns-5 c = simp (c .before .before .enum-told2 .given .1, ne-eqb _ _ (c .before .if2 .left), ne-eqb _ _ (c .if3 .left))
 

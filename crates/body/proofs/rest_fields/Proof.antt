@@ -9,47 +9,36 @@ use Rattle.body.proofs.rest_fields.Lts as lts
 use Rattle.buffer.proofs.part.Reads as part-reads
 use Rattle.body.proofs.field_of.Reads as field-of-reads
 
--- src/layout.rt:125:14
 cast-n2 : tie.Need-cast-n2
 cast-n2 c = search needs
 
--- src/layout.rt:126:14
 cast-n3 : tie.Need-cast-n3
 cast-n3 c = search needs
 
--- src/layout.rt:127:14
 cast-n4 : tie.Need-cast-n4
 cast-n4 c = search needs
 
--- src/layout.rt:130:32
 part-requires : tie.Need-part-requires
 part-requires c κs = search needs
 
--- src/layout.rt:130:13
 field-of-requires : tie.Need-field-of-requires
 field-of-requires c κs = search needs
 
--- src/layout.rt:131:32
 part-requires-2 : tie.Need-part-requires-2
 part-requires-2 c κs = search needs
 
--- src/layout.rt:131:13
 field-of-requires-2 : tie.Need-field-of-requires-2
 field-of-requires-2 c κs = search needs
 
--- src/layout.rt:132:43
 add-part : tie.Need-add-part
 add-part c = search needs
 
--- src/layout.rt:132:32
 part-requires-3 : tie.Need-part-requires-3
 part-requires-3 c κs = search needs
 
--- src/layout.rt:132:13
 field-of-requires-3 : tie.Need-field-of-requires-3
 field-of-requires-3 c κs = search needs
 
--- src/layout.rt:122:1
 returns : tie.Need-returns
 returns c = simp (c .before .before .before .before .field-of .ensures, c .before .before .field-of2 .ensures, c .field-of3 .ensures, c .before .before .before .before .before .part .ensures, c .before .before .before .part2 .ensures, c .before .part3 .ensures, drop-drop)
 

@@ -7,51 +7,39 @@ use Rattle.body.proofs.wire_length.Lts as lts
 use Rattle.preamble.proofs.total_of.Reads as total-of-reads
 use Rattle.body.proofs.if_not.Reads as if-not-reads
 
--- src/layout.rt:226:9
 total-of-requires : tie.Need-total-of-requires
 total-of-requires c κs = search needs
 
--- src/layout.rt:228:29
 enum-told : tie.Need-enum-told
 enum-told c = search needs
 
--- src/layout.rt:228:29
 add-result : tie.Need-add-result
 add-result c = search needs
 
--- src/layout.rt:228:29
 add-result-2 : tie.Need-add-result-2
 add-result-2 c = search needs
 
--- src/layout.rt:230:32
 enum-told-2 : tie.Need-enum-told-2
 enum-told-2 c = search needs
 
--- src/layout.rt:230:17
 if-not-requires : tie.Need-if-not-requires
 if-not-requires c κs = search needs
 
--- src/layout.rt:231:17
 if-not-requires-2 : tie.Need-if-not-requires-2
 if-not-requires-2 c κs = search needs
 
--- src/layout.rt:232:13
 add-result-3 : tie.Need-add-result-3
 add-result-3 c = search needs
 
--- src/layout.rt:232:13
 add-result-4 : tie.Need-add-result-4
 add-result-4 c = search needs
 
--- src/layout.rt:232:13
 add-result-5 : tie.Need-add-result-5
 add-result-5 c = search needs
 
--- src/layout.rt:223:1
 returns : tie.Need-returns
 returns c = simp (c .enum-told .given .1, c .before .before .total-of .ensures)
 
--- src/layout.rt:223:1
 returns-2 : tie.Need-returns-2
 returns-2 c = simp (c .before .before .before .before .enum-told2 .given .1, c .before .before .before .before .before .before .total-of .ensures, c .before .before .if-not .ensures .0, c .if-not2 .ensures .0)
 

@@ -6,15 +6,12 @@ use Rattle.body.proofs.zero_field.Reads as reads
 use Rattle.body.proofs.zero_field.Lts as lts
 use Rattle.crc32c.proofs.checksum_zeros.Reads as checksum-zeros-reads
 
--- src/layout.rt:115:9
 checksum-zeros-requires : tie.Need-checksum-zeros-requires
 checksum-zeros-requires c κs = search needs
 
--- src/layout.rt:111:1
 returns : tie.Need-returns
 returns c = simp (le-leb _ _ (c .before .if1 .taken), c .checksum-zeros .ensures)
 
--- src/layout.rt:111:1
 returns-2 : tie.Need-returns-2
 returns-2 c = simp (lt-leb _ _ (c .if1 .left))
 

@@ -10,19 +10,15 @@ use Rattle.body.proofs.zero_fields.Reads as reads
 use Rattle.body.proofs.zero_fields.Lts as lts
 use Rattle.body.proofs.zero_field.Reads as zero-field-reads
 
--- src/layout.rt:142:13
 zero-field-requires : tie.Need-zero-field-requires
 zero-field-requires c κs = search needs
 
--- src/layout.rt:143:13
 zero-field-requires-2 : tie.Need-zero-field-requires-2
 zero-field-requires-2 c κs = search needs
 
--- src/layout.rt:144:13
 zero-field-requires-3 : tie.Need-zero-field-requires-3
 zero-field-requires-3 c κs = search needs
 
--- src/layout.rt:137:1
 returns : tie.Need-returns
 returns c =
     let h = c .before .before .before .args .h in

@@ -17,58 +17,46 @@ use Rattle.banner.proofs.banner_bytes.Reads as banner-bytes-reads
 use Rattle.buffer.proofs.put.Reads as put-reads
 use Rattle.builder.proofs.judge_banner.Reads as judge-banner-reads
 
--- src/lib.rt:222:9
 judge-banner-requires : tie.Need-judge-banner-requires
 judge-banner-requires c κs = search needs
 
--- src/lib.rt:224:26
 enum-known-verdict : tie.Need-enum-known-verdict
 enum-known-verdict c = search needs
 
--- src/lib.rt:226:25
 enum-told : tie.Need-enum-told
 enum-told c = search needs
 
--- src/lib.rt:226:25
 banner-bytes-requires : tie.Need-banner-bytes-requires
 banner-bytes-requires c κs = search needs
 
--- src/lib.rt:227:17
 sub-put : tie.Need-sub-put
 sub-put c =
     let g = c .before .before .before .before .before .args in
     let f = banner-fits (g .supported) (g .required) (length (g .buf .now)) (g .queued) (sym (c .before .before .before .judge-banner .ensures) ∙ ap judgedBy (c .before .enum-told .given .1)) in
     omega arith
 
--- src/lib.rt:227:17
 part-put-start : tie.Need-part-put-start
 part-put-start c =
     let g = c .before .before .before .before .before .args in
     let f = banner-fits (g .supported) (g .required) (length (g .buf .now)) (g .queued) (sym (c .before .before .before .judge-banner .ensures) ∙ ap judgedBy (c .before .enum-told .given .1)) in
     omega arith
 
--- src/lib.rt:227:17
 part-put-end : tie.Need-part-put-end
 part-put-end c = search needs
 
--- src/lib.rt:227:37
 slice-aggregate-put : tie.Need-slice-aggregate-put
 slice-aggregate-put c = search needs
 
--- src/lib.rt:227:13
 put-requires : tie.Need-put-requires
 put-requires c κs = search needs
 
--- src/lib.rt:219:1
 returns : tie.Need-returns
 unfolding bannerDone
 returns c = rw (sym (c .before .before .before .judge-banner .ensures) ∙ ap judgedBy (c .before .verdict .given .1))
 
--- src/lib.rt:219:1
 same-length : tie.Need-same-length
 same-length c = search needs
 
--- src/lib.rt:219:1
 returns-2 : tie.Need-returns-2
 unfolding bannerDone
 returns-2 c =

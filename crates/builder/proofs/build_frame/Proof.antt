@@ -17,37 +17,30 @@ use Rattle.body.proofs.wire_length.Reads as wire-length-reads
 use Rattle.builder.proofs.judge_frame.Reads as judge-frame-reads
 use Rattle.builder.proofs.put_frame.Reads as put-frame-reads
 
--- src/lib.rt:237:9
 judge-frame-requires : tie.Need-judge-frame-requires
 judge-frame-requires c κs = search needs
 
--- src/lib.rt:239:26
 enum-known-verdict : tie.Need-enum-known-verdict
 enum-known-verdict c = search needs
 
--- src/lib.rt:241:23
 enum-told : tie.Need-enum-told
 enum-told c = search needs
 
--- src/lib.rt:241:23
 sub-put-frame : tie.Need-sub-put-frame
 sub-put-frame c =
     let g = c .before .before .before .before .before .args in
     let f = accepted (g .revision) (g .header) (g .abort) (length (g .source .now)) (length (g .buf .now)) (g .queued) (sym (c .before .before .judge-frame .ensures) ∙ ap judgedBy (c .enum-told .given .1)) in
     omega arith
 
--- src/lib.rt:241:23
 part-put-frame-start : tie.Need-part-put-frame-start
 part-put-frame-start c =
     let g = c .before .before .before .before .before .args in
     let f = accepted (g .revision) (g .header) (g .abort) (length (g .source .now)) (length (g .buf .now)) (g .queued) (sym (c .before .before .judge-frame .ensures) ∙ ap judgedBy (c .enum-told .given .1)) in
     omega arith
 
--- src/lib.rt:241:23
 part-put-frame-end : tie.Need-part-put-frame-end
 part-put-frame-end c = search needs
 
--- src/lib.rt:241:13
 put-frame-requires : tie.Need-put-frame-requires
 put-frame-requires c κs =
     let g = c .before .before .before .before .before .before .args in
@@ -55,20 +48,16 @@ put-frame-requires c κs =
     let b : length (rest (g .buf .now) (g .queued)) ≡ length (g .buf .now) - g .queued = length-rest (g .buf .now) (g .queued) in
     (f .whole, omega arith)
 
--- src/lib.rt:242:26
 wire-length-requires : tie.Need-wire-length-requires
 wire-length-requires c κs = search needs
 
--- src/lib.rt:234:1
 returns : tie.Need-returns
 unfolding frameDone
 returns c = rw (sym (c .before .before .before .judge-frame .ensures) ∙ ap judgedBy (c .before .verdict .given .1))
 
--- src/lib.rt:234:1
 same-length : tie.Need-same-length
 same-length c = search needs
 
--- src/lib.rt:234:1
 returns-2 : tie.Need-returns-2
 unfolding frameDone
 returns-2 c =

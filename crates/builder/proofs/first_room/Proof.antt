@@ -5,11 +5,9 @@ use Rattle.builder.proofs.first_room.Tie as tie
 use Rattle.builder.proofs.first_room.Reads as reads
 use Rattle.builder.proofs.first_room.Lts as lts
 
--- src/lib.rt:152:1
 returns : tie.Need-returns
 returns c = (simp (eq-eqb _ _ (c .if1 .taken)), omega arith)
 
--- src/lib.rt:152:1
 returns-2 : tie.Need-returns-2
 returns-2 c = (simp (ne-eqb _ _ (c .if1 .left)), omega arith)
 

@@ -7,27 +7,21 @@ use Rattle.builder.proofs.judge_abort.Lts as lts
 use Rattle.refusal.proofs.both.Reads as both-reads
 use Rattle.refusal.proofs.unless_ok.Reads as unless-ok-reads
 
--- src/lib.rt:64:29
 enum-told : tie.Need-enum-told
 enum-told c = search needs
 
--- src/lib.rt:65:52
 enum-told-2 : tie.Need-enum-told-2
 enum-told-2 c = search needs
 
--- src/lib.rt:65:40
 both-requires : tie.Need-both-requires
 both-requires c κs = search needs
 
--- src/lib.rt:65:29
 unless-ok-requires : tie.Need-unless-ok-requires
 unless-ok-requires c κs = search needs
 
--- src/lib.rt:60:1
 returns : tie.Need-returns
 returns c = search needs
 
--- src/lib.rt:60:1
 returns-2 : tie.Need-returns-2
 returns-2 c = simp (c .before .before .enum-told2 .given .1, c .unless-ok .ensures, c .before .both .ensures)
 

@@ -10,23 +10,18 @@ use Rattle.builder.proofs.room.Reads as room-reads
 use Rattle.refusal.proofs.or_else.Reads as or-else-reads
 use Rattle.refusal.proofs.unless_ok.Reads as unless-ok-reads
 
--- src/lib.rt:85:26
 room-requires : tie.Need-room-requires
 room-requires c κs = search needs
 
--- src/lib.rt:85:9
 unless-ok-requires : tie.Need-unless-ok-requires
 unless-ok-requires c κs = search needs
 
--- src/lib.rt:86:13
 judge-own-requires : tie.Need-judge-own-requires
 judge-own-requires c κs = search needs
 
--- src/lib.rt:86:5
 or-else-requires : tie.Need-or-else-requires
 or-else-requires c κs = search needs
 
--- src/lib.rt:82:1
 returns : tie.Need-returns
 unfolding judgeBanner
 returns c = cc (or-else-last (judgedBy (c .before .before .unless-ok .result)))

@@ -16,47 +16,36 @@ use Rattle.preamble.proofs.total_of.Reads as total-of-reads
 use Rattle.refusal.proofs.or_else.Reads as or-else-reads
 use Rattle.refusal.proofs.unless_ok.Reads as unless-ok-reads
 
--- src/lib.rt:72:9
 wire-length-requires : tie.Need-wire-length-requires
 wire-length-requires c κs = search needs
 
--- src/lib.rt:73:26
 room-requires : tie.Need-room-requires
 room-requires c κs = search needs
 
--- src/lib.rt:73:9
 unless-ok-requires : tie.Need-unless-ok-requires
 unless-ok-requires c κs = search needs
 
--- src/lib.rt:74:23
 judge-abort-requires : tie.Need-judge-abort-requires
 judge-abort-requires c κs = search needs
 
--- src/lib.rt:74:9
 or-else-requires : tie.Need-or-else-requires
 or-else-requires c κs = search needs
 
--- src/lib.rt:75:9
 total-of-requires : tie.Need-total-of-requires
 total-of-requires c κs = search needs
 
--- src/lib.rt:76:23
 unless-ok-requires-2 : tie.Need-unless-ok-requires-2
 unless-ok-requires-2 c κs = search needs
 
--- src/lib.rt:76:9
 or-else-requires-2 : tie.Need-or-else-requires-2
 or-else-requires-2 c κs = search needs
 
--- src/lib.rt:77:13
 judge-header-requires : tie.Need-judge-header-requires
 judge-header-requires c κs = search needs
 
--- src/lib.rt:77:5
 or-else-requires-3 : tie.Need-or-else-requires-3
 or-else-requires-3 c κs = search needs
 
--- src/lib.rt:69:1
 returns : tie.Need-returns
 unfolding judgeFrame
 returns c =

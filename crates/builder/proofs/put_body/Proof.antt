@@ -12,11 +12,9 @@ use Rattle.builder.proofs.put_body.Lts as lts
 use Rattle.builder.proofs.put_body20.Reads as put-body20-reads
 use Rattle.builder.proofs.put_body21.Reads as put-body21-reads
 
--- src/lib.rt:191:40
 enum-told : tie.Need-enum-told
 enum-told c = search needs
 
--- src/lib.rt:191:29
 put-body20-requires : tie.Need-put-body20-requires
 put-body20-requires c κs =
     let g = c .before .before .before .before .before .before .args in
@@ -24,11 +22,9 @@ put-body20-requires c κs =
     let w = ap (λ (v : Revision). wireLength v (g .h)) (c .before .enum-told .given .1) in
     (p .0, p .1, omega (arith, p, w))
 
--- src/lib.rt:192:40
 enum-told-2 : tie.Need-enum-told-2
 enum-told-2 c = search needs
 
--- src/lib.rt:192:29
 put-body21-requires : tie.Need-put-body21-requires
 put-body21-requires c κs =
     let g = c .before .before .before .before .before .before .args in
@@ -36,19 +32,15 @@ put-body21-requires c κs =
     let w = ap (λ (v : Revision). wireLength v (g .h)) (c .before .enum-told2 .given .1) in
     (p .0, p .1, omega (arith, p, w))
 
--- src/lib.rt:186:1
 same-length : tie.Need-same-length
 same-length c = search needs
 
--- src/lib.rt:186:1
 returns : tie.Need-returns
 returns c = rw (c .before .before .before .before .enum-told .given .1) (c .before .before .put-body20 .ensures)
 
--- src/lib.rt:186:1
 same-length-2 : tie.Need-same-length-2
 same-length-2 c = search needs
 
--- src/lib.rt:186:1
 returns-2 : tie.Need-returns-2
 returns-2 c = rw (c .before .before .before .before .enum-told2 .given .1) (c .before .before .put-body21 .ensures)
 

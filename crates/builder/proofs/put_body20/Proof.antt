@@ -20,71 +20,54 @@ use Rattle.buffer.proofs.put.Reads as put-reads
 use Rattle.builder.proofs.put_rest.Reads as put-rest-reads
 use Rattle.builder.proofs.sums_of.Reads as sums-of-reads
 
--- src/lib.rt:143:5
 put-requires : tie.Need-put-requires
 put-requires c κs = search needs
 
--- src/lib.rt:144:14
 sub-put-rest : tie.Need-sub-put-rest
 sub-put-rest c = search needs
 
--- src/lib.rt:144:14
 part-put-rest-start : tie.Need-part-put-rest-start
 part-put-rest-start c = search needs
 
--- src/lib.rt:144:14
 part-put-rest-end : tie.Need-part-put-rest-end
 part-put-rest-end c = search needs
 
--- src/lib.rt:144:5
 put-rest-requires : tie.Need-put-rest-requires
 put-rest-requires c κs = search needs
 
--- src/lib.rt:145:9
 late-byte-requires : tie.Need-late-byte-requires
 late-byte-requires c κs = search needs
 
--- src/lib.rt:146:33
 field-of-requires : tie.Need-field-of-requires
 field-of-requires c κs = search needs
 
--- src/lib.rt:146:62
 sums-of-requires : tie.Need-sums-of-requires
 sums-of-requires c κs = search needs
 
--- src/lib.rt:146:16
 epilogue20-requires : tie.Need-epilogue20-requires
 epilogue20-requires c κs = search needs
 
--- src/lib.rt:147:15
 add-end : tie.Need-add-end
 add-end c = search needs
 
--- src/lib.rt:148:9
 sub-put : tie.Need-sub-put
 sub-put c = search needs
 
--- src/lib.rt:148:9
 part-put-start : tie.Need-part-put-start
 part-put-start c = search needs
 
--- src/lib.rt:148:9
 part-put-end : tie.Need-part-put-end
 part-put-end c = search needs
 
--- src/lib.rt:148:26
 slice-aggregate-put : tie.Need-slice-aggregate-put
 slice-aggregate-put c = search needs
 
--- src/lib.rt:148:5
 put-requires-2 : tie.Need-put-requires-2
 put-requires-2 c κs = search needs
 
--- src/lib.rt:137:1
 same-length : tie.Need-same-length
 same-length c = search needs
 
--- src/lib.rt:137:1
 returns : tie.Need-returns
 returns c =
     let g = c .before .before .before .before .before .before .before .before .before .before .before .before .before .before .before .before .before .before .before .before .args in

@@ -18,51 +18,39 @@ use Rattle.builder.proofs.put_head21.Reads as put-head21-reads
 use Rattle.builder.proofs.put_last21.Reads as put-last21-reads
 use Rattle.builder.proofs.put_rest.Reads as put-rest-reads
 
--- src/lib.rt:187:9
 put-head21-requires : tie.Need-put-head21-requires
 put-head21-requires c κs = search needs
 
--- src/lib.rt:188:14
 sub-put-rest : tie.Need-sub-put-rest
 sub-put-rest c = search needs
 
--- src/lib.rt:188:14
 part-put-rest-start : tie.Need-part-put-rest-start
 part-put-rest-start c = search needs
 
--- src/lib.rt:188:14
 part-put-rest-end : tie.Need-part-put-rest-end
 part-put-rest-end c = search needs
 
--- src/lib.rt:188:5
 put-rest-requires : tie.Need-put-rest-requires
 put-rest-requires c κs = search needs
 
--- src/lib.rt:189:15
 add-end : tie.Need-add-end
 add-end c = search needs
 
--- src/lib.rt:190:16
 sub-put-last21 : tie.Need-sub-put-last21
 sub-put-last21 c = search needs
 
--- src/lib.rt:190:16
 part-put-last21-start : tie.Need-part-put-last21-start
 part-put-last21-start c = search needs
 
--- src/lib.rt:190:16
 part-put-last21-end : tie.Need-part-put-last21-end
 part-put-last21-end c = search needs
 
--- src/lib.rt:190:5
 put-last21-requires : tie.Need-put-last21-requires
 put-last21-requires c κs = search needs
 
--- src/lib.rt:182:1
 same-length : tie.Need-same-length
 same-length c = search needs
 
--- src/lib.rt:182:1
 returns : tie.Need-returns
 returns c =
     let g = c .before .before .before .before .before .before .before .before .before .before .before .before .before .before .before .args in

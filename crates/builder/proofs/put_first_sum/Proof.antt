@@ -16,27 +16,21 @@ use Rattle.buffer.proofs.put.Reads as put-reads
 use Rattle.buffer.proofs.word_bytes.Reads as word-bytes-reads
 use Rattle.crc32c.proofs.checksum.Reads as checksum-reads
 
--- src/lib.rt:107:30
 checksum-requires : tie.Need-checksum-requires
 checksum-requires c κs = search needs
 
--- src/lib.rt:107:19
 word-bytes-requires : tie.Need-word-bytes-requires
 word-bytes-requires c κs = search needs
 
--- src/lib.rt:108:18
 slice-aggregate-put : tie.Need-slice-aggregate-put
 slice-aggregate-put c = search needs
 
--- src/lib.rt:108:9
 put-requires : tie.Need-put-requires
 put-requires c κs = search needs
 
--- src/lib.rt:102:1
 same-length : tie.Need-same-length
 same-length c = search needs
 
--- src/lib.rt:102:1
 returns : tie.Need-returns
 returns c =
     let out = c .before .before .before .before .before .before .before .before .before .before .args .out .now in
@@ -46,7 +40,6 @@ returns c =
     let fits : length sum ≤ length out = rw t at (c .before .before .before .before .before .before .before .before .before .before .pre) in
     rw t (rw s at (c .before .before .put .ensures) ∙ laid-over sum out fits)
 
--- src/lib.rt:102:1
 returns-2 : tie.Need-returns-2
 returns-2 c = simp (eq-eqb _ _ (c .if1 .left))
 

@@ -20,35 +20,27 @@ use Rattle.buffer.proofs.part.Reads as part-reads
 use Rattle.builder.proofs.put_body.Reads as put-body-reads
 use Rattle.builder.proofs.put_preamble.Reads as put-preamble-reads
 
--- src/lib.rt:201:5
 put-preamble-requires : tie.Need-put-preamble-requires
 put-preamble-requires c κs = omega (arith, c .before .before .before .pre .1, least (c .before .before .before .args .revision) (c .before .before .before .args .h))
 
--- src/lib.rt:202:13
 cast-n : tie.Need-cast-n
 cast-n c = search needs
 
--- src/lib.rt:203:9
 part-requires : tie.Need-part-requires
 part-requires c κs = search needs
 
--- src/lib.rt:204:9
 behind-requires : tie.Need-behind-requires
 behind-requires c κs = search needs
 
--- src/lib.rt:205:14
 sub-put-body : tie.Need-sub-put-body
 sub-put-body c = omega (arith, c .before .before .before .before .before .before .before .before .before .pre .1, least (c .before .before .before .before .before .before .before .before .before .args .revision) (c .before .before .before .before .before .before .before .before .before .args .h), c .before .before .before .before .before .put-preamble .kept .0)
 
--- src/lib.rt:205:14
 part-put-body-start : tie.Need-part-put-body-start
 part-put-body-start c = omega (arith, c .before .before .before .before .before .before .before .before .before .pre .1, least (c .before .before .before .before .before .before .before .before .before .args .revision) (c .before .before .before .before .before .before .before .before .before .args .h), c .before .before .before .before .before .put-preamble .kept .0)
 
--- src/lib.rt:205:14
 part-put-body-end : tie.Need-part-put-body-end
 part-put-body-end c = search needs
 
--- src/lib.rt:205:5
 put-body-requires : tie.Need-put-body-requires
 put-body-requires c κs =
     let g = c .before .before .before .before .before .before .before .before .before .before .args in
@@ -63,11 +55,9 @@ put-body-requires c κs =
       omega (arith, c .before .before .before .before .before .before .before .before .before .before .pre .1, c .before .before .before .before .before .before .put-preamble .kept .0, b),
     )
 
--- src/lib.rt:197:1
 same-length : tie.Need-same-length
 same-length c = search needs
 
--- src/lib.rt:197:1
 returns : tie.Need-returns
 unfolding frameBytes
 returns c =

@@ -17,27 +17,21 @@ use Rattle.buffer.proofs.put.Reads as put-reads
 use Rattle.builder.proofs.first_room.Reads as first-room-reads
 use Rattle.builder.proofs.put_first_sum.Reads as put-first-sum-reads
 
--- src/lib.rt:175:13
 cast-n : tie.Need-cast-n
 cast-n c = search needs
 
--- src/lib.rt:176:5
 put-requires : tie.Need-put-requires
 put-requires c κs = search needs
 
--- src/lib.rt:177:19
 sub-put-first-sum : tie.Need-sub-put-first-sum
 sub-put-first-sum c = search needs
 
--- src/lib.rt:177:19
 part-put-first-sum-start : tie.Need-part-put-first-sum-start
 part-put-first-sum-start c = search needs
 
--- src/lib.rt:177:19
 part-put-first-sum-end : tie.Need-part-put-first-sum-end
 part-put-first-sum-end c = search needs
 
--- src/lib.rt:177:5
 put-first-sum-requires : tie.Need-put-first-sum-requires
 put-first-sum-requires c κs =
     let g = c .before .before .before .before .before .before .before .before .args in
@@ -47,19 +41,15 @@ put-first-sum-requires c κs =
     let b : length (rest l₁ n) ≡ length l₁ - n = length-rest l₁ n in
     omega (arith, c .before .before .before .before .before .before .before .before .pre, c .before .before .before .put .kept .0)
 
--- src/lib.rt:178:9
 first-room-requires : tie.Need-first-room-requires
 first-room-requires c κs = search needs
 
--- src/lib.rt:178:5
 add-result : tie.Need-add-result
 add-result c = search needs
 
--- src/lib.rt:171:1
 same-length : tie.Need-same-length
 same-length c = search needs
 
--- src/lib.rt:171:1
 returns : tie.Need-returns
 returns c =
     let g = c .before .before .before .before .before .before .before .before .before .before .before .before .args in

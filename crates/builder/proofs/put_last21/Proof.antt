@@ -17,31 +17,24 @@ use Rattle.body.proofs.late_byte.Reads as late-byte-reads
 use Rattle.buffer.proofs.put.Reads as put-reads
 use Rattle.builder.proofs.sums_of.Reads as sums-of-reads
 
--- src/lib.rt:164:13
 late-byte-requires : tie.Need-late-byte-requires
 late-byte-requires c κs = search needs
 
--- src/lib.rt:165:37
 sums-of-requires : tie.Need-sums-of-requires
 sums-of-requires c κs = search needs
 
--- src/lib.rt:165:20
 epilogue21-requires : tie.Need-epilogue21-requires
 epilogue21-requires c κs = search needs
 
--- src/lib.rt:166:18
 slice-aggregate-put : tie.Need-slice-aggregate-put
 slice-aggregate-put c = search needs
 
--- src/lib.rt:166:9
 put-requires : tie.Need-put-requires
 put-requires c κs = search needs
 
--- src/lib.rt:159:1
 same-length : tie.Need-same-length
 same-length c = search needs
 
--- src/lib.rt:159:1
 returns : tie.Need-returns
 returns c =
     let g = c .before .before .before .before .before .before .before .before .before .before .before .before .args in
@@ -58,7 +51,6 @@ returns c =
     let room : 13 ≤ length out = rw t at (c .before .before .before .before .before .before .before .before .before .before .before .before .pre) in
     rw t (rw e at (c .before .before .put .ensures) ∙ laid-over (late ∷ words (restFields (g .h) q)) out room)
 
--- src/lib.rt:159:1
 returns-2 : tie.Need-returns-2
 returns-2 c = simp (le-leb (c .before .before .before .before .args .h .count) 1 (c .if1 .left))
 

@@ -18,55 +18,42 @@ use Rattle.buffer.proofs.word_bytes.Reads as word-bytes-reads
 use Rattle.crc32c.proofs.checksum.Reads as checksum-reads
 use Rattle.preamble.proofs.preamble_front.Reads as preamble-front-reads
 
--- src/lib.rt:95:17
 preamble-front-requires : tie.Need-preamble-front-requires
 preamble-front-requires c κs = search needs
 
--- src/lib.rt:96:14
 slice-aggregate-put : tie.Need-slice-aggregate-put
 slice-aggregate-put c = search needs
 
--- src/lib.rt:96:5
 put-requires : tie.Need-put-requires
 put-requires c κs = search needs
 
--- src/lib.rt:97:38
 slice-aggregate-checksum : tie.Need-slice-aggregate-checksum
 slice-aggregate-checksum c = search needs
 
--- src/lib.rt:97:26
 checksum-requires : tie.Need-checksum-requires
 checksum-requires c κs = search needs
 
--- src/lib.rt:97:15
 word-bytes-requires : tie.Need-word-bytes-requires
 word-bytes-requires c κs = search needs
 
--- src/lib.rt:98:9
 sub-put : tie.Need-sub-put
 sub-put c = search needs
 
--- src/lib.rt:98:9
 part-put-start : tie.Need-part-put-start
 part-put-start c = search needs
 
--- src/lib.rt:98:9
 part-put-end : tie.Need-part-put-end
 part-put-end c = search needs
 
--- src/lib.rt:98:25
 slice-aggregate-put-2 : tie.Need-slice-aggregate-put-2
 slice-aggregate-put-2 c = search needs
 
--- src/lib.rt:98:5
 put-requires-2 : tie.Need-put-requires-2
 put-requires-2 c κs = search needs
 
--- src/lib.rt:91:1
 same-length : tie.Need-same-length
 same-length c = search needs
 
--- src/lib.rt:91:1
 returns : tie.Need-returns
 unfolding preambleBytes
 returns c =

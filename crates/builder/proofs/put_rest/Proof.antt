@@ -11,30 +11,24 @@ use Rattle.builder.proofs.put_rest.Lts as lts
 use Rattle.buffer.proofs.put.Reads as put-reads
 use Rattle.buffer.proofs.put_zeros.Reads as put-zeros-reads
 
--- src/lib.rt:118:9
 put-zeros-requires : tie.Need-put-zeros-requires
 put-zeros-requires c κs = search needs
 
--- src/lib.rt:120:9
 put-requires : tie.Need-put-requires
 put-requires c κs = search needs
 
--- src/lib.rt:113:1
 same-length : tie.Need-same-length
 same-length c = search needs
 
--- src/lib.rt:113:1
 returns : tie.Need-returns
 returns c =
     let a = c .before .before .before .before .before .before .before .args in
     let n : length (replicate {A = ℕ} (a .n) 0) ≡ a .n = length-replicate (a .n) 0 in
     rw (c .before .before .before .before .if1 .taken) (c .before .before .put-zeros .ensures ∙ laid-over (replicate (a .n) 0) (a .out .now) (omega (arith, c .before .before .before .before .before .before .before .pre)))
 
--- src/lib.rt:113:1
 same-length-2 : tie.Need-same-length-2
 same-length-2 c = search needs
 
--- src/lib.rt:113:1
 returns-2 : tie.Need-returns-2
 returns-2 c =
     let a = c .before .before .before .before .before .before .before .args in

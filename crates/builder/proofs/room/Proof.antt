@@ -4,11 +4,9 @@ use Rattle.builder.proofs.room.Tie as tie
 use Rattle.builder.proofs.room.Reads as reads
 use Rattle.builder.proofs.room.Lts as lts
 
--- src/lib.rt:50:1
 returns : tie.Need-returns
 returns c = inside (c .before .args .n) (c .before .args .space) (c .before .args .queued) (c .if1 .taken)
 
--- src/lib.rt:50:1
 returns-2 : tie.Need-returns-2
 returns-2 c = outside (c .before .args .n) (c .before .args .space) (c .before .args .queued) (c .if1 .left)
 

@@ -6,19 +6,15 @@ use Rattle.builder.proofs.sums_of.Lts as lts
 use Rattle.body.proofs.rest_fields.Reads as rest-fields-reads
 use Rattle.body.proofs.zero_fields.Reads as zero-fields-reads
 
--- src/lib.rt:130:9
 zero-fields-requires : tie.Need-zero-fields-requires
 zero-fields-requires c κs = search needs
 
--- src/lib.rt:132:9
 rest-fields-requires : tie.Need-rest-fields-requires
 rest-fields-requires c κs = search needs
 
--- src/lib.rt:126:1
 returns : tie.Need-returns
 returns c = rw (c .before .if1 .taken) (c .zero-fields .ensures)
 
--- src/lib.rt:126:1
 returns-2 : tie.Need-returns-2
 returns-2 c = rw (c .before .if1 .left) (c .rest-fields .ensures)
 

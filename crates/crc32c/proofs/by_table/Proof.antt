@@ -10,16 +10,13 @@ use Rattle.crc32c.proofs.by_table.Lts as lts
 use Rattle.crc32c.proofs.over_bytes.Reads as over-bytes-reads
 use Rattle.crc32c.proofs.over_zeros.Reads as over-zeros-reads
 
--- src/lib.rt:48:9
 over-bytes-requires : tie.Need-over-bytes-requires
 unfolding steps step
 over-bytes-requires c κs = ruled refl tt
 
--- src/lib.rt:49:5
 over-zeros-requires : tie.Need-over-zeros-requires
 over-zeros-requires c κs = over-bytes-requires (c .before .before) (c .before .over-bytes .lifetimes)
 
--- src/lib.rt:44:1
 returns : tie.Need-returns
 returns c = c .over-zeros .ensures ∙ ap (λ (x : ℕ). crcOf x (replicate (c .before .before .before .before .before .args .zeros) 0)) (c .before .before .over-bytes .ensures)
 

@@ -6,11 +6,9 @@ use Rattle.crc32c.proofs.checksum.Reads as reads
 use Rattle.crc32c.proofs.checksum.Lts as lts
 use Rattle.crc32c.proofs.by_table.Reads as by-table-reads
 
--- src/lib.rt:56:5
 by-table-requires : tie.Need-by-table-requires
 by-table-requires c κs = search needs
 
--- src/lib.rt:53:1
 returns : tie.Need-returns
 unfolding crcOf
 returns c = search needs

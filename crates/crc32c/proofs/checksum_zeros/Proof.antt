@@ -6,15 +6,12 @@ use Rattle.crc32c.proofs.checksum_zeros.Reads as reads
 use Rattle.crc32c.proofs.checksum_zeros.Lts as lts
 use Rattle.crc32c.proofs.by_table.Reads as by-table-reads
 
--- src/lib.rt:64:21
 slice-aggregate-by-table : tie.Need-slice-aggregate-by-table
 slice-aggregate-by-table c = search needs
 
--- src/lib.rt:64:5
 by-table-requires : tie.Need-by-table-requires
 by-table-requires c κs = search needs
 
--- src/lib.rt:60:1
 returns : tie.Need-returns
 unfolding crcOf
 returns c = search needs

@@ -12,19 +12,15 @@ use Rattle.crc32c.proofs.next.Lts as lts
 small : (c b : ℕ) → bitAnd (bitXor c b) 255 < 256
 small c b = mask-lt (bitXor c b) 8
 
--- src/lib.rt:13:13
 cast-k : tie.Need-cast-k
 cast-k c = omega (arith, small (c .args .c) (c .args .b))
 
--- src/lib.rt:14:5
 mul-result : tie.Need-mul-result
 mul-result c = omega (arith, small (c .args .c) (c .args .b))
 
--- src/lib.rt:14:5
 element-copy-out-result : tie.Need-element-copy-out-result
 element-copy-out-result c = omega (arith, small (c .args .c) (c .args .b))
 
--- src/lib.rt:9:1
 returns : tie.Need-returns
 returns c =
     let a = c .before .args in

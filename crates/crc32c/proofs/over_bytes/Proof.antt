@@ -27,34 +27,27 @@ Inv-loop t start bytes c₀ i₀ c i = (i ≤ length bytes) × (crcOf c (drop i 
 abbrev μ-loop : tie.MeasureT-loop
 μ-loop t start bytes c₀ i₀ c i = length bytes - i
 
--- src/lib.rt:23:5
 loop-holds : tie.Need-loop-holds Inv-loop μ-loop
 loop-holds c = search needs
 
--- src/lib.rt:24:24
 shared-slice-read-next : tie.Need-shared-slice-read-next Inv-loop μ-loop
 shared-slice-read-next c = search needs
 
--- src/lib.rt:24:9
 next-requires : tie.Need-next-requires Inv-loop μ-loop
 next-requires c κs = c .before .before .before .before .pre
 
--- src/lib.rt:25:9
 add-i : tie.Need-add-i Inv-loop μ-loop
 add-i c = search needs
 
--- src/lib.rt:23:5
 loop-less : tie.Need-loop-less Inv-loop μ-loop
 loop-less c = search needs
 
--- src/lib.rt:23:5
 loop-again : tie.Need-loop-again Inv-loop μ-loop
 loop-again c =
     let l = c .before .before .before .loop in
     let bs = c .before .before .before .before .before .args .bytes .now in
     (search needs, ap (λ (x : ℕ). crcOf x (drop (l .i + 1) bs)) (c .next .ensures) ∙ crc-next (l .c) (l .i) bs (omega arith) ∙ l .inv .1)
 
--- src/lib.rt:17:1
 returns : tie.Need-returns Inv-loop μ-loop
 returns c = crc-end (c .before .loop .c) (c .before .loop .i) _ (omega arith) ∙ c .before .loop .inv .1
 

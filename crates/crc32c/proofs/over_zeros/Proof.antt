@@ -26,30 +26,24 @@ Inv-loop t start n c₀ left₀ c left = crcOf c (replicate left 0) ≡ crcOf st
 abbrev μ-loop : tie.MeasureT-loop
 μ-loop t start n c₀ left₀ c left = left
 
--- src/lib.rt:36:5
 loop-holds : tie.Need-loop-holds Inv-loop μ-loop
 loop-holds c = refl
 
--- src/lib.rt:37:9
 next-requires : tie.Need-next-requires Inv-loop μ-loop
 next-requires c κs = c .before .before .pre
 
--- src/lib.rt:38:9
 sub-left : tie.Need-sub-left Inv-loop μ-loop
 sub-left c = search needs
 
--- src/lib.rt:36:5
 loop-less : tie.Need-loop-less Inv-loop μ-loop
 loop-less c = search needs
 
--- src/lib.rt:36:5
 loop-again : tie.Need-loop-again Inv-loop μ-loop
 loop-again c =
     let l = c .before .before .loop in
     let e : suc (l .left - 1) ≡ l .left = omega arith in
     ap (λ (x : ℕ). crcOf x (replicate (l .left - 1) 0)) (c .next .ensures) ∙ crc-zero (l .c) (l .left - 1) ∙ ap (λ (k : ℕ). crcOf (l .c) (replicate k 0)) e ∙ l .inv
 
--- src/lib.rt:30:1
 returns : tie.Need-returns Inv-loop μ-loop
 returns c = crc-none (c .before .loop .c) (c .before .loop .left) (omega arith) ∙ c .before .loop .inv
 

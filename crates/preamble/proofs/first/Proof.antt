@@ -5,11 +5,9 @@ use Rattle.preamble.proofs.first.Tie as tie
 use Rattle.preamble.proofs.first.Reads as reads
 use Rattle.preamble.proofs.first.Lts as lts
 
--- src/judge.rt:135:1
 returns : tie.Need-returns
 returns c = search needs
 
--- src/judge.rt:135:1
 returns-2 : tie.Need-returns-2
 returns-2 c = first-is (c .before .args .a) (c .before .args .b) (c .if1 .left)
 

@@ -14,47 +14,36 @@ use Rattle.preamble.proofs.judge_tag.Reads as judge-tag-reads
 use Rattle.preamble.proofs.total_of.Reads as total-of-reads
 use Rattle.refusal.proofs.or_else.Reads as or-else-reads
 
--- src/judge.rt:286:24
 judge-limits-requires : tie.Need-judge-limits-requires
 judge-limits-requires c κs = search needs
 
--- src/judge.rt:286:53
 total-of-requires : tie.Need-total-of-requires
 total-of-requires c κs = search needs
 
--- src/judge.rt:286:41
 judge-store-requires : tie.Need-judge-store-requires
 judge-store-requires c κs = search needs
 
--- src/judge.rt:286:9
 or-else-requires : tie.Need-or-else-requires
 or-else-requires c κs = search needs
 
--- src/judge.rt:287:23
 judge-tag-requires : tie.Need-judge-tag-requires
 judge-tag-requires c κs = search needs
 
--- src/judge.rt:287:9
 or-else-requires-2 : tie.Need-or-else-requires-2
 or-else-requires-2 c κs = search needs
 
--- src/judge.rt:288:25
 judge-flags-requires : tie.Need-judge-flags-requires
 judge-flags-requires c κs = search needs
 
--- src/judge.rt:288:9
 or-else-requires-3 : tie.Need-or-else-requires-3
 or-else-requires-3 c κs = search needs
 
--- src/judge.rt:289:13
 judge-shape-requires : tie.Need-judge-shape-requires
 judge-shape-requires c κs = search needs
 
--- src/judge.rt:289:5
 or-else-requires-4 : tie.Need-or-else-requires-4
 or-else-requires-4 c κs = search needs
 
--- src/judge.rt:282:1
 returns : tie.Need-returns
 unfolding judgeFields
 returns c = cc (or-else-last (judgedBy (c .before .before .before .before .before .before .before .judge-store .result)))

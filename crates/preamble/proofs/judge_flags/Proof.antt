@@ -8,23 +8,18 @@ use Rattle.preamble.proofs.fault_when.Reads as fault-when-reads
 use Rattle.preamble.proofs.first.Reads as first-reads
 use Rattle.refusal.proofs.unless_ok.Reads as unless-ok-reads
 
--- src/judge.rt:190:19
 fault-when-requires : tie.Need-fault-when-requires
 fault-when-requires c κs = search needs
 
--- src/judge.rt:190:47
 fault-when-requires-2 : tie.Need-fault-when-requires-2
 fault-when-requires-2 c κs = search needs
 
--- src/judge.rt:190:9
 first-requires : tie.Need-first-requires
 first-requires c κs = search needs
 
--- src/judge.rt:191:5
 unless-ok-requires : tie.Need-unless-ok-requires
 unless-ok-requires c κs = search needs
 
--- src/judge.rt:187:1
 returns : tie.Need-returns
 returns c = cc (first-last (c .before .before .fault-when2 .result))
 

@@ -10,27 +10,21 @@ use Rattle.preamble.proofs.judge_shape.Reads as judge-shape-reads
 use Rattle.preamble.proofs.judge_tag.Reads as judge-tag-reads
 use Rattle.refusal.proofs.or_else.Reads as or-else-reads
 
--- src/lib.rt:160:24
 judge-tag-requires : tie.Need-judge-tag-requires
 judge-tag-requires c κs = search needs
 
--- src/lib.rt:160:42
 judge-limits-requires : tie.Need-judge-limits-requires
 judge-limits-requires c κs = search needs
 
--- src/lib.rt:160:9
 or-else-requires : tie.Need-or-else-requires
 or-else-requires c κs = search needs
 
--- src/lib.rt:161:13
 judge-shape-requires : tie.Need-judge-shape-requires
 judge-shape-requires c κs = search needs
 
--- src/lib.rt:161:5
 or-else-requires-2 : tie.Need-or-else-requires-2
 or-else-requires-2 c κs = search needs
 
--- src/lib.rt:157:1
 returns : tie.Need-returns
 unfolding judgeHeader
 returns c = cc (or-else-last (judgedBy (c .before .before .before .judge-limits .result)))

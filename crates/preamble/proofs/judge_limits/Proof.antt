@@ -6,15 +6,12 @@ use Rattle.preamble.proofs.judge_limits.Lts as lts
 use Rattle.preamble.proofs.limit_fault.Reads as limit-fault-reads
 use Rattle.refusal.proofs.unless_ok.Reads as unless-ok-reads
 
--- src/judge.rt:236:15
 limit-fault-requires : tie.Need-limit-fault-requires
 limit-fault-requires c κs = search needs
 
--- src/judge.rt:236:5
 unless-ok-requires : tie.Need-unless-ok-requires
 unless-ok-requires c κs = search needs
 
--- src/judge.rt:233:1
 returns : tie.Need-returns
 returns c = cc
 

@@ -18,31 +18,24 @@ use Rattle.preamble.proofs.read_preamble.Reads as read-preamble-reads
 use Rattle.refusal.proofs.or_else.Reads as or-else-reads
 use Rattle.refusal.proofs.unless_ok.Reads as unless-ok-reads
 
--- src/lib.rt:215:9
 read-preamble-requires : tie.Need-read-preamble-requires
 read-preamble-requires c κs = search needs
 
--- src/lib.rt:216:27
 part-requires : tie.Need-part-requires
 part-requires c κs = search needs
 
--- src/lib.rt:216:9
 checksum-requires : tie.Need-checksum-requires
 checksum-requires c κs = search needs
 
--- src/lib.rt:218:9
 unless-ok-requires : tie.Need-unless-ok-requires
 unless-ok-requires c κs = search needs
 
--- src/lib.rt:219:20
 judge-fields-requires : tie.Need-judge-fields-requires
 judge-fields-requires c κs = search needs
 
--- src/lib.rt:219:5
 or-else-requires : tie.Need-or-else-requires
 or-else-requires c κs = search needs
 
--- src/lib.rt:212:1
 returns : tie.Need-returns
 unfolding judgePreamble
 returns c =

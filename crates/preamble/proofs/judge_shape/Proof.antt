@@ -6,15 +6,12 @@ use Rattle.preamble.proofs.judge_shape.Lts as lts
 use Rattle.preamble.proofs.shape_fault.Reads as shape-fault-reads
 use Rattle.refusal.proofs.unless_ok.Reads as unless-ok-reads
 
--- src/judge.rt:182:15
 shape-fault-requires : tie.Need-shape-fault-requires
 shape-fault-requires c κs = search needs
 
--- src/judge.rt:182:5
 unless-ok-requires : tie.Need-unless-ok-requires
 unless-ok-requires c κs = search needs
 
--- src/judge.rt:179:1
 returns : tie.Need-returns
 returns c = cc
 

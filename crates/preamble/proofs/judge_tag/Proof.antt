@@ -6,15 +6,12 @@ use Rattle.preamble.proofs.judge_tag.Lts as lts
 use Rattle.refusal.proofs.both.Reads as both-reads
 use Rattle.refusal.proofs.unless_ok.Reads as unless-ok-reads
 
--- src/judge.rt:197:15
 both-requires : tie.Need-both-requires
 both-requires c κs = search needs
 
--- src/judge.rt:197:5
 unless-ok-requires : tie.Need-unless-ok-requires
 unless-ok-requires c κs = search needs
 
--- src/judge.rt:194:1
 returns : tie.Need-returns
 returns c = cc
 

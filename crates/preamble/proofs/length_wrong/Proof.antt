@@ -6,19 +6,15 @@ use Rattle.preamble.proofs.length_wrong.Reads as reads
 use Rattle.preamble.proofs.length_wrong.Lts as lts
 use Rattle.refusal.proofs.both.Reads as both-reads
 
--- src/judge.rt:153:14
 both-requires : tie.Need-both-requires
 both-requires c κs = search needs
 
--- src/judge.rt:153:9
 both-requires-2 : tie.Need-both-requires-2
 both-requires-2 c κs = search needs
 
--- src/judge.rt:147:1
 returns : tie.Need-returns
 returns c = simp (lt-ltb _ _ (c .if1 .taken))
 
--- src/judge.rt:147:1
 returns-2 : tie.Need-returns-2
 returns-2 c = simp (le-ltb _ _ (c .before .before .if1 .left), c .both2 .ensures, c .before .both .ensures)
 

@@ -7,31 +7,24 @@ use Rattle.preamble.proofs.read_header.Lts as lts
 use Rattle.buffer.proofs.byte_at.Reads as byte-at-reads
 use Rattle.preamble.proofs.segment_at.Reads as segment-at-reads
 
--- src/lib.rt:180:14
 byte-at-requires : tie.Need-byte-at-requires
 byte-at-requires c κs = search needs
 
--- src/lib.rt:181:16
 byte-at-requires-2 : tie.Need-byte-at-requires-2
 byte-at-requires-2 c κs = search needs
 
--- src/lib.rt:182:13
 segment-at-requires : tie.Need-segment-at-requires
 segment-at-requires c κs = search needs
 
--- src/lib.rt:183:13
 segment-at-requires-2 : tie.Need-segment-at-requires-2
 segment-at-requires-2 c κs = search needs
 
--- src/lib.rt:184:13
 segment-at-requires-3 : tie.Need-segment-at-requires-3
 segment-at-requires-3 c κs = search needs
 
--- src/lib.rt:185:13
 segment-at-requires-4 : tie.Need-segment-at-requires-4
 segment-at-requires-4 c κs = search needs
 
--- src/lib.rt:176:1
 returns : tie.Need-returns
 unfolding headerOf
 returns c = simp (c .before .before .before .before .before .byte-at .ensures, c .before .before .before .before .byte-at2 .ensures, c .before .before .before .segment-at .ensures, c .before .before .segment-at2 .ensures, c .before .segment-at3 .ensures, c .segment-at4 .ensures)

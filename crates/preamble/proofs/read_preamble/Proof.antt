@@ -7,23 +7,18 @@ use Rattle.buffer.proofs.byte_at.Reads as byte-at-reads
 use Rattle.buffer.proofs.word_at.Reads as word-at-reads
 use Rattle.preamble.proofs.read_header.Reads as read-header-reads
 
--- src/lib.rt:194:17
 read-header-requires : tie.Need-read-header-requires
 read-header-requires c κs = search needs
 
--- src/lib.rt:195:16
 byte-at-requires : tie.Need-byte-at-requires
 byte-at-requires c κs = search needs
 
--- src/lib.rt:196:19
 byte-at-requires-2 : tie.Need-byte-at-requires-2
 byte-at-requires-2 c κs = search needs
 
--- src/lib.rt:197:19
 word-at-requires : tie.Need-word-at-requires
 word-at-requires c κs = search needs
 
--- src/lib.rt:190:1
 returns : tie.Need-returns
 returns c = simp (c .before .before .before .read-header .ensures, c .before .before .byte-at .ensures, c .before .byte-at2 .ensures, c .word-at .ensures)
 

@@ -6,19 +6,15 @@ use Rattle.preamble.proofs.segment_at.Lts as lts
 use Rattle.buffer.proofs.half_at.Reads as half-at-reads
 use Rattle.buffer.proofs.word_at.Reads as word-at-reads
 
--- src/lib.rt:170:14
 word-at-requires : tie.Need-word-at-requires
 word-at-requires c κs = search needs
 
--- src/lib.rt:171:27
 add-half-at : tie.Need-add-half-at
 add-half-at c = search needs
 
--- src/lib.rt:171:16
 half-at-requires : tie.Need-half-at-requires
 half-at-requires c κs = search needs
 
--- src/lib.rt:165:1
 returns : tie.Need-returns
 returns c = simp (c .before .word-at .ensures, c .half-at .ensures)
 

@@ -8,31 +8,24 @@ use Rattle.preamble.proofs.first.Reads as first-reads
 use Rattle.preamble.proofs.length_wrong.Reads as length-wrong-reads
 use Rattle.refusal.proofs.both.Reads as both-reads
 
--- src/judge.rt:162:24
 length-wrong-requires : tie.Need-length-wrong-requires
 length-wrong-requires c κs = search needs
 
--- src/judge.rt:162:9
 fault-when-requires : tie.Need-fault-when-requires
 fault-when-requires c κs = search needs
 
--- src/judge.rt:163:24
 both-requires : tie.Need-both-requires
 both-requires c κs = search needs
 
--- src/judge.rt:163:55
 add-fault-when : tie.Need-add-fault-when
 add-fault-when c = search needs
 
--- src/judge.rt:163:9
 fault-when-requires-2 : tie.Need-fault-when-requires-2
 fault-when-requires-2 c κs = search needs
 
--- src/judge.rt:164:5
 first-requires : tie.Need-first-requires
 first-requires c κs = search needs
 
--- src/judge.rt:158:1
 returns : tie.Need-returns
 returns c = cc
 

@@ -10,47 +10,36 @@ use Rattle.preamble.proofs.first.Reads as first-reads
 use Rattle.preamble.proofs.segment_fault.Reads as segment-fault-reads
 use Rattle.refusal.proofs.both.Reads as both-reads
 
--- src/judge.rt:171:9
 segment-fault-requires : tie.Need-segment-fault-requires
 segment-fault-requires c κs = search needs
 
--- src/judge.rt:172:20
 segment-fault-requires-2 : tie.Need-segment-fault-requires-2
 segment-fault-requires-2 c κs = search needs
 
--- src/judge.rt:172:9
 first-requires : tie.Need-first-requires
 first-requires c κs = search needs
 
--- src/judge.rt:173:20
 segment-fault-requires-3 : tie.Need-segment-fault-requires-3
 segment-fault-requires-3 c κs = search needs
 
--- src/judge.rt:173:9
 first-requires-2 : tie.Need-first-requires-2
 first-requires-2 c κs = search needs
 
--- src/judge.rt:174:20
 segment-fault-requires-4 : tie.Need-segment-fault-requires-4
 segment-fault-requires-4 c κs = search needs
 
--- src/judge.rt:174:9
 first-requires-3 : tie.Need-first-requires-3
 first-requires-3 c κs = search needs
 
--- src/judge.rt:175:9
 both-requires : tie.Need-both-requires
 both-requires c κs = search needs
 
--- src/judge.rt:176:11
 fault-when-requires : tie.Need-fault-when-requires
 fault-when-requires c κs = search needs
 
--- src/judge.rt:176:5
 first-requires-4 : tie.Need-first-requires-4
 first-requires-4 c κs = search needs
 
--- src/judge.rt:167:1
 returns : tie.Need-returns
 unfolding shapeFault
 returns c = cc (first-last (c .before .before .before .before .before .before .before .before .before .segment-fault .result))

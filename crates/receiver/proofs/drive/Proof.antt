@@ -22,51 +22,39 @@ Inv-loop stream cuts store₀ state₀ t₀ i₀ store state t i = So stream cut
 abbrev μ-loop : tie.MeasureT-loop
 μ-loop stream cuts store₀ state₀ t₀ i₀ store state t i = length cuts - i
 
--- src/lib.rt:162:9
 start-requires : tie.Need-start-requires Inv-loop μ-loop
 start-requires c κs = search needs
 
--- src/lib.rt:166:5
 loop-holds : tie.Need-loop-holds Inv-loop μ-loop
 loop-holds c = so-none (c .before .before .before .before .before .args .stream .now) (c .before .before .before .before .before .args .cuts .now) (c .before .before .before .before .before .args .store .now) (c .before .start .result .state)
 
--- src/lib.rt:167:23
 mul-least : tie.Need-mul-least Inv-loop μ-loop
 mul-least c = search needs
 
--- src/lib.rt:167:23
 shared-slice-read-least : tie.Need-shared-slice-read-least Inv-loop μ-loop
 shared-slice-read-least c = search needs
 
--- src/lib.rt:167:32
 sub-least : tie.Need-sub-least Inv-loop μ-loop
 sub-least c = c .before .before .loop .inv .within
 
--- src/lib.rt:167:13
 least-requires : tie.Need-least-requires Inv-loop μ-loop
 least-requires c κs = search needs
 
--- src/lib.rt:168:19
 add-end : tie.Need-add-end Inv-loop μ-loop
 add-end c = omega (arith, c .least .ensures, c .before .before .before .loop .inv .within)
 
--- src/lib.rt:169:32
 sub-receive : tie.Need-sub-receive Inv-loop μ-loop
 sub-receive c = omega arith
 
--- src/lib.rt:169:32
 part-receive-start : tie.Need-part-receive-start Inv-loop μ-loop
 part-receive-start c = omega arith
 
--- src/lib.rt:169:32
 part-receive-end : tie.Need-part-receive-end Inv-loop μ-loop
 part-receive-end c = omega (arith, c .least .ensures, c .before .before .before .loop .inv .within)
 
--- src/lib.rt:169:13
 receive-requires : tie.Need-receive-requires Inv-loop μ-loop
 receive-requires c κs = search needs
 
--- src/lib.rt:171:13
 add-t : tie.Need-add-t Inv-loop μ-loop
 add-t c =
     let l = c .before .before .before .before .before .before .before .before .before .before .loop in
@@ -76,15 +64,12 @@ add-t c =
     let r : Answered (l .state) (l .store) (pieceAt p (l .t) n) (c .before .before .before .before .receive .result) (c .before .before .before .before .receive .last .1 .1 .0) = rw e at (c .before .before .before .before .receive .ensures) in
     omega (arith, taken-within p (l .store) (l .state) (l .t) n (c .before .before .before .before .receive .result) (c .before .before .before .before .receive .last .1 .1 .0) (l .inv .within) r, c .before .before .before .before .before .before .before .before .before .before .before .before .before .before .before .before .good .1 .0 .0)
 
--- src/lib.rt:172:9
 add-i : tie.Need-add-i Inv-loop μ-loop
 add-i c = omega (arith, c .before .before .before .before .before .before .before .before .before .loop-test .taken, c .before .before .before .before .before .before .before .before .before .before .before .before .before .before .before .before .good .1 .1 .0 .0)
 
--- src/lib.rt:166:5
 loop-less : tie.Need-loop-less Inv-loop μ-loop
 loop-less c = omega arith
 
--- src/lib.rt:166:5
 loop-again : tie.Need-loop-again Inv-loop μ-loop
 loop-again c =
     let l = c .before .before .before .before .before .before .before .before .before .before .loop in
@@ -95,11 +80,9 @@ loop-again c =
     let r : Answered (l .state) (l .store) (pieceAt p (l .t) n) (c .before .before .before .before .receive .result) (c .before .before .before .before .receive .last .1 .1 .0) = rw e at (c .before .before .before .before .receive .ensures) in
     so-next p cuts (c .before .before .before .before .before .before .before .before .before .before .before .before .before .before .before .before .args .store .now) (l .store) (c .before .before .before .before .before .before .before .before .before .before .before .before .start .result .state) (l .state) (l .t) (l .i) (c .before .before .before .before .receive .result) (c .before .before .before .before .receive .last .1 .1 .0) (l .inv) (c .before .before .before .before .before .before .before .before .before .loop-test .taken) (c .before .before .before .before .receive .kept .1 .1 .0) r
 
--- src/lib.rt:159:1
 same-length : tie.Need-same-length Inv-loop μ-loop
 same-length c = c .before .loop .inv .same
 
--- src/lib.rt:159:1
 returns : tie.Need-returns Inv-loop μ-loop
 unfolding Demand3
 returns c =

@@ -4,7 +4,6 @@ use Rattle.receiver.proofs.every_cutting.Tie as tie
 use Rattle.receiver.proofs.every_cutting.Reads as reads
 use Rattle.receiver.proofs.every_cutting.Lts as lts
 
--- src/lib.rt:142:1
 returns : tie.Need-returns
 returns c = demand3
 

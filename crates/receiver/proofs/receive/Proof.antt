@@ -24,19 +24,15 @@ use Rattle.receiver.proofs.states.needed_of.Reads as needed-of-reads
 use Rattle.receiver.proofs.states.with_refusal.Reads as with-refusal-reads
 use Rattle.receiver.proofs.stays.Reads as stays-reads
 
--- src/lib.rt:125:9
 agrees-with-itself-requires : tie.Need-agrees-with-itself-requires
 agrees-with-itself-requires c κs = search needs
 
--- src/lib.rt:126:29
 plain-requires : tie.Need-plain-requires
 plain-requires c κs = search needs
 
--- src/lib.rt:126:9
 stays-requires : tie.Need-stays-requires
 stays-requires c κs = search needs
 
--- src/lib.rt:126:9
 returns : tie.Need-returns
 unfolding step.answer
 returns c =
@@ -44,15 +40,12 @@ returns c =
     let a = sym (c .before .before .before .agrees-with-itself .ensures) ∙ not-true (c .before .before .before .agrees-with-itself .result) (c .before .before .if1 .taken) in
     record { received = rw a (c .stays .ensures s ∙ ap (λ (n : Numbers). step.stays (c .before .before .before .before .before .before .args .state) n s .received) (c .before .plain .ensures)); store = rw a }
 
--- src/lib.rt:129:8
 is-refused-requires : tie.Need-is-refused-requires
 is-refused-requires c κs = search needs
 
--- src/lib.rt:130:9
 stays-requires-2 : tie.Need-stays-requires-2
 stays-requires-2 c κs = search needs
 
--- src/lib.rt:130:9
 returns-2 : tie.Need-returns-2
 unfolding step.answer
 returns-2 c =
@@ -61,23 +54,18 @@ returns-2 c =
     let r = sym (c .before .before .is-refused .ensures) ∙ c .before .if2 .taken in
     record { received = rw (a, r) (c .stays2 .ensures s); store = rw (a, r) }
 
--- src/lib.rt:132:9
 needed-of-requires : tie.Need-needed-of-requires
 needed-of-requires c κs = search needs
 
--- src/lib.rt:134:13
 plain-requires-2 : tie.Need-plain-requires-2
 plain-requires-2 c κs = search needs
 
--- src/lib.rt:135:22
 with-refusal-requires : tie.Need-with-refusal-requires
 with-refusal-requires c κs = search needs
 
--- src/lib.rt:135:9
 stays-requires-3 : tie.Need-stays-requires-3
 stays-requires-3 c κs = search needs
 
--- src/lib.rt:135:9
 returns-3 : tie.Need-returns-3
 unfolding step.answer
 returns-3 c =
@@ -89,7 +77,6 @@ returns-3 c =
     let n : c .before .before .plain2 .result ≡ step.row10 st = c .before .before .plain2 .ensures ∙ ap (λ (k : ℕ). row 10 k 0 0) (c .before .before .before .before .needed-of .ensures) in
     record { received = rw (a, r, t) (c .stays3 .ensures s ∙ rw (c .before .with-refusal .ensures, n)); store = rw (a, r, t) }
 
--- src/lib.rt:137:5
 run-requires : tie.Need-run-requires
 run-requires c κs =
     let s = c .before .before .before .before .before .before .before .before .before .args .store .now in
@@ -98,11 +85,9 @@ run-requires c κs =
     let r = sym (c .before .before .before .before .is-refused .ensures) ∙ c .before .before .before .if2 .left in
     running st s a r (rw (c .before .before .needed-of .ensures) at (c .before .if3 .left))
 
--- src/lib.rt:122:1
 same-length : tie.Need-same-length
 same-length c = search needs
 
--- src/lib.rt:122:1
 returns-4 : tie.Need-returns-4
 unfolding step.answer
 returns-4 c =

@@ -12,38 +12,30 @@ use Rattle.receiver.proofs.states.fresh.Reads as fresh-reads
 use Rattle.receiver.proofs.states.with_refusal.Reads as with-refusal-reads
 use Rattle.refusal.proofs.in_numbers.Reads as in-numbers-reads
 
--- src/lib.rt:85:9
 fresh-requires : tie.Need-fresh-requires
 fresh-requires c κs = search needs
 
--- src/lib.rt:86:9
 judge-own-requires : tie.Need-judge-own-requires
 judge-own-requires c κs = search needs
 
--- src/lib.rt:88:26
 enum-told : tie.Need-enum-told
 enum-told c = search needs
 
--- src/lib.rt:92:26
 enum-known-v : tie.Need-enum-known-v
 enum-known-v c = search needs
 
--- src/lib.rt:93:37
 in-numbers-requires : tie.Need-in-numbers-requires
 in-numbers-requires c κs = search needs
 
--- src/lib.rt:93:20
 with-refusal-requires : tie.Need-with-refusal-requires
 with-refusal-requires c κs = search needs
 
--- src/lib.rt:82:1
 returns : tie.Need-returns
 unfolding step.started
 returns c =
     let e = sym (c .before .before .judge-own .ensures) ∙ ap judgedBy (c .enum-told .given .1) in
     record { state = rw e (c .before .before .before .fresh .ensures); verdict = c .before .before .judge-own .ensures }
 
--- src/lib.rt:82:1
 returns-2 : tie.Need-returns-2
 unfolding step.started
 returns-2 c =

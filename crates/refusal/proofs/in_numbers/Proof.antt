@@ -8,223 +8,168 @@ use Rattle.refusal.proofs.in_numbers.Lts as lts
 use Rattle.refusal.proofs.one.Reads as one-reads
 use Rattle.refusal.proofs.three.Reads as three-reads
 
--- src/verdicts.rt:37:27
 enum-told : tie.Need-enum-told
 enum-told c = search needs
 
--- src/verdicts.rt:37:27
 one-requires : tie.Need-one-requires
 one-requires c κs = search needs
 
--- src/verdicts.rt:38:31
 enum-known-refusal : tie.Need-enum-known-refusal
 enum-known-refusal c = search needs
 
--- src/verdicts.rt:38:44
 cast-one : tie.Need-cast-one
 cast-one c = search needs
 
--- src/verdicts.rt:38:37
 one-requires-2 : tie.Need-one-requires-2
 one-requires-2 c κs = search needs
 
--- src/verdicts.rt:39:31
 enum-known-refusal-2 : tie.Need-enum-known-refusal-2
 enum-known-refusal-2 c = search needs
 
--- src/verdicts.rt:39:37
 three-requires : tie.Need-three-requires
 three-requires c κs = search needs
 
--- src/verdicts.rt:40:28
 enum-known-refusal-3 : tie.Need-enum-known-refusal-3
 enum-known-refusal-3 c = search needs
 
--- src/verdicts.rt:40:34
 three-requires-2 : tie.Need-three-requires-2
 three-requires-2 c κs = search needs
 
--- src/verdicts.rt:41:38
 enum-told-2 : tie.Need-enum-told-2
 enum-told-2 c = search needs
 
--- src/verdicts.rt:41:38
 one-requires-3 : tie.Need-one-requires-3
 one-requires-3 c κs = search needs
 
--- src/verdicts.rt:42:27
 enum-told-3 : tie.Need-enum-told-3
 enum-told-3 c = search needs
 
--- src/verdicts.rt:42:27
 one-requires-4 : tie.Need-one-requires-4
 one-requires-4 c κs = search needs
 
--- src/verdicts.rt:43:27
 enum-told-4 : tie.Need-enum-told-4
 enum-told-4 c = search needs
 
--- src/verdicts.rt:43:27
 one-requires-5 : tie.Need-one-requires-5
 one-requires-5 c κs = search needs
 
--- src/verdicts.rt:44:22
 enum-known-refusal-4 : tie.Need-enum-known-refusal-4
 enum-known-refusal-4 c = search needs
 
--- src/verdicts.rt:44:35
 cast-one-2 : tie.Need-cast-one-2
 cast-one-2 c = search needs
 
--- src/verdicts.rt:44:28
 one-requires-6 : tie.Need-one-requires-6
 one-requires-6 c κs = search needs
 
--- src/verdicts.rt:45:27
 enum-told-5 : tie.Need-enum-told-5
 enum-told-5 c = search needs
 
--- src/verdicts.rt:45:27
 one-requires-7 : tie.Need-one-requires-7
 one-requires-7 c κs = search needs
 
--- src/verdicts.rt:46:29
 enum-known-refusal-5 : tie.Need-enum-known-refusal-5
 enum-known-refusal-5 c = search needs
 
--- src/verdicts.rt:46:35
 one-requires-8 : tie.Need-one-requires-8
 one-requires-8 c κs = search needs
 
--- src/verdicts.rt:47:34
 enum-known-refusal-6 : tie.Need-enum-known-refusal-6
 enum-known-refusal-6 c = search needs
 
--- src/verdicts.rt:47:48
 cast-one-3 : tie.Need-cast-one-3
 cast-one-3 c = search needs
 
--- src/verdicts.rt:47:40
 one-requires-9 : tie.Need-one-requires-9
 one-requires-9 c κs = search needs
 
--- src/verdicts.rt:48:29
 enum-known-refusal-7 : tie.Need-enum-known-refusal-7
 enum-known-refusal-7 c = search needs
 
--- src/verdicts.rt:48:43
 cast-one-4 : tie.Need-cast-one-4
 cast-one-4 c = search needs
 
--- src/verdicts.rt:48:35
 one-requires-10 : tie.Need-one-requires-10
 one-requires-10 c κs = search needs
 
--- src/verdicts.rt:49:34
 enum-told-6 : tie.Need-enum-told-6
 enum-told-6 c = search needs
 
--- src/verdicts.rt:49:34
 one-requires-11 : tie.Need-one-requires-11
 one-requires-11 c κs = search needs
 
--- src/verdicts.rt:50:25
 enum-known-refusal-8 : tie.Need-enum-known-refusal-8
 enum-known-refusal-8 c = search needs
 
--- src/verdicts.rt:50:31
 one-requires-12 : tie.Need-one-requires-12
 one-requires-12 c κs = search needs
 
--- src/verdicts.rt:51:37
 enum-told-7 : tie.Need-enum-told-7
 enum-told-7 c = search needs
 
--- src/verdicts.rt:51:37
 one-requires-13 : tie.Need-one-requires-13
 one-requires-13 c κs = search needs
 
--- src/verdicts.rt:52:33
 enum-told-8 : tie.Need-enum-told-8
 enum-told-8 c = search needs
 
--- src/verdicts.rt:52:33
 one-requires-14 : tie.Need-one-requires-14
 one-requires-14 c κs = search needs
 
--- src/verdicts.rt:53:38
 enum-told-9 : tie.Need-enum-told-9
 enum-told-9 c = search needs
 
--- src/verdicts.rt:53:38
 one-requires-15 : tie.Need-one-requires-15
 one-requires-15 c κs = search needs
 
--- src/verdicts.rt:33:1
 returns : tie.Need-returns
 returns c = c .one .ensures ∙ sym (ap numbersOf (c .before .enum-told .given .1))
 
--- src/verdicts.rt:33:1
 returns-2 : tie.Need-returns-2
 returns-2 c = c .one2 .ensures ∙ sym (ap numbersOf (c .before .before .refusal .given .1))
 
--- src/verdicts.rt:33:1
 returns-3 : tie.Need-returns-3
 returns-3 c = c .three .ensures ∙ sym (ap numbersOf (c .before .before .refusal2 .given .1))
 
--- src/verdicts.rt:33:1
 returns-4 : tie.Need-returns-4
 returns-4 c = c .three2 .ensures ∙ sym (ap numbersOf (c .before .before .refusal3 .given .1))
 
--- src/verdicts.rt:33:1
 returns-5 : tie.Need-returns-5
 returns-5 c = c .one3 .ensures ∙ sym (ap numbersOf (c .before .enum-told2 .given .1))
 
--- src/verdicts.rt:33:1
 returns-6 : tie.Need-returns-6
 returns-6 c = c .one4 .ensures ∙ sym (ap numbersOf (c .before .enum-told3 .given .1))
 
--- src/verdicts.rt:33:1
 returns-7 : tie.Need-returns-7
 returns-7 c = c .one5 .ensures ∙ sym (ap numbersOf (c .before .enum-told4 .given .1))
 
--- src/verdicts.rt:33:1
 returns-8 : tie.Need-returns-8
 returns-8 c = c .one6 .ensures ∙ sym (ap numbersOf (c .before .before .refusal4 .given .1))
 
--- src/verdicts.rt:33:1
 returns-9 : tie.Need-returns-9
 returns-9 c = c .one7 .ensures ∙ sym (ap numbersOf (c .before .enum-told5 .given .1))
 
--- src/verdicts.rt:33:1
 returns-10 : tie.Need-returns-10
 returns-10 c = c .one8 .ensures ∙ sym (ap numbersOf (c .before .before .refusal5 .given .1))
 
--- src/verdicts.rt:33:1
 returns-11 : tie.Need-returns-11
 returns-11 c = c .one9 .ensures ∙ sym (ap numbersOf (c .before .before .refusal6 .given .1))
 
--- src/verdicts.rt:33:1
 returns-12 : tie.Need-returns-12
 returns-12 c = c .one10 .ensures ∙ sym (ap numbersOf (c .before .before .refusal7 .given .1))
 
--- src/verdicts.rt:33:1
 returns-13 : tie.Need-returns-13
 returns-13 c = c .one11 .ensures ∙ sym (ap numbersOf (c .before .enum-told6 .given .1))
 
--- src/verdicts.rt:33:1
 returns-14 : tie.Need-returns-14
 returns-14 c = c .one12 .ensures ∙ sym (ap numbersOf (c .before .before .refusal8 .given .1))
 
--- src/verdicts.rt:33:1
 returns-15 : tie.Need-returns-15
 returns-15 c = c .one13 .ensures ∙ sym (ap numbersOf (c .before .enum-told7 .given .1))
 
--- src/verdicts.rt:33:1
 returns-16 : tie.Need-returns-16
 returns-16 c = c .one14 .ensures ∙ sym (ap numbersOf (c .before .enum-told8 .given .1))
 
--- src/verdicts.rt:33:1
 returns-17 : tie.Need-returns-17
 returns-17 c = c .one15 .ensures ∙ sym (ap numbersOf (c .before .enum-told9 .given .1))
 

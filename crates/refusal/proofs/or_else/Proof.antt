@@ -7,19 +7,15 @@ use Rattle.refusal.proofs.or_else.Tie as tie
 use Rattle.refusal.proofs.or_else.Reads as reads
 use Rattle.refusal.proofs.or_else.Lts as lts
 
--- src/verdicts.rt:62:26
 enum-told : tie.Need-enum-told
 enum-told c = search needs
 
--- src/verdicts.rt:63:26
 enum-known-a : tie.Need-enum-known-a
 enum-known-a c = search needs
 
--- src/verdicts.rt:58:1
 returns : tie.Need-returns
 returns c = search needs
 
--- src/verdicts.rt:58:1
 returns-2 : tie.Need-returns-2
 returns-2 c = sym (ap (λ (v : Verdict). orElse (judgedBy v) (judgedBy (c .before .before .before .args .b))) (c .before .a .given .1))
 

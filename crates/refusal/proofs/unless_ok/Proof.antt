@@ -4,11 +4,9 @@ use Rattle.refusal.proofs.unless_ok.Tie as tie
 use Rattle.refusal.proofs.unless_ok.Reads as reads
 use Rattle.refusal.proofs.unless_ok.Lts as lts
 
--- src/verdicts.rt:68:1
 returns : tie.Need-returns
 returns c = search needs
 
--- src/verdicts.rt:68:1
 returns-2 : tie.Need-returns-2
 returns-2 c = simp (c .if1 .left)
 

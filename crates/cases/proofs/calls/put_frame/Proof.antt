@@ -7,9 +7,6 @@ use borrow.Author.Needs.{needs}
 use Rattle.cases.proofs.calls.put_frame.Statement.{statement}
 use Rattle.cases.proofs.calls.put_frame.Tie as tie
 
-slice-aggregate-put : tie.Need-slice-aggregate-put
-slice-aggregate-put c = search needs
-
 put-requires : tie.Need-put-requires
 put-requires c κs = search needs
 
@@ -34,11 +31,4 @@ returns c =
 
 pub put-frame-spec : {M : Type 1} → statement M
 put-frame-spec =
-    tie.close
-    (tie.spec
-    slice-aggregate-put
-    put-requires
-    put-number-requires
-    put-header-requires
-    same-length
-    returns)
+    tie.close (tie.spec put-requires put-number-requires put-header-requires same-length returns)

@@ -1,3 +1,4 @@
+use Rattle.cases.specs.CallText.{frameWord, droppedWord}
 use borrow.Author.Needs.{needs}
 use Rattle.cases.proofs.calls.put_report.Statement.{statement}
 use Rattle.cases.proofs.calls.put_report.Tie as tie
@@ -17,14 +18,20 @@ put-banner-requires c κs = search needs
 enum-known-report-2 : tie.Need-enum-known-report-2
 enum-known-report-2 c = search needs
 
+slice-aggregate-put-frame : tie.Need-slice-aggregate-put-frame
+slice-aggregate-put-frame c = search needs
+
 put-frame-requires : tie.Need-put-frame-requires
 put-frame-requires c κs = search needs
 
 enum-known-report-3 : tie.Need-enum-known-report-3
 enum-known-report-3 c = search needs
 
-put-dropped-requires : tie.Need-put-dropped-requires
-put-dropped-requires c κs = search needs
+slice-aggregate-put-frame-2 : tie.Need-slice-aggregate-put-frame-2
+slice-aggregate-put-frame-2 c = search needs
+
+put-frame-requires-2 : tie.Need-put-frame-requires-2
+put-frame-requires-2 c κs = search needs
 
 enum-known-report-4 : tie.Need-enum-known-report-4
 enum-known-report-4 c = search needs
@@ -48,13 +55,17 @@ same-length-3 : tie.Need-same-length-3
 same-length-3 c = search needs
 
 returns-3 : tie.Need-returns-3
-returns-3 c = (rw (c .before .before .before .before .before .report2 .given .1) (c .before .before .put-frame .ensures .0), c .before .before .put-frame .ensures .1)
+unfolding frameWord
+returns-3 c =
+    (rw (c .before .before .before .before .before .before .report2 .given .1) (c .before .before .put-frame .ensures .0), c .before .before .put-frame .ensures .1)
 
 same-length-4 : tie.Need-same-length-4
 same-length-4 c = search needs
 
 returns-4 : tie.Need-returns-4
-returns-4 c = (rw (c .before .before .before .before .before .report3 .given .1) (c .before .before .put-dropped .ensures .0), c .before .before .put-dropped .ensures .1)
+unfolding droppedWord
+returns-4 c =
+    (rw (c .before .before .before .before .before .before .report3 .given .1) (c .before .before .put-frame2 .ensures .0), c .before .before .put-frame2 .ensures .1)
 
 same-length-5 : tie.Need-same-length-5
 same-length-5 c = search needs
@@ -71,9 +82,11 @@ put-report-spec =
     enum-known-report
     put-banner-requires
     enum-known-report-2
+    slice-aggregate-put-frame
     put-frame-requires
     enum-known-report-3
-    put-dropped-requires
+    slice-aggregate-put-frame-2
+    put-frame-requires-2
     enum-known-report-4
     put-call-refused-requires
     same-length

@@ -14,23 +14,18 @@ use Rattle.receiver.proofs.pieces.into_block.Reads as into-block-reads
 use Rattle.receiver.proofs.pieces.take_in.Reads as take-in-reads
 use Rattle.receiver.proofs.states.holding.Reads as holding-reads
 
--- src/pieces.rt:76:8
 into-block-requires : tie.Need-into-block-requires
 into-block-requires c κs = search needs
 
--- src/pieces.rt:77:25
 take-in-requires : tie.Need-take-in-requires
 take-in-requires c κs = omega (arith, c .before .before .before .before .pre, block-room (c .before .before .before .before .args .st .stage) (c .before .before .before .before .args .st) (sym (c .before .into-block .ensures) ∙ c .if1 .taken))
 
--- src/pieces.rt:77:9
 holding-requires : tie.Need-holding-requires
 holding-requires c κs = search needs
 
--- src/pieces.rt:79:9
 holding-requires-2 : tie.Need-holding-requires-2
 holding-requires-2 c κs = search needs
 
--- src/pieces.rt:69:1
 returns : tie.Need-returns
 returns c =
     let g = c .before .before .before .before .before .before .args in
@@ -39,7 +34,6 @@ returns c =
     ∙ ap₂ (λ (n : ℕ) (b : List ℕ). step.holding (g .st) n b) (c .before .before .before .before .before .before .pre .0)
     (c .before .take-in .ensures ∙ held-block (step.placeOf (g .st .stage)) (g .st) xs (sym (c .before .before .before .into-block .ensures) ∙ c .before .before .if1 .taken))
 
--- src/pieces.rt:69:1
 returns-2 : tie.Need-returns-2
 returns-2 c =
     let g = c .before .before .before .before .before .args in

@@ -16,31 +16,24 @@ use Rattle.receiver.proofs.pieces.keep.Lts as lts
 use Rattle.buffer.proofs.put.Reads as put-reads
 use Rattle.receiver.proofs.pieces.into_store.Reads as into-store-reads
 
--- src/pieces.rt:91:8
 into-store-requires : tie.Need-into-store-requires
 into-store-requires c κs = search needs
 
--- src/pieces.rt:92:13
 sub-put : tie.Need-sub-put
 sub-put c = omega (arith, c .before .before .before .before .pre, store-room (c .before .before .before .before .args .st .stage) (c .before .before .before .before .args .st) (sym (c .before .into-store .ensures) ∙ c .if1 .taken))
 
--- src/pieces.rt:92:13
 part-put-start : tie.Need-part-put-start
 part-put-start c = omega (arith, c .before .before .before .before .pre, store-room (c .before .before .before .before .args .st .stage) (c .before .before .before .before .args .st) (sym (c .before .into-store .ensures) ∙ c .if1 .taken))
 
--- src/pieces.rt:92:13
 part-put-end : tie.Need-part-put-end
 part-put-end c = search needs
 
--- src/pieces.rt:92:9
 put-requires : tie.Need-put-requires
 put-requires c κs = search needs
 
--- src/pieces.rt:85:1
 same-length : tie.Need-same-length
 same-length c = search needs
 
--- src/pieces.rt:85:1
 returns : tie.Need-returns
 returns c =
     let g = c .before .before .before .before .before .before .before .before .args in
@@ -55,7 +48,6 @@ returns c =
     ∙ sym (sets-eq xs s n k)
     ∙ kept-store (step.placeOf (g .st .stage)) (g .st) s xs t
 
--- src/pieces.rt:85:1
 returns-2 : tie.Need-returns-2
 returns-2 c =
     let g = c .before .before .before .before .args in

@@ -19,27 +19,21 @@ Inv-loop piece store₀ st₀ at₀ store st at = Midway piece store₀ st₀ st
 abbrev μ-loop : tie.MeasureT-loop
 μ-loop piece store₀ st₀ at₀ store st at = length piece - at
 
--- src/pieces.rt:143:5
 loop-holds : tie.Need-loop-holds Inv-loop μ-loop
 loop-holds c = begin (c .before .before .args .piece .now) (c .before .before .args .store .now) (c .before .before .args .state) (c .before .before .pre)
 
--- src/pieces.rt:144:26
 sub-step : tie.Need-sub-step Inv-loop μ-loop
 sub-step c = search needs
 
--- src/pieces.rt:144:26
 part-step-start : tie.Need-part-step-start Inv-loop μ-loop
 part-step-start c = search needs
 
--- src/pieces.rt:144:26
 part-step-end : tie.Need-part-step-end Inv-loop μ-loop
 part-step-end c = search needs
 
--- src/pieces.rt:144:13
 step-requires : tie.Need-step-requires Inv-loop μ-loop
 step-requires c κs = (c .before .before .before .loop .inv .running .inside, c .before .before .before .loop .inv .running .fits)
 
--- src/pieces.rt:145:9
 add-at : tie.Need-add-at Inv-loop μ-loop
 add-at c =
     let l = c .before .before .before .before .before .before .before .loop in
@@ -48,15 +42,12 @@ add-at c =
     let i = inside p s (c .before .before .before .before .before .before .before .before .before .before .args .state) (l .store) (l .st) (l .at) (l .inv) (c .before .before .before .before .before .before .loop-test .taken) (c .before .before .before .step .result) (c .before .before .before .step .last .1 .1 .0) (c .before .before .before .step .ensures) (c .before .before .before .step .kept .1 .1 .0) in
     omega (arith, i, c .before .before .before .before .before .before .before .before .before .before .good .1 .0 .0)
 
--- src/pieces.rt:148:13
 is-more-requires : tie.Need-is-more-requires Inv-loop μ-loop
 is-more-requires c κs = search needs
 
--- src/pieces.rt:149:13
 same-length : tie.Need-same-length Inv-loop μ-loop
 same-length c = c .before .before .before .before .before .before .step .kept .1 .1 .0 ∙ c .before .before .before .before .before .before .before .before .before .before .loop .inv .same
 
--- src/pieces.rt:149:13
 returns : tie.Need-returns Inv-loop μ-loop
 returns c =
     let l = c .before .before .before .before .before .before .before .before .before .before .loop in
@@ -65,7 +56,6 @@ returns c =
     reported p s (c .before .before .before .before .before .before .before .before .before .before .before .before .before .args .state) (l .store) (l .st) (l .at) (l .inv) (c .before .before .before .before .before .before .before .before .before .loop-test .taken) (c .before .before .before .before .before .before .step .result) (c .before .before .before .before .before .before .step .last .1 .1 .0) (c .before .before .before .before .before .before .step .ensures) (c .before .before .before .before .before .before .step .kept .1 .1 .0)
     (sym (c .before .is-more .ensures) ∙ not-true (c .before .is-more .result) (c .if1 .taken))
 
--- src/pieces.rt:143:5
 loop-less : tie.Need-loop-less Inv-loop μ-loop
 loop-less c =
     let l = c .before .before .before .before .before .before .before .before .before .before .loop in
@@ -75,7 +65,6 @@ loop-less c =
     let k = some p s (c .before .before .before .before .before .before .before .before .before .before .before .before .before .args .state) (l .store) (l .st) (l .at) (l .inv) (c .before .before .before .before .before .before .before .before .before .loop-test .taken) (c .before .before .before .before .before .before .step .result) (c .before .before .before .before .before .before .step .last .1 .1 .0) (c .before .before .before .before .before .before .step .ensures) (c .before .before .before .before .before .before .step .kept .1 .1 .0) in
     omega (arith, t, k, c .before .before .before .before .before .before .before .before .before .loop-test .taken)
 
--- src/pieces.rt:143:5
 loop-again : tie.Need-loop-again Inv-loop μ-loop
 loop-again c =
     let l = c .before .before .before .before .before .before .before .before .before .before .loop in
@@ -84,11 +73,9 @@ loop-again c =
     onward p s (c .before .before .before .before .before .before .before .before .before .before .before .before .before .args .state) (l .store) (l .st) (l .at) (l .inv) (c .before .before .before .before .before .before .before .before .before .loop-test .taken) (c .before .before .before .before .before .before .step .result) (c .before .before .before .before .before .before .step .last .1 .1 .0) (c .before .before .before .before .before .before .step .ensures) (c .before .before .before .before .before .before .step .kept .1 .1 .0)
     (sym (c .before .is-more .ensures) ∙ not-false (c .before .is-more .result) (c .if1 .left))
 
--- src/pieces.rt:137:1
 same-length-2 : tie.Need-same-length-2 Inv-loop μ-loop
 same-length-2 c = c .before .loop .inv .same
 
--- src/pieces.rt:137:1
 returns-2 : tie.Need-returns-2 Inv-loop μ-loop
 returns-2 c = finished (c .before .before .before .before .args .piece .now) (c .before .before .before .before .args .store .now) (c .before .before .before .before .args .state) (c .before .loop .store) (c .before .loop .st) (c .before .loop .at) (c .before .loop .inv) (c .loop-test .left)
 

@@ -31,27 +31,21 @@ taking st piece = take (step.fitting st piece) piece
 taking-length : (st : State) (piece : List ℕ) → length (taking st piece) ≡ step.fitting st piece
 taking-length st piece = length-take-le (step.fitting st piece) piece (omega arith)
 
--- src/pieces.rt:100:9
 size-of-requires : tie.Need-size-of-requires
 size-of-requires c κs = search needs
 
--- src/pieces.rt:102:19
 sub-least : tie.Need-sub-least
 sub-least c = search needs
 
--- src/pieces.rt:102:9
 least-requires : tie.Need-least-requires
 least-requires c κs = search needs
 
--- src/pieces.rt:103:9
 part-requires : tie.Need-part-requires
 part-requires c κs = search needs
 
--- src/pieces.rt:104:14
 add-to : tie.Need-add-to
 add-to c = search needs
 
--- src/pieces.rt:105:9
 absorb-requires : tie.Need-absorb-requires
 absorb-requires c κs =
     let g = c .before .before .before .before .before .args in
@@ -60,7 +54,6 @@ absorb-requires c κs =
     let l = ap length b ∙ taking-length (g .st) (g .piece .now) in
     (omega (arith, m, l), omega (arith, m, c .before .before .before .before .before .pre))
 
--- src/pieces.rt:106:5
 keep-requires : tie.Need-keep-requires
 keep-requires c κs =
     let g = c .before .before .before .before .before .before .before .args in
@@ -69,11 +62,9 @@ keep-requires c κs =
     let l = ap length b ∙ taking-length (g .st) (g .piece .now) in
     (omega (arith, m, l, c .before .before .before .before .before .before .before .pre), c .before .before .before .before .before .before .before .pre .1)
 
--- src/pieces.rt:108:9
 same-length : tie.Need-same-length
 same-length c = search needs
 
--- src/pieces.rt:108:9
 returns : tie.Need-returns
 returns c =
     let g = c .before .before .before .before .before .before .before .before .before .before .before .args in
@@ -87,7 +78,6 @@ returns c =
     let ek = c .before .before .before .keep .ensures ∙ ap (step.stored (g .st) s) b in
     record { taken = m; step = rw t (ap₂ (λ (x : State) (y : List ℕ). step.silent x y) eh ek) }
 
--- src/pieces.rt:114:9
 end-stage-requires : tie.Need-end-stage-requires
 end-stage-requires c κs =
     let g = c .before .before .before .before .before .before .before .before .before .before .before .before .args in
@@ -98,11 +88,9 @@ end-stage-requires c κs =
     let l = ap length (c .before .before .before .before .keep .ensures) ∙ length-stored (g .st) s xs in
     omega (arith, n, l, c .before .before .before .before .before .before .before .before .before .before .before .before .pre .1)
 
--- src/pieces.rt:96:1
 same-length-2 : tie.Need-same-length-2
 same-length-2 c = search needs
 
--- src/pieces.rt:96:1
 returns-2 : tie.Need-returns-2
 returns-2 c =
     let g = c .before .before .before .before .before .before .before .before .before .before .before .before .before .before .before .before .args in

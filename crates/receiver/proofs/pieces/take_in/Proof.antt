@@ -8,23 +8,18 @@ use Rattle.receiver.proofs.pieces.take_in.Reads as reads
 use Rattle.receiver.proofs.pieces.take_in.Lts as lts
 use Rattle.buffer.proofs.put.Reads as put-reads
 
--- src/pieces.rt:64:9
 sub-put : tie.Need-sub-put
 sub-put c = search needs
 
--- src/pieces.rt:64:9
 part-b-start : tie.Need-part-b-start
 part-b-start c = search needs
 
--- src/pieces.rt:64:9
 part-b-end : tie.Need-part-b-end
 part-b-end c = search needs
 
--- src/pieces.rt:64:5
 put-requires : tie.Need-put-requires
 put-requires c κs = search needs
 
--- src/pieces.rt:59:1
 returns : tie.Need-returns
 returns c =
     let g = c .before .before .before .before .args in

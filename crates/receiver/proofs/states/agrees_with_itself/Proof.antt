@@ -10,27 +10,21 @@ use Rattle.receiver.proofs.states.rules_hold.Reads as rules-hold-reads
 use Rattle.receiver.proofs.states.size_of.Reads as size-of-reads
 use Rattle.refusal.proofs.both.Reads as both-reads
 
--- src/states.rt:380:25
 is-refused-requires : tie.Need-is-refused-requires
 is-refused-requires c κs = search needs
 
--- src/states.rt:380:53
 size-of-requires : tie.Need-size-of-requires
 size-of-requires c κs = search needs
 
--- src/states.rt:380:9
 either-requires : tie.Need-either-requires
 either-requires c κs = search needs
 
--- src/states.rt:381:10
 rules-hold-requires : tie.Need-rules-hold-requires
 rules-hold-requires c κs = search needs
 
--- src/states.rt:381:5
 both-requires : tie.Need-both-requires
 both-requires c κs = search needs
 
--- src/states.rt:376:1
 returns : tie.Need-returns
 unfolding agrees
 returns c = cc

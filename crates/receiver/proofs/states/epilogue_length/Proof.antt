@@ -5,23 +5,18 @@ use Rattle.receiver.proofs.states.epilogue_length.Tie as tie
 use Rattle.receiver.proofs.states.epilogue_length.Reads as reads
 use Rattle.receiver.proofs.states.epilogue_length.Lts as lts
 
--- src/states.rt:229:29
 enum-told : tie.Need-enum-told
 enum-told c = search needs
 
--- src/states.rt:231:16
 enum-told-2 : tie.Need-enum-told-2
 enum-told-2 c = search needs
 
--- src/states.rt:225:1
 returns : tie.Need-returns
 returns c = search needs
 
--- src/states.rt:225:1
 returns-2 : tie.Need-returns-2
 returns-2 c = simp (c .before .before .enum-told2 .given .1, le-leb _ _ (c .if1 .taken))
 
--- src/states.rt:225:1
 returns-3 : tie.Need-returns-3
 returns-3 c = simp (c .before .before .enum-told2 .given .1, lt-leb _ _ (c .if1 .left))
 

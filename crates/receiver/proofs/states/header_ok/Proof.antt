@@ -6,15 +6,12 @@ use Rattle.receiver.proofs.states.header_ok.Lts as lts
 use Rattle.preamble.proofs.judge_header.Reads as judge-header-reads
 use Rattle.receiver.proofs.states.is_fine.Reads as is-fine-reads
 
--- src/states.rt:312:13
 judge-header-requires : tie.Need-judge-header-requires
 judge-header-requires c κs = search needs
 
--- src/states.rt:312:5
 is-fine-requires : tie.Need-is-fine-requires
 is-fine-requires c κs = search needs
 
--- src/states.rt:309:1
 returns : tie.Need-returns
 returns c = cc
 

@@ -6,15 +6,12 @@ use Rattle.receiver.proofs.states.is_given.Lts as lts
 use Rattle.receiver.proofs.states.either.Reads as either-reads
 use Rattle.refusal.proofs.both.Reads as both-reads
 
--- src/states.rt:328:9
 both-requires : tie.Need-both-requires
 both-requires c κs = search needs
 
--- src/states.rt:329:5
 either-requires : tie.Need-either-requires
 either-requires c κs = search needs
 
--- src/states.rt:325:1
 returns : tie.Need-returns
 returns c = cc
 

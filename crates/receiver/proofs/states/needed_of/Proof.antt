@@ -5,99 +5,75 @@ use Rattle.receiver.proofs.states.needed_of.Reads as reads
 use Rattle.receiver.proofs.states.needed_of.Lts as lts
 use Rattle.preamble.proofs.total_of.Reads as total-of-reads
 
--- src/states.rt:275:25
 enum-told : tie.Need-enum-told
 enum-told c = search needs
 
--- src/states.rt:276:26
 enum-told-2 : tie.Need-enum-told-2
 enum-told-2 c = search needs
 
--- src/states.rt:277:27
 enum-told-3 : tie.Need-enum-told-3
 enum-told-3 c = search needs
 
--- src/states.rt:278:24
 enum-told-4 : tie.Need-enum-told-4
 enum-told-4 c = search needs
 
--- src/states.rt:279:28
 enum-told-5 : tie.Need-enum-told-5
 enum-told-5 c = search needs
 
--- src/states.rt:280:25
 enum-told-6 : tie.Need-enum-told-6
 enum-told-6 c = search needs
 
--- src/states.rt:280:25
 total-of-requires : tie.Need-total-of-requires
 total-of-requires c κs = search needs
 
--- src/states.rt:281:28
 enum-told-7 : tie.Need-enum-told-7
 enum-told-7 c = search needs
 
--- src/states.rt:281:28
 total-of-requires-2 : tie.Need-total-of-requires-2
 total-of-requires-2 c κs = search needs
 
--- src/states.rt:282:24
 enum-told-8 : tie.Need-enum-told-8
 enum-told-8 c = search needs
 
--- src/states.rt:282:24
 total-of-requires-3 : tie.Need-total-of-requires-3
 total-of-requires-3 c κs = search needs
 
--- src/states.rt:283:28
 enum-told-9 : tie.Need-enum-told-9
 enum-told-9 c = search needs
 
--- src/states.rt:283:28
 total-of-requires-4 : tie.Need-total-of-requires-4
 total-of-requires-4 c κs = search needs
 
--- src/states.rt:284:27
 enum-told-10 : tie.Need-enum-told-10
 enum-told-10 c = search needs
 
--- src/states.rt:270:1
 returns : tie.Need-returns
 returns c = simp (c .enum-told .given .1)
 
--- src/states.rt:270:1
 returns-2 : tie.Need-returns-2
 returns-2 c = simp (c .enum-told2 .given .1)
 
--- src/states.rt:270:1
 returns-3 : tie.Need-returns-3
 returns-3 c = simp (c .enum-told3 .given .1)
 
--- src/states.rt:270:1
 returns-4 : tie.Need-returns-4
 returns-4 c = simp (c .enum-told4 .given .1)
 
--- src/states.rt:270:1
 returns-5 : tie.Need-returns-5
 returns-5 c = simp (c .enum-told5 .given .1)
 
--- src/states.rt:270:1
 returns-6 : tie.Need-returns-6
 returns-6 c = simp (c .total-of .ensures, c .before .enum-told6 .given .1)
 
--- src/states.rt:270:1
 returns-7 : tie.Need-returns-7
 returns-7 c = simp (c .total-of2 .ensures, c .before .enum-told7 .given .1)
 
--- src/states.rt:270:1
 returns-8 : tie.Need-returns-8
 returns-8 c = simp (c .total-of3 .ensures, c .before .enum-told8 .given .1)
 
--- src/states.rt:270:1
 returns-9 : tie.Need-returns-9
 returns-9 c = simp (c .total-of4 .ensures, c .before .enum-told9 .given .1)
 
--- src/states.rt:270:1
 returns-10 : tie.Need-returns-10
 returns-10 c = simp (c .enum-told10 .given .1)
 

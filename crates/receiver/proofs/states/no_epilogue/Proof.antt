@@ -4,19 +4,15 @@ use Rattle.receiver.proofs.states.no_epilogue.Tie as tie
 use Rattle.receiver.proofs.states.no_epilogue.Reads as reads
 use Rattle.receiver.proofs.states.no_epilogue.Lts as lts
 
--- src/states.rt:244:29
 enum-told : tie.Need-enum-told
 enum-told c = search needs
 
--- src/states.rt:245:29
 enum-told-2 : tie.Need-enum-told-2
 enum-told-2 c = search needs
 
--- src/states.rt:240:1
 returns : tie.Need-returns
 returns c = search needs
 
--- src/states.rt:240:1
 returns-2 : tie.Need-returns-2
 returns-2 c = simp (c .before .enum-told2 .given .1)
 

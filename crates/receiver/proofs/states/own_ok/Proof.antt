@@ -6,15 +6,12 @@ use Rattle.receiver.proofs.states.own_ok.Lts as lts
 use Rattle.banner.proofs.judge_own.Reads as judge-own-reads
 use Rattle.receiver.proofs.states.is_fine.Reads as is-fine-reads
 
--- src/states.rt:300:13
 judge-own-requires : tie.Need-judge-own-requires
 judge-own-requires c κs = search needs
 
--- src/states.rt:300:5
 is-fine-requires : tie.Need-is-fine-requires
 is-fine-requires c κs = search needs
 
--- src/states.rt:297:1
 returns : tie.Need-returns
 returns c = cc
 

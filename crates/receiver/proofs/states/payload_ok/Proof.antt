@@ -6,15 +6,12 @@ use Rattle.receiver.proofs.states.payload_ok.Lts as lts
 use Rattle.banner.proofs.judge_length.Reads as judge-length-reads
 use Rattle.receiver.proofs.states.is_fine.Reads as is-fine-reads
 
--- src/states.rt:306:13
 judge-length-requires : tie.Need-judge-length-requires
 judge-length-requires c κs = search needs
 
--- src/states.rt:306:5
 is-fine-requires : tie.Need-is-fine-requires
 is-fine-requires c κs = search needs
 
--- src/states.rt:303:1
 returns : tie.Need-returns
 returns c = cc
 

@@ -9,27 +9,21 @@ use Rattle.receiver.proofs.states.no_epilogue.Reads as no-epilogue-read
 use Rattle.receiver.proofs.turns.framed.Reads as framed-reads
 use Rattle.receiver.proofs.turns.more.Reads as more-reads
 
--- src/turns.rt:101:8
 no-epilogue-requires : tie.Need-no-epilogue-requires
 no-epilogue-requires c κs = search needs
 
--- src/turns.rt:102:9
 framed-requires : tie.Need-framed-requires
 framed-requires c κs = search needs
 
--- src/turns.rt:104:14
 moved-requires : tie.Need-moved-requires
 moved-requires c κs = search needs
 
--- src/turns.rt:104:9
 more-requires : tie.Need-more-requires
 more-requires c κs = search needs
 
--- src/turns.rt:97:1
 returns : tie.Need-returns
 returns c = λ s. rw (sym (c .before .before .no-epilogue .ensures) ∙ c .before .if1 .taken) (c .framed .ensures s)
 
--- src/turns.rt:97:1
 returns-2 : tie.Need-returns-2
 returns-2 c = λ s. rw (sym (c .before .before .before .no-epilogue .ensures) ∙ c .before .before .if1 .left) (c .more .ensures s ∙ rw (c .before .moved .ensures))
 

@@ -7,19 +7,15 @@ use Rattle.receiver.proofs.turns.drop_frame.Lts as lts
 use Rattle.receiver.proofs.states.moved.Reads as moved-reads
 use Rattle.receiver.proofs.turns.wipe.Reads as wipe-reads
 
--- src/turns.rt:207:5
 wipe-requires : tie.Need-wipe-requires
 wipe-requires c κs = search needs
 
--- src/turns.rt:209:16
 moved-requires : tie.Need-moved-requires
 moved-requires c κs = search needs
 
--- src/turns.rt:202:1
 same-length : tie.Need-same-length
 same-length c = search needs
 
--- src/turns.rt:202:1
 returns : tie.Need-returns
 returns c = rw (c .moved .ensures, c .before .before .before .wipe .ensures)
 

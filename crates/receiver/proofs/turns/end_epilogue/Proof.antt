@@ -21,55 +21,42 @@ use Rattle.receiver.proofs.turns.framed.Reads as framed-reads
 use Rattle.receiver.proofs.turns.turn_away.Reads as turn-away-reads
 use Rattle.refusal.proofs.in_numbers.Reads as in-numbers-reads
 
--- src/turns.rt:229:13
 total-of-requires : tie.Need-total-of-requires
 total-of-requires c κs = search needs
 
--- src/turns.rt:230:40
 slice-aggregate-end-of : tie.Need-slice-aggregate-end-of
 slice-aggregate-end-of c = search needs
 
--- src/turns.rt:230:48
 part-requires : tie.Need-part-requires
 part-requires c κs = search needs
 
--- src/turns.rt:230:9
 end-of-requires : tie.Need-end-of-requires
 end-of-requires c κs = search needs
 
--- src/turns.rt:232:26
 enum-told : tie.Need-enum-told
 enum-told c = search needs
 
--- src/turns.rt:232:26
 framed-requires : tie.Need-framed-requires
 framed-requires c κs = search needs
 
--- src/turns.rt:233:43
 enum-told-2 : tie.Need-enum-told-2
 enum-told-2 c = search needs
 
--- src/turns.rt:233:28
 drop-frame-requires : tie.Need-drop-frame-requires
 drop-frame-requires c κs = search needs
 
--- src/turns.rt:234:25
 enum-known-end : tie.Need-enum-known-end
 enum-known-end c = search needs
 
--- src/turns.rt:234:47
 in-numbers-requires : tie.Need-in-numbers-requires
 in-numbers-requires c κs = search needs
 
--- src/turns.rt:234:33
 turn-away-requires : tie.Need-turn-away-requires
 turn-away-requires c κs = search needs
 
--- src/turns.rt:222:1
 same-length : tie.Need-same-length
 same-length c = search needs
 
--- src/turns.rt:222:1
 returns : tie.Need-returns
 unfolding step.finish
 returns c =
@@ -79,11 +66,9 @@ returns c =
     let e = sym (c .before .before .before .end-of .ensures ∙ ap (ending (g .st .revision) (g .st .header) (g .st .block)) p) ∙ ap endedAs (c .before .enum-told .given .1) in
     rw e (c .framed .ensures s)
 
--- src/turns.rt:222:1
 same-length-2 : tie.Need-same-length-2
 same-length-2 c = search needs
 
--- src/turns.rt:222:1
 returns-2 : tie.Need-returns-2
 unfolding step.finish
 returns-2 c =
@@ -93,11 +78,9 @@ returns-2 c =
     let e = sym (c .before .before .before .before .before .before .end-of .ensures ∙ ap (ending (g .st .revision) (g .st .header) (g .st .block)) p) ∙ ap endedAs (c .before .before .before .before .enum-told2 .given .1) in
     rw e (c .before .before .drop-frame .ensures)
 
--- src/turns.rt:222:1
 same-length-3 : tie.Need-same-length-3
 same-length-3 c = search needs
 
--- src/turns.rt:222:1
 returns-3 : tie.Need-returns-3
 unfolding step.finish
 returns-3 c =

@@ -21,35 +21,27 @@ use Rattle.receiver.proofs.turns.fill.Reads as fill-reads
 use Rattle.receiver.proofs.turns.refuse.Reads as refuse-reads
 use Rattle.receiver.proofs.turns.wipe.Reads as wipe-reads
 
--- src/turns.rt:184:13
 cast-n : tie.Need-cast-n
 cast-n c = search needs
 
--- src/turns.rt:185:26
 slice-aggregate-word-at : tie.Need-slice-aggregate-word-at
 slice-aggregate-word-at c = search needs
 
--- src/turns.rt:185:9
 word-at-requires : tie.Need-word-at-requires
 word-at-requires c κs = search needs
 
--- src/turns.rt:186:36
 part-requires : tie.Need-part-requires
 part-requires c κs = search needs
 
--- src/turns.rt:186:9
 checksum-requires : tie.Need-checksum-requires
 checksum-requires c κs = search needs
 
--- src/turns.rt:188:9
 fill-requires : tie.Need-fill-requires
 fill-requires c κs = search needs
 
--- src/turns.rt:188:9
 same-length : tie.Need-same-length
 same-length c = search needs
 
--- src/turns.rt:188:9
 returns : tie.Need-returns
 unfolding step.finish
 returns c =
@@ -59,19 +51,15 @@ returns c =
     let t : eqb (numberAt 4 0 (g .st .block)) (segmentSum (take (g .st .header .s1 .len) s)) ≡ true = eq-eqb _ _ (sym (c .before .before .before .before .before .word-at .ensures) ∙ c .before .if1 .taken ∙ own) in
     rw t (c .fill .ensures s)
 
--- src/turns.rt:190:5
 wipe-requires : tie.Need-wipe-requires
 wipe-requires c κs = search needs
 
--- src/turns.rt:191:5
 refuse-requires : tie.Need-refuse-requires
 refuse-requires c κs = search needs
 
--- src/turns.rt:179:1
 same-length-2 : tie.Need-same-length-2
 same-length-2 c = search needs
 
--- src/turns.rt:179:1
 returns-2 : tie.Need-returns-2
 unfolding step.finish
 returns-2 c =

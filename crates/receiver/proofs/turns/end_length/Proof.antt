@@ -15,35 +15,27 @@ use Rattle.receiver.proofs.states.with_payload.Reads as with-payload-re
 use Rattle.receiver.proofs.turns.more.Reads as more-reads
 use Rattle.receiver.proofs.turns.unless_refused.Reads as unless-refused-reads
 
--- src/turns.rt:143:21
 slice-aggregate-half-at : tie.Need-slice-aggregate-half-at
 slice-aggregate-half-at c = search needs
 
--- src/turns.rt:143:9
 half-at-requires : tie.Need-half-at-requires
 half-at-requires c κs = search needs
 
--- src/turns.rt:144:20
 with-payload-requires : tie.Need-with-payload-requires
 with-payload-requires c κs = search needs
 
--- src/turns.rt:144:9
 moved-requires : tie.Need-moved-requires
 moved-requires c κs = search needs
 
--- src/turns.rt:145:20
 judge-length-requires : tie.Need-judge-length-requires
 judge-length-requires c κs = search needs
 
--- src/turns.rt:145:41
 more-requires : tie.Need-more-requires
 more-requires c κs = search needs
 
--- src/turns.rt:145:5
 unless-refused-requires : tie.Need-unless-refused-requires
 unless-refused-requires c κs = search needs
 
--- src/turns.rt:139:1
 returns : tie.Need-returns
 unfolding finish
 returns c =

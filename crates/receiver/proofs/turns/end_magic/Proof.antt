@@ -15,31 +15,24 @@ use Rattle.receiver.proofs.states.moved.Reads as moved-reads
 use Rattle.receiver.proofs.turns.more.Reads as more-reads
 use Rattle.receiver.proofs.turns.unless_refused.Reads as unless-refused-reads
 
--- src/turns.rt:135:30
 slice-aggregate-part : tie.Need-slice-aggregate-part
 slice-aggregate-part c = search needs
 
--- src/turns.rt:135:25
 part-requires : tie.Need-part-requires
 part-requires c κs = search needs
 
--- src/turns.rt:135:9
 judge-magic-requires : tie.Need-judge-magic-requires
 judge-magic-requires c κs = search needs
 
--- src/turns.rt:136:32
 moved-requires : tie.Need-moved-requires
 moved-requires c κs = search needs
 
--- src/turns.rt:136:27
 more-requires : tie.Need-more-requires
 more-requires c κs = search needs
 
--- src/turns.rt:136:5
 unless-refused-requires : tie.Need-unless-refused-requires
 unless-refused-requires c κs = search needs
 
--- src/turns.rt:131:1
 returns : tie.Need-returns
 unfolding finish
 returns c =

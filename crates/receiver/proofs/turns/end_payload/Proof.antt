@@ -15,41 +15,32 @@ use Rattle.receiver.proofs.states.with_peer.Reads as with-peer-reads
 use Rattle.receiver.proofs.turns.meet.Reads as meet-reads
 use Rattle.receiver.proofs.turns.more.Reads as more-reads
 
--- src/turns.rt:152:50
 slice-aggregate-part : tie.Need-slice-aggregate-part
 slice-aggregate-part c = search needs
 
--- src/turns.rt:152:45
 part-requires : tie.Need-part-requires
 part-requires c κs = search needs
 
--- src/turns.rt:152:31
 read-features-requires : tie.Need-read-features-requires
 read-features-requires c κs = search needs
 
--- src/turns.rt:152:9
 with-peer-requires : tie.Need-with-peer-requires
 with-peer-requires c κs = search needs
 
--- src/turns.rt:154:9
 meet-requires : tie.Need-meet-requires
 meet-requires c κs = search needs
 
--- src/turns.rt:156:14
 moved-requires : tie.Need-moved-requires
 moved-requires c κs = search needs
 
--- src/turns.rt:156:9
 more-requires : tie.Need-more-requires
 more-requires c κs = search needs
 
--- src/turns.rt:148:1
 returns : tie.Need-returns
 unfolding finish
 returns c =
     λ s. rw (le-leb _ _ (c .before .if1 .taken)) (c .meet .ensures s ∙ rw (c .before .before .before .with-peer .ensures, c .before .before .before .before .read-features .ensures, c .before .before .before .before .before .part .ensures))
 
--- src/turns.rt:148:1
 returns-2 : tie.Need-returns-2
 unfolding finish
 returns-2 c =

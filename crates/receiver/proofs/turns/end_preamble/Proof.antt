@@ -14,35 +14,27 @@ use Rattle.receiver.proofs.states.with_header.Reads as with-header-read
 use Rattle.receiver.proofs.turns.enter.Reads as enter-reads
 use Rattle.receiver.proofs.turns.unless_refused.Reads as unless-refused-reads
 
--- src/turns.rt:164:28
 slice-aggregate-judge-preamble : tie.Need-slice-aggregate-judge-preamble
 slice-aggregate-judge-preamble c = search needs
 
--- src/turns.rt:164:9
 judge-preamble-requires : tie.Need-judge-preamble-requires
 judge-preamble-requires c κs = search needs
 
--- src/turns.rt:165:45
 slice-aggregate-read-header : tie.Need-slice-aggregate-read-header
 slice-aggregate-read-header c = search needs
 
--- src/turns.rt:165:33
 read-header-requires : tie.Need-read-header-requires
 read-header-requires c κs = search needs
 
--- src/turns.rt:165:9
 with-header-requires : tie.Need-with-header-requires
 with-header-requires c κs = search needs
 
--- src/turns.rt:166:27
 enter-requires : tie.Need-enter-requires
 enter-requires c κs = search needs
 
--- src/turns.rt:166:5
 unless-refused-requires : tie.Need-unless-refused-requires
 unless-refused-requires c κs = search needs
 
--- src/turns.rt:160:1
 returns : tie.Need-returns
 unfolding finish
 returns c =

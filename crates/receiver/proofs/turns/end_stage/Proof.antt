@@ -21,95 +21,73 @@ use Rattle.receiver.proofs.turns.end_preamble.Reads as end-preamble-rea
 use Rattle.receiver.proofs.turns.meet.Reads as meet-reads
 use Rattle.receiver.proofs.turns.more.Reads as more-reads
 
--- src/turns.rt:245:25
 enum-told : tie.Need-enum-told
 enum-told c = search needs
 
--- src/turns.rt:245:25
 end-magic-requires : tie.Need-end-magic-requires
 end-magic-requires c κs = search needs
 
--- src/turns.rt:246:26
 enum-told-2 : tie.Need-enum-told-2
 enum-told-2 c = search needs
 
--- src/turns.rt:246:26
 end-length-requires : tie.Need-end-length-requires
 end-length-requires c κs = search needs
 
--- src/turns.rt:247:27
 enum-told-3 : tie.Need-enum-told-3
 enum-told-3 c = search needs
 
--- src/turns.rt:247:27
 end-payload-requires : tie.Need-end-payload-requires
 end-payload-requires c κs = search needs
 
--- src/turns.rt:248:24
 enum-told-4 : tie.Need-enum-told-4
 enum-told-4 c = search needs
 
--- src/turns.rt:248:24
 meet-requires : tie.Need-meet-requires
 meet-requires c κs = search needs
 
--- src/turns.rt:249:45
 enum-told-5 : tie.Need-enum-told-5
 enum-told-5 c = search needs
 
--- src/turns.rt:249:28
 end-preamble-requires : tie.Need-end-preamble-requires
 end-preamble-requires c κs = search needs
 
--- src/turns.rt:250:40
 enum-told-6 : tie.Need-enum-told-6
 enum-told-6 c = search needs
 
--- src/turns.rt:250:30
 moved-requires : tie.Need-moved-requires
 moved-requires c κs = search needs
 
--- src/turns.rt:250:25
 more-requires : tie.Need-more-requires
 more-requires c κs = search needs
 
--- src/turns.rt:251:46
 enum-told-7 : tie.Need-enum-told-7
 enum-told-7 c = search needs
 
--- src/turns.rt:251:28
 end-first-sum-requires : tie.Need-end-first-sum-requires
 end-first-sum-requires c κs =
     let n = ap (λ (k : Stage). step.needed k (c .before .before .before .before .args .st)) (c .before .enum-told7 .given .1) in
     rw n at (c .before .before .before .before .pre)
 
--- src/turns.rt:252:24
 enum-told-8 : tie.Need-enum-told-8
 enum-told-8 c = search needs
 
--- src/turns.rt:252:24
 behind-rest-requires : tie.Need-behind-rest-requires
 behind-rest-requires c κs = search needs
 
--- src/turns.rt:253:45
 enum-told-9 : tie.Need-enum-told-9
 enum-told-9 c = search needs
 
--- src/turns.rt:253:28
 end-epilogue-requires : tie.Need-end-epilogue-requires
 end-epilogue-requires c κs =
     let n = ap (λ (k : Stage). step.needed k (c .before .before .before .before .args .st)) (c .before .enum-told9 .given .1) in
     rw n at (c .before .before .before .before .pre)
 
--- src/turns.rt:254:27
 enum-told-10 : tie.Need-enum-told-10
 enum-told-10 c = search needs
 
--- src/turns.rt:254:27
 more-requires-2 : tie.Need-more-requires-2
 more-requires-2 c κs = search needs
 
--- src/turns.rt:239:1
 returns : tie.Need-returns
 unfolding step.finish
 returns c =
@@ -117,7 +95,6 @@ returns c =
     let s = g .store .now in
     c .end-magic .ensures s ∙ ap (λ (k : Stage). step.finish k (g .st) s) (sym (c .before .enum-told .given .1))
 
--- src/turns.rt:239:1
 returns-2 : tie.Need-returns-2
 unfolding step.finish
 returns-2 c =
@@ -125,7 +102,6 @@ returns-2 c =
     let s = g .store .now in
     c .end-length .ensures s ∙ ap (λ (k : Stage). step.finish k (g .st) s) (sym (c .before .enum-told2 .given .1))
 
--- src/turns.rt:239:1
 returns-3 : tie.Need-returns-3
 unfolding step.finish
 returns-3 c =
@@ -133,7 +109,6 @@ returns-3 c =
     let s = g .store .now in
     c .end-payload .ensures s ∙ ap (λ (k : Stage). step.finish k (g .st) s) (sym (c .before .enum-told3 .given .1))
 
--- src/turns.rt:239:1
 returns-4 : tie.Need-returns-4
 unfolding step.finish
 returns-4 c =
@@ -141,7 +116,6 @@ returns-4 c =
     let s = g .store .now in
     c .meet .ensures s ∙ ap (λ (k : Stage). step.finish k (g .st) s) (sym (c .before .enum-told4 .given .1))
 
--- src/turns.rt:239:1
 returns-5 : tie.Need-returns-5
 unfolding step.finish
 returns-5 c =
@@ -149,7 +123,6 @@ returns-5 c =
     let s = g .store .now in
     c .end-preamble .ensures s refl ∙ ap (λ (k : Stage). step.finish k (g .st) s) (sym (c .before .enum-told5 .given .1))
 
--- src/turns.rt:239:1
 returns-6 : tie.Need-returns-6
 unfolding step.finish
 returns-6 c =
@@ -157,11 +130,9 @@ returns-6 c =
     let s = g .store .now in
     c .more .ensures s ∙ ap (λ (x : State). step.silent x s) (c .before .moved .ensures) ∙ ap (λ (k : Stage). step.finish k (g .st) s) (sym (c .before .before .enum-told6 .given .1))
 
--- src/turns.rt:239:1
 same-length : tie.Need-same-length
 same-length c = search needs
 
--- src/turns.rt:239:1
 returns-7 : tie.Need-returns-7
 unfolding step.finish
 returns-7 c =
@@ -169,7 +140,6 @@ returns-7 c =
     let s = g .store .now in
     c .before .before .end-first-sum .ensures ∙ ap (λ (k : Stage). step.finish k (g .st) s) (sym (c .before .before .before .before .enum-told7 .given .1))
 
--- src/turns.rt:239:1
 returns-8 : tie.Need-returns-8
 unfolding step.finish
 returns-8 c =
@@ -177,11 +147,9 @@ returns-8 c =
     let s = g .store .now in
     c .behind-rest .ensures s ∙ ap (λ (k : Stage). step.finish k (g .st) s) (sym (c .before .enum-told8 .given .1))
 
--- src/turns.rt:239:1
 same-length-2 : tie.Need-same-length-2
 same-length-2 c = search needs
 
--- src/turns.rt:239:1
 returns-9 : tie.Need-returns-9
 unfolding step.finish
 returns-9 c =
@@ -189,7 +157,6 @@ returns-9 c =
     let s = g .store .now in
     c .before .before .end-epilogue .ensures ∙ ap (λ (k : Stage). step.finish k (g .st) s) (sym (c .before .before .before .before .enum-told9 .given .1))
 
--- src/turns.rt:239:1
 returns-10 : tie.Need-returns-10
 unfolding step.finish
 returns-10 c =

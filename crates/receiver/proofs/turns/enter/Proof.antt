@@ -13,34 +13,27 @@ use Rattle.receiver.proofs.turns.fill.Reads as fill-reads
 use Rattle.receiver.proofs.turns.more.Reads as more-reads
 use Rattle.refusal.proofs.both.Reads as both-reads
 
--- src/turns.rt:124:13
 is-msgr21-requires : tie.Need-is-msgr21-requires
 is-msgr21-requires c κs = search needs
 
--- src/turns.rt:124:8
 both-requires : tie.Need-both-requires
 both-requires c κs = search needs
 
--- src/turns.rt:125:14
 moved-requires : tie.Need-moved-requires
 moved-requires c κs = search needs
 
--- src/turns.rt:125:9
 more-requires : tie.Need-more-requires
 more-requires c κs = search needs
 
--- src/turns.rt:127:9
 fill-requires : tie.Need-fill-requires
 fill-requires c κs = search needs
 
--- src/turns.rt:120:1
 returns : tie.Need-returns
 returns c =
     let n = c .before .before .before .before .before .before .args .st .header .s1 .len in
     let t : (isMsgr21 (c .before .before .before .before .before .before .args .st .revision) && not (eqb n 0)) ≡ true = ap (λ (x : Bool). x && not (eqb n 0)) (sym (c .before .before .before .before .before .is-msgr21 .ensures)) ∙ sym (c .before .before .before .both .ensures) ∙ c .before .before .if1 .taken in
     λ s. rw t (c .more .ensures s ∙ rw (c .before .moved .ensures))
 
--- src/turns.rt:120:1
 returns-2 : tie.Need-returns-2
 returns-2 c =
     let n = c .before .before .before .before .before .args .st .header .s1 .len in

@@ -13,29 +13,23 @@ use Rattle.receiver.proofs.states.moved.Reads as moved-reads
 use Rattle.receiver.proofs.turns.behind_rest.Reads as behind-rest-reads
 use Rattle.receiver.proofs.turns.more.Reads as more-reads
 
--- src/turns.rt:112:23
 total-of-requires : tie.Need-total-of-requires
 total-of-requires c κs = search needs
 
--- src/turns.rt:113:14
 moved-requires : tie.Need-moved-requires
 moved-requires c κs = search needs
 
--- src/turns.rt:113:9
 more-requires : tie.Need-more-requires
 more-requires c κs = search needs
 
--- src/turns.rt:115:9
 behind-rest-requires : tie.Need-behind-rest-requires
 behind-rest-requires c κs = search needs
 
--- src/turns.rt:109:1
 returns : tie.Need-returns
 returns c =
     let t : ltb (c .before .before .before .before .args .got) (total (c .before .before .before .before .args .st .header)) ≡ true = lt-ltb _ _ (rw (c .before .before .before .total-of .ensures) at (c .before .before .if1 .taken)) in
     λ s. rw t (c .more .ensures s ∙ rw (c .before .moved .ensures))
 
--- src/turns.rt:109:1
 returns-2 : tie.Need-returns-2
 returns-2 c =
     let t : ltb (c .before .before .before .args .got) (total (c .before .before .before .args .st .header)) ≡ false = le-ltb _ _ (rw (c .before .before .total-of .ensures) at (c .before .if1 .left)) in

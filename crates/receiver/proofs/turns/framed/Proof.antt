@@ -5,11 +5,9 @@ use Rattle.receiver.proofs.turns.framed.Reads as reads
 use Rattle.receiver.proofs.turns.framed.Lts as lts
 use Rattle.receiver.proofs.states.moved.Reads as moved-reads
 
--- src/turns.rt:91:16
 moved-requires : tie.Need-moved-requires
 moved-requires c κs = search needs
 
--- src/turns.rt:86:1
 returns : tie.Need-returns
 returns c = λ s. rw (c .moved .ensures)
 

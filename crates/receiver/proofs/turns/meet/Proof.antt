@@ -10,27 +10,21 @@ use Rattle.receiver.proofs.states.moved.Reads as moved-reads
 use Rattle.receiver.proofs.states.with_revision.Reads as with-revision-reads
 use Rattle.receiver.proofs.turns.unless_refused.Reads as unless-refused-reads
 
--- src/turns.rt:77:9
 revision-of-requires : tie.Need-revision-of-requires
 revision-of-requires c κs = search needs
 
--- src/turns.rt:79:22
 with-revision-requires : tie.Need-with-revision-requires
 with-revision-requires c κs = search needs
 
--- src/turns.rt:79:16
 moved-requires : tie.Need-moved-requires
 moved-requires c κs = search needs
 
--- src/turns.rt:82:20
 judge-features-requires : tie.Need-judge-features-requires
 judge-features-requires c κs = search needs
 
--- src/turns.rt:82:5
 unless-refused-requires : tie.Need-unless-refused-requires
 unless-refused-requires c κs = search needs
 
--- src/turns.rt:72:1
 returns : tie.Need-returns
 returns c = λ s. c .unless-refused .ensures s ∙ rw (c .before .judge-features .ensures, c .before .before .moved .ensures, c .before .before .before .with-revision .ensures, c .before .before .before .before .revision-of .ensures)
 

@@ -5,11 +5,9 @@ use Rattle.receiver.proofs.turns.refuse.Reads as reads
 use Rattle.receiver.proofs.turns.refuse.Lts as lts
 use Rattle.receiver.proofs.states.with_refusal.Reads as with-refusal-reads
 
--- src/turns.rt:57:16
 with-refusal-requires : tie.Need-with-refusal-requires
 with-refusal-requires c κs = search needs
 
--- src/turns.rt:53:1
 returns : tie.Need-returns
 returns c = λ s. rw (c .with-refusal .ensures)
 

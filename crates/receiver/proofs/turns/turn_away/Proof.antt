@@ -8,19 +8,15 @@ use Rattle.receiver.proofs.turns.turn_away.Lts as lts
 use Rattle.receiver.proofs.turns.refuse.Reads as refuse-reads
 use Rattle.receiver.proofs.turns.wipe.Reads as wipe-reads
 
--- src/turns.rt:218:5
 wipe-requires : tie.Need-wipe-requires
 wipe-requires c κs = search needs
 
--- src/turns.rt:219:5
 refuse-requires : tie.Need-refuse-requires
 refuse-requires c κs = search needs
 
--- src/turns.rt:214:1
 same-length : tie.Need-same-length
 same-length c = search needs
 
--- src/turns.rt:214:1
 returns : tie.Need-returns
 returns c = c .refuse .ensures (c .before .before .before .wipe .last .0) ∙ ap (step.refuse (c .before .before .before .before .before .before .args .st) (c .before .before .before .before .before .before .args .n)) (c .before .before .before .wipe .ensures)
 

@@ -9,27 +9,21 @@ use Rattle.receiver.proofs.turns.unless_refused.Lts as lts
 use Rattle.receiver.proofs.turns.refuse.Reads as refuse-reads
 use Rattle.refusal.proofs.in_numbers.Reads as in-numbers-reads
 
--- src/turns.rt:66:26
 enum-told : tie.Need-enum-told
 enum-told c = search needs
 
--- src/turns.rt:67:26
 enum-known-v : tie.Need-enum-known-v
 enum-known-v c = search needs
 
--- src/turns.rt:67:45
 in-numbers-requires : tie.Need-in-numbers-requires
 in-numbers-requires c κs = search needs
 
--- src/turns.rt:67:34
 refuse-requires : tie.Need-refuse-requires
 refuse-requires c κs = search needs
 
--- src/turns.rt:62:1
 returns : tie.Need-returns
 returns c = λ s. rw (c .enum-told .given .1)
 
--- src/turns.rt:62:1
 returns-2 : tie.Need-returns-2
 returns-2 c = λ s. rw (c .before .before .before .v .given .1) (c .refuse .ensures s ∙ ap (λ (n : Numbers). step.refuse (c .before .before .before .before .before .args .st) n s) (c .before .in-numbers .ensures))
 

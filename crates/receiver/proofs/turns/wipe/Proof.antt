@@ -12,19 +12,15 @@ use Rattle.receiver.proofs.turns.wipe.Lts as lts
 use Rattle.buffer.proofs.put_zeros.Reads as put-zeros-reads
 use Rattle.preamble.proofs.total_of.Reads as total-of-reads
 
--- src/turns.rt:176:22
 total-of-requires : tie.Need-total-of-requires
 total-of-requires c κs = search needs
 
--- src/turns.rt:176:5
 put-zeros-requires : tie.Need-put-zeros-requires
 put-zeros-requires c κs = search needs
 
--- src/turns.rt:172:1
 same-length : tie.Need-same-length
 same-length c = search needs
 
--- src/turns.rt:172:1
 returns : tie.Need-returns
 returns c =
     let s = c .before .before .before .before .before .before .args .store .now in
