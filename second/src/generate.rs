@@ -10,16 +10,13 @@ use crate::frame::{Frame, Segment, PLACES, SEGMENT_LIMIT, SUM_LIMIT};
 use crate::random::Random;
 use crate::records::{BannerRecord, ChecksumRecord, FrameRecord, Record, SendBuffer};
 use crate::wire::{can_abort, wire_length, Revision};
-use std::io::{self, Write};
 
 const REVISIONS: [Revision; 2] = [Revision::Msgr20, Revision::Msgr21];
 
-pub fn generate(seed: u64, count: u64, out: &mut impl Write) -> io::Result<()> {
+/// Records of checksums and builds.
+pub fn records(seed: u64, count: u64) -> impl Iterator<Item = Record> {
     let mut random = Random::new(seed);
-    for _ in 0..count {
-        out.write_all(&record(&mut random).to_bytes())?;
-    }
-    Ok(())
+    (0..count).map(move |_| record(&mut random))
 }
 
 fn record(random: &mut Random) -> Record {
@@ -296,10 +293,14 @@ mod tests {
     use super::*;
     use crate::run::run;
 
+    fn made(seed: u64, count: u64) -> Vec<u8> {
+        let records = records(seed, count);
+        records.flat_map(|record| record.to_bytes()).collect()
+    }
+
     fn answers(seed: u64, count: u64) -> Vec<String> {
-        let (mut records, mut printed) = (Vec::new(), Vec::new());
-        generate(seed, count, &mut records).expect("writing to memory");
-        run(&records, &mut printed).expect("writing to memory");
+        let mut printed = Vec::new();
+        run(&made(seed, count), &mut printed).expect("writing to memory");
         let text = String::from_utf8(printed).expect("plain text");
         text.lines().map(String::from).collect()
     }
@@ -336,12 +337,7 @@ mod tests {
 
     #[test]
     fn the_seed_decides_the_records() {
-        let made = |seed| {
-            let mut bytes = Vec::new();
-            generate(seed, 50, &mut bytes).expect("writing to memory");
-            bytes
-        };
-        assert_eq!(made(7), made(7));
-        assert_ne!(made(7), made(8));
+        assert_eq!(made(7, 50), made(7, 50));
+        assert_ne!(made(7, 50), made(8, 50));
     }
 }

@@ -18,6 +18,7 @@ pub enum Revision {
 }
 
 // The features of a banner.
+#[repr(C)]
 pub struct Features {
     pub supported: u64,
     pub required: u64,

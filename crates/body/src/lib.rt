@@ -10,6 +10,7 @@ use preamble::Header;
 use preamble::total_of;
 use refusal::Refusal;
 use refusal::Verdict;
+use refusal::either;
 use refusal::or_else;
 use refusal::unless_ok;
 ghost use mathlib.Core.Path.{_≡_};
@@ -203,12 +204,6 @@ pub fn read_late(revision: Revision, b: u8) -> Late
     }
 }
 
-fn either(a: bool, b: bool) -> bool
-    ensures { λ r. ⌜ r ≡ (a || b) ⌝ }
-{
-    if a { true } else { b }
-}
-
 // Segment k's checksum as stored in the frame, against that of its bytes.
 fn compare(count: u8, k: u8, stored: u32, sum: u32) -> Verdict
     ensures { λ r. ⌜ judgedBy r ≡ unless (ltb count k || eqb stored sum) 11 k ⌝ }
@@ -262,7 +257,8 @@ fn compare_sums(revision: Revision, h: Header, e: &[u8], payload: &[u8]) -> Verd
     }
 }
 
-fn no_epilogue(revision: Revision, h: Header) -> bool
+// A one-segment msgr2.1 frame has no epilogue.
+pub fn no_epilogue(revision: Revision, h: Header) -> bool
     ensures { λ r. ⌜ r ≡ noEpilogue revision h ⌝ }
 {
     match revision {

@@ -22,12 +22,14 @@ pub const SEGMENT_LIMIT: u64 = 16384;
 pub const SUM_LIMIT: u64 = 32768;
 
 // A segment's two fields in a preamble.
+#[repr(C)]
 pub struct Segment {
     pub len: u32,
     pub align: u16,
 }
 
 // What a preamble says of its frame. Four named segments: an array of structs would cost each function a longer proof.
+#[repr(C)]
 pub struct Header {
     pub tag: u8,
     pub count: u8,

@@ -24,6 +24,7 @@ use Rattle.receiver.specs.declared.Report.the-variants as report
 use Rattle.receiver.specs.declared.Received.{Received}
 use Rattle.receiver.specs.Step.{needed, isRefused, agrees, given, isFine, withRefusal, fresh, started, Fed, feed, Answer, fed, answer, Answered, Running}
 use Rattle.receiver.specs.Calls.{Call, pieceAt, Chained, takenBy, stateBy, storeBy, entered, reportedBy, listOf, dueTaken, dueReport, Each, Repeats, refusedIn, Kept, Demand3}
+use Rattle.receiver.proofs.Flags.{wrong}
 use Rattle.receiver.proofs.Machine.{Scanned, scan, scan-append, scan-none, before, noted, AsScan, feed-scan, feed-due}
 use Rattle.receiver.proofs.Stages.{toldBy, gone}
 use Rattle.receiver.proofs.Streams.{stream-told}
@@ -220,7 +221,7 @@ module _ (own : Features) (stream store : List ℕ) where
     each = tt;
     reports = append-nil _;
     agreeing = live-agrees live;
-    stopped = λ e. absurd (let z : true ≡ false = sym e ∙ clean in let y : _≡_ {A = ℕ} 0 1 = cc in omega arith);
+    stopped = λ e. wrong (sym clean ∙ e);
   }
   live-run t st s (c ∷ cs) h live sk clean est es ch =
       let x = next t (c .size) h live sk st s (c .received) (c .store) est es (ch .0) in
@@ -322,7 +323,7 @@ kept-refused own stream store cs n not16 ch =
       each = rw not16 (r .repeats);
       reports = rw not16 (sym (ap (λ (t : Told). t .entries) z));
       final = r .final ∙ sym (ap (λ (t : Told). t .store) z);
-      whole = λ e. absurd (let f : false ≡ true = rw not16 at e in let y : _≡_ {A = ℕ} 0 1 = cc in omega arith);
+      whole = λ e. wrong (rw not16 at e);
       same = λ stream′ cs′ ch′ e.
           let r′ = silent-run n stream′ 0 (started own) store cs′ g ch′ in
           (r′ .state ∙ sym (r .state), r′ .final ∙ sym (r .final));

@@ -30,7 +30,7 @@ use Rattle.receiver.proofs.Stages.{toldBy, run, short, full, gone}
 
 -- ---- lengths
 
-no-length : (revision : Revision) (h : Header) → noEpilogue revision h ≡ true → epilogueLength revision h ≡ 0
+pub no-length : (revision : Revision) (h : Header) → noEpilogue revision h ≡ true → epilogueLength revision h ≡ 0
 no-length Msgr20 h e = cc
 no-length Msgr21 h e = rw e
 
@@ -38,7 +38,7 @@ pub has-length : (revision : Revision) (h : Header) → noEpilogue revision h �
 has-length Msgr20 h e = (omega arith, omega arith)
 has-length Msgr21 h e = rw e (omega arith, omega arith)
 
-wire-parts : (revision : Revision) (h : Header) → wireLength revision h ≡ 32 + bodyLength revision h
+pub wire-parts : (revision : Revision) (h : Header) → wireLength revision h ≡ 32 + bodyLength revision h
 wire-parts Msgr20 h = omega arith
 wire-parts Msgr21 h = omega arith
 
@@ -60,7 +60,7 @@ ending-block revision h e p q l =
     ∙ ap (λ (x : List ℕ). ending revision h x p) (take-sets blank (take n e) n k (has-length revision h q .1))
     ∙ ending-take revision h e p q
 
-ending-none : (revision : Revision) (h : Header) (e p : List ℕ) → noEpilogue revision h ≡ true → ending revision h e p ≡ whole
+pub ending-none : (revision : Revision) (h : Header) (e p : List ℕ) → noEpilogue revision h ≡ true → ending revision h e p ≡ whole
 unfolding ending
 ending-none revision h e p q = rw q
 

@@ -1,3 +1,4 @@
+pub mod Flags
 pub mod Machine
 pub mod Runs
 pub mod Placed

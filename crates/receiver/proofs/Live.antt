@@ -33,6 +33,7 @@ use Rattle.receiver.specs.declared.State.{State}
 use Rattle.receiver.specs.declared.Report.{Report}
 use Rattle.receiver.specs.declared.Report.the-variants as report
 use Rattle.receiver.specs.Step.{sizeOf, Place, block, store, nowhere, placeOf, needed, isFine, isMsgr21, ownOk, payloadOk, headerOk, given, rules, isRefused, agrees, holding, moved, withPayload, withPeer, withRevision, withHeader, withRefusal, held, absorbed, kept, stored, Stepped, silent, refuse, unlessRefused, meet, close, behindRest, fill, enter, reached, chunk, finish, onByte, Fed, further, feed, Running}
+use Rattle.receiver.proofs.Flags.{both-left}
 use Rattle.receiver.proofs.Frames.{has-length}
 use Rattle.receiver.proofs.Runs.{size-absorbed}
 
@@ -173,10 +174,6 @@ module _ (st : State) (s : List ℕ) (ok : headerOk st ≡ true) (fits : total (
 
 fine-true : {j : Judged} → j ≡ fine → isFine j ≡ true
 fine-true e = ap isFine e
-
-both-left : (a b : Bool) → (a && b) ≡ true → a ≡ true
-both-left true b e = refl
-both-left false b e = e
 
 finish-after : (k : Stage) (st : State) (s : List ℕ) → rules k st ≡ true → isRefused k ≡ false → needed k st ≤ length s → AfterStep (finish k st s)
 unfolding finish

@@ -19,6 +19,7 @@ use Rattle.receiver.specs.declared.State.{State}
 use Rattle.receiver.specs.declared.Report.{Report}
 use Rattle.receiver.specs.declared.Report.the-variants as report
 use Rattle.receiver.specs.Step.{sizeOf, needed, rules, isRefused, agrees, Place, block, store, nowhere, placeOf, isBlock, isStore, isMore, held, kept, Stepped, chunk, Fed, feed, Running}
+use Rattle.receiver.proofs.Flags.{wrong, both-left, both-right}
 use Rattle.receiver.proofs.Runs.{advance, feed-chunk}
 
 least-epilogue : (revision : Revision) (h : Header) → epilogueLength revision h ≤ 32
@@ -28,9 +29,6 @@ least-epilogue Msgr21 h = go (leb (h .count) 1)
     go : (b : Bool) → cond b 0 13 ≤ 32
     go true = zero-le
     go false = omega arith
-
-wrong : {A : Type 0} → false ≡ true → A
-wrong e = absurd (let z : _≡_ {A = ℕ} 0 1 = cc in omega arith)
 
 pub block-room : (k : Stage) (st : State) → isBlock (placeOf k) ≡ true → sizeOf k st ≤ 32
 block-room stage.Magic st e = omega arith
@@ -111,14 +109,6 @@ is-more (report.Dropped h) e = wrong e
 is-more (report.Refused n) e = wrong e
 
 -- a state that agrees with itself and is not refused
-both-left : (a b : Bool) → (a && b) ≡ true → a ≡ true
-both-left true b e = refl
-both-left false b e = e
-
-both-right : (a b : Bool) → (a && b) ≡ true → b ≡ true
-both-right true b e = e
-both-right false b e = wrong e
-
 or-right : (a b : Bool) → a ≡ false → (a || b) ≡ true → b ≡ true
 or-right true b e f = wrong (sym e)
 or-right false b e f = f

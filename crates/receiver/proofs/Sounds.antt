@@ -19,12 +19,10 @@ use Rattle.receiver.specs.declared.Stage.{Stage}
 use Rattle.receiver.specs.declared.Stage.the-variants as stage
 use Rattle.receiver.specs.Step.{needed, isRefused, agrees, given, rules, withRefusal, row10, Stepped, onByte, Fed, further, feed, Answer, fed, stays, answer, Answered, Running, started}
 use Rattle.receiver.specs.Calls.{Sound, Soundness}
+use Rattle.receiver.proofs.Flags.{wrong, both-left}
 use Rattle.receiver.proofs.Live.{Gone, After, feed-after, after-agrees, gone-agrees, live-agrees}
 use Rattle.receiver.proofs.Rooms.{running}
 use Rattle.receiver.proofs.Chain.{start-agrees}
-
-wrong : {A : Type 0} → false ≡ true → A
-wrong e = absurd (let z : _≡_ {A = ℕ} 0 1 = cc in omega arith)
 
 -- what a receiver gives is not 26
 not26 : (n : Numbers) → given n ≡ true → report.Refused n ≡ report.Refused (row 26 0 0 0) → ⊥
@@ -90,10 +88,6 @@ rules-refused stage.FirstSum st e = wrong e
 rules-refused stage.Rest st e = wrong e
 rules-refused stage.Epilogue st e = wrong e
 rules-refused stage.Refused st e = refl
-
-both-left : (a b : Bool) → (a && b) ≡ true → a ≡ true
-both-left true b e = refl
-both-left false b e = e
 
 refused-given : (st : State) → agrees st ≡ true → isRefused (st .stage) ≡ true → given (st .refusal) ≡ true
 unfolding agrees

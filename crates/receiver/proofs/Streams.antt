@@ -25,6 +25,7 @@ use Rattle.receiver.specs.declared.Stage.the-variants as stage
 use Rattle.receiver.specs.declared.State.{State}
 use Rattle.receiver.specs.declared.Report.the-variants as report
 use Rattle.receiver.specs.Step.{Stepped, blank, moved, absorbed, holding, withPayload, withPeer, withRevision, withRefusal, withHeader, silent, refuse, unlessRefused, meet, enter, finish, fresh}
+use Rattle.receiver.proofs.Flags.{both-left}
 use Rattle.receiver.proofs.Machine.{scan, scan-none}
 use Rattle.receiver.proofs.Placed.{sets-whole, take-sets, number-take, number-drop}
 use Rattle.receiver.proofs.Stages.{toldBy, run, short, full, gone}
@@ -186,11 +187,7 @@ module _ (f : ℕ) (y : State) (s ys : List ℕ) (hf : length ys ≤ f) (low : 1
 
 -- ---- the whole stream
 
-both-left : (a b : Bool) → (a && b) ≡ true → a ≡ true
-both-left true b e = refl
-both-left false b e = e
-
-long-enough : (n : ℕ) → judgeLength n ≡ fine → 16 ≤ n
+pub long-enough : (n : ℕ) → judgeLength n ≡ fine → 16 ≤ n
 long-enough n e = leb-true 16 n (both-left (leb 16 n) (leb n 1024) (passed (leb 16 n && leb n 1024) 2 n e))
 
 module _ (own : Features) (bytes s : List ℕ) where

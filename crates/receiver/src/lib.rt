@@ -6,9 +6,11 @@ mod turns;
 use banner::Features;
 use banner::Revision;
 use banner::judge_own;
+use buffer::less;
 use pieces::run;
 use preamble::Header;
 use refusal::Numbers;
+use refusal::Refusal;
 use refusal::Verdict;
 use refusal::in_numbers;
 use states::agrees_with_itself;
@@ -108,23 +110,12 @@ fn stays(st: State, n: Numbers) -> Received
     }
 }
 
-fn plain(number: u8, first: u64) -> Numbers
-    ensures { λ r. ⌜ r ≡ row number first 0 0 ⌝ }
-{
-    Numbers {
-        number: number,
-        first: first,
-        second: 0,
-        third: 0,
-    }
-}
-
 // A call: takes bytes of the piece up to and including the one that completes a report.
 pub fn receive(state: State, piece: &[u8], store: &mut [u8]) -> Received
     ensures { λ r. ⌜ Answered state (now (store .entry)) (now (piece .entry)) r (now (store .exit)) ⌝ }
 {
     if !agrees_with_itself(state) {
-        return stays(state, plain(26, 0));
+        return stays(state, in_numbers(Refusal::StateContradicts));
     }
     let stage = state.stage;
     if is_refused(stage) {
@@ -132,7 +123,7 @@ pub fn receive(state: State, piece: &[u8], store: &mut [u8]) -> Received
     }
     let need = needed_of(state);
     if (store.len() as u64) < need {
-        let n = plain(10, need);
+        let n = in_numbers(Refusal::StoreShort(need));
         return stays(with_refusal(state, n), n);
     }
     run(state, piece, store)
@@ -156,12 +147,6 @@ pub struct Driven {
     pub taken: usize,
 }
 
-fn least(a: usize, b: usize) -> usize
-    ensures { λ r. ⌜ r ≡ min a b ⌝ }
-{
-    if a < b { a } else { b }
-}
-
 // Calls `receive` once for each number of cuts, each time on as many bytes of the stream from the first one not yet taken, or on as many as are left.
 pub fn drive(own: Features, stream: &[u8], cuts: &[usize], store: &mut [u8]) -> Driven
     ensures { λ r. ⌜ Drove own (now (stream .entry)) (now (cuts .entry)) (now (store .entry)) (r .state) (r .taken) (now (store .exit)) ⌝ }
@@ -171,7 +156,7 @@ pub fn drive(own: Features, stream: &[u8], cuts: &[usize], store: &mut [u8]) -> 
     let mut t: usize = 0;
     let mut i: usize = 0;
     while i < cuts.len() {
-        let k = least(cuts[i], stream.len() - t);
+        let k = less(cuts[i], stream.len() - t);
         let end = t + k;
         let o = receive(state, &stream[t..end], store);
         state = o.state;

@@ -6,6 +6,7 @@ use crate::State;
 use crate::states::holding;
 use crate::states::size_of;
 use crate::turns::end_stage;
+use buffer::less;
 use buffer::part;
 use buffer::put;
 ghost use mathlib.Core.Path.{_≡_};
@@ -14,12 +15,6 @@ ghost use Prim.Native.Nat.{ℕ, _+_, _-_, _≤_, _<_, min};
 ghost use lib.ListN.{length, take, drop};
 ghost use lib.Seq.{sets};
 ghost use Rattle.receiver.specs.Step.{sizeOf, needed, placeOf, isBlock, isStore, isMore, absorbed, stored, Chunked, Ran, Running};
-
-fn least(a: usize, b: usize) -> usize
-    ensures { λ r. ⌜ r ≡ min a b ⌝ }
-{
-    if a < b { a } else { b }
-}
 
 fn into_block(stage: Stage) -> bool
     ensures { λ r. ⌜ r ≡ isBlock (placeOf stage) ⌝ }
@@ -99,7 +94,7 @@ fn step(st: State, piece: &[u8], store: &mut [u8]) -> Received
 {
     let n = size_of(st);
     let got = st.got;
-    let m = least(n - got, piece.len());
+    let m = less(n - got, piece.len());
     let bytes = part(piece, 0, m);
     let to = got + m;
     let held = absorb(st, bytes, to);

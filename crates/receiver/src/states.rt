@@ -12,6 +12,7 @@ use preamble::total_of;
 use refusal::Numbers;
 use refusal::Verdict;
 use refusal::both;
+use refusal::either;
 ghost use mathlib.Core.Path.{_≡_};
 ghost use mathlib.Core.Bool.{_||_};
 ghost use Prim.Native.Nat.{_-_};
@@ -25,24 +26,10 @@ ghost use Rattle.receiver.specs.Step.{holding, moved, withPayload, withP
 pub(crate) fn holding(st: State, got: usize, block: [u8; 32]) -> State
     ensures { λ r. ⌜ r ≡ holding st got block ⌝ }
 {
-    let stage = st.stage;
-    let own = st.own;
-    let payload = st.payload;
-    let peer = st.peer;
-    let revision = st.revision;
-    let header = st.header;
-    let refusal = st.refusal;
-    State {
-        stage: stage,
-        got: got,
-        block: block,
-        own: own,
-        payload: payload,
-        peer: peer,
-        revision: revision,
-        header: header,
-        refusal: refusal,
-    }
+    let mut next = st;
+    next.got = got;
+    next.block = block;
+    next
 }
 
 // On to another stage.
@@ -71,49 +58,17 @@ pub(crate) fn moved(st: State, stage: Stage, got: usize) -> State
 pub(crate) fn with_payload(st: State, payload: u16) -> State
     ensures { λ r. ⌜ r ≡ withPayload st payload ⌝ }
 {
-    let stage = st.stage;
-    let got = st.got;
-    let block = st.block;
-    let own = st.own;
-    let peer = st.peer;
-    let revision = st.revision;
-    let header = st.header;
-    let refusal = st.refusal;
-    State {
-        stage: stage,
-        got: got,
-        block: block,
-        own: own,
-        payload: payload,
-        peer: peer,
-        revision: revision,
-        header: header,
-        refusal: refusal,
-    }
+    let mut next = st;
+    next.payload = payload;
+    next
 }
 
 pub(crate) fn with_peer(st: State, peer: Features) -> State
     ensures { λ r. ⌜ r ≡ withPeer st peer ⌝ }
 {
-    let stage = st.stage;
-    let got = st.got;
-    let block = st.block;
-    let own = st.own;
-    let payload = st.payload;
-    let revision = st.revision;
-    let header = st.header;
-    let refusal = st.refusal;
-    State {
-        stage: stage,
-        got: got,
-        block: block,
-        own: own,
-        payload: payload,
-        peer: peer,
-        revision: revision,
-        header: header,
-        refusal: refusal,
-    }
+    let mut next = st;
+    next.peer = peer;
+    next
 }
 
 pub(crate) fn with_revision(st: State, revision: Revision) -> State
@@ -143,47 +98,18 @@ pub(crate) fn with_revision(st: State, revision: Revision) -> State
 pub(crate) fn with_header(st: State, header: Header) -> State
     ensures { λ r. ⌜ r ≡ withHeader st header ⌝ }
 {
-    let stage = st.stage;
-    let got = st.got;
-    let block = st.block;
-    let own = st.own;
-    let payload = st.payload;
-    let peer = st.peer;
-    let revision = st.revision;
-    let refusal = st.refusal;
-    State {
-        stage: stage,
-        got: got,
-        block: block,
-        own: own,
-        payload: payload,
-        peer: peer,
-        revision: revision,
-        header: header,
-        refusal: refusal,
-    }
+    let mut next = st;
+    next.header = header;
+    next
 }
 
 // Refused from now on.
 pub(crate) fn with_refusal(st: State, refusal: Numbers) -> State
     ensures { λ r. ⌜ r ≡ withRefusal st refusal ⌝ }
 {
-    let own = st.own;
-    let payload = st.payload;
-    let peer = st.peer;
-    let revision = st.revision;
-    let header = st.header;
-    State {
-        stage: Stage::Refused,
-        got: 0,
-        block: [0u8; 32],
-        own: own,
-        payload: payload,
-        peer: peer,
-        revision: revision,
-        header: header,
-        refusal: refusal,
-    }
+    let mut next = st;
+    next.refusal = refusal;
+    moved(next, Stage::Refused, 0)
 }
 
 // A receiver before its first byte.
@@ -225,15 +151,6 @@ fn epilogue_length(revision: Revision, h: Header) -> usize
     match revision {
         Revision::Msgr20 => 17,
         Revision::Msgr21 => { if h.count <= 1 { 0 } else { 13 } }
-    }
-}
-
-pub(crate) fn no_epilogue(revision: Revision, h: Header) -> bool
-    ensures { λ r. ⌜ r ≡ noEpilogue revision h ⌝ }
-{
-    match revision {
-        Revision::Msgr20 => false,
-        Revision::Msgr21 => h.count <= 1,
     }
 }
 
@@ -328,12 +245,6 @@ fn is_given(n: Numbers) -> bool
 {
     let known = both(1 <= n.number, n.number <= 12);
     either(known, n.number == 16)
-}
-
-fn either(a: bool, b: bool) -> bool
-    ensures { λ r. ⌜ r ≡ (a || b) ⌝ }
-{
-    if a { true } else { b }
 }
 
 fn rules_hold(st: State) -> bool

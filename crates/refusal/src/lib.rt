@@ -1,6 +1,6 @@
 // What can be turned away, as 01's table has it: cases, their numbers and details, and verdicts put in order.
 ghost use mathlib.Core.Path.{_≡_};
-ghost use mathlib.Core.Bool.{cond, _&&_};
+ghost use mathlib.Core.Bool.{cond, _&&_, _||_};
 ghost use Rattle.refusal.specs.Refusals.{fine, row, numbersOf, told, judgedBy, orElse};
 
 // Feature bits that one side requires and the other does not support.
@@ -38,6 +38,7 @@ pub enum Verdict {
 }
 
 // A refusal as numbers.
+#[repr(C)]
 pub struct Numbers {
     pub number: u8,
     pub first: u64,
@@ -118,4 +119,11 @@ pub fn both(a: bool, b: bool) -> bool
     ensures { λ r. ⌜ r ≡ (a && b) ⌝ }
 {
     if a { b } else { false }
+}
+
+// Whether one of them holds.
+pub fn either(a: bool, b: bool) -> bool
+    ensures { λ r. ⌜ r ≡ (a || b) ⌝ }
+{
+    if a { true } else { b }
 }

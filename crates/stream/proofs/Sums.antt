@@ -20,7 +20,7 @@ use Rattle.banner.specs.declared.Revision.the-variants.{Msgr20, Msgr21}
 use Rattle.stream.specs.Stream.{Told, ended, unlessRefused, refusedAt, zeroed, firstWrong, atEnd, bodyTold, frames, bannerTold, payloadOf, peerOf, streamTold, byOwn, entriesOf}
 use Rattle.stream.specs.Adds.{Adds, AddsUp, AllAddUp}
 
-least : (revision : Revision) (h : Header) → 32 ≤ wireLength revision h
+pub least : (revision : Revision) (h : Header) → 32 ≤ wireLength revision h
 least Msgr20 h = omega arith
 least Msgr21 h = omega arith
 

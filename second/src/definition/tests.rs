@@ -4,7 +4,7 @@ use super::*;
 use crate::generate::receiver::records;
 use crate::random::Random;
 use crate::receiver::Receiver;
-use crate::records::{ReceiverRecord, Record};
+use crate::records::ReceiverRecord;
 use crate::vectors::{banner, empty, three_aborted, three_frame, three_source, three_whole};
 
 #[test]
@@ -51,13 +51,6 @@ fn a_refused_start_has_no_entries() {
     let list = entries(Features::new(0, 1), &banner(Revision::Msgr21), &[7]);
     assert_eq!(list.entries, []);
     assert_eq!(list.store, [7]);
-}
-
-fn generated(seed: u64, count: u64) -> impl Iterator<Item = ReceiverRecord> {
-    records(seed, count).map(|record| match record {
-        Record::Receiver(record) => record,
-        other => panic!("{other:?}"),
-    })
 }
 
 /// A stream under way: what the calls so far have left.
@@ -149,7 +142,7 @@ fn cut_at_random<'a>(record: &'a ReceiverRecord, random: &mut Random, most: u32)
 #[test]
 fn reports_do_not_depend_on_the_cuts() {
     let mut random = Random::new(5);
-    for record in generated(11, 2_500) {
+    for record in records(11, 2_500) {
         let whole = cut_at_random(&record, &mut random, 140_000);
         for most in [1, 3, 17, 60, 400] {
             let cut = cut_at_random(&record, &mut random, most);
@@ -160,7 +153,7 @@ fn reports_do_not_depend_on_the_cuts() {
 
 #[test]
 fn generated_calls_leave_the_defined_store_each_time() {
-    for record in generated(12, 2_500) {
+    for record in records(12, 2_500) {
         let mut calls = Calls::start(&record);
         for &piece in &record.pieces {
             calls.call(piece as usize);
@@ -172,7 +165,7 @@ fn generated_calls_leave_the_defined_store_each_time() {
 
 #[test]
 fn two_pieces_with_the_same_bytes_leave_the_same_state() {
-    for record in generated(13, 400) {
+    for record in records(13, 400) {
         let mut bytewise = Calls::start(&record);
         for length in 0..record.stream.len().min(200) {
             let mut once = Calls::start(&record);

@@ -5,7 +5,7 @@ use super::link::{flip_a_bit, link, spoil_banner, spoil_frame, Link, Size};
 use crate::cutting::Course;
 use crate::input::LARGEST_LENGTH;
 use crate::random::Random;
-use crate::records::{FrameStore, ReceiverRecord, Record};
+use crate::records::{FrameStore, ReceiverRecord};
 
 /// The longest stream that is received byte by byte.
 const LONGEST_BY_BYTES: usize = 300;
@@ -13,12 +13,11 @@ const LONGEST_BY_BYTES: usize = 300;
 /// Random pieces a stream is cut into before the rest is offered whole.
 const MOST_RANDOM_PIECES: usize = 30;
 
-pub fn records(seed: u64, count: u64) -> impl Iterator<Item = Record> {
+pub fn records(seed: u64, count: u64) -> impl Iterator<Item = ReceiverRecord> {
     let mut random = Random::new(seed);
     std::iter::repeat_with(move || group(&mut random))
         .flatten()
         .take(count as usize)
-        .map(Record::Receiver)
 }
 
 /// Mostly a single record; now and then all the ways to cut a stream in two.

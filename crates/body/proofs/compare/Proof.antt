@@ -3,7 +3,6 @@ use Rattle.body.proofs.compare.Statement.{statement}
 use Rattle.body.proofs.compare.Tie as tie
 use Rattle.body.proofs.compare.Reads as reads
 use Rattle.body.proofs.compare.Lts as lts
-use Rattle.body.proofs.either.Reads as either-reads
 use Rattle.refusal.proofs.unless_ok.Reads as unless-ok-reads
 
 either-requires : tie.Need-either-requires

@@ -12,7 +12,6 @@ use Rattle.receiver.proofs.drive.Statement.{statement}
 use Rattle.receiver.proofs.drive.Tie as tie
 use Rattle.receiver.proofs.drive.Reads as reads
 use Rattle.receiver.proofs.drive.Lts as lts
-use Rattle.receiver.proofs.least.Reads as least-reads
 use Rattle.receiver.proofs.receive.Reads as receive-reads
 use Rattle.receiver.proofs.start.Reads as start-reads
 
@@ -28,20 +27,20 @@ start-requires c κs = search needs
 loop-holds : tie.Need-loop-holds Inv-loop μ-loop
 loop-holds c = so-none (c .before .before .before .before .before .args .stream .now) (c .before .before .before .before .before .args .cuts .now) (c .before .before .before .before .before .args .store .now) (c .before .start .result .state)
 
-mul-least : tie.Need-mul-least Inv-loop μ-loop
-mul-least c = search needs
+mul-less : tie.Need-mul-less Inv-loop μ-loop
+mul-less c = search needs
 
-shared-slice-read-least : tie.Need-shared-slice-read-least Inv-loop μ-loop
-shared-slice-read-least c = search needs
+shared-slice-read-less : tie.Need-shared-slice-read-less Inv-loop μ-loop
+shared-slice-read-less c = search needs
 
-sub-least : tie.Need-sub-least Inv-loop μ-loop
-sub-least c = c .before .before .loop .inv .within
+sub-less : tie.Need-sub-less Inv-loop μ-loop
+sub-less c = c .before .before .loop .inv .within
 
-least-requires : tie.Need-least-requires Inv-loop μ-loop
-least-requires c κs = search needs
+less-requires : tie.Need-less-requires Inv-loop μ-loop
+less-requires c κs = search needs
 
 add-end : tie.Need-add-end Inv-loop μ-loop
-add-end c = omega (arith, c .least .ensures, c .before .before .before .loop .inv .within)
+add-end c = omega (arith, c .less .ensures, c .before .before .before .loop .inv .within)
 
 sub-receive : tie.Need-sub-receive Inv-loop μ-loop
 sub-receive c = omega arith
@@ -50,7 +49,7 @@ part-receive-start : tie.Need-part-receive-start Inv-loop μ-loop
 part-receive-start c = omega arith
 
 part-receive-end : tie.Need-part-receive-end Inv-loop μ-loop
-part-receive-end c = omega (arith, c .least .ensures, c .before .before .before .loop .inv .within)
+part-receive-end c = omega (arith, c .less .ensures, c .before .before .before .loop .inv .within)
 
 receive-requires : tie.Need-receive-requires Inv-loop μ-loop
 receive-requires c κs = search needs
@@ -60,7 +59,7 @@ add-t c =
     let l = c .before .before .before .before .before .before .before .before .before .before .loop in
     let p = c .before .before .before .before .before .before .before .before .before .before .before .before .before .before .before .before .args .stream .now in
     let n = getD (c .before .before .before .before .before .before .before .before .before .before .before .before .before .before .before .before .args .cuts .now) (l .i) 0 in
-    let e = clipped p (l .t) n (c .before .before .before .before .before .before .before .least .result) (l .inv .within) (c .before .before .before .before .before .before .before .least .ensures) in
+    let e = clipped p (l .t) n (c .before .before .before .before .before .before .before .less .result) (l .inv .within) (c .before .before .before .before .before .before .before .less .ensures) in
     let r : Answered (l .state) (l .store) (pieceAt p (l .t) n) (c .before .before .before .before .receive .result) (c .before .before .before .before .receive .last .1 .1 .0) = rw e at (c .before .before .before .before .receive .ensures) in
     omega (arith, taken-within p (l .store) (l .state) (l .t) n (c .before .before .before .before .receive .result) (c .before .before .before .before .receive .last .1 .1 .0) (l .inv .within) r, c .before .before .before .before .before .before .before .before .before .before .before .before .before .before .before .before .good .1 .0 .0)
 
@@ -76,7 +75,7 @@ loop-again c =
     let p = c .before .before .before .before .before .before .before .before .before .before .before .before .before .before .before .before .args .stream .now in
     let cuts = c .before .before .before .before .before .before .before .before .before .before .before .before .before .before .before .before .args .cuts .now in
     let n = getD cuts (l .i) 0 in
-    let e = clipped p (l .t) n (c .before .before .before .before .before .before .before .least .result) (l .inv .within) (c .before .before .before .before .before .before .before .least .ensures) in
+    let e = clipped p (l .t) n (c .before .before .before .before .before .before .before .less .result) (l .inv .within) (c .before .before .before .before .before .before .before .less .ensures) in
     let r : Answered (l .state) (l .store) (pieceAt p (l .t) n) (c .before .before .before .before .receive .result) (c .before .before .before .before .receive .last .1 .1 .0) = rw e at (c .before .before .before .before .receive .ensures) in
     so-next p cuts (c .before .before .before .before .before .before .before .before .before .before .before .before .before .before .before .before .args .store .now) (l .store) (c .before .before .before .before .before .before .before .before .before .before .before .before .start .result .state) (l .state) (l .t) (l .i) (c .before .before .before .before .receive .result) (c .before .before .before .before .receive .last .1 .1 .0) (l .inv) (c .before .before .before .before .before .before .before .before .before .loop-test .taken) (c .before .before .before .before .receive .kept .1 .1 .0) r
 
@@ -108,10 +107,10 @@ drive-spec =
     μ-loop
     start-requires
     loop-holds
-    mul-least
-    shared-slice-read-least
-    sub-least
-    least-requires
+    mul-less
+    shared-slice-read-less
+    sub-less
+    less-requires
     add-end
     sub-receive
     part-receive-start

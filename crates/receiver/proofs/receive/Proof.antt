@@ -17,7 +17,6 @@ use Rattle.receiver.proofs.receive.Tie as tie
 use Rattle.receiver.proofs.receive.Reads as reads
 use Rattle.receiver.proofs.receive.Lts as lts
 use Rattle.receiver.proofs.pieces.run.Reads as run-reads
-use Rattle.receiver.proofs.plain.Reads as plain-reads
 use Rattle.receiver.proofs.states.agrees_with_itself.Reads as agrees-with-itself-reads
 use Rattle.receiver.proofs.states.is_refused.Reads as is-refused-reads
 use Rattle.receiver.proofs.states.needed_of.Reads as needed-of-reads
@@ -27,8 +26,8 @@ use Rattle.receiver.proofs.stays.Reads as stays-reads
 agrees-with-itself-requires : tie.Need-agrees-with-itself-requires
 agrees-with-itself-requires c κs = search needs
 
-plain-requires : tie.Need-plain-requires
-plain-requires c κs = search needs
+in-numbers-requires : tie.Need-in-numbers-requires
+in-numbers-requires c κs = search needs
 
 stays-requires : tie.Need-stays-requires
 stays-requires c κs = search needs
@@ -38,7 +37,7 @@ unfolding step.answer
 returns c =
     let s = c .before .before .before .before .before .before .args .store .now in
     let a = sym (c .before .before .before .agrees-with-itself .ensures) ∙ not-true (c .before .before .before .agrees-with-itself .result) (c .before .before .if1 .taken) in
-    record { received = rw a (c .stays .ensures s ∙ ap (λ (n : Numbers). step.stays (c .before .before .before .before .before .before .args .state) n s .received) (c .before .plain .ensures)); store = rw a }
+    record { received = rw a (c .stays .ensures s ∙ ap (λ (n : Numbers). step.stays (c .before .before .before .before .before .before .args .state) n s .received) (c .before .in-numbers .ensures)); store = rw a }
 
 is-refused-requires : tie.Need-is-refused-requires
 is-refused-requires c κs = search needs
@@ -57,8 +56,8 @@ returns-2 c =
 needed-of-requires : tie.Need-needed-of-requires
 needed-of-requires c κs = search needs
 
-plain-requires-2 : tie.Need-plain-requires-2
-plain-requires-2 c κs = search needs
+in-numbers-requires-2 : tie.Need-in-numbers-requires-2
+in-numbers-requires-2 c κs = search needs
 
 with-refusal-requires : tie.Need-with-refusal-requires
 with-refusal-requires c κs = search needs
@@ -74,7 +73,7 @@ returns-3 c =
     let a = sym (c .before .before .before .before .before .before .before .before .agrees-with-itself .ensures) ∙ not-false (c .before .before .before .before .before .before .before .before .agrees-with-itself .result) (c .before .before .before .before .before .before .before .if1 .left) in
     let r = sym (c .before .before .before .before .before .before .is-refused .ensures) ∙ c .before .before .before .before .before .if2 .left in
     let t : ltb (length s) (step.needed (st .stage) st) ≡ true = lt-ltb (length s) (step.needed (st .stage) st) (rw (c .before .before .before .before .needed-of .ensures) at (c .before .before .before .if3 .taken)) in
-    let n : c .before .before .plain2 .result ≡ step.row10 st = c .before .before .plain2 .ensures ∙ ap (λ (k : ℕ). row 10 k 0 0) (c .before .before .before .before .needed-of .ensures) in
+    let n : c .before .before .in-numbers2 .result ≡ step.row10 st = c .before .before .in-numbers2 .ensures ∙ ap (λ (k : ℕ). row 10 k 0 0) (c .before .before .before .before .needed-of .ensures) in
     record { received = rw (a, r, t) (c .stays3 .ensures s ∙ rw (c .before .with-refusal .ensures, n)); store = rw (a, r, t) }
 
 run-requires : tie.Need-run-requires
@@ -103,14 +102,14 @@ receive-spec =
     tie.close
     (tie.spec
     agrees-with-itself-requires
-    plain-requires
+    in-numbers-requires
     stays-requires
     returns
     is-refused-requires
     stays-requires-2
     returns-2
     needed-of-requires
-    plain-requires-2
+    in-numbers-requires-2
     with-refusal-requires
     stays-requires-3
     returns-3

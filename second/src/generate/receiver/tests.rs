@@ -1,8 +1,13 @@
 use super::*;
+use crate::records::Record;
 use crate::run::run;
 
+fn made_records(seed: u64, count: u64) -> impl Iterator<Item = Record> {
+    records(seed, count).map(Record::Receiver)
+}
+
 fn made(seed: u64, count: u64) -> Vec<u8> {
-    let records = records(seed, count);
+    let records = made_records(seed, count);
     records.flat_map(|record| record.to_bytes()).collect()
 }
 
@@ -17,7 +22,7 @@ fn answers(seed: u64, count: u64) -> Vec<String> {
 fn every_record_has_its_lines() {
     for seed in [0, 1, 2, u64::MAX] {
         let lines = answers(seed, 1_000);
-        let expected: usize = records(seed, 1_000).map(|record| record.lines()).sum();
+        let expected: usize = made_records(seed, 1_000).map(|record| record.lines()).sum();
         assert_eq!(lines.len(), expected);
         let starts = lines.iter().filter(|line| line.starts_with("start"));
         assert_eq!(starts.count(), 1_000);
@@ -58,7 +63,7 @@ fn the_seed_decides_the_records() {
 
 #[test]
 fn the_size_stays_modest() {
-    let records: Vec<Record> = records(3, 2_000).collect();
+    let records: Vec<Record> = made_records(3, 2_000).collect();
     let bytes: usize = records.iter().map(|record| record.to_bytes().len()).sum();
     let lines: usize = records.iter().map(Record::lines).sum();
     assert!(bytes < 6_000_000, "{bytes} bytes");

@@ -20,7 +20,6 @@ use Rattle.receiver.proofs.pieces.step.Lts as lts
 use Rattle.buffer.proofs.part.Reads as part-reads
 use Rattle.receiver.proofs.pieces.absorb.Reads as absorb-reads
 use Rattle.receiver.proofs.pieces.keep.Reads as keep-reads
-use Rattle.receiver.proofs.pieces.least.Reads as least-reads
 use Rattle.receiver.proofs.states.size_of.Reads as size-of-reads
 use Rattle.receiver.proofs.turns.end_stage.Reads as end-stage-reads
 
@@ -34,11 +33,11 @@ taking-length st piece = length-take-le (step.fitting st piece) piece (omega ari
 size-of-requires : tie.Need-size-of-requires
 size-of-requires c κs = search needs
 
-sub-least : tie.Need-sub-least
-sub-least c = search needs
+sub-less : tie.Need-sub-less
+sub-less c = search needs
 
-least-requires : tie.Need-least-requires
-least-requires c κs = search needs
+less-requires : tie.Need-less-requires
+less-requires c κs = search needs
 
 part-requires : tie.Need-part-requires
 part-requires c κs = search needs
@@ -49,7 +48,7 @@ add-to c = search needs
 absorb-requires : tie.Need-absorb-requires
 absorb-requires c κs =
     let g = c .before .before .before .before .before .args in
-    let m : c .before .least .result ≡ step.fitting (g .st) (g .piece .now) = c .before .least .ensures ∙ ap (λ (x : ℕ). min (x - g .st .got) (length (g .piece .now))) (c .before .before .size-of .ensures) in
+    let m : c .before .less .result ≡ step.fitting (g .st) (g .piece .now) = c .before .less .ensures ∙ ap (λ (x : ℕ). min (x - g .st .got) (length (g .piece .now))) (c .before .before .size-of .ensures) in
     let b : now (c .part .result) ≡ taking (g .st) (g .piece .now) = c .part .ensures ∙ ap (λ (n : ℕ). take n (g .piece .now)) m in
     let l = ap length b ∙ taking-length (g .st) (g .piece .now) in
     (omega (arith, m, l), omega (arith, m, c .before .before .before .before .before .pre))
@@ -57,7 +56,7 @@ absorb-requires c κs =
 keep-requires : tie.Need-keep-requires
 keep-requires c κs =
     let g = c .before .before .before .before .before .before .before .args in
-    let m : c .before .before .before .least .result ≡ step.fitting (g .st) (g .piece .now) = c .before .before .before .least .ensures ∙ ap (λ (x : ℕ). min (x - g .st .got) (length (g .piece .now))) (c .before .before .before .before .size-of .ensures) in
+    let m : c .before .before .before .less .result ≡ step.fitting (g .st) (g .piece .now) = c .before .before .before .less .ensures ∙ ap (λ (x : ℕ). min (x - g .st .got) (length (g .piece .now))) (c .before .before .before .before .size-of .ensures) in
     let b : now (c .before .before .part .result) ≡ taking (g .st) (g .piece .now) = c .before .before .part .ensures ∙ ap (λ (n : ℕ). take n (g .piece .now)) m in
     let l = ap length b ∙ taking-length (g .st) (g .piece .now) in
     (omega (arith, m, l, c .before .before .before .before .before .before .before .pre), c .before .before .before .before .before .before .before .pre .1)
@@ -70,7 +69,7 @@ returns c =
     let g = c .before .before .before .before .before .before .before .before .before .before .before .args in
     let s = g .store .now in
     let p = g .piece .now in
-    let m : c .before .before .before .before .before .before .before .least .result ≡ step.fitting (g .st) p = c .before .before .before .before .before .before .before .least .ensures ∙ ap (λ (x : ℕ). min (x - g .st .got) (length p)) (c .before .before .before .before .before .before .before .before .size-of .ensures) in
+    let m : c .before .before .before .before .before .before .before .less .result ≡ step.fitting (g .st) p = c .before .before .before .before .before .before .before .less .ensures ∙ ap (λ (x : ℕ). min (x - g .st .got) (length p)) (c .before .before .before .before .before .before .before .before .size-of .ensures) in
     let b : now (c .before .before .before .before .before .before .part .result) ≡ taking (g .st) p = c .before .before .before .before .before .before .part .ensures ∙ ap (λ (n : ℕ). take n p) m in
     let l = taking-length (g .st) p in
     let t : ltb (g .st .got + length (taking (g .st) p)) (step.sizeOf (g .st .stage) (g .st)) ≡ true = lt-ltb (g .st .got + length (taking (g .st) p)) (step.sizeOf (g .st .stage) (g .st)) (omega (arith, m, l, c .before .before .before .before .before .before .before .before .size-of .ensures, c .if1 .taken)) in
@@ -96,7 +95,7 @@ returns-2 c =
     let g = c .before .before .before .before .before .before .before .before .before .before .before .before .before .before .before .before .args in
     let s = g .store .now in
     let p = g .piece .now in
-    let m : c .before .before .before .before .before .before .before .before .before .before .before .before .least .result ≡ step.fitting (g .st) p = c .before .before .before .before .before .before .before .before .before .before .before .before .least .ensures ∙ ap (λ (x : ℕ). min (x - g .st .got) (length p)) (c .before .before .before .before .before .before .before .before .before .before .before .before .before .size-of .ensures) in
+    let m : c .before .before .before .before .before .before .before .before .before .before .before .before .less .result ≡ step.fitting (g .st) p = c .before .before .before .before .before .before .before .before .before .before .before .before .less .ensures ∙ ap (λ (x : ℕ). min (x - g .st .got) (length p)) (c .before .before .before .before .before .before .before .before .before .before .before .before .before .size-of .ensures) in
     let b : now (c .before .before .before .before .before .before .before .before .before .before .before .part .result) ≡ taking (g .st) p = c .before .before .before .before .before .before .before .before .before .before .before .part .ensures ∙ ap (λ (n : ℕ). take n p) m in
     let l = taking-length (g .st) p in
     let t : ltb (g .st .got + length (taking (g .st) p)) (step.sizeOf (g .st .stage) (g .st)) ≡ false = le-ltb (g .st .got + length (taking (g .st) p)) (step.sizeOf (g .st .stage) (g .st)) (omega (arith, m, l, c .before .before .before .before .before .before .before .before .before .before .before .before .before .size-of .ensures, c .before .before .before .before .before .if1 .left)) in
@@ -109,8 +108,8 @@ step-spec =
     tie.close
     (tie.spec
     size-of-requires
-    sub-least
-    least-requires
+    sub-less
+    less-requires
     part-requires
     add-to
     absorb-requires

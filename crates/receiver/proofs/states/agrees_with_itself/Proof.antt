@@ -4,7 +4,6 @@ use Rattle.receiver.proofs.states.agrees_with_itself.Statement.{stateme
 use Rattle.receiver.proofs.states.agrees_with_itself.Tie as tie
 use Rattle.receiver.proofs.states.agrees_with_itself.Reads as reads
 use Rattle.receiver.proofs.states.agrees_with_itself.Lts as lts
-use Rattle.receiver.proofs.states.either.Reads as either-reads
 use Rattle.receiver.proofs.states.is_refused.Reads as is-refused-reads
 use Rattle.receiver.proofs.states.rules_hold.Reads as rules-hold-reads
 use Rattle.receiver.proofs.states.size_of.Reads as size-of-reads

@@ -3,7 +3,6 @@ use Rattle.receiver.proofs.states.is_given.Statement.{statement}
 use Rattle.receiver.proofs.states.is_given.Tie as tie
 use Rattle.receiver.proofs.states.is_given.Reads as reads
 use Rattle.receiver.proofs.states.is_given.Lts as lts
-use Rattle.receiver.proofs.states.either.Reads as either-reads
 use Rattle.refusal.proofs.both.Reads as both-reads
 
 both-requires : tie.Need-both-requires

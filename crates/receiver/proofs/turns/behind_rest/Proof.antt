@@ -5,7 +5,6 @@ use Rattle.receiver.proofs.turns.behind_rest.Tie as tie
 use Rattle.receiver.proofs.turns.behind_rest.Reads as reads
 use Rattle.receiver.proofs.turns.behind_rest.Lts as lts
 use Rattle.receiver.proofs.states.moved.Reads as moved-reads
-use Rattle.receiver.proofs.states.no_epilogue.Reads as no-epilogue-reads
 use Rattle.receiver.proofs.turns.framed.Reads as framed-reads
 use Rattle.receiver.proofs.turns.more.Reads as more-reads
 

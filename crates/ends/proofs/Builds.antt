@@ -1,0 +1,131 @@
+-- What an accepted build leaves: its bytes behind the queued ones; and builds one behind the other.
+use Prim.Native.Nat.{ℕ, zero, suc, _+_, _-_, _≤_, _<_}
+use mathlib.Core.List.{List, [], _∷_, _++_, append-nil, append-assoc}
+use mathlib.Core.Path.{_≡_, refl, sym, ap, ap₂, _∙_}
+use mathlib.Core.Bool.{Bool, true, false, true≢false}
+use native.Mathlib.Omega.{arith}
+use native.Mathlib.Nat.{add-zero, add-assoc}
+use lib.ListN.{length, take, drop, length-append, length-take, take-append-drop}
+use lib.Seq.{take-at, drop-at, drop-append-le, length-take-le}
+use lib.Dec.{leb, eqb}
+use borrow.Author.Tests.{leb-true, eqb-true}
+use Rattle.buffer.specs.Splice.{splice, length-splice, splice-next}
+use Rattle.refusal.specs.Refusals.{Judged, fine, refused, past, passed}
+use Rattle.banner.specs.declared.Revision.{Revision}
+use Rattle.banner.specs.Banner.{bannerBytes, judgeOwn}
+use Rattle.preamble.specs.declared.Header.{Header}
+use Rattle.preamble.specs.Layout.{total}
+use Rattle.preamble.specs.Judge.{judgeHeader}
+use Rattle.body.specs.Body.{frameBytes, wireLength}
+use Rattle.body.specs.Laws.{length-frame}
+use Rattle.builder.specs.Build.{judgeSource, judgeAbort, judgeRoom, judgeFrame, judgeBanner, bannerLength, Answer, wrote, turnedAway, Done, done, outcome, frameDone, bannerDone}
+use Rattle.ends.specs.Trip.{Build, Accepts, bytesOf}
+use Rattle.ends.specs.Ends.{Queued, bufferBy, queuedBy}
+use Rattle.ends.proofs.Back.{Accepted}
+
+-- ---- an outcome with bytes written was not refused
+
+isWrote : Answer → Bool
+isWrote (wrote n) = true
+isWrote (turnedAway n) = false
+
+-- xs are the n bytes to be written behind the queued ones of buf
+record Wrote (j : Judged) (n : ℕ) (buf : List ℕ) (queued : ℕ) (xs : List ℕ) (w : ℕ) (after : List ℕ) : Type 0 where
+  judged : j ≡ fine
+  count : w ≡ n
+  buffer : after ≡ splice buf queued xs
+
+-- the count in an answer
+abbrev countIn : Answer → ℕ
+countIn (wrote n) = n
+countIn (turnedAway r) = 0
+
+was-written : (j : Judged) (n : ℕ) (buf : List ℕ) (queued : ℕ) (xs : List ℕ) (w : ℕ) (after : List ℕ) → done (wrote w) after ≡ outcome j n buf queued xs → Wrote j n buf queued xs w after
+unfolding isWrote
+was-written fine n buf queued xs w after e =
+    record { judged = refl; count = ap (λ (d : Done). countIn (d .answer)) e; buffer = ap (λ (d : Done). d .buffer) e }
+was-written (refused r) n buf queued xs w after e = absurd (true≢false (ap (λ (d : Done). isWrote (d .answer)) e))
+
+room : (n space queued : ℕ) → judgeRoom n space queued ≡ fine → queued + n ≤ space
+room n space queued e = leb-true (queued + n) space (passed (leb (queued + n) space) 14 n e)
+
+-- a frame's build
+pub record Laid (r : Revision) (buf : List ℕ) (queued : ℕ) (b : Build) : Type 0 where
+  pub accepted : Accepted r (b .header) (b .abort) (b .source)
+  pub length-bytes : length (frameBytes r (b .header) (b .abort) (b .source)) ≡ b .written
+  pub wire : b .written ≡ wireLength r (b .header)
+  pub buffer : b .buffer ≡ splice buf queued (frameBytes r (b .header) (b .abort) (b .source))
+  pub room : queued + b .written ≤ length buf
+
+pub laid : (r : Revision) (buf : List ℕ) (queued : ℕ) (b : Build) → Accepts r buf queued b → Laid r buf queued b
+unfolding frameDone judgeFrame
+laid r buf queued b p =
+    let h = b .header in
+    let w = was-written (judgeFrame r h (b .abort) (length (b .source)) (length buf) queued) (wireLength r h) buf queued (frameBytes r h (b .abort) (b .source)) (b .written) (b .buffer) (p .promise) in
+    let p6 = past (judgeHeader h) _ (w .judged) in
+    let p13 = past (judgeSource (length (b .source)) (total h)) _ (p6 .1) in
+    let p15 = past (judgeAbort r (h .count) (b .abort)) _ (p13 .1) in
+    let p14 = past (judgeRoom (wireLength r h) (length buf) queued) fine (p15 .1) in
+    let n : length (b .source) ≡ total h = eqb-true (length (b .source)) (total h) (passed (eqb (length (b .source)) (total h)) 13 0 (p13 .0)) in
+    let k = room (wireLength r h) (length buf) queued (p14 .0) in
+    record {
+      accepted = record { header = p6 .0; length-source = n; abort-fine = p15 .0 };
+      length-bytes = length-frame r h (b .abort) (b .source) n ∙ sym (w .count);
+      wire = w .count;
+      buffer = w .buffer;
+      room = (let e = w .count in omega arith);
+    }
+
+-- the bytes that stand behind the queued ones
+pub written : (buf : List ℕ) (queued : ℕ) (xs : List ℕ) (n : ℕ) → length xs ≡ n → queued ≤ length buf → take n (drop queued (splice buf queued xs)) ≡ xs
+written buf queued xs n e h =
+    let t = length-take-le queued buf h in
+    let a = length-append (take queued buf) xs in
+    ap (take n) (drop-append-le queued (take queued buf ++ xs) (drop (queued + length xs) buf) (omega arith) ∙ ap (λ (l : List ℕ). l ++ drop (queued + length xs) buf) (drop-at (take queued buf) xs queued t))
+    ∙ take-at xs (drop (queued + length xs) buf) n e
+
+-- ---- builds one behind the other
+
+abbrev pub allBytes : Revision → List Build → List ℕ
+allBytes r [] = []
+allBytes r (b ∷ bs) = frameBytes r (b .header) (b .abort) (b .source) ++ allBytes r bs
+
+pub record Queue (r : Revision) (buf : List ℕ) (queued : ℕ) (bs : List Build) : Type 0 where
+  pub buffer : bufferBy buf bs ≡ splice buf queued (allBytes r bs)
+  pub queue : queuedBy queued bs ≡ queued + length (allBytes r bs)
+
+pub queued-up : (r : Revision) (buf : List ℕ) (queued : ℕ) (bs : List Build) → queued ≤ length buf → Queued r buf queued bs → Queue r buf queued bs
+queued-up r buf queued [] h q = record {
+  buffer = sym (ap₂ (λ (l : List ℕ) (k : ℕ). l ++ drop k buf) (append-nil (take queued buf)) (add-zero queued) ∙ take-append-drop queued buf);
+  queue = sym (add-zero queued);
+}
+queued-up r buf queued (b ∷ bs) h q =
+    let xs = frameBytes r (b .header) (b .abort) (b .source) in
+    let ys = allBytes r bs in
+    let l = laid r buf queued b (q .0) in
+    let s : length (splice buf queued xs) ≡ length buf = length-splice buf queued xs (let e = l .length-bytes in let k = l .room in omega arith) in
+    let k : queued + b .written ≤ length (b .buffer) = rw (l .buffer, s) (l .room) in
+    let n = queued-up r (b .buffer) (queued + b .written) bs k (q .1) in
+    let a = length-append xs ys in
+    record {
+      buffer = n .buffer
+          ∙ ap₂ (λ (t : List ℕ) (m : ℕ). splice t m ys) (l .buffer) (ap (λ (m : ℕ). queued + m) (sym (l .length-bytes)))
+          ∙ splice-next buf queued xs ys h;
+      queue = n .queue ∙ (let e = l .length-bytes in omega arith);
+    }
+
+-- ---- the banner's build
+
+pub record Bannered (supported required : ℕ) (buf : List ℕ) (queued n : ℕ) (after : List ℕ) : Type 0 where
+  pub ours : judgeOwn supported required ≡ fine
+  pub count : n ≡ bannerLength
+  pub buffer : after ≡ splice buf queued (bannerBytes supported required)
+  pub room : queued + bannerLength ≤ length buf
+
+pub bannered : (supported required : ℕ) (buf : List ℕ) (queued n : ℕ) (after : List ℕ) → done (wrote n) after ≡ bannerDone supported required buf queued → Bannered supported required buf queued n after
+unfolding bannerDone judgeBanner
+bannered supported required buf queued n after e =
+    let w = was-written (judgeBanner supported required (length buf) queued) bannerLength buf queued (bannerBytes supported required) n after e in
+    let p16 = past (judgeOwn supported required) _ (w .judged) in
+    let p14 = past (judgeRoom bannerLength (length buf) queued) fine (p16 .1) in
+    record { ours = p16 .0; count = w .count; buffer = w .buffer; room = room bannerLength (length buf) queued (p14 .0) }

@@ -1,0 +1,163 @@
+-- Behind a front at whose end a frame begins, the list goes on with the frames of what follows.
+use Prim.Native.Nat.{ℕ, zero, suc, _+_, _-_, _≤_, _<_}
+use mathlib.Core.List.{List, [], _∷_, _++_, append-nil}
+use mathlib.Core.Path.{_≡_, refl, sym, ap, ap₂, _∙_}
+use mathlib.Core.Bool.{Bool, true, false, cond}
+use native.Mathlib.Omega.{arith}
+use native.Mathlib.Nat.{add-zero, add-assoc}
+use lib.ListN.{length, take, drop, replicate, length-append, length-drop, length-take, length-replicate}
+use lib.Seq.{take-append-le, drop-append-le}
+use lib.Dec.{leb, ltb}
+use borrow.Author.Tests.{le-ltb, ltb-true, ltb-false}
+use Rattle.buffer.specs.Splice.{over, length-over}
+use Rattle.refusal.specs.declared.Numbers.{Numbers}
+use Rattle.refusal.specs.Refusals.{Judged, fine, refused, row}
+use Rattle.banner.specs.declared.Features.{Features}
+use Rattle.banner.specs.declared.Revision.{Revision}
+use Rattle.preamble.specs.declared.Header.{Header}
+use Rattle.preamble.specs.Layout.{total}
+use Rattle.preamble.specs.Laws.{accepted-preamble}
+use Rattle.body.specs.Body.{restLength, firstSumLength, bodyLength, wireLength}
+use Rattle.body.specs.End.{Ended, whole, dropped, turnedAway, came}
+use Rattle.stream.specs.Stream.{What, frame, aborted, Entry, Told, ended, after, refusedAt, zeroed, atEnd, frames}
+use Rattle.receiver.proofs.Frames.{wire-parts}
+use Rattle.ends.specs.Handed.{headerIn, FramesUpTo}
+use Rattle.ends.proofs.Own.{length-came, Judges, told, told-more, Seen, nothing, refuses, hands, drops, seen}
+
+-- ---- how many frames there may be does not matter, as long as it is enough
+
+pub none : (f : ℕ) (r : Revision) (P : ℕ) (s : List ℕ) → frames f r P [] s ≡ ended s
+unfolding frames
+none zero r P s = refl
+none (suc f) r P s = refl
+
+-- what is told of a frame, by its continuation
+at-end : (x : Ended) (h : Header) (at : ℕ) (s p : List ℕ) (next next′ : List ℕ → Told) → ((t : List ℕ) → next t ≡ next′ t) → atEnd x h at s p next ≡ atEnd x h at s p next′
+at-end whole h at s p next next′ e = ap (after _ at (over p s)) (e (over p s))
+at-end dropped h at s p next next′ e = ap (after _ at (zeroed h s)) (e (zeroed h s))
+at-end (turnedAway n) h at s p next next′ e = refl
+
+-- the bytes behind the first frame
+behind : (r : Revision) (X : List ℕ) (f : ℕ) → 32 ≤ length X → length X ≤ suc f → length (drop (32 + bodyLength r (headerIn X)) X) ≤ f
+behind r X f l h = (let d = length-drop (32 + bodyLength r (headerIn X)) X in omega arith)
+
+module _ (f g : ℕ) (ih : (r : Revision) (P : ℕ) (X s : List ℕ) → length X ≤ f → length X ≤ g → frames f r P X s ≡ frames g r P X s) where
+  fuel-frame : {x : Ended} (r : Revision) (P : ℕ) (X s : List ℕ) → length X ≤ suc f → length X ≤ suc g → Judges x r X (length s) → frames (suc f) r P X s ≡ frames (suc g) r P X s
+  fuel-frame {x} r P X s hf hg j =
+      told f P X s j
+      ∙ at-end x _ _ s _ _ _ (λ t. ih r _ _ t (behind r X f (j .front) hf) (behind r X g (j .front) hg))
+      ∙ sym (told g P X s j)
+
+  fuel-seen : (r : Revision) (P : ℕ) (X s : List ℕ) → length X ≤ suc f → length X ≤ suc g → Seen r P X s → frames (suc f) r P X s ≡ frames (suc g) r P X s
+  fuel-seen r P X s hf hg (nothing t e) = e f ∙ sym (e g)
+  fuel-seen r P X s hf hg (refuses n at t e) = e f ∙ sym (e g)
+  fuel-seen r P X s hf hg (hands j) = fuel-frame r P X s hf hg j
+  fuel-seen r P X s hf hg (drops j) = fuel-frame r P X s hf hg j
+
+pub fuel : (f g : ℕ) (r : Revision) (P : ℕ) (X s : List ℕ) → length X ≤ f → length X ≤ g → frames f r P X s ≡ frames g r P X s
+fuel zero g r P [] s hf hg = none zero r P s ∙ sym (none g r P s)
+fuel zero g r P (x ∷ X) s hf hg = absurd (omega arith)
+fuel (suc f) zero r P [] s hf hg = none (suc f) r P s ∙ sym (none zero r P s)
+fuel (suc f) zero r P (x ∷ X) s hf hg = absurd (omega arith)
+fuel (suc f) (suc g) r P X s hf hg = fuel-seen f g (fuel f g) r P X s hf hg (seen r P X s)
+
+-- ---- a front and what follows it
+
+abbrev pub joined : Told → Told → Told
+joined t u = record { entries = t .entries ++ u .entries; store = u .store }
+
+-- from byte P on: Y behind X, which ends where a frame does
+pub record Goes (f : ℕ) (r : Revision) (P : ℕ) (X Y s : List ℕ) : Type 0 where
+  pub goes : (g k : ℕ) → length (X ++ Y) ≤ g → length Y ≤ k → frames g r P (X ++ Y) s ≡ joined (frames f r P X s) (frames k r (P + length X) Y (frames f r P X s .store))
+  pub same : length (frames f r P X s .store) ≡ length s
+
+goes-none : (f : ℕ) (r : Revision) (P : ℕ) (Y s : List ℕ) → Goes f r P [] Y s
+goes-none f r P Y s = record {
+  goes = λ g k hg hk. rw (none f r P s, add-zero P) (fuel g k r P Y s hg hk);
+  same = ap (λ (t : Told). length (t .store)) (none f r P s);
+}
+
+abbrev Lower : ℕ → Type 0
+Lower f = (r : Revision) (P : ℕ) (X Y s : List ℕ) → length X ≤ f → FramesUpTo (P + length X) P (frames f r P X s .entries) → Goes f r P X Y s
+
+-- a frame or a drop, to byte Q, and what follows it
+module _ (f : ℕ) (ih : Lower f) (r : Revision) (P : ℕ) (X Y s : List ℕ) (w : What) (Q : ℕ) (X′ s′ : List ℕ)
+    (tells : frames (suc f) r P X s ≡ after w Q s′ (frames f r Q X′ s′))
+    (tells-more : (g : ℕ) → frames (suc g) r P (X ++ Y) s ≡ after w Q s′ (frames g r Q (X′ ++ Y) s′))
+    (place : Q + length X′ ≡ P + length X)
+    (less : 32 + length X′ ≤ length X)
+    (enough : length X ≤ suc f)
+    (kept : length s′ ≡ length s)
+    (up : FramesUpTo (P + length X) Q (frames f r Q X′ s′ .entries)) where
+  below : Goes f r Q X′ Y s′
+  below = ih r Q X′ Y s′ (omega arith) (rw place up)
+
+  goes-on : (g k : ℕ) → length (X ++ Y) ≤ g → length Y ≤ k → frames g r P (X ++ Y) s ≡ joined (frames (suc f) r P X s) (frames k r (P + length X) Y (frames (suc f) r P X s .store))
+  goes-on zero k hg hk = (let a = length-append X Y in absurd (omega arith))
+  goes-on (suc g) k hg hk =
+      let a = length-append X Y in
+      let a′ = length-append X′ Y in
+      rw (tells, ← place)
+      (tells-more g ∙ ap (after w Q s′) (below .goes g k (omega arith) hk))
+
+  goes-step : Goes (suc f) r P X Y s
+  goes-step = record {
+    goes = goes-on;
+    same = ap (λ (t : Told). length (t .store)) tells ∙ below .same ∙ kept;
+  }
+
+module _ (f : ℕ) (ih : Lower f) (r : Revision) (P : ℕ) (X Y s : List ℕ) (enough : length X ≤ suc f) where
+  abbrev h : Header
+  h = headerIn X
+
+  abbrev X′ : List ℕ
+  X′ = drop (32 + bodyLength r h) X
+
+  -- where the frame ends, in lengths
+  module _ (l₁ : 32 ≤ length X) (l₂ : bodyLength r h ≤ length (drop 32 X)) where
+    frame-place : P + wireLength r h + length X′ ≡ P + length X
+    frame-place =
+        let d₁ = length-drop 32 X in
+        let d₂ = length-drop (32 + bodyLength r h) X in
+        let w = wire-parts r h in
+        omega arith
+
+    frame-less : 32 + length X′ ≤ length X
+    frame-less = (let d = length-drop (32 + bodyLength r h) X in let d₁ = length-drop 32 X in omega arith)
+
+  goes-whole : Judges whole r X (length s) → FramesUpTo (P + length X) P (frames (suc f) r P X s .entries) → Goes (suc f) r P X Y s
+  goes-whole j up =
+      let t = total h in
+      let c : length (came r h (drop 32 X)) ≡ t = length-came r h (drop 32 X) [] (j .long) in
+      let e = told f P X s j in
+      goes-step f ih r P X Y s (frame h) (P + wireLength r h) X′ (over (came r h (drop 32 X)) s) e (λ g. told-more g P X Y s j)
+      (frame-place (j .front) (j .long)) (frame-less (j .front) (j .long)) enough
+      (length-over (came r h (drop 32 X)) s (let a = accepted-preamble (take 32 X) (length s) (j .accepted) .fits in omega arith))
+      (rw e at up)
+
+  goes-dropped : Judges dropped r X (length s) → FramesUpTo (P + length X) P (frames (suc f) r P X s .entries) → Goes (suc f) r P X Y s
+  goes-dropped j up =
+      let z : length {A = ℕ} (replicate (total h) 0) ≡ total h = length-replicate {A = ℕ} (total h) 0 in
+      let e = told f P X s j in
+      goes-step f ih r P X Y s (aborted h) (P + wireLength r h) X′ (zeroed h s) e (λ g. told-more g P X Y s j)
+      (frame-place (j .front) (j .long)) (frame-less (j .front) (j .long)) enough
+      (length-over (replicate (total h) 0) s (let a = accepted-preamble (take 32 X) (length s) (j .accepted) .fits in omega arith))
+      (rw e at up)
+
+  goes-seen : Seen r P X s → FramesUpTo (P + length X) P (frames (suc f) r P X s .entries) → Goes (suc f) r P X Y s
+  goes-seen (nothing t e) up = at-once X refl
+    where
+      at-once : (Z : List ℕ) → X ≡ Z → Goes (suc f) r P X Y s
+      at-once [] z = rw z (goes-none (suc f) r P Y s)
+      at-once (b ∷ bs) z =
+          let u : P ≡ P + length X = rw (e f) at up in
+          let n : length X ≡ suc (length bs) = ap length z in
+          absurd (omega arith)
+  goes-seen (refuses n at t e) up = absurd (rw (e f) at up)
+  goes-seen (hands j) up = goes-whole j up
+  goes-seen (drops j) up = goes-dropped j up
+
+pub frames-go : (f : ℕ) → Lower f
+frames-go zero r P [] Y s enough up = goes-none zero r P Y s
+frames-go zero r P (b ∷ bs) Y s enough up = absurd (omega arith)
+frames-go (suc f) r P X Y s enough up = goes-seen f (frames-go f) r P X Y s enough (seen r P X s) up

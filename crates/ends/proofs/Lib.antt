@@ -1,0 +1,9 @@
+mod Own
+mod Goes
+mod Banners
+mod Sums
+mod Checks
+mod Handing
+mod Back
+mod Builds
+mod Trips

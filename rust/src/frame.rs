@@ -1,0 +1,106 @@
+//! What a frame is made of, and where its segments stand in a store.
+
+use crate::sys::{Header, Segment};
+use crate::tag::tag_name;
+use std::fmt;
+
+impl Segment {
+    /// A segment of this length and alignment.
+    ///
+    /// ```
+    /// use mahuixen::Segment;
+    ///
+    /// assert_eq!(Segment::new(70, 8), Segment { len: 70, align: 8 });
+    /// ```
+    pub const fn new(len: u32, align: u16) -> Self {
+        Self { len, align }
+    }
+}
+
+impl Header {
+    /// The header of a frame with this tag and these segments. More than four
+    /// do not fit; the count still tells of them, and a build refuses it.
+    ///
+    /// ```
+    /// use mahuixen::{build_frame, tag, Header, Refusal, Revision, Segment};
+    ///
+    /// let header = Header::new(tag::MESSAGE, &[Segment::new(20, 8), Segment::new(70, 0)]);
+    /// assert_eq!((header.tag, header.count, header.total()), (17, 2, 90));
+    ///
+    /// let five = Header::new(tag::MESSAGE, &[Segment::new(1, 0); 5]);
+    /// let built = build_frame(&mut [0; 100], 0, Revision::Msgr21, &five, b"12345");
+    /// assert_eq!(built, Err(Refusal::Shape));
+    /// ```
+    pub fn new(tag: u8, used: &[Segment]) -> Self {
+        let mut segments = [Segment::default(); 4];
+        segments.iter_mut().zip(used).for_each(|(s, u)| *s = *u);
+        Self {
+            tag,
+            count: u8::try_from(used.len()).unwrap_or(u8::MAX),
+            segments,
+        }
+    }
+
+    /// The sum of all four lengths: the bytes of a frame's source, and those
+    /// that it takes at the store's front.
+    ///
+    /// ```
+    /// use mahuixen::{Header, Segment};
+    ///
+    /// let header = Header::new(1, &[Segment::new(u32::MAX, 0), Segment::new(1, 0)]);
+    /// assert_eq!(header.total(), 1 << 32);
+    /// ```
+    pub fn total(&self) -> u64 {
+        self.segments.iter().map(|s| u64::from(s.len)).sum()
+    }
+
+    /// The segments that are used, as many as the count says, at most four.
+    ///
+    /// ```
+    /// use mahuixen::{Header, Segment};
+    ///
+    /// let header = Header::new(1, &[Segment::new(20, 8), Segment::new(70, 0)]);
+    /// assert_eq!(header.used(), [Segment::new(20, 8), Segment::new(70, 0)]);
+    /// ```
+    pub fn used(&self) -> &[Segment] {
+        let count = usize::from(self.count).min(self.segments.len());
+        &self.segments[..count]
+    }
+
+    /// The four segments of a frame that was just reported, out of the store
+    /// in which they stand one behind the other. None where the store is too
+    /// short, and so not the one that the frame was received into.
+    ///
+    /// ```
+    /// use mahuixen::{Header, Segment};
+    ///
+    /// let header = Header::new(1, &[Segment::new(2, 0), Segment::new(3, 0)]);
+    /// assert_eq!(header.parts(b"12345678"), Some([b"12".as_slice(), b"345", b"", b""]));
+    /// assert_eq!(header.parts(b"1234"), None);
+    /// ```
+    pub fn parts<'a>(&self, store: &'a [u8]) -> Option<[&'a [u8]; 4]> {
+        let mut left = store;
+        let mut parts = [&[][..]; 4];
+        for (part, segment) in parts.iter_mut().zip(&self.segments) {
+            let len = usize::try_from(segment.len).ok()?;
+            (*part, left) = left.split_at_checked(len)?;
+        }
+        Some(parts)
+    }
+}
+
+/// Numbers one behind the other, each with a space in front.
+fn list(numbers: impl Iterator<Item = u32>, f: &mut fmt::Formatter<'_>) -> fmt::Result {
+    let mut numbers = numbers;
+    numbers.try_for_each(|number| write!(f, " {number}"))
+}
+
+impl fmt::Display for Header {
+    fn fmt(&self, f: &mut fmt::Formatter<'_>) -> fmt::Result {
+        let name = tag_name(self.tag).unwrap_or("unknown");
+        write!(f, "tag {} {name}, lengths", self.tag)?;
+        list(self.used().iter().map(|s| s.len), f)?;
+        write!(f, ", alignments")?;
+        list(self.used().iter().map(|s| u32::from(s.align)), f)
+    }
+}

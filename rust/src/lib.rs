@@ -1,0 +1,88 @@
+//! Both ends of Ceph's msgr2 wire protocol in crc mode: a builder of banners
+//! and frames, and a receiver that reads a stream which the network may cut
+//! anywhere. It speaks msgr2.0 and msgr2.1.
+//!
+//! The work is done by a library that is proved in Rattle; this crate lends
+//! it slices and turns its numbers into types. No function asks its caller for
+//! anything: every buffer, length, header and state is answered, if need be
+//! with a [`Refusal`]. Nothing is allocated.
+//!
+//! ```
+//! use mahuixen::{build_banner, build_frame};
+//! use mahuixen::{tag, Features, Header, Receiver, Report, Revision, Segment};
+//!
+//! // The sender: a banner, and behind it a message of two segments.
+//! let own = Features::new(Features::REVISION_1, 0);
+//! let header = Header::new(tag::MESSAGE, &[Segment::new(5, 8), Segment::new(3, 0)]);
+//! let mut send = [0; 200];
+//! let mut queued = build_banner(&mut send, 0, own)?;
+//! queued += build_frame(&mut send, queued, Revision::Msgr21, &header, b"helloyou")?;
+//!
+//! // The receiver, which gets those bytes seven at a time.
+//! let mut receiver = Receiver::start(own)?;
+//! let mut store = [0; mahuixen::LONGEST_STORE];
+//! let mut reports = Vec::new();
+//! for mut piece in send[..queued].chunks(7) {
+//!     while !piece.is_empty() {
+//!         let received = receiver.receive(piece, &mut store);
+//!         piece = &piece[received.taken..];
+//!         if received.report != Report::More {
+//!             reports.push(received.report);
+//!         }
+//!     }
+//! }
+//! let revision = Revision::Msgr21;
+//! assert_eq!(reports, [Report::Banner { peer: own, revision }, Report::Frame(header)]);
+//! assert_eq!(header.parts(&store), Some([b"hello".as_slice(), b"you", b"", b""]));
+//! # Ok::<(), mahuixen::Refusal>(())
+//! ```
+
+#![deny(missing_docs)]
+#![deny(unsafe_code)]
+
+mod builder;
+mod features;
+mod frame;
+mod receiver;
+mod refusal;
+#[doc(hidden)]
+pub mod sys;
+pub mod tag;
+
+pub use builder::{abort_frame, build_banner, build_frame};
+pub use features::Revision;
+pub use receiver::{Received, Receiver, Report};
+pub use refusal::{Missing, Refusal};
+pub use sys::{Features, Header, Numbers, Segment, State};
+pub use tag::tag_name;
+
+/// Bytes of a banner that we build.
+pub const BANNER_LENGTH: usize = 26;
+
+/// A store of this many bytes is long enough for every frame.
+pub const LONGEST_STORE: usize = 32_768;
+
+/// Bytes of the longest frame on the wire, which is a msgr2.0 one or a msgr2.1
+/// one of several segments.
+pub const LONGEST_FRAME: usize = 32 + LONGEST_STORE + 17;
+
+/// The start value of a preamble's checksum.
+pub const PREAMBLE_START: u32 = 0;
+
+/// The start value of a segment's checksum, and so that of an empty segment.
+pub const SEGMENT_START: u32 = 0xFFFF_FFFF;
+
+/// The CRC32-C of the bytes from a start value, with no final complement.
+///
+/// A checksum can be taken up where another ended.
+///
+/// ```
+/// use mahuixen::{checksum, SEGMENT_START};
+///
+/// assert_eq!(checksum(SEGMENT_START, b"123456789"), 0x1CF9_6D7C);
+/// assert_eq!(checksum(checksum(SEGMENT_START, b"1234"), b"56789"), 0x1CF9_6D7C);
+/// assert_eq!(checksum(SEGMENT_START, b""), SEGMENT_START);
+/// ```
+pub fn checksum(start: u32, bytes: &[u8]) -> u32 {
+    sys::checksum(start, bytes)
+}

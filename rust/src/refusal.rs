@@ -1,0 +1,267 @@
+//! Why a stream or a request is turned away.
+
+use crate::sys::Numbers;
+use std::error::Error;
+use std::fmt;
+
+/// Feature bits that one side requires and the other one lacks.
+#[derive(Clone, Copy, Debug, PartialEq, Eq, Hash)]
+pub struct Missing {
+    /// The missing bits.
+    pub bits: u64,
+    /// The number of the lowest one.
+    pub lowest: u64,
+    /// How many there are.
+    pub how_many: u64,
+}
+
+/// Why a stream or a request is turned away, with the details that its number
+/// has.
+///
+/// ```
+/// use mahuixen::{Features, Receiver, Refusal};
+///
+/// let refusal = Receiver::start(Features::new(0, 1)).unwrap_err();
+/// assert_eq!(refusal, Refusal::OwnFeatures);
+/// assert_eq!((refusal.number(), refusal.details()), (16, [0, 0, 0]));
+/// assert_eq!(
+///     refusal.to_string(),
+///     "our own features have a bit other than bit 0, or require one that they do not support"
+/// );
+/// ```
+#[derive(Clone, Copy, Debug, PartialEq, Eq, Hash)]
+#[non_exhaustive]
+pub enum Refusal {
+    /// 1: the stream's first eight bytes are not a banner's.
+    Magic,
+    /// 2: the banner's payload length is below 16 or above 1,024.
+    PayloadLength {
+        /// The length.
+        length: u64,
+    },
+    /// 3: the peer requires features that we do not support.
+    WeLack(Missing),
+    /// 4: we require features that the peer does not support.
+    PeerLacks(Missing),
+    /// 5: a preamble's checksum differs.
+    PreambleChecksum,
+    /// 6: the segment count is not 1 to 4, an unused segment is not 0, or the
+    /// last of several segments is empty.
+    Shape,
+    /// 7: a preamble's flags or its reserved byte are not 0.
+    Flags,
+    /// 8: the tag is outside 1 to 20.
+    Tag {
+        /// The tag.
+        tag: u64,
+    },
+    /// 9: a segment is longer than 16,384 bytes, or all together are longer
+    /// than 32,768.
+    Limit,
+    /// 10: the store is shorter than the frame's segments together.
+    Store {
+        /// Bytes that the frame needs.
+        needed: u64,
+    },
+    /// 11: a segment's checksum differs.
+    SegmentChecksum {
+        /// The segment's number, 1 to 4.
+        segment: u64,
+    },
+    /// 12: a late status says neither complete nor aborted.
+    LateStatus {
+        /// The byte.
+        byte: u64,
+    },
+    /// 13, of a build: the source has not as many bytes as the segments
+    /// together.
+    SourceLength,
+    /// 14, of a build: there is no room behind the queued bytes, or more is
+    /// queued than the buffer holds.
+    Room {
+        /// Bytes to be written.
+        needed: u64,
+    },
+    /// 15, of a build: a msgr2.1 frame of one segment cannot be aborted.
+    Abort,
+    /// 16: our own features have a bit other than bit 0, or require what they
+    /// do not support.
+    OwnFeatures,
+    /// 26: the fields of the state contradict each other.
+    State,
+    /// A number that this crate does not know.
+    Other {
+        /// The number.
+        number: u8,
+        /// Its details.
+        details: [u64; 3],
+    },
+}
+
+impl Refusal {
+    /// The refusal in these numbers, if it is one.
+    pub(crate) fn given(numbers: Numbers) -> Option<Self> {
+        (numbers.number != 0).then(|| Self::from(numbers))
+    }
+
+    /// The refusal's number.
+    ///
+    /// ```
+    /// assert_eq!(mahuixen::Refusal::SegmentChecksum { segment: 2 }.number(), 11);
+    /// ```
+    pub const fn number(&self) -> u8 {
+        match self {
+            Self::Magic => 1,
+            Self::PayloadLength { .. } => 2,
+            Self::WeLack(_) => 3,
+            Self::PeerLacks(_) => 4,
+            Self::PreambleChecksum => 5,
+            Self::Shape => 6,
+            Self::Flags => 7,
+            Self::Tag { .. } => 8,
+            Self::Limit => 9,
+            Self::Store { .. } => 10,
+            Self::SegmentChecksum { .. } => 11,
+            Self::LateStatus { .. } => 12,
+            Self::SourceLength => 13,
+            Self::Room { .. } => 14,
+            Self::Abort => 15,
+            Self::OwnFeatures => 16,
+            Self::State => 26,
+            Self::Other { number, .. } => *number,
+        }
+    }
+
+    /// The refusal's details, 0 where there are fewer than three.
+    ///
+    /// ```
+    /// use mahuixen::{Missing, Refusal};
+    ///
+    /// let missing = Missing { bits: 0x14, lowest: 2, how_many: 2 };
+    /// assert_eq!(Refusal::WeLack(missing).details(), [0x14, 2, 2]);
+    /// assert_eq!(Refusal::Tag { tag: 21 }.details(), [21, 0, 0]);
+    /// ```
+    pub const fn details(&self) -> [u64; 3] {
+        match *self {
+            Self::WeLack(missing) | Self::PeerLacks(missing) => {
+                [missing.bits, missing.lowest, missing.how_many]
+            }
+            Self::PayloadLength { length: first }
+            | Self::Tag { tag: first }
+            | Self::Store { needed: first }
+            | Self::SegmentChecksum { segment: first }
+            | Self::LateStatus { byte: first }
+            | Self::Room { needed: first } => [first, 0, 0],
+            Self::Other { details, .. } => details,
+            _ => [0; 3],
+        }
+    }
+}
+
+impl From<Numbers> for Refusal {
+    /// Details that the number does not have are left out.
+    fn from(numbers: Numbers) -> Self {
+        let Numbers {
+            number,
+            first,
+            second,
+            third,
+        } = numbers;
+        let missing = Missing {
+            bits: first,
+            lowest: second,
+            how_many: third,
+        };
+        match number {
+            1 => Self::Magic,
+            2 => Self::PayloadLength { length: first },
+            3 => Self::WeLack(missing),
+            4 => Self::PeerLacks(missing),
+            5 => Self::PreambleChecksum,
+            6 => Self::Shape,
+            7 => Self::Flags,
+            8 => Self::Tag { tag: first },
+            9 => Self::Limit,
+            10 => Self::Store { needed: first },
+            11 => Self::SegmentChecksum { segment: first },
+            12 => Self::LateStatus { byte: first },
+            13 => Self::SourceLength,
+            14 => Self::Room { needed: first },
+            15 => Self::Abort,
+            16 => Self::OwnFeatures,
+            26 => Self::State,
+            _ => Self::Other {
+                number,
+                details: [first, second, third],
+            },
+        }
+    }
+}
+
+impl fmt::Display for Missing {
+    fn fmt(&self, f: &mut fmt::Formatter<'_>) -> fmt::Result {
+        match self.how_many {
+            1 => write!(f, "feature bit {}", self.lowest),
+            how_many => {
+                let Self { bits, lowest, .. } = self;
+                write!(
+                    f,
+                    "{how_many} feature bits from bit {lowest} on ({bits:#x})"
+                )
+            }
+        }
+    }
+}
+
+impl fmt::Display for Refusal {
+    fn fmt(&self, f: &mut fmt::Formatter<'_>) -> fmt::Result {
+        match self {
+            Self::Magic => write!(f, "the stream does not begin as a banner does"),
+            Self::PayloadLength { length } => {
+                write!(f, "the banner's payload length is {length}, not 16 to 1024")
+            }
+            Self::WeLack(missing) => write!(f, "the peer requires {missing}, which we lack"),
+            Self::PeerLacks(missing) => write!(f, "we require {missing}, which the peer lacks"),
+            Self::PreambleChecksum => write!(f, "the preamble's checksum differs"),
+            Self::Shape => write!(f, "the segment count or the shape of the segments is wrong"),
+            Self::Flags => write!(f, "the preamble's flags or its reserved byte are not 0"),
+            Self::Tag { tag } => write!(f, "the tag is {tag}, not 1 to 20"),
+            Self::Limit => write!(
+                f,
+                "a segment is longer than 16384 bytes, or all together than 32768"
+            ),
+            Self::Store { needed } => {
+                write!(f, "the store is shorter than the frame's {needed} bytes")
+            }
+            Self::SegmentChecksum { segment } => {
+                write!(f, "the checksum of segment {segment} differs")
+            }
+            Self::LateStatus { byte } => write!(
+                f,
+                "the late status is {byte:#04x}, neither complete (0x0e) nor aborted (0x01)"
+            ),
+            Self::SourceLength => write!(
+                f,
+                "the source has not as many bytes as the segments together"
+            ),
+            Self::Room { needed } => write!(
+                f,
+                "the send buffer has no room for {needed} bytes behind the queued ones"
+            ),
+            Self::Abort => write!(f, "a msgr2.1 frame of one segment cannot be aborted"),
+            Self::OwnFeatures => write!(
+                f,
+                "our own features have a bit other than bit 0, or require one that they do not support"
+            ),
+            Self::State => write!(f, "the fields of the receiver's state contradict each other"),
+            Self::Other { number, details } => {
+                write!(f, "refusal {number} with the details {details:?}")
+            }
+        }
+    }
+}
+
+impl Error for Refusal {}
+
+#[cfg(test)]
+mod tests;

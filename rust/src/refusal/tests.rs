@@ -1,0 +1,82 @@
+use super::*;
+
+/// The numbers that there are, and how many details each has.
+const DETAILS: [(u8, usize); 17] = [
+    (1, 0),
+    (2, 1),
+    (3, 3),
+    (4, 3),
+    (5, 0),
+    (6, 0),
+    (7, 0),
+    (8, 1),
+    (9, 0),
+    (10, 1),
+    (11, 1),
+    (12, 1),
+    (13, 0),
+    (14, 1),
+    (15, 0),
+    (16, 0),
+    (26, 0),
+];
+
+fn numbers(number: u8, [first, second, third]: [u64; 3]) -> Numbers {
+    Numbers {
+        number,
+        first,
+        second,
+        third,
+    }
+}
+
+fn refusal(number: u8, details: [u64; 3]) -> Refusal {
+    Refusal::from(numbers(number, details))
+}
+
+#[test]
+fn every_number_comes_back_with_its_details() {
+    let given = [701, 702, 703];
+    for (number, count) in DETAILS {
+        let refusal = refusal(number, given);
+        let mut kept = given;
+        kept[count..].fill(0);
+        assert_eq!((refusal.number(), refusal.details()), (number, kept));
+        assert!(!matches!(refusal, Refusal::Other { .. }), "{number}");
+    }
+}
+
+#[test]
+fn other_numbers_keep_all_details() {
+    let known = DETAILS.map(|(number, _)| number);
+    for number in (1..=u8::MAX).filter(|number| !known.contains(number)) {
+        let other = refusal(number, [1, 2, 3]);
+        assert_eq!((other.number(), other.details()), (number, [1, 2, 3]));
+        assert!(other.to_string().contains(&number.to_string()));
+    }
+    assert_eq!(Refusal::given(Numbers::default()), None);
+}
+
+#[test]
+fn every_number_has_words_of_its_own() {
+    let words = DETAILS.map(|(number, _)| refusal(number, [701, 702, 703]).to_string());
+    for (place, text) in words.iter().enumerate() {
+        assert!(!words[..place].contains(text), "{text}");
+    }
+}
+
+#[test]
+fn the_words_name_the_details() {
+    let said = |number, details, word: &str| {
+        let text = refusal(number, details).to_string();
+        assert!(text.contains(word), "{text}");
+    };
+    said(2, [15, 0, 0], "15");
+    said(3, [0x14, 2, 2], "2 feature bits from bit 2 on (0x14)");
+    said(4, [0x20, 5, 1], "feature bit 5");
+    said(8, [21, 0, 0], "21");
+    said(10, [4_097, 0, 0], "4097 bytes");
+    said(11, [3, 0, 0], "segment 3");
+    said(12, [0x0F, 0, 0], "0x0f");
+    said(14, [489, 0, 0], "489 bytes");
+}

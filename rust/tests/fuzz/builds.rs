@@ -1,0 +1,212 @@
+//! Generated builds and checksums, done by both; what was built is read back.
+
+use crate::guarded::Guarded;
+use crate::same;
+use crate::tally::Tally;
+use mahuixen::sys::{self, RawBuilt};
+use mahuixen::{abort_frame, build_banner, build_frame, checksum};
+use mahuixen::{Features, Header, Receiver, Refusal, Report, Revision};
+use second::builder;
+use second::random::Random;
+use second::records::{BannerRecord, ChecksumRecord, FrameRecord, Record, SendBuffer};
+
+type Answer = Result<u64, second::refusal::Refusal>;
+
+pub const KINDS: [&str; 11] = [
+    "checksums",
+    "banners",
+    "frames, read back",
+    "aborted frames, read back",
+    "refused 6",
+    "refused 8",
+    "refused 9",
+    "refused 13",
+    "refused 14",
+    "refused 15",
+    "refused 16",
+];
+
+fn kind(refusal: u8) -> &'static str {
+    match refusal {
+        6 => KINDS[4],
+        8 => KINDS[5],
+        9 => KINDS[6],
+        16 => KINDS[10],
+        other => KINDS[usize::from(other) - 6],
+    }
+}
+
+/// The crate's answer in bare numbers.
+fn bare(built: Result<usize, Refusal>) -> RawBuilt {
+    match built {
+        Ok(written) => RawBuilt {
+            written,
+            ..RawBuilt::default()
+        },
+        Err(refusal) => {
+            let [first, second, third] = refusal.details();
+            let number = refusal.number();
+            let refusal = mahuixen::Numbers {
+                number,
+                first,
+                second,
+                third,
+            };
+            RawBuilt {
+                written: 0,
+                refusal,
+            }
+        }
+    }
+}
+
+fn expected(answer: &Answer) -> RawBuilt {
+    match answer {
+        Ok(written) => RawBuilt {
+            written: *written as usize,
+            ..RawBuilt::default()
+        },
+        Err(refusal) => RawBuilt {
+            written: 0,
+            refusal: same::numbers(*refusal),
+        },
+    }
+}
+
+/// Builds into a guarded buffer and holds it to what the second builder made.
+fn compare(
+    random: &mut Random,
+    buffer: SendBuffer,
+    (answer, made): (Answer, &[u8]),
+    build: impl FnOnce(&mut Random, &mut [u8]) -> RawBuilt,
+) {
+    let mut send = Guarded::new(random, &buffer.bytes());
+    let built = build(random, send.lend());
+    assert_eq!(built, expected(&answer));
+    send.expect(made, "send buffer");
+}
+
+fn checksums(random: &mut Random, record: &ChecksumRecord) {
+    let held = Guarded::new(random, &record.bytes);
+    let sum = checksum(record.start, held.content());
+    assert_eq!(sum, second::checksum::checksum(record.start, &record.bytes));
+    held.expect(&record.bytes, "bytes");
+}
+
+fn banner(random: &mut Random, record: &BannerRecord, tally: &mut Tally) {
+    let mut made = record.buffer.bytes();
+    let queued = record.buffer.queued;
+    let answer = builder::build_banner(record.features, &mut made, queued);
+    let own = same::features(record.features);
+    compare(random, record.buffer, (answer, &made), |random, send| {
+        if random.once_in(2) {
+            sys::build_banner(send, queued as usize, own)
+        } else {
+            bare(build_banner(send, queued as usize, own))
+        }
+    });
+    tally.count(answer.map_or_else(|refusal| kind(refusal.number), |_| KINDS[1]));
+}
+
+/// The library's build of a record, by the crate's types or by bare numbers.
+fn build(random: &mut Random, record: &FrameRecord, source: &[u8], send: &mut [u8]) -> RawBuilt {
+    let queued = record.buffer.queued as usize;
+    let header = same::header(&record.frame);
+    let revision = same::revision(record.revision);
+    match (random.once_in(2), record.abort) {
+        (true, false) => bare(build_frame(send, queued, revision, &header, source)),
+        (true, true) => bare(abort_frame(send, queued, revision, &header, source)),
+        (false, false) => sys::build_frame(send, queued, number(random, revision), header, source),
+        (false, true) => sys::abort_frame(send, queued, number(random, revision), header, source),
+    }
+}
+
+/// Any number but 0 stands for msgr2.1.
+fn number(random: &mut Random, revision: Revision) -> u8 {
+    let any = random.between(1, 255) as u8;
+    random.pick(&[1, any]) * revision.number()
+}
+
+fn frame(random: &mut Random, record: &FrameRecord, tally: &mut Tally) {
+    let mut made = record.buffer.bytes();
+    let queued = record.buffer.queued;
+    let answer = builder::build_frame(&record.request(), &mut made, queued);
+    let source = Guarded::new(random, &record.source);
+    compare(random, record.buffer, (answer, &made), |random, send| {
+        build(random, record, source.content(), send)
+    });
+    source.expect(&record.source, "source");
+    match answer {
+        Err(refusal) => tally.count(kind(refusal.number)),
+        Ok(written) => {
+            let start = queued as usize;
+            let wire = &made[start..start + written as usize];
+            read_back(random, record, wire);
+            tally.count(KINDS[2 + usize::from(record.abort)]);
+        }
+    }
+}
+
+/// A receiver that has read the banner of a peer, and so knows the revision.
+fn receiver_of(revision: Revision) -> Receiver {
+    let own = Features::new(u64::from(revision.number()), 0);
+    let mut banner = [0; mahuixen::BANNER_LENGTH];
+    build_banner(&mut banner, 0, own).expect("a banner");
+    let mut receiver = Receiver::start(own).expect("good features");
+    let received = receiver.receive(&banner, &mut []);
+    let peer = own;
+    assert_eq!(received.report, Report::Banner { peer, revision });
+    receiver
+}
+
+/// Offers the frame in pieces; nothing but its last byte completes a report.
+fn received(random: &mut Random, revision: Revision, wire: &[u8], store: &mut [u8]) -> Report {
+    let mut receiver = receiver_of(revision);
+    let mut left = wire;
+    loop {
+        let most = random.pick(&[1, 40, 1_460, wire.len() as u32]);
+        let offered = random.between(0, most.min(left.len() as u32)) as usize;
+        let received = receiver.receive(&left[..offered], store);
+        assert_eq!(received.taken, offered);
+        left = &left[offered..];
+        if left.is_empty() {
+            return received.report;
+        }
+        assert_eq!(received.report, Report::More);
+    }
+}
+
+fn read_back(random: &mut Random, record: &FrameRecord, wire: &[u8]) {
+    let header: Header = same::header(&record.frame);
+    let revision = same::revision(record.revision);
+    let behind = random.between(0, 20);
+    let behind = random.bytes(behind);
+    let mut expected = record.source.clone();
+    if record.abort {
+        expected.fill(0);
+    }
+    expected.extend(&behind);
+    let before = [vec![0xA7; record.source.len()], behind].concat();
+    let mut store = Guarded::new(random, &before);
+    let report = received(random, revision, wire, store.lend());
+    let told = if record.abort {
+        Report::Dropped(header)
+    } else {
+        Report::Frame(header)
+    };
+    assert_eq!(report, told);
+    store.expect(&expected, "store");
+}
+
+/// Does what the record asks for, on both sides.
+pub fn run(random: &mut Random, record: &Record, tally: &mut Tally) {
+    match record {
+        Record::Checksum(record) => {
+            checksums(random, record);
+            tally.count(KINDS[0]);
+        }
+        Record::Banner(record) => banner(random, record, tally),
+        Record::Frame(record) => frame(random, record, tally),
+        Record::Receiver(_) => unreachable!("not among the records of builds"),
+    }
+}
