@@ -92,12 +92,14 @@ enum {
     MAHUIXEN_REFUSAL_PEER_REQUIRES = 3,     /* the peer requires features that we do not support;
                                                first: their bits, second: the lowest one's number, third: how many */
     MAHUIXEN_REFUSAL_PEER_LACKS = 4,        /* we require features that the peer does not support; details as for 3 */
-    MAHUIXEN_REFUSAL_PREAMBLE_CHECKSUM = 5, /* a preamble's checksum differs */
+    MAHUIXEN_REFUSAL_PREAMBLE_CHECKSUM = 5, /* a preamble's checksum differs; first: 28, its place in the preamble */
     MAHUIXEN_REFUSAL_SHAPE = 6,             /* not 1 to 4 segments; or an unused segment has a length or an alignment;
-                                               or the last used one of several is empty */
-    MAHUIXEN_REFUSAL_FLAGS = 7,             /* a preamble's flags or its reserved byte are not 0 */
+                                               or the last used one of several is empty;
+                                               first: the place of the first such field in the preamble */
+    MAHUIXEN_REFUSAL_FLAGS = 7,             /* a preamble's flags or its reserved byte are not 0; first: 26 or 27, its place */
     MAHUIXEN_REFUSAL_TAG = 8,               /* a tag outside 1 to 20; first: the tag */
-    MAHUIXEN_REFUSAL_LIMIT = 9,             /* a segment, or all of them, above the limit */
+    MAHUIXEN_REFUSAL_LIMIT = 9,             /* a segment, or all of them, above the limit; first: the place of the first
+                                               length that is too long, or of the one at which the sum is */
     MAHUIXEN_REFUSAL_STORE_SHORT = 10,      /* the store is shorter than the segments; first: their length */
     MAHUIXEN_REFUSAL_SEGMENT_CHECKSUM = 11, /* a segment's checksum differs; first: the segment, 1 to 4 */
     MAHUIXEN_REFUSAL_LATE_STATUS = 12,      /* an epilogue's late status is no code word; first: the byte */

@@ -29,7 +29,7 @@ impl Header {
     ///
     /// let five = Header::new(tag::MESSAGE, &[Segment::new(1, 0); 5]);
     /// let built = build_frame(&mut [0; 100], 0, Revision::Msgr21, &five, b"12345");
-    /// assert_eq!(built, Err(Refusal::Shape));
+    /// assert_eq!(built, Err(Refusal::Shape { at: 1 }));
     /// ```
     pub fn new(tag: u8, used: &[Segment]) -> Self {
         let mut segments = [Segment::default(); 4];

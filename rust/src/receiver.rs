@@ -65,7 +65,7 @@ pub struct Received {
 /// assert_eq!((more.taken, more.report), (1, Report::More));
 /// let refused = receiver.receive(&[1; 500], &mut store);
 /// assert_eq!(refused.taken, 31);
-/// assert_eq!(refused.report, Report::Refused(Refusal::PreambleChecksum));
+/// assert_eq!(refused.report, Report::Refused(Refusal::PreambleChecksum { at: 28 }));
 ///
 /// // A refused stream stays refused.
 /// let again = receiver.receive(&[0; 500], &mut store);

@@ -44,12 +44,21 @@ pub enum Refusal {
     /// 4: we require features that the peer does not support.
     PeerLacks(Missing),
     /// 5: a preamble's checksum differs.
-    PreambleChecksum,
+    PreambleChecksum {
+        /// The byte of the preamble at which the checksum stands, 28.
+        at: u64,
+    },
     /// 6: the segment count is not 1 to 4, an unused segment is not 0, or the
     /// last of several segments is empty.
-    Shape,
+    Shape {
+        /// The byte of the preamble at which the first such field stands.
+        at: u64,
+    },
     /// 7: a preamble's flags or its reserved byte are not 0.
-    Flags,
+    Flags {
+        /// The byte of the preamble: 26, or 27 where the flags are 0.
+        at: u64,
+    },
     /// 8: the tag is outside 1 to 20.
     Tag {
         /// The tag.
@@ -57,7 +66,12 @@ pub enum Refusal {
     },
     /// 9: a segment is longer than 16,384 bytes, or all together are longer
     /// than 32,768.
-    Limit,
+    Limit {
+        /// The byte of the preamble at which the first length that is too long
+        /// stands, or, where none is, the one at which the sum becomes too
+        /// long.
+        at: u64,
+    },
     /// 10: the store is shorter than the frame's segments together.
     Store {
         /// Bytes that the frame needs.
@@ -115,11 +129,11 @@ impl Refusal {
             Self::PayloadLength { .. } => 2,
             Self::WeLack(_) => 3,
             Self::PeerLacks(_) => 4,
-            Self::PreambleChecksum => 5,
-            Self::Shape => 6,
-            Self::Flags => 7,
+            Self::PreambleChecksum { .. } => 5,
+            Self::Shape { .. } => 6,
+            Self::Flags { .. } => 7,
             Self::Tag { .. } => 8,
-            Self::Limit => 9,
+            Self::Limit { .. } => 9,
             Self::Store { .. } => 10,
             Self::SegmentChecksum { .. } => 11,
             Self::LateStatus { .. } => 12,
@@ -147,7 +161,11 @@ impl Refusal {
                 [missing.bits, missing.lowest, missing.how_many]
             }
             Self::PayloadLength { length: first }
+            | Self::PreambleChecksum { at: first }
+            | Self::Shape { at: first }
+            | Self::Flags { at: first }
             | Self::Tag { tag: first }
+            | Self::Limit { at: first }
             | Self::Store { needed: first }
             | Self::SegmentChecksum { segment: first }
             | Self::LateStatus { byte: first }
@@ -177,11 +195,11 @@ impl From<Numbers> for Refusal {
             2 => Self::PayloadLength { length: first },
             3 => Self::WeLack(missing),
             4 => Self::PeerLacks(missing),
-            5 => Self::PreambleChecksum,
-            6 => Self::Shape,
-            7 => Self::Flags,
+            5 => Self::PreambleChecksum { at: first },
+            6 => Self::Shape { at: first },
+            7 => Self::Flags { at: first },
             8 => Self::Tag { tag: first },
-            9 => Self::Limit,
+            9 => Self::Limit { at: first },
             10 => Self::Store { needed: first },
             11 => Self::SegmentChecksum { segment: first },
             12 => Self::LateStatus { byte: first },
@@ -222,13 +240,19 @@ impl fmt::Display for Refusal {
             }
             Self::WeLack(missing) => write!(f, "the peer requires {missing}, which we lack"),
             Self::PeerLacks(missing) => write!(f, "we require {missing}, which the peer lacks"),
-            Self::PreambleChecksum => write!(f, "the preamble's checksum differs"),
-            Self::Shape => write!(f, "the segment count or the shape of the segments is wrong"),
-            Self::Flags => write!(f, "the preamble's flags or its reserved byte are not 0"),
-            Self::Tag { tag } => write!(f, "the tag is {tag}, not 1 to 20"),
-            Self::Limit => write!(
+            Self::PreambleChecksum { .. } => write!(f, "the preamble's checksum differs"),
+            Self::Shape { at } => write!(
                 f,
-                "a segment is longer than 16384 bytes, or all together than 32768"
+                "the segment count or the shape of the segments is wrong, at byte {at} of the preamble"
+            ),
+            Self::Flags { at } => write!(
+                f,
+                "the preamble's flags or its reserved byte are not 0, at byte {at}"
+            ),
+            Self::Tag { tag } => write!(f, "the tag is {tag}, not 1 to 20"),
+            Self::Limit { at } => write!(
+                f,
+                "a segment is longer than 16384 bytes, or all together than 32768, at byte {at} of the preamble"
             ),
             Self::Store { needed } => {
                 write!(f, "the store is shorter than the frame's {needed} bytes")

@@ -14,9 +14,11 @@ pub const SEGMENT_LIMIT: u32 = 16_384;
 pub const SUM_LIMIT: u64 = 32_768;
 
 const TAGS: RangeInclusive<u8> = 1..=20;
+const COUNT_FIELD: usize = 1;
 const PREAMBLE_CHECKED: usize = 28;
 const FIRST_SEGMENT_FIELD: usize = 2;
 const SEGMENT_FIELD_LENGTH: usize = 6;
+const ALIGNMENT_OFFSET: usize = 4;
 const FLAGS_AND_RESERVED: RangeInclusive<usize> = 26..=27;
 
 /// Bytes of a preamble with its checksum.
@@ -41,10 +43,21 @@ pub fn put_preamble_checksum(preamble: &mut [u8; PREAMBLE_LENGTH]) {
     field.copy_from_slice(&checksum(PREAMBLE_START, checked).to_le_bytes());
 }
 
+/// The byte of a preamble at which the length of the segment at the place
+/// begins.
+const fn length_field(place: usize) -> usize {
+    FIRST_SEGMENT_FIELD + place * SEGMENT_FIELD_LENGTH
+}
+
+/// And its alignment.
+const fn alignment_field(place: usize) -> usize {
+    length_field(place) + ALIGNMENT_OFFSET
+}
+
 impl Segment {
     /// The segment at the given place of a preamble.
     fn read(preamble: &[u8; PREAMBLE_LENGTH], place: usize) -> Self {
-        let start = FIRST_SEGMENT_FIELD + place * SEGMENT_FIELD_LENGTH;
+        let start = length_field(place);
         let field = &preamble[start..start + SEGMENT_FIELD_LENGTH];
         Self {
             length: u32::from_le_bytes([field[0], field[1], field[2], field[3]]),
@@ -59,7 +72,7 @@ impl Frame {
     pub fn read(preamble: &[u8; PREAMBLE_LENGTH]) -> Result<Self, Refusal> {
         let (checked, field) = preamble.split_at(PREAMBLE_CHECKED);
         if checksum(PREAMBLE_START, checked).to_le_bytes() != field {
-            return Err(Refusal::preamble_checksum());
+            return Err(Refusal::preamble_checksum(PREAMBLE_CHECKED));
         }
         let frame = Self {
             tag: preamble[0],
@@ -67,8 +80,8 @@ impl Frame {
             segments: std::array::from_fn(|place| Segment::read(preamble, place)),
         };
         frame.judge_shape()?;
-        if preamble[FLAGS_AND_RESERVED] != [0, 0] {
-            return Err(Refusal::flags());
+        if let Some(at) = FLAGS_AND_RESERVED.into_iter().find(|&at| preamble[at] != 0) {
+            return Err(Refusal::flags(at));
         }
         frame.judge_tag()?;
         frame.judge_limits()?;
@@ -121,13 +134,18 @@ impl Frame {
     pub fn judge_shape(&self) -> Result<(), Refusal> {
         let count = usize::from(self.count);
         if !(1..=PLACES).contains(&count) {
-            return Err(Refusal::shape());
+            return Err(Refusal::shape(COUNT_FIELD));
         }
-        let (used, unused) = self.segments.split_at(count);
-        let last_is_empty = count > 1 && used[count - 1].length == 0;
-        let all_zero = unused.iter().all(|s| *s == Segment::default());
-        if last_is_empty || !all_zero {
-            return Err(Refusal::shape());
+        if count > 1 && self.segments[count - 1].length == 0 {
+            return Err(Refusal::shape(length_field(count - 1)));
+        }
+        for place in count..PLACES {
+            if self.segments[place].length != 0 {
+                return Err(Refusal::shape(length_field(place)));
+            }
+            if self.segments[place].alignment != 0 {
+                return Err(Refusal::shape(alignment_field(place)));
+            }
         }
         Ok(())
     }
@@ -140,14 +158,16 @@ impl Frame {
         }
     }
 
-    /// Each length is judged by itself too, since the sum alone says less.
+    /// Each length is judged by itself first, and only then the running sum.
     pub fn judge_limits(&self) -> Result<(), Refusal> {
-        let long = self.segments.iter().any(|s| s.length > SEGMENT_LIMIT);
-        if long || self.sum() > SUM_LIMIT {
-            Err(Refusal::limit())
-        } else {
-            Ok(())
-        }
+        let is_long = |place: &usize| self.segments[*place].length > SEGMENT_LIMIT;
+        let mut sum = 0;
+        let passes = |place: &usize| {
+            sum += u64::from(self.segments[*place].length);
+            sum > SUM_LIMIT
+        };
+        let fault = (0..PLACES).find(is_long).or_else(|| (0..PLACES).find(passes));
+        fault.map_or(Ok(()), |place| Err(Refusal::limit(length_field(place))))
     }
 
     /// The preamble; flags and the reserved byte stay 0.
@@ -206,6 +226,44 @@ mod tests {
         made.segments[0].alignment = 0x0A0B;
         made.segments[1].alignment = 0xFFFF;
         assert_eq!(Frame::read(&made.preamble()), Ok(made));
+    }
+
+    #[test]
+    fn a_refusal_says_which_field() {
+        let fault = |change: fn(&mut Frame)| {
+            let mut made = frame(2, [1, 1, 0, 0]);
+            change(&mut made);
+            let refusal = Frame::read(&made.preamble()).unwrap_err();
+            (refusal.number, refusal.detail[0])
+        };
+        assert_eq!(fault(|f| f.count = 0), (6, 1));
+        assert_eq!(fault(|f| f.count = 5), (6, 1));
+        assert_eq!(fault(|f| f.count = 1), (6, 8));
+        assert_eq!(fault(|f| f.count = 4), (6, 20));
+        assert_eq!(fault(|f| f.segments[1].length = 0), (6, 8));
+        assert_eq!(fault(|f| f.segments[2].alignment = 1), (6, 18));
+        assert_eq!(fault(|f| f.segments[3].length = 1), (6, 20));
+        assert_eq!(fault(|f| f.segments[3].alignment = 1), (6, 24));
+        assert_eq!(fault(|f| f.segments[0].length = 16_385), (9, 2));
+        assert_eq!(fault(|f| f.segments[1].length = u32::MAX), (9, 8));
+        let sums = |lengths| frame(4, lengths).judge_limits().map_err(|r| r.detail[0]);
+        assert_eq!(sums([16_384, 16_384, 0, 1]), Err(20));
+        assert_eq!(sums([16_384, 16_383, 2, 1]), Err(14));
+        assert_eq!(sums([16_384, 16_384, 1, 16_385]), Err(20));
+        assert_eq!(sums([16_384, 16_383, 0, 1]), Ok(()));
+    }
+
+    #[test]
+    fn flags_are_named_before_the_reserved_byte() {
+        let fault = |flags, reserved| {
+            let mut bytes = frame(1, [0; PLACES]).preamble();
+            bytes[26..28].copy_from_slice(&[flags, reserved]);
+            put_preamble_checksum(&mut bytes);
+            Frame::read(&bytes).map_err(|r| (r.number, r.detail[0]))
+        };
+        assert_eq!(fault(1, 1), Err((7, 26)));
+        assert_eq!(fault(0, 1), Err((7, 27)));
+        assert_eq!(Frame::read(&[1; 32]), Err(Refusal::preamble_checksum(28)));
     }
 
     #[test]

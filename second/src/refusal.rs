@@ -46,19 +46,20 @@ impl Refusal {
         Self::missing(4, bits)
     }
 
-    /// The preamble's checksum differs.
-    pub const fn preamble_checksum() -> Self {
-        Self::new(5, 0)
+    /// The preamble's checksum, at this byte, differs.
+    pub const fn preamble_checksum(at: usize) -> Self {
+        Self::new(5, at as u64)
     }
 
-    /// The segment count or the shape is wrong.
-    pub const fn shape() -> Self {
-        Self::new(6, 0)
+    /// The segment count or the shape is wrong; the first field at fault
+    /// begins at this byte of the preamble.
+    pub const fn shape(at: usize) -> Self {
+        Self::new(6, at as u64)
     }
 
-    /// The flags or the reserved byte of a preamble are set.
-    pub const fn flags() -> Self {
-        Self::new(7, 0)
+    /// The flags or the reserved byte of a preamble, at this byte, are set.
+    pub const fn flags(at: usize) -> Self {
+        Self::new(7, at as u64)
     }
 
     /// The tag is none that we know.
@@ -66,9 +67,10 @@ impl Refusal {
         Self::new(8, tag as u64)
     }
 
-    /// A segment or the sum of the segments is too long.
-    pub const fn limit() -> Self {
-        Self::new(9, 0)
+    /// A segment or the sum of the segments is too long; the length at fault
+    /// begins at this byte of the preamble.
+    pub const fn limit(at: usize) -> Self {
+        Self::new(9, at as u64)
     }
 
     /// The store is shorter than this many bytes.

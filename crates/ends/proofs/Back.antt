@@ -141,7 +141,7 @@ front-back h n f e l =
 
 shape-fine : (h : Header) → judgeHeader h ≡ fine → shapeFault h ≡ 0
 unfolding judgeHeader
-shape-fine h e = eqb-true (shapeFault h) 0 (passed (eqb (shapeFault h) 0) 6 0 (past (judgeShape h) _ e .0))
+shape-fine h e = eqb-true (shapeFault h) 0 (passed (eqb (shapeFault h) 0) 6 (shapeFault h) (past (judgeShape h) _ e .0))
 
 no-count : (h : Header) → shapeFault h ≡ 0 → leb 1 (h .count) ≡ false → ⊥
 unfolding shapeFault

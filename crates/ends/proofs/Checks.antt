@@ -63,7 +63,7 @@ module _ (X : List ℕ) (n : ℕ) where
       let p9 = past (judgeLimits h) _ (p8 .1) in
       let p10 = past (judgeStore (total h) n) fine (p9 .1) in
       record {
-        checksum = ap (crcOf 0) (sym front28) ∙ eqb-true (crcOf 0 (take 28 front)) (numberAt 4 28 front) (passed (eqb (crcOf 0 (take 28 front)) (numberAt 4 28 front)) 5 0 (p5 .0)) ∙ sum28;
+        checksum = ap (crcOf 0) (sym front28) ∙ eqb-true (crcOf 0 (take 28 front)) (numberAt 4 28 front) (passed (eqb (crcOf 0 (take 28 front)) (numberAt 4 28 front)) 5 28 (p5 .0)) ∙ sum28;
         shape = p6 .0;
         flags = ap₂ judgeFlags (sym (byte 26 (lit< tt))) (sym (byte 27 (lit< tt))) ∙ p7 .0;
         tag = p8 .0;

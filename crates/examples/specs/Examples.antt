@@ -82,19 +82,19 @@ examples =
     -- 5
     ∷ wireBytes Msgr20 (header 17 4 (segment 20 0) (segment 70 0) (segment 0 0) (segment 350 0)) 489
     -- 6
-    ∷ preamble (replicate 32 0) (refused (row 6 0 0 0))
+    ∷ preamble (replicate 32 0) (refused (row 6 1 0 0))
     -- 7
-    ∷ request (header 17 2 (segment 5 0) (segment 0 0) (segment 0 0) (segment 0 0)) (refused (row 6 0 0 0))
+    ∷ request (header 17 2 (segment 5 0) (segment 0 0) (segment 0 0) (segment 0 0)) (refused (row 6 8 0 0))
     -- 7
     ∷ request (header 17 1 (segment 0 0) (segment 0 0) (segment 0 0) (segment 0 0)) fine
     -- 8
     ∷ request (header 17 1 (segment 16384 0) (segment 0 0) (segment 0 0) (segment 0 0)) fine
     -- 8
-    ∷ request (header 17 1 (segment 16385 0) (segment 0 0) (segment 0 0) (segment 0 0)) (refused (row 9 0 0 0))
+    ∷ request (header 17 1 (segment 16385 0) (segment 0 0) (segment 0 0) (segment 0 0)) (refused (row 9 2 0 0))
     -- 8
     ∷ request (header 17 2 (segment 16384 0) (segment 16384 0) (segment 0 0) (segment 0 0)) fine
     -- 8
-    ∷ request (header 17 3 (segment 16384 0) (segment 16384 0) (segment 1 0) (segment 0 0)) (refused (row 9 0 0 0))
+    ∷ request (header 17 3 (segment 16384 0) (segment 16384 0) (segment 1 0) (segment 0 0)) (refused (row 9 14 0 0))
     -- 9
     ∷ peer 1 0 0 0x14 (refused (row 3 0x14 2 2))
     -- 10

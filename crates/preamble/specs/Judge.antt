@@ -25,6 +25,10 @@ firstFault (f ∷ fs) = first f (firstFault fs)
 abbrev pub faultWhen : Bool → ℕ → ℕ
 faultWhen wrong place = cond wrong place 0
 
+-- a refusal whose detail is that place
+abbrev pub unlessFault : ℕ → ℕ → Judged
+unlessFault number place = unless (eqb place 0) number place
+
 -- ---- shape
 
 -- an unused segment has no length; with more than one segment the last used one is not empty
@@ -54,7 +58,7 @@ shapeFault h =
     ∷ [])
 
 abbrev pub judgeShape : Header → Judged
-judgeShape h = unless (eqb (shapeFault h) 0) 6 0
+judgeShape h = unlessFault 6 (shapeFault h)
 
 -- ---- flags, tag, limits, store
 
@@ -62,7 +66,7 @@ abbrev pub flagFault : ℕ → ℕ → ℕ
 flagFault flags reserved = firstFault (faultWhen (not (eqb flags 0)) 26 ∷ faultWhen (not (eqb reserved 0)) 27 ∷ [])
 
 abbrev pub judgeFlags : ℕ → ℕ → Judged
-judgeFlags flags reserved = unless (eqb (flagFault flags reserved) 0) 7 0
+judgeFlags flags reserved = unlessFault 7 (flagFault flags reserved)
 
 abbrev pub judgeTag : ℕ → Judged
 judgeTag tag = unless (leb 1 tag && leb tag 20) 8 tag
@@ -91,7 +95,7 @@ limitFault h =
     ∷ [])
 
 abbrev pub judgeLimits : Header → Judged
-judgeLimits h = unless (eqb (limitFault h) 0) 9 0
+judgeLimits h = unlessFault 9 (limitFault h)
 
 -- the store holds the bytes that the frame needs
 abbrev pub judgeStore : ℕ → ℕ → Judged
@@ -121,7 +125,7 @@ abbrev pub preambleOf : List ℕ → Preamble
 preambleOf bs = record { header = headerOf bs; flags = getD bs 26 0; reserved = getD bs 27 0; checksum = numberAt 4 28 bs }
 
 abbrev pub judgeChecksum : List ℕ → Judged
-judgeChecksum bs = unless (eqb (crcOf 0 (take 28 bs)) (numberAt 4 28 bs)) 5 0
+judgeChecksum bs = unless (eqb (crcOf 0 (take 28 bs)) (numberAt 4 28 bs)) 5 28
 
 -- THE ORDER at a preamble's last byte: the checksum first, then the fields. store is the store's length
 unfoldable pub judgeFields : Preamble → ℕ → Judged

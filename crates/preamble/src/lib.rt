@@ -94,14 +94,15 @@ fn shape_fault(h: Header) -> u8
 fn judge_shape(h: Header) -> Verdict
     ensures { λ r. ⌜ judgedBy r ≡ judgeShape h ⌝ }
 {
-    unless_ok(shape_fault(h) == 0, Refusal::Shape)
+    let place = shape_fault(h);
+    unless_ok(place == 0, Refusal::Shape(place))
 }
 
 fn judge_flags(flags: u8, reserved: u8) -> Verdict
     ensures { λ r. ⌜ judgedBy r ≡ judgeFlags flags reserved ⌝ }
 {
-    let f = first(fault_when(flags != 0, 26), fault_when(reserved != 0, 27));
-    unless_ok(f == 0, Refusal::Flags)
+    let place = first(fault_when(flags != 0, 26), fault_when(reserved != 0, 27));
+    unless_ok(place == 0, Refusal::Flags(place))
 }
 
 fn judge_tag(tag: u8) -> Verdict
@@ -149,7 +150,8 @@ fn limit_fault(h: Header) -> u8
 fn judge_limits(h: Header) -> Verdict
     ensures { λ r. ⌜ judgedBy r ≡ judgeLimits h ⌝ }
 {
-    unless_ok(limit_fault(h) == 0, Refusal::Limit)
+    let place = limit_fault(h);
+    unless_ok(place == 0, Refusal::Limit(place))
 }
 
 // The store has the bytes that a frame needs.

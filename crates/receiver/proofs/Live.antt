@@ -67,11 +67,11 @@ known-preamble : (bs : List ℕ) (n : ℕ) → Known (judgePreamble bs n)
 unfolding judgePreamble judgeFields
 known-preamble bs n =
     let h = headerOf bs in
-    let k5 : Known (judgeChecksum bs) = known-cond (eqb (crcOf 0 (take 28 bs)) (numberAt 4 28 bs)) (row 5 0 0 0) refl in
-    let k6 : Known (judgeShape h) = known-cond (eqb (shapeFault h) 0) (row 6 0 0 0) refl in
-    let k7 : Known (judgeFlags (getD bs 26 0) (getD bs 27 0)) = known-cond (eqb (flagFault (getD bs 26 0) (getD bs 27 0)) 0) (row 7 0 0 0) refl in
+    let k5 : Known (judgeChecksum bs) = known-cond (eqb (crcOf 0 (take 28 bs)) (numberAt 4 28 bs)) (row 5 28 0 0) refl in
+    let k6 : Known (judgeShape h) = known-cond (eqb (shapeFault h) 0) (row 6 (shapeFault h) 0 0) refl in
+    let k7 : Known (judgeFlags (getD bs 26 0) (getD bs 27 0)) = known-cond (eqb (flagFault (getD bs 26 0) (getD bs 27 0)) 0) (row 7 (flagFault (getD bs 26 0) (getD bs 27 0)) 0 0) refl in
     let k8 : Known (judgeTag (h .tag)) = known-cond (leb 1 (h .tag) && leb (h .tag) 20) (row 8 (h .tag) 0 0) refl in
-    let k9 : Known (judgeLimits h) = known-cond (eqb (limitFault h) 0) (row 9 0 0 0) refl in
+    let k9 : Known (judgeLimits h) = known-cond (eqb (limitFault h) 0) (row 9 (limitFault h) 0 0) refl in
     let k10 : Known (judgeStore (total h) n) = known-cond (leb (total h) n) (row 10 (total h) 0 0) refl in
     known-or k5 (known-or k6 (known-or k7 (known-or k8 (known-or k9 (known-or k10 known-fine)))))
 

@@ -10,17 +10,17 @@ pub struct Missing {
     pub count: u32,
 }
 
-// Refusals: a case for each number of the rules, with the values that its details are made of.
+// Refusals: a case for each number of the rules, with the values that its details are made of. Of a preamble that is the place of the field at fault.
 pub enum Refusal {
     Magic,
     BannerLength(u16),
     PeerRequires(Missing),
     PeerLacks(Missing),
     PreambleChecksum,
-    Shape,
-    Flags,
+    Shape(u8),
+    Flags(u8),
     Tag(u8),
-    Limit,
+    Limit(u8),
     StoreShort(u64),
     SegmentChecksum(u8),
     LateStatus(u8),
@@ -77,11 +77,11 @@ pub fn in_numbers(refusal: Refusal) -> Numbers
         Refusal::BannerLength(n) => one(2, n as u64),
         Refusal::PeerRequires(m) => three(3, m),
         Refusal::PeerLacks(m) => three(4, m),
-        Refusal::PreambleChecksum => one(5, 0),
-        Refusal::Shape => one(6, 0),
-        Refusal::Flags => one(7, 0),
+        Refusal::PreambleChecksum => one(5, 28),
+        Refusal::Shape(place) => one(6, place as u64),
+        Refusal::Flags(place) => one(7, place as u64),
         Refusal::Tag(t) => one(8, t as u64),
-        Refusal::Limit => one(9, 0),
+        Refusal::Limit(place) => one(9, place as u64),
         Refusal::StoreShort(n) => one(10, n),
         Refusal::SegmentChecksum(k) => one(11, k as u64),
         Refusal::LateStatus(b) => one(12, b as u64),

@@ -96,9 +96,9 @@ examples =
     -- refusal 4
     ∷ worked (features 1 1) (sent20) store (entry (refusal (row 4 1 0 1)) 26 (store) ∷ []) (store)
     -- refusal 5
-    ∷ worked ours (sent21 ++ set (frameBytes Msgr21 one false bytes2) 28 0) store (entry (banner (features 1 0) Msgr21) 26 (store) ∷ entry (refusal (row 5 0 0 0)) 58 (store) ∷ []) (store)
+    ∷ worked ours (sent21 ++ set (frameBytes Msgr21 one false bytes2) 28 0) store (entry (banner (features 1 0) Msgr21) 26 (store) ∷ entry (refusal (row 5 28 0 0)) 58 (store) ∷ []) (store)
     -- refusal 6: a preamble of zeros
-    ∷ worked ours (sent21 ++ replicate 40 0) store (entry (banner (features 1 0) Msgr21) 26 (store) ∷ entry (refusal (row 6 0 0 0)) 58 (store) ∷ []) (store)
+    ∷ worked ours (sent21 ++ replicate 40 0) store (entry (banner (features 1 0) Msgr21) 26 (store) ∷ entry (refusal (row 6 1 0 0)) 58 (store) ∷ []) (store)
     -- refusal 10
     ∷ worked ours (sent21 ++ frameBytes Msgr21 one false bytes2) (0xAA ∷ []) (entry (banner (features 1 0) Msgr21) 26 (0xAA ∷ []) ∷ entry (refusal (row 10 2 0 0)) 58 (0xAA ∷ []) ∷ []) ((0xAA ∷ []))
     -- refusal 11 at segment 1

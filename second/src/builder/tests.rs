@@ -102,8 +102,6 @@ fn details() {
     assert_eq!(Refusal::tag(255).detail, [255, 0, 0]);
     assert_eq!(Refusal::room(489).detail, [489, 0, 0]);
     for bare in [
-        Refusal::shape(),
-        Refusal::limit(),
         Refusal::source(),
         Refusal::abort(),
         Refusal::features(),

@@ -245,11 +245,11 @@ fn preambles_change_no_store_byte() {
     flipped[31] ^= 0x80;
     assert_eq!(
         received(revision, &flipped),
-        (32, refused(5, 0), filled(&[]))
+        (32, refused(5, 28), filled(&[]))
     );
     assert_eq!(
         received(revision, &[0; 40]),
-        (32, refused(6, 0), filled(&[]))
+        (32, refused(6, 1), filled(&[]))
     );
 }
 
@@ -331,7 +331,7 @@ fn a_refusal_is_repeated() {
         assert_eq!(got, (0, Report::Refused(refusal)));
     }
     let mut receiver = past_banner(Revision::Msgr21);
-    let refused = refused(6, 0);
+    let refused = refused(6, 1);
     assert_eq!(receiver.receive(&[0; 32], &mut store), (32, refused));
     let frame = three_whole(Revision::Msgr21);
     assert_eq!(receiver.receive(&frame, &mut store), (0, refused));

@@ -43,7 +43,7 @@ returns c =
     let s = c .before .before .before .checksum .ensures ∙ ap (crcOf 0) (c .before .before .before .before .part .ensures) in
     c .or-else .ensures
     ∙ ap₂ orElse
-    (c .before .before .unless-ok .ensures ∙ ap₂ (λ (x y : ℕ). unless (eqb x y) 5 0) s (ap (λ (p : Preamble). p .checksum) e))
+    (c .before .before .unless-ok .ensures ∙ ap₂ (λ (x y : ℕ). unless (eqb x y) 5 28) s (ap (λ (p : Preamble). p .checksum) e))
     (c .before .judge-fields .ensures ∙ ap (λ (p : Preamble). judgeFields p (c .before .before .before .before .before .before .before .args .store)) e)
 
 pub judge-preamble-spec : {M : Type 1} → statement M

@@ -41,83 +41,92 @@ enum-told-2 c = search needs
 one-requires-3 : tie.Need-one-requires-3
 one-requires-3 c κs = search needs
 
-enum-told-3 : tie.Need-enum-told-3
-enum-told-3 c = search needs
-
-one-requires-4 : tie.Need-one-requires-4
-one-requires-4 c κs = search needs
-
-enum-told-4 : tie.Need-enum-told-4
-enum-told-4 c = search needs
-
-one-requires-5 : tie.Need-one-requires-5
-one-requires-5 c κs = search needs
-
 enum-known-refusal-4 : tie.Need-enum-known-refusal-4
 enum-known-refusal-4 c = search needs
 
 cast-one-2 : tie.Need-cast-one-2
 cast-one-2 c = search needs
 
-one-requires-6 : tie.Need-one-requires-6
-one-requires-6 c κs = search needs
-
-enum-told-5 : tie.Need-enum-told-5
-enum-told-5 c = search needs
-
-one-requires-7 : tie.Need-one-requires-7
-one-requires-7 c κs = search needs
+one-requires-4 : tie.Need-one-requires-4
+one-requires-4 c κs = search needs
 
 enum-known-refusal-5 : tie.Need-enum-known-refusal-5
 enum-known-refusal-5 c = search needs
 
-one-requires-8 : tie.Need-one-requires-8
-one-requires-8 c κs = search needs
+cast-one-3 : tie.Need-cast-one-3
+cast-one-3 c = search needs
+
+one-requires-5 : tie.Need-one-requires-5
+one-requires-5 c κs = search needs
 
 enum-known-refusal-6 : tie.Need-enum-known-refusal-6
 enum-known-refusal-6 c = search needs
 
-cast-one-3 : tie.Need-cast-one-3
-cast-one-3 c = search needs
+cast-one-4 : tie.Need-cast-one-4
+cast-one-4 c = search needs
 
-one-requires-9 : tie.Need-one-requires-9
-one-requires-9 c κs = search needs
+one-requires-6 : tie.Need-one-requires-6
+one-requires-6 c κs = search needs
 
 enum-known-refusal-7 : tie.Need-enum-known-refusal-7
 enum-known-refusal-7 c = search needs
 
-cast-one-4 : tie.Need-cast-one-4
-cast-one-4 c = search needs
+cast-one-5 : tie.Need-cast-one-5
+cast-one-5 c = search needs
 
-one-requires-10 : tie.Need-one-requires-10
-one-requires-10 c κs = search needs
-
-enum-told-6 : tie.Need-enum-told-6
-enum-told-6 c = search needs
-
-one-requires-11 : tie.Need-one-requires-11
-one-requires-11 c κs = search needs
+one-requires-7 : tie.Need-one-requires-7
+one-requires-7 c κs = search needs
 
 enum-known-refusal-8 : tie.Need-enum-known-refusal-8
 enum-known-refusal-8 c = search needs
 
+one-requires-8 : tie.Need-one-requires-8
+one-requires-8 c κs = search needs
+
+enum-known-refusal-9 : tie.Need-enum-known-refusal-9
+enum-known-refusal-9 c = search needs
+
+cast-one-6 : tie.Need-cast-one-6
+cast-one-6 c = search needs
+
+one-requires-9 : tie.Need-one-requires-9
+one-requires-9 c κs = search needs
+
+enum-known-refusal-10 : tie.Need-enum-known-refusal-10
+enum-known-refusal-10 c = search needs
+
+cast-one-7 : tie.Need-cast-one-7
+cast-one-7 c = search needs
+
+one-requires-10 : tie.Need-one-requires-10
+one-requires-10 c κs = search needs
+
+enum-told-3 : tie.Need-enum-told-3
+enum-told-3 c = search needs
+
+one-requires-11 : tie.Need-one-requires-11
+one-requires-11 c κs = search needs
+
+enum-known-refusal-11 : tie.Need-enum-known-refusal-11
+enum-known-refusal-11 c = search needs
+
 one-requires-12 : tie.Need-one-requires-12
 one-requires-12 c κs = search needs
 
-enum-told-7 : tie.Need-enum-told-7
-enum-told-7 c = search needs
+enum-told-4 : tie.Need-enum-told-4
+enum-told-4 c = search needs
 
 one-requires-13 : tie.Need-one-requires-13
 one-requires-13 c κs = search needs
 
-enum-told-8 : tie.Need-enum-told-8
-enum-told-8 c = search needs
+enum-told-5 : tie.Need-enum-told-5
+enum-told-5 c = search needs
 
 one-requires-14 : tie.Need-one-requires-14
 one-requires-14 c κs = search needs
 
-enum-told-9 : tie.Need-enum-told-9
-enum-told-9 c = search needs
+enum-told-6 : tie.Need-enum-told-6
+enum-told-6 c = search needs
 
 one-requires-15 : tie.Need-one-requires-15
 one-requires-15 c κs = search needs
@@ -138,40 +147,40 @@ returns-5 : tie.Need-returns-5
 returns-5 c = c .one3 .ensures ∙ sym (ap numbersOf (c .before .enum-told2 .given .1))
 
 returns-6 : tie.Need-returns-6
-returns-6 c = c .one4 .ensures ∙ sym (ap numbersOf (c .before .enum-told3 .given .1))
+returns-6 c = c .one4 .ensures ∙ sym (ap numbersOf (c .before .before .refusal4 .given .1))
 
 returns-7 : tie.Need-returns-7
-returns-7 c = c .one5 .ensures ∙ sym (ap numbersOf (c .before .enum-told4 .given .1))
+returns-7 c = c .one5 .ensures ∙ sym (ap numbersOf (c .before .before .refusal5 .given .1))
 
 returns-8 : tie.Need-returns-8
-returns-8 c = c .one6 .ensures ∙ sym (ap numbersOf (c .before .before .refusal4 .given .1))
+returns-8 c = c .one6 .ensures ∙ sym (ap numbersOf (c .before .before .refusal6 .given .1))
 
 returns-9 : tie.Need-returns-9
-returns-9 c = c .one7 .ensures ∙ sym (ap numbersOf (c .before .enum-told5 .given .1))
+returns-9 c = c .one7 .ensures ∙ sym (ap numbersOf (c .before .before .refusal7 .given .1))
 
 returns-10 : tie.Need-returns-10
-returns-10 c = c .one8 .ensures ∙ sym (ap numbersOf (c .before .before .refusal5 .given .1))
+returns-10 c = c .one8 .ensures ∙ sym (ap numbersOf (c .before .before .refusal8 .given .1))
 
 returns-11 : tie.Need-returns-11
-returns-11 c = c .one9 .ensures ∙ sym (ap numbersOf (c .before .before .refusal6 .given .1))
+returns-11 c = c .one9 .ensures ∙ sym (ap numbersOf (c .before .before .refusal9 .given .1))
 
 returns-12 : tie.Need-returns-12
-returns-12 c = c .one10 .ensures ∙ sym (ap numbersOf (c .before .before .refusal7 .given .1))
+returns-12 c = c .one10 .ensures ∙ sym (ap numbersOf (c .before .before .refusal10 .given .1))
 
 returns-13 : tie.Need-returns-13
-returns-13 c = c .one11 .ensures ∙ sym (ap numbersOf (c .before .enum-told6 .given .1))
+returns-13 c = c .one11 .ensures ∙ sym (ap numbersOf (c .before .enum-told3 .given .1))
 
 returns-14 : tie.Need-returns-14
-returns-14 c = c .one12 .ensures ∙ sym (ap numbersOf (c .before .before .refusal8 .given .1))
+returns-14 c = c .one12 .ensures ∙ sym (ap numbersOf (c .before .before .refusal11 .given .1))
 
 returns-15 : tie.Need-returns-15
-returns-15 c = c .one13 .ensures ∙ sym (ap numbersOf (c .before .enum-told7 .given .1))
+returns-15 c = c .one13 .ensures ∙ sym (ap numbersOf (c .before .enum-told4 .given .1))
 
 returns-16 : tie.Need-returns-16
-returns-16 c = c .one14 .ensures ∙ sym (ap numbersOf (c .before .enum-told8 .given .1))
+returns-16 c = c .one14 .ensures ∙ sym (ap numbersOf (c .before .enum-told5 .given .1))
 
 returns-17 : tie.Need-returns-17
-returns-17 c = c .one15 .ensures ∙ sym (ap numbersOf (c .before .enum-told9 .given .1))
+returns-17 c = c .one15 .ensures ∙ sym (ap numbersOf (c .before .enum-told6 .given .1))
 
 pub in-numbers-spec : {M : Type 1} → statement M
 in-numbers-spec =
@@ -188,32 +197,35 @@ in-numbers-spec =
     three-requires-2
     enum-told-2
     one-requires-3
-    enum-told-3
-    one-requires-4
-    enum-told-4
-    one-requires-5
     enum-known-refusal-4
     cast-one-2
-    one-requires-6
-    enum-told-5
-    one-requires-7
+    one-requires-4
     enum-known-refusal-5
-    one-requires-8
-    enum-known-refusal-6
     cast-one-3
-    one-requires-9
-    enum-known-refusal-7
+    one-requires-5
+    enum-known-refusal-6
     cast-one-4
-    one-requires-10
-    enum-told-6
-    one-requires-11
+    one-requires-6
+    enum-known-refusal-7
+    cast-one-5
+    one-requires-7
     enum-known-refusal-8
+    one-requires-8
+    enum-known-refusal-9
+    cast-one-6
+    one-requires-9
+    enum-known-refusal-10
+    cast-one-7
+    one-requires-10
+    enum-told-3
+    one-requires-11
+    enum-known-refusal-11
     one-requires-12
-    enum-told-7
+    enum-told-4
     one-requires-13
-    enum-told-8
+    enum-told-5
     one-requires-14
-    enum-told-9
+    enum-told-6
     one-requires-15
     returns
     returns-2
