@@ -102,7 +102,7 @@ enum {
                                                length that is too long, or of the one at which the sum is */
     MAHUIXEN_REFUSAL_STORE_SHORT = 10,      /* the store is shorter than the segments; first: their length */
     MAHUIXEN_REFUSAL_SEGMENT_CHECKSUM = 11, /* a segment's checksum differs; first: the segment, 1 to 4 */
-    MAHUIXEN_REFUSAL_LATE_STATUS = 12,      /* an epilogue's late status is no code word; first: the byte */
+    MAHUIXEN_REFUSAL_LATE_STATUS = 12,      /* the low four bits of an epilogue's late status are no code word; first: the byte */
     MAHUIXEN_REFUSAL_SOURCE_LENGTH = 13,    /* build: the source is not as long as the segments */
     MAHUIXEN_REFUSAL_NO_ROOM = 14,          /* build: no room behind the queued bytes; first: the bytes to be written */
     MAHUIXEN_REFUSAL_ABORT_ONE_SEGMENT = 15, /* build: an msgr2.1 frame of one segment cannot be aborted */

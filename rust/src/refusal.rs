@@ -262,7 +262,7 @@ impl fmt::Display for Refusal {
             }
             Self::LateStatus { byte } => write!(
                 f,
-                "the late status is {byte:#04x}, neither complete (0x0e) nor aborted (0x01)"
+                "the late status is {byte:#04x}, whose low four bits are neither complete (e) nor aborted (1)"
             ),
             Self::SourceLength => write!(
                 f,

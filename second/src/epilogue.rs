@@ -14,19 +14,23 @@ pub enum Ending {
     Aborted,
 }
 
+const STATUS_BITS: u8 = 0x0F;
 const STATUS_COMPLETE: u8 = 0x0E;
 const STATUS_ABORTED: u8 = 0x01;
 const FLAG_ABORTED: u8 = 0x01;
 
 /// Reads the byte at the front of an epilogue. Late flags can't be wrong: all
-/// but one of their bits mean nothing.
+/// but one of their bits mean nothing. Of a late status only the low four bits
+/// are looked at.
 fn judge_late_byte(revision: Revision, late: u8) -> Result<Ending, Refusal> {
-    match (revision, late) {
-        (Revision::Msgr20, flags) if flags & FLAG_ABORTED != 0 => Ok(Ending::Aborted),
-        (Revision::Msgr20, _) => Ok(Ending::Complete),
-        (Revision::Msgr21, STATUS_COMPLETE) => Ok(Ending::Complete),
-        (Revision::Msgr21, STATUS_ABORTED) => Ok(Ending::Aborted),
-        (Revision::Msgr21, other) => Err(Refusal::late_status(other)),
+    match revision {
+        Revision::Msgr20 if late & FLAG_ABORTED != 0 => Ok(Ending::Aborted),
+        Revision::Msgr20 => Ok(Ending::Complete),
+        Revision::Msgr21 => match late & STATUS_BITS {
+            STATUS_COMPLETE => Ok(Ending::Complete),
+            STATUS_ABORTED => Ok(Ending::Aborted),
+            _ => Err(Refusal::late_status(late)),
+        },
     }
 }
 

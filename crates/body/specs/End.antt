@@ -16,10 +16,10 @@ use Rattle.body.specs.Body.{field, restLength, restFields, firstSumLengt
 use Rattle.body.specs.declared.Late.{Late}
 use Rattle.body.specs.declared.Late.the-variants as late
 
--- late_flags: bit 0 set means aborted. late_status: two code words, and nothing else
+-- late_flags: bit 0 set means aborted. late_status: one of two code words in the low four bits; the high four are not looked at
 abbrev pub lateOf : Revision → ℕ → Late
 lateOf Msgr20 b = cond (eqb (b % 2) 1) late.Aborted late.Complete
-lateOf Msgr21 b = cond (eqb b 0x0E) late.Complete (cond (eqb b 0x01) late.Aborted late.Wrong)
+lateOf Msgr21 b = cond (eqb (b % 16) 0x0E) late.Complete (cond (eqb (b % 16) 0x01) late.Aborted late.Wrong)
 
 -- what the end of a body comes to
 pub data Ended : Type 0 where

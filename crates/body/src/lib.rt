@@ -193,10 +193,10 @@ pub fn read_late(revision: Revision, b: u8) -> Late
             }
         }
         Revision::Msgr21 => {
-            if b == 0x0E {
+            if b % 16 == 0x0E {
                 return Late::Complete;
             }
-            if b == 0x01 {
+            if b % 16 == 0x01 {
                 return Late::Aborted;
             }
             Late::Wrong

@@ -176,7 +176,7 @@ fn late_bytes() {
             _ => refused(11, 3),
         };
         assert_eq!(with(Revision::Msgr20, 73, late), flags);
-        let status = match late {
+        let status = match late & 0x0F {
             0x0E => refused(11, 3),
             0x01 => Report::Dropped(three_frame()),
             _ => refused(12, u64::from(late)),
@@ -184,9 +184,13 @@ fn late_bytes() {
         assert_eq!(with(Revision::Msgr21, 77, late), status);
     }
     let mut frame = three_whole(Revision::Msgr21);
+    frame[77] = 0x1F;
+    let got = received(Revision::Msgr21, &frame);
+    assert_eq!(got, (90, refused(12, 0x1F), filled(&[0; T])));
     frame[77] = 0x1E;
     let got = received(Revision::Msgr21, &frame);
-    assert_eq!(got, (90, refused(12, 0x1E), filled(&[0; T])));
+    let whole = Report::Frame(three_frame());
+    assert_eq!(got, (90, whole, filled(&three_source())));
 }
 
 /// Where each segment byte of the frame with three segments lies on the wire.

@@ -13,7 +13,7 @@ use Rattle.examples.proofs.worked.Tie as tie
 -- each example computes
 table : Worked
 unfolding Worked examples crcOf steps step numberAt missing lowestBit bitCount judgeFeatures preambleFront preambleBytes shapeFault limitFault headerOf judgeFields judgePreamble body frameBytes
-table = (refl, (refl, (refl, (refl, (refl, (refl, (refl, (refl, (refl, (refl, (refl, (refl, (refl, (refl, (refl, (refl, (refl, (refl, (refl, (refl, (refl, (refl, (refl, (refl, (refl, (refl, (refl, (refl, (refl, (refl, (refl, (refl, tt))))))))))))))))))))))))))))))))
+table = (refl, (refl, (refl, (refl, (refl, (refl, (refl, (refl, (refl, (refl, (refl, (refl, (refl, (refl, (refl, (refl, (refl, (refl, (refl, (refl, (refl, (refl, (refl, (refl, (refl, (refl, (refl, (refl, (refl, (refl, (refl, (refl, (refl, tt)))))))))))))))))))))))))))))))))
 
 returns : tie.Need-returns
 returns c = table
