@@ -24,44 +24,45 @@ const PACKET: usize = 1_460;
 
 const STORE: usize = mahuixen::LONGEST_STORE;
 
-fn frame(length: u32) -> Frame {
-    let segment = second::frame::Segment {
+fn frame(lengths: [u32; 2]) -> Frame {
+    let [one, two] = lengths.map(|length| second::frame::Segment {
         length,
         alignment: 8,
-    };
+    });
     let none = second::frame::Segment::default();
     Frame {
         tag: 17,
         count: 2,
-        segments: [segment, segment, none, none],
+        segments: [one, two, none, none],
     }
 }
 
-fn header(length: u32) -> Header {
-    Header::new(17, &[Segment::new(length, 8); 2])
+fn header(lengths: [u32; 2]) -> Header {
+    Header::new(17, &lengths.map(|length| Segment::new(length, 8)))
 }
 
-fn request(length: u32, source: &[u8]) -> FrameRequest<'_> {
+fn request(lengths: [u32; 2], abort: bool, source: &[u8]) -> FrameRequest<'_> {
     FrameRequest {
         revision: Revision::Msgr21,
-        frame: frame(length),
-        abort: false,
+        frame: frame(lengths),
+        abort,
         source,
     }
 }
 
 /// Bytes of both segments, none of them alike.
-fn source(length: u32) -> Vec<u8> {
+fn source(lengths: [u32; 2]) -> Vec<u8> {
     let words = (0u32..).map(|n| n.wrapping_mul(0x9E37_79B1).to_le_bytes()[3]);
-    words.take(2 * length as usize).collect()
+    words.take(lengths.iter().sum::<u32>() as usize).collect()
 }
 
 /// A banner and frames of two segments of this length each.
 fn stream(length: u32) -> Vec<u8> {
-    let source = source(length);
+    let lengths = [length; 2];
+    let source = source(lengths);
     let mut bytes = second::banner::Features::new(1, 0).banner();
     let mut buffer = vec![0; mahuixen::LONGEST_FRAME];
-    let written = second::builder::build_frame(&request(length, &source), &mut buffer, 0);
+    let written = second::builder::build_frame(&request(lengths, false, &source), &mut buffer, 0);
     let written = written.expect("a good frame") as usize;
     while bytes.len() < BYTES {
         bytes.extend(&buffer[..written]);
@@ -172,16 +173,24 @@ fn build(frames: usize, mut frame: impl FnMut(&mut [u8], usize) -> Option<usize>
     all
 }
 
-fn builders() {
-    print_head("Builder", "Second program");
+/// Whole frames of two segments of the same length; or aborted ones, whose first
+/// segment is empty, so that all the rest is zeros.
+fn builders(title: &str, abort: bool) {
+    print_head(title, "Second program");
+    let build_one = if abort {
+        mahuixen::abort_frame
+    } else {
+        mahuixen::build_frame
+    };
     for length in LENGTHS {
-        let source = source(length);
-        let (header, request) = (header(length), request(length, &source));
+        let lengths = [if abort { 0 } else { length }, length];
+        let source = source(lengths);
+        let (header, request) = (header(lengths), request(lengths, abort, &source));
         let revision = mahuixen::Revision::Msgr21;
         let frames = BYTES / source.len();
         let library = || {
             build(frames, |buffer, queued| {
-                mahuixen::build_frame(buffer, queued, revision, &header, &source).ok()
+                build_one(buffer, queued, revision, &header, &source).ok()
             })
         };
         let other = || {
@@ -223,7 +232,7 @@ fn bytewise(start: u32, bytes: &[u8]) -> u32 {
 fn checksums() {
     print_head("Checksum", "Plain table loop in Rust");
     for length in LENGTHS {
-        let bytes = source(length.div_ceil(2));
+        let bytes = source([length, 0]);
         let times = BYTES / bytes.len();
         let run = |sum: fn(u32, &[u8]) -> u32| {
             let sums = (0..times).fold(0xFFFF_FFFF, |start, _| sum(start, black_box(&bytes)));
@@ -250,11 +259,11 @@ fn main() {
     let megabytes = BYTES / 1_000_000;
     println!("MB/s are 10^6 bytes a second, the median of {RUNS} runs over about {megabytes} MB. Frames are");
     println!("those of msgr2.1 with two segments. The second program is written to be read and");
-    println!("not to be fast: it gathers preambles, epilogues and whole frames in vectors. Both");
-    println!("work a checksum out byte by byte from a table of 256 words, which decides most of");
-    println!("what long segments take.");
+    println!("not to be fast: it gathers preambles, epilogues and whole frames in vectors, and");
+    println!("works a checksum out byte by byte from a table of 256 words.");
     receivers();
-    builders();
+    builders("Builder", false);
+    builders("Builder of aborted frames", true);
     checksums();
     single_bytes();
     let state = std::mem::size_of::<State>();

@@ -1,3 +1,6 @@
 pub mod Linear
-pub mod Entries
-pub mod Rule
+pub mod Nibbles
+pub mod Rules
+pub mod Runs
+pub mod Square
+pub mod Words

@@ -2,9 +2,9 @@
 
 use mathlib.Core.Path.{_≡_, refl, sym, ap, ap₂, _∙_}
 use Prim.Native.Nat.{ℕ, zero, suc, _+_, _*_, _/_, _%_, _^_, _<_}
-use native.Mathlib.Nat.{mod-lt, zero-lt-suc, not-suc-le-zero, le-of-suc-le-suc, mul-one, div-eq-of-lt}
+use native.Mathlib.Nat.{mod-lt, zero-lt-suc, not-suc-le-zero, le-of-suc-le-suc, zero-add, suc-add, zero-mul, one-mul, mul-one, div-eq-of-lt}
 use lib.Arith.{bin-ind}
-use lib.Bits.{bitXor, bitAnd, differ, xor-step, xor-comm, xor-zero-r, xor-shr, xor-mod, xor-shifted, shifted-half, shifted-even, and-mask}
+use lib.Bits.{bitXor, bitAnd, differ, xor-step, xor-comm, xor-self, xor-zero-r, xor-shr, xor-mod, xor-shifted, shifted-half, shifted-even, and-mask}
 use lib.Pow.{split, pow-pos}
 use Rattle.crc32c.specs.Crc.{poly, step, steps, crcByte}
 
@@ -52,24 +52,50 @@ interchange a b c d =
     ∙ ap (bitXor a) (sym (xor-assoc b c d) ∙ ap (λ (x : ℕ). bitXor x d) (xor-comm b c) ∙ xor-assoc c b d)
     ∙ sym (xor-assoc a c (bitXor b d))
 
--- ---- the steps are linear
+-- ---- linear maps
 
-times : (a b : ℕ) → differ (a % 2) (b % 2) * poly ≡ bitXor (a % 2 * poly) (b % 2 * poly)
-times a b =
-    digit (λ (x : ℕ). differ x (b % 2) * poly ≡ bitXor (x * poly) (b % 2 * poly)) refl
-    (digit (λ (y : ℕ). differ 1 y * poly ≡ bitXor (1 * poly) (y * poly)) refl refl b)
+abbrev pub Linear : (ℕ → ℕ) → Type 0
+Linear f = (a b : ℕ) → f (bitXor a b) ≡ bitXor (f a) (f b)
+
+pub at-zero : (f : ℕ → ℕ) → Linear f → f 0 ≡ 0
+at-zero f h = h 0 0 ∙ xor-self (f 0)
+
+-- at a digit times a number
+pub at-times : (f : ℕ → ℕ) → Linear f → (d p : ℕ) → f (d % 2 * p) ≡ d % 2 * f p
+at-times f h d p =
+    digit (λ (x : ℕ). f (x * p) ≡ x * f p) (ap f (zero-mul p) ∙ at-zero f h ∙ sym (zero-mul (f p)))
+    (ap f (one-mul p) ∙ sym (one-mul (f p)))
+    d
+
+-- the low digit, times a number
+pub low-xor : (p : ℕ) → Linear (λ (a : ℕ). a % 2 * p)
+low-xor p a b =
+    ap (λ (x : ℕ). x * p) (xor-odd a b)
+    ∙ digit (λ (x : ℕ). differ x (b % 2) * p ≡ bitXor (x * p) (b % 2 * p)) (ap (λ (x : ℕ). bitXor x (b % 2 * p)) (sym (zero-mul p)))
+    (digit (λ (y : ℕ). differ 1 y * p ≡ bitXor (1 * p) (y * p)) (sym (ap (bitXor (1 * p)) (zero-mul p) ∙ xor-zero-r (1 * p)))
+    (zero-mul p ∙ sym (xor-self (1 * p)))
+    b)
     a
 
-pub step-xor : (a b : ℕ) → step (bitXor a b) ≡ bitXor (step a) (step b)
+pub step-xor : Linear step
 unfolding step
 step-xor a b =
-    ap₂ bitXor (xor-shr a b 1) (ap (λ (x : ℕ). x * poly) (xor-odd a b) ∙ times a b)
+    ap₂ bitXor (xor-shr a b 1) (low-xor poly a b)
     ∙ interchange (a / 2) (b / 2) (a % 2 * poly) (b % 2 * poly)
 
-pub steps-xor : (n a b : ℕ) → steps n (bitXor a b) ≡ bitXor (steps n a) (steps n b)
+pub steps-xor : (n : ℕ) → Linear (steps n)
 unfolding steps
 steps-xor zero a b = refl
 steps-xor (suc n) a b = ap (steps n) (step-xor a b) ∙ steps-xor n (step a) (step b)
+
+pub steps-none : (c : ℕ) → steps 0 c ≡ c
+unfolding steps
+steps-none c = refl
+
+pub steps-add : (m n c : ℕ) → steps (m + n) c ≡ steps n (steps m c)
+unfolding steps
+steps-add zero n c = ap (λ (k : ℕ). steps k c) (zero-add n)
+steps-add (suc m) n c = ap (λ (k : ℕ). steps k c) (suc-add m n) ∙ steps-add m n (step c)
 
 -- ---- and n of them only shift what stands above the n low digits
 
@@ -78,7 +104,7 @@ unfolding step
 step-shifted h n =
     ap₂ (λ (x y : ℕ). bitXor x (y * poly)) (shifted-half h n) (shifted-even h n) ∙ xor-zero-r (h * 2 ^ n)
 
-steps-shifted : (n h : ℕ) → steps n (h * 2 ^ n) ≡ h
+pub steps-shifted : (n h : ℕ) → steps n (h * 2 ^ n) ≡ h
 unfolding steps
 steps-shifted zero h = mul-one h
 steps-shifted (suc n) h = ap (steps n) (step-shifted h n) ∙ steps-shifted n h

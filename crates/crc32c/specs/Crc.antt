@@ -1,9 +1,7 @@
 -- CRC32-C (01, "Checksums"), bit by bit, low bit first: the reflected polynomial 82F63B78, any start value, no complement at the end.
-use mathlib.Core.Path.{_≡_}
 use mathlib.Core.List.{List, [], _∷_}
-use Prim.Native.Nat.{ℕ, zero, suc, _*_, _/_, _%_, _<_}
+use Prim.Native.Nat.{ℕ, zero, suc, _*_, _/_, _%_}
 use lib.Bits.{bitXor}
-use lib.ListN.{getD}
 
 abbrev pub poly : ℕ
 poly = 0x82F63B78
@@ -24,7 +22,3 @@ crcByte c b = steps 8 (bitXor c b)
 unfoldable pub crcOf : ℕ → List ℕ → ℕ
 crcOf c [] = c
 crcOf c (b ∷ bs) = crcOf (crcByte c b) bs
-
--- a table for a byte: the entry at k is eight bit steps from k
-pub record Ruled (t : List ℕ) : Type 0 where
-  pub at : (k : ℕ) → k < 256 → getD t k 0 ≡ steps 8 k

@@ -13,7 +13,7 @@ unfolding crcOf
 crc-append c [] ys = refl
 crc-append c (x ∷ xs) ys = crc-append (crcByte c x) xs ys
 
-step-lt : (c : ℕ) → c < 2 ^ 32 → step c < 2 ^ 32
+pub step-lt : (c : ℕ) → c < 2 ^ 32 → step c < 2 ^ 32
 unfolding step
 step-lt c h = xor-lt 32 (c / 2) (c % 2 * poly) (omega arith) (omega arith)
 

@@ -1,25 +1,15 @@
-use mathlib.Core.Path.{_≡_, _∙_, sym, ap, ap₂}
-use mathlib.Core.List.{List}
-use Prim.Native.Nat.{ℕ, suc, _+_, _-_, _≤_, _<_}
+use mathlib.Core.Path.{_≡_, _∙_, ap}
+use Prim.Native.Nat.{ℕ, _+_, _-_, _≤_}
 use native.Mathlib.Omega.{arith}
-use native.Mathlib.Numerals.{add-one}
 use borrow.Author.Needs.{needs}
-use lib.ListN.{length, drop, getD, drop-of-length-le}
-use lib.Seq.{drop-cons}
-use Rattle.crc32c.specs.Crc.{crcOf, crcByte}
+use lib.ListN.{length, drop}
+use Rattle.crc32c.specs.Crc.{crcOf}
+use Rattle.crc32c.proofs.Words.{crc-end, crc-next}
 use Rattle.crc32c.proofs.over_bytes.Statement.{statement}
 use Rattle.crc32c.proofs.over_bytes.Tie as tie
 use Rattle.crc32c.proofs.over_bytes.Reads as reads
 use Rattle.crc32c.proofs.over_bytes.Lts as lts
 use Rattle.crc32c.proofs.next.Reads as next-reads
-
-crc-next : (c i : ℕ) (bs : List ℕ) → i < length bs → crcOf (crcByte c (getD bs i 0)) (drop (i + 1) bs) ≡ crcOf c (drop i bs)
-unfolding crcOf
-crc-next c i bs h = rw (drop-cons bs i 0 h, ← (add-one i))
-
-crc-end : (c i : ℕ) (bs : List ℕ) → length bs ≤ i → c ≡ crcOf c (drop i bs)
-unfolding crcOf
-crc-end c i bs h = rw drop-of-length-le
 
 abbrev Inv-loop : tie.InvT-loop
 Inv-loop t start bytes c₀ i₀ c i = (i ≤ length bytes) × (crcOf c (drop i bytes) ≡ crcOf start bytes)
