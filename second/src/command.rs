@@ -1,7 +1,7 @@
 //! The program's commands, each named by its words.
 
 use crate::records::Record;
-use crate::{fixed, generate, recordings, run};
+use crate::{fixed, generate, recordings, run, session};
 use std::io::{self, Read, Write};
 use std::path::Path;
 
@@ -14,7 +14,8 @@ const USAGE: &str = "usage: second run
        second fixed NAME
        second lines generate-r SEED COUNT
        second lines recordings FOLDER
-       second lines NAME";
+       second lines NAME
+       second histories";
 
 fn run_standard_input(out: &mut impl Write) -> io::Result<()> {
     let mut bytes = Vec::new();
@@ -68,6 +69,7 @@ pub fn command(words: &[&str], out: &mut impl Write) -> io::Result<()> {
         ["fixed", "list"] => print_names(&fixed::names(), out),
         ["fixed", "list-r"] => print_names(&fixed::receiver_names(), out),
         ["fixed", name] => out.write_all(&fixed_file(name)?.bytes),
+        ["histories"] => print_names(&session::worked::table(), out),
         ["lines", name] => writeln!(out, "{}", fixed_file(name)?.lines),
         ["lines", of @ ..] => {
             let lines: usize = receiver_records(of)?.map(|record| record.lines()).sum();

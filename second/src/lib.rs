@@ -23,6 +23,7 @@ pub mod records;
 pub mod refusal;
 pub mod report;
 pub mod run;
+pub mod session;
 pub mod spoil;
 #[cfg(test)]
 mod vectors;

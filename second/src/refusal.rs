@@ -107,4 +107,19 @@ impl Refusal {
     pub const fn features() -> Self {
         Self::new(16, 0)
     }
+
+    /// A session holds as many messages as it can.
+    pub const fn table_full() -> Self {
+        Self::new(22, 0)
+    }
+
+    /// An ack of a number that was never sent.
+    pub const fn ack_ahead() -> Self {
+        Self::new(23, 0)
+    }
+
+    /// A session's numbers are all given.
+    pub const fn numbers_spent() -> Self {
+        Self::new(25, 0)
+    }
 }

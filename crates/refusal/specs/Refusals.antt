@@ -6,7 +6,7 @@ use Prim.Native.Nat.{ℕ}
 use Rattle.refusal.specs.declared.Missing.{Missing}
 use Rattle.refusal.specs.declared.Numbers.{Numbers}
 use Rattle.refusal.specs.declared.Refusal.{Refusal}
-use Rattle.refusal.specs.declared.Refusal.the-variants.{Magic, BannerLength, PeerRequires, PeerLacks, PreambleChecksum, Shape, Flags, Tag, Limit, StoreShort, SegmentChecksum, LateStatus, SourceLength, NoRoom, AbortOneSegment, OwnFeatures, StateContradicts}
+use Rattle.refusal.specs.declared.Refusal.the-variants.{Magic, BannerLength, PeerRequires, PeerLacks, PreambleChecksum, Shape, Flags, Tag, Limit, StoreShort, SegmentChecksum, LateStatus, SourceLength, NoRoom, AbortOneSegment, OwnFeatures, TableFull, AckAhead, NumbersSpent, StateContradicts}
 use Rattle.refusal.specs.declared.Verdict.{Verdict}
 use Rattle.refusal.specs.declared.Verdict.the-variants as verdict
 
@@ -32,6 +32,9 @@ numbersOf SourceLength = row 13 0 0 0
 numbersOf (NoRoom n) = row 14 n 0 0
 numbersOf AbortOneSegment = row 15 0 0 0
 numbersOf OwnFeatures = row 16 0 0 0
+numbersOf TableFull = row 22 0 0 0
+numbersOf AckAhead = row 23 0 0 0
+numbersOf NumbersSpent = row 25 0 0 0
 numbersOf StateContradicts = row 26 0 0 0
 
 -- what a judgement comes to: nothing wrong, or a refusal

@@ -28,6 +28,9 @@ pub enum Refusal {
     NoRoom(u64),
     AbortOneSegment,
     OwnFeatures,
+    TableFull,
+    AckAhead,
+    NumbersSpent,
     StateContradicts,
 }
 
@@ -89,6 +92,9 @@ pub fn in_numbers(refusal: Refusal) -> Numbers
         Refusal::NoRoom(n) => one(14, n),
         Refusal::AbortOneSegment => one(15, 0),
         Refusal::OwnFeatures => one(16, 0),
+        Refusal::TableFull => one(22, 0),
+        Refusal::AckAhead => one(23, 0),
+        Refusal::NumbersSpent => one(25, 0),
         Refusal::StateContradicts => one(26, 0),
     }
 }

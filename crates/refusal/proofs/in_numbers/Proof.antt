@@ -131,6 +131,24 @@ enum-told-6 c = search needs
 one-requires-15 : tie.Need-one-requires-15
 one-requires-15 c κs = search needs
 
+enum-told-7 : tie.Need-enum-told-7
+enum-told-7 c = search needs
+
+one-requires-16 : tie.Need-one-requires-16
+one-requires-16 c κs = search needs
+
+enum-told-8 : tie.Need-enum-told-8
+enum-told-8 c = search needs
+
+one-requires-17 : tie.Need-one-requires-17
+one-requires-17 c κs = search needs
+
+enum-told-9 : tie.Need-enum-told-9
+enum-told-9 c = search needs
+
+one-requires-18 : tie.Need-one-requires-18
+one-requires-18 c κs = search needs
+
 returns : tie.Need-returns
 returns c = c .one .ensures ∙ sym (ap numbersOf (c .before .enum-told .given .1))
 
@@ -182,6 +200,15 @@ returns-16 c = c .one14 .ensures ∙ sym (ap numbersOf (c .before .enum-told5 .g
 returns-17 : tie.Need-returns-17
 returns-17 c = c .one15 .ensures ∙ sym (ap numbersOf (c .before .enum-told6 .given .1))
 
+returns-18 : tie.Need-returns-18
+returns-18 c = c .one16 .ensures ∙ sym (ap numbersOf (c .before .enum-told7 .given .1))
+
+returns-19 : tie.Need-returns-19
+returns-19 c = c .one17 .ensures ∙ sym (ap numbersOf (c .before .enum-told8 .given .1))
+
+returns-20 : tie.Need-returns-20
+returns-20 c = c .one18 .ensures ∙ sym (ap numbersOf (c .before .enum-told9 .given .1))
+
 pub in-numbers-spec : {M : Type 1} → statement M
 in-numbers-spec =
     tie.close
@@ -227,6 +254,12 @@ in-numbers-spec =
     one-requires-14
     enum-told-6
     one-requires-15
+    enum-told-7
+    one-requires-16
+    enum-told-8
+    one-requires-17
+    enum-told-9
+    one-requires-18
     returns
     returns-2
     returns-3
@@ -243,4 +276,7 @@ in-numbers-spec =
     returns-14
     returns-15
     returns-16
-    returns-17)
+    returns-17
+    returns-18
+    returns-19
+    returns-20)

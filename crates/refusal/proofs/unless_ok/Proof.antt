@@ -1,11 +1,10 @@
-use borrow.Author.Needs.{needs}
 use Rattle.refusal.proofs.unless_ok.Statement.{statement}
 use Rattle.refusal.proofs.unless_ok.Tie as tie
 use Rattle.refusal.proofs.unless_ok.Reads as reads
 use Rattle.refusal.proofs.unless_ok.Lts as lts
 
 returns : tie.Need-returns
-returns c = search needs
+returns c = simp (c .if1 .taken)
 
 returns-2 : tie.Need-returns-2
 returns-2 c = simp (c .if1 .left)

@@ -1,0 +1,5 @@
+-- What the proofs of several functions cite.
+mod Lent
+mod Past
+mod Single
+mod Table

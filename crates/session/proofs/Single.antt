@@ -1,0 +1,257 @@
+-- Every single call, of a session that agrees with itself.
+use mathlib.Core.Path.{_≡_, refl, sym, ap, _∙_}
+use mathlib.Core.Bool.{Bool, true, false, cond, true≢false}
+use mathlib.Core.List.{[], _∷_, map}
+use Prim.Native.Nat.{ℕ, zero, suc, _+_, _-_, _≤_, _<_, _%_}
+use native.Mathlib.Omega.{arith}
+use lib.ListN.{length, length-set}
+use lib.Dec.{leb, ltb}
+use borrow.Author.Tests.{ltb-true, leb-true, leb-false, le-leb, lt-leb}
+use Rattle.refusal.specs.declared.Numbers.{Numbers}
+use Rattle.refusal.specs.Refusals.{unless, firstOf, row, or-else-last}
+use Rattle.session.specs.declared.Session.{Session}
+use Rattle.session.specs.declared.Report.{Report}
+use Rattle.session.specs.declared.Report.the-variants as report
+use Rattle.session.specs.declared.Outcome.{Outcome}
+use Rattle.session.specs.declared.Held.the-variants as held
+use Rattle.session.specs.Calls.{places, finalNumber, messageAt, heldFrom, heldOf, agrees, freshSession, judgeState, judgeAccept, judgeAck, adding, releasing, acked, cleared, outcome, refusing, unlessRefused, acceptOf, ackOf, reconnectOf, resetOf, heldAt}
+use Rattle.session.specs.Laws.{Call, accept, ack, reconnect, reset, callOf, Event, accepted, acknowledged, dropped, nothing, eventOf, above, after, answersOf, Sound, EveryCall}
+use Rattle.session.proofs.Table.{held-more, all-above, some-above, found-held, Agreeing, agreeing, agrees-by, held-size}
+
+-- ---- the calls, by their tests
+
+-- 26 before all else
+contradicted : (s : Session) (c : Call) → agrees s ≡ false → callOf s c ≡ refusing s (row 26 0 0 0)
+unfolding acceptOf ackOf reconnectOf resetOf judgeAccept judgeAck judgeState
+contradicted s (accept h) e = rw e
+contradicted s (ack n) e = rw e
+contradicted s (reconnect n) e = rw e
+contradicted s (reset full) e = rw e
+
+module _ (s : Session) (ok : agrees s ≡ true) where
+  -- the judgements behind 26
+  abbrev pub acceptBy : Bool → Bool → ℕ → Outcome
+  acceptBy left room h = unlessRefused (firstOf (unless left 25 0 ∷ unless room 22 0 ∷ [])) (refusing s) (outcome (adding s (s .last + 1) h) (report.Accepted (s .last + 1)))
+
+  abbrev pub ackBy : Bool → ℕ → Report → Outcome
+  ackBy sent n r = unlessRefused (unless sent 23 0) (refusing s) (outcome (acked s n) r)
+
+  pub accept-is : (h : ℕ) → acceptOf s h ≡ acceptBy (ltb (s .last) finalNumber) (ltb (length (heldOf s)) places) h
+  unfolding acceptOf judgeAccept judgeState
+  accept-is h = rw ok
+
+  pub ack-is : (n : ℕ) → ackOf s n ≡ ackBy (leb n (s .last)) n report.Done
+  unfolding ackOf judgeAck judgeState
+  ack-is n = rw (ok, or-else-last (unless (leb n (s .last)) 23 0))
+
+  pub reconnect-is : (n : ℕ) → reconnectOf s n ≡ ackBy (leb n (s .last)) n (report.Resend (length (heldOf (acked s n))))
+  unfolding reconnectOf judgeAck judgeState
+  reconnect-is n = rw (ok, or-else-last (unless (leb n (s .last)) 23 0))
+
+  pub reset-is : (full : Bool) → resetOf s full ≡ outcome (cleared s full) report.Done
+  unfolding resetOf judgeState
+  reset-is full = rw ok
+
+-- ---- what an event does to the numbers of a session
+
+abbrev pub Moves : Event → Session → Session → Type 0
+Moves (accepted m) s t = (m .number ≡ s .last + 1) × (t .last ≡ s .last + 1) × (s .released ≤ t .released)
+Moves (acknowledged n) s t = (t .last ≡ s .last) × (s .released ≤ t .released) × (n ≤ t .released) × (n ≤ s .released → t ≡ s)
+Moves dropped s t = (t .last ≡ s .last) × (s .released ≤ t .released)
+Moves nothing s t = t ≡ s
+
+pub record Good (s : Session) (c : Call) (o : Outcome) : Type 0 where
+  pub never26 : o .report ≡ report.Refused (row 26 0 0 0) → ⊥
+  pub agreeing : agrees (o .session) ≡ true
+  pub sized : length (o .session .handles) ≡ places
+  pub unchanged : (n : Numbers) → o .report ≡ report.Refused n → o .session ≡ s
+  pub table : heldOf (o .session) ≡ after (eventOf c (o .report)) (heldOf s)
+  pub moves : Moves (eventOf c (o .report)) s (o .session)
+
+-- the number of a refusal, and whether a report is one
+numberBy : Report → ℕ
+numberBy (report.Accepted n) = 0
+numberBy report.Done = 0
+numberBy (report.Resend k) = 0
+numberBy (report.Refused n) = n .number
+
+isRefusal : Report → Bool
+isRefusal (report.Accepted n) = false
+isRefusal report.Done = false
+isRefusal (report.Resend k) = false
+isRefusal (report.Refused n) = true
+
+no-refusal : {A : Type 0} (r : Report) → isRefusal r ≡ false → (n : Numbers) → r ≡ report.Refused n → A
+unfolding isRefusal
+no-refusal r z n e = absurd (true≢false (sym (ap isRefusal e) ∙ z))
+
+-- an ack of a number that was sent
+pub record Acked (s : Session) (n : ℕ) (t : Session) : Type 0 where
+  pub agreeing : agrees t ≡ true
+  pub kept : t .handles ≡ s .handles
+  pub table : heldOf t ≡ above n (heldOf s)
+  pub moves : Moves (acknowledged n) s t
+
+pub acked-is : (s : Session) → agrees s ≡ true → (n : ℕ) → n ≤ s .last → Acked s n (acked s n)
+acked-is s ok n sent = go (leb n (s .released)) refl (agreeing s ok)
+  where
+    go : (t : Bool) → leb n (s .released) ≡ t → Agreeing s → Acked s n (cond t s (releasing s n))
+    go true t a =
+        let le : n ≤ s .released = leb-true n (s .released) t in
+        record {
+          agreeing = ok;
+          kept = refl;
+          table = sym (all-above (s .handles) (s .released) (s .last - s .released) n le);
+          moves = (refl, omega arith, le, λ _. refl);
+        }
+    go false t a =
+        let lt : s .released < n = leb-false n (s .released) t in
+        let top : s .released + (s .last - s .released) ≡ s .last = omega arith in
+        record {
+          agreeing = agrees-by (releasing s n) sent (omega arith);
+          kept = refl;
+          table = sym (rw top at (some-above (s .handles) (s .released) (s .last - s .released) n (omega arith) (omega arith)));
+          moves = (refl, omega arith, omega arith, λ le. absurd (omega arith));
+        }
+
+module _ (s : Session) (ok : agrees s ≡ true) (sized : length (s .handles) ≡ places) where
+  good-refused : (c : Call) (n : Numbers) → (n .number ≡ 26 → ⊥) → eventOf c (report.Refused n) ≡ nothing → Good s c (refusing s n)
+  unfolding numberBy
+  good-refused c n other e = record {
+    never26 = λ k. other (ap numberBy k);
+    agreeing = ok;
+    sized = sized;
+    unchanged = λ m k. refl;
+    table = rw e;
+    moves = rw e;
+  }
+
+  good-accepted : (h : ℕ) → length (heldOf s) < places → Good s (accept h) (outcome (adding s (s .last + 1) h) (report.Accepted (s .last + 1)))
+  unfolding isRefusal
+  good-accepted h room =
+      let a : Agreeing s = agreeing s ok in
+      let k : length (heldOf s) ≡ s .last - s .released = held-size s in
+      let more : s .last + 1 - s .released ≡ suc (s .last - s .released) = omega arith in
+      let next : s .released + suc (s .last - s .released) ≡ s .last + 1 = omega arith in
+      record {
+        never26 = no-refusal (report.Accepted (s .last + 1)) refl (row 26 0 0 0);
+        agreeing = agrees-by (adding s (s .last + 1) h) (omega arith) (omega arith);
+        sized = length-set (s .handles) ((s .last + 1) % places) h ∙ sized;
+        unchanged = no-refusal (report.Accepted (s .last + 1)) refl;
+        table = rw (more, ← next) (held-more (s .handles) (s .released) (s .last - s .released) h sized (omega arith));
+        moves = (refl, refl, omega arith);
+      }
+
+  good-acked : (c : Call) (n : ℕ) (r : Report) → isRefusal r ≡ false → eventOf c r ≡ acknowledged n → n ≤ s .last → Good s c (outcome (acked s n) r)
+  good-acked c n r not e sent =
+      let k : Acked s n (acked s n) = acked-is s ok n sent in
+      record {
+        never26 = no-refusal r not (row 26 0 0 0);
+        agreeing = k .agreeing;
+        sized = ap length (k .kept) ∙ sized;
+        unchanged = no-refusal r not;
+        table = rw e (k .table);
+        moves = rw e (k .moves);
+      }
+
+  good-reset : (full : Bool) → Good s (reset full) (outcome (cleared s full) report.Done)
+  unfolding isRefusal heldFrom
+  good-reset true =
+      let a : Agreeing s = agreeing s ok in
+      let none : s .last - s .last ≡ 0 = omega arith in
+      record {
+        never26 = no-refusal report.Done refl (row 26 0 0 0);
+        agreeing = agrees-by (releasing s (s .last)) (omega arith) (omega arith);
+        sized = sized;
+        unchanged = no-refusal report.Done refl;
+        table = rw none;
+        moves = (refl, a .order);
+      }
+  good-reset false = record {
+    never26 = no-refusal report.Done refl (row 26 0 0 0);
+    agreeing = ok;
+    sized = sized;
+    unchanged = λ n k. refl;
+    table = refl;
+    moves = refl;
+  }
+
+  accept-good : (left room : Bool) (h : ℕ) → (room ≡ true → length (heldOf s) < places) → Good s (accept h) (acceptBy s ok left room h)
+  accept-good true true h k = good-accepted h (k refl)
+  accept-good true false h k = good-refused (accept h) (row 22 0 0 0) (λ e. omega arith) refl
+  accept-good false room h k = good-refused (accept h) (row 25 0 0 0) (λ e. omega arith) refl
+
+  ack-good : (c : Call) (n : ℕ) (r : Report) → isRefusal r ≡ false → eventOf c r ≡ acknowledged n → eventOf c (report.Refused (row 23 0 0 0)) ≡ nothing
+      → (sent : Bool) → (sent ≡ true → n ≤ s .last) → Good s c (ackBy s ok sent n r)
+  ack-good c n r not e e′ true k = good-acked c n r not e (k refl)
+  ack-good c n r not e e′ false k = good-refused c (row 23 0 0 0) (λ z. omega arith) e′
+
+  pub good : (c : Call) → Good s c (callOf s c)
+  unfolding isRefusal
+  good (accept h) = rw (accept-is s ok h) (accept-good (ltb (s .last) finalNumber) (ltb (length (heldOf s)) places) h (ltb-true (length (heldOf s)) places))
+  good (ack n) = rw (ack-is s ok n) (ack-good (ack n) n report.Done refl refl refl (leb n (s .last)) (leb-true n (s .last)))
+  good (reconnect n) =
+      rw (reconnect-is s ok n) (ack-good (reconnect n) n (report.Resend (length (heldOf (acked s n)))) refl refl refl (leb n (s .last)) (leb-true n (s .last)))
+  good (reset full) = rw (reset-is s ok full) (good-reset full)
+
+-- ---- the claim
+
+sound : (s : Session) (c : Call) → length (s .handles) ≡ places → Sound s c
+sound s c sized = go (agrees s) refl
+  where
+    go : (t : Bool) → agrees s ≡ t → Sound s c
+    go true ok =
+        let g : Good s c (callOf s c) = good s ok sized c in
+        record {
+          contradicts = λ no-good. absurd (true≢false (sym ok ∙ no-good));
+          never26 = λ _. g .never26;
+          agreeing = λ _. g .agreeing;
+          sized = g .sized;
+          unchanged = g .unchanged;
+          table = λ _. g .table;
+        }
+    go false bad =
+        let o : callOf s c ≡ refusing s (row 26 0 0 0) = contradicted s c bad in
+        record {
+          contradicts = λ _. o;
+          never26 = λ ok. absurd (true≢false (sym ok ∙ bad));
+          agreeing = λ ok. absurd (true≢false (sym ok ∙ bad));
+          sized = ap (λ (x : Outcome). length (x .session .handles)) o ∙ sized;
+          unchanged = λ n _. ap (λ (x : Outcome). x .session) o;
+          table = λ ok. absurd (true≢false (sym ok ∙ bad));
+        }
+
+-- the answers of `held_at` are the messages held
+at-is : (s : Session) → agrees s ≡ true → (i : ℕ) → i < s .last - s .released → heldAt s i ≡ held.At (messageAt (s .handles) (s .released + 1 + i))
+unfolding heldAt judgeState
+at-is s ok i h = rw ok (found-held (s .handles) (s .released) (s .last - s .released) i h)
+
+answers-are : (s : Session) → agrees s ≡ true → (i k : ℕ) → i + k ≡ s .last - s .released → answersOf s i k ≡ map held.At (heldFrom (s .handles) (s .released + i) k)
+unfolding answersOf heldFrom
+answers-are s ok i zero e = refl
+answers-are s ok i (suc k) e =
+    let here : s .released + 1 + i ≡ s .released + i + 1 = omega arith in
+    let next : s .released + (i + 1) ≡ s .released + i + 1 = omega arith in
+    rw (at-is s ok i (omega arith), answers-are s ok (i + 1) k (omega arith), here, next)
+
+resent-held : (s : Session) → agrees s ≡ true → answersOf s 0 (length (heldOf s)) ≡ map held.At (heldOf s)
+resent-held s ok =
+    let start : s .released + 0 ≡ s .released = omega arith in
+    rw (held-size s) (rw start at (answers-are s ok 0 (s .last - s .released) (omega arith)))
+
+pub every-call : EveryCall
+every-call = record {
+  fresh = agrees-by freshSession (omega arith) (omega arith);
+  each = sound;
+  old = λ s n ok le.
+      let a : Agreeing s = agreeing s ok in
+      let sent : leb n (s .last) ≡ true = le-leb n (s .last) (omega arith) in
+      let covered : leb n (s .released) ≡ true = le-leb n (s .released) le in
+      (rw (ack-is s ok n, sent, covered), rw (reconnect-is s ok n, sent, covered));
+  resends = λ s n ok sent.
+      let k : Acked s n (acked s n) = acked-is s ok n sent in
+      rw (reconnect-is s ok n, le-leb n (s .last) sent) (resent-held (acked s n) (k .agreeing) ∙ ap (map held.At) (k .table));
+  none = λ s n ok ahead.
+      let o : reconnectOf s n ≡ refusing s (row 23 0 0 0) = rw (reconnect-is s ok n, lt-leb n (s .last) ahead) in
+      (o, rw o);
+}

@@ -1,0 +1,55 @@
+use mathlib.Core.Path.{sym, ap, _∙_}
+use Prim.Native.Nat.{_+_}
+use native.Mathlib.Omega.{arith}
+use Rattle.session.specs.declared.Session.{Session}
+use Rattle.session.specs.declared.Report.the-variants.{Accepted}
+use Rattle.session.specs.Calls.{acceptOf, outcome}
+use Rattle.session.proofs.Table.{fine-accept, when-fine, when-refused}
+use Rattle.refusal.specs.Refusals.{judgedBy}
+use borrow.Author.Needs.{needs}
+use Rattle.session.proofs.accept.Statement.{statement}
+use Rattle.session.proofs.accept.Tie as tie
+use Rattle.session.proofs.accept.Reads as reads
+use Rattle.session.proofs.accept.Lts as lts
+use Rattle.session.proofs.add.Reads as add-reads
+use Rattle.session.proofs.judge_accept.Reads as judge-accept-reads
+use Rattle.session.proofs.refuse.Reads as refuse-reads
+
+judge-accept-requires : tie.Need-judge-accept-requires
+judge-accept-requires c κs = search needs
+
+enum-told : tie.Need-enum-told
+enum-told c = search needs
+
+add-number : tie.Need-add-number
+add-number c = omega (arith, fine-accept (c .before .before .before .before .args .s) (sym (c .before .before .before .judge-accept .ensures) ∙ ap judgedBy (c .before .enum-told .given .1)))
+
+add-requires : tie.Need-add-requires
+add-requires c κs = search needs
+
+enum-known-v : tie.Need-enum-known-v
+enum-known-v c = search needs
+
+refuse-requires : tie.Need-refuse-requires
+refuse-requires c κs = search needs
+
+returns : tie.Need-returns
+unfolding acceptOf
+returns c = when-fine _ _ _ _ _ (c .before .before .before .before .judge-accept .ensures) (c .before .before .enum-told .given .1) (ap (λ (t : Session). outcome t (Accepted (c .before .before .before .before .before .args .s .last + 1))) (c .add .ensures))
+
+returns-2 : tie.Need-returns-2
+unfolding acceptOf
+returns-2 c = when-refused _ _ _ _ _ (c .before .before .before .before .judge-accept .ensures) _ (c .before .before .v .given .1) (c .refuse .ensures)
+
+pub accept-spec : {M : Type 1} → statement M
+accept-spec =
+    tie.close
+    (tie.spec
+    judge-accept-requires
+    enum-told
+    add-number
+    add-requires
+    enum-known-v
+    refuse-requires
+    returns
+    returns-2)

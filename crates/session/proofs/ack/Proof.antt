@@ -1,0 +1,48 @@
+use mathlib.Core.Path.{ap}
+use Rattle.session.specs.declared.Session.{Session}
+use Rattle.session.specs.declared.Report.the-variants.{Done}
+use Rattle.session.specs.Calls.{ackOf, outcome}
+use Rattle.session.proofs.Table.{when-fine, when-refused}
+use borrow.Author.Needs.{needs}
+use Rattle.session.proofs.ack.Statement.{statement}
+use Rattle.session.proofs.ack.Tie as tie
+use Rattle.session.proofs.ack.Reads as reads
+use Rattle.session.proofs.ack.Lts as lts
+use Rattle.session.proofs.acked.Reads as acked-reads
+use Rattle.session.proofs.judge_ack.Reads as judge-ack-reads
+use Rattle.session.proofs.refuse.Reads as refuse-reads
+
+judge-ack-requires : tie.Need-judge-ack-requires
+judge-ack-requires c κs = search needs
+
+enum-told : tie.Need-enum-told
+enum-told c = search needs
+
+acked-requires : tie.Need-acked-requires
+acked-requires c κs = search needs
+
+enum-known-v : tie.Need-enum-known-v
+enum-known-v c = search needs
+
+refuse-requires : tie.Need-refuse-requires
+refuse-requires c κs = search needs
+
+returns : tie.Need-returns
+unfolding ackOf
+returns c = when-fine _ _ _ _ _ (c .before .before .before .judge-ack .ensures) (c .before .enum-told .given .1) (ap (λ (t : Session). outcome t Done) (c .acked .ensures))
+
+returns-2 : tie.Need-returns-2
+unfolding ackOf
+returns-2 c = when-refused _ _ _ _ _ (c .before .before .before .before .judge-ack .ensures) _ (c .before .before .v .given .1) (c .refuse .ensures)
+
+pub ack-spec : {M : Type 1} → statement M
+ack-spec =
+    tie.close
+    (tie.spec
+    judge-ack-requires
+    enum-told
+    acked-requires
+    enum-known-v
+    refuse-requires
+    returns
+    returns-2)

@@ -1,0 +1,18 @@
+use borrow.Author.Needs.{needs}
+use Rattle.session.proofs.cleared.Statement.{statement}
+use Rattle.session.proofs.cleared.Tie as tie
+use Rattle.session.proofs.cleared.Reads as reads
+use Rattle.session.proofs.cleared.Lts as lts
+use Rattle.session.proofs.release.Reads as release-reads
+
+release-requires : tie.Need-release-requires
+release-requires c κs = search needs
+
+returns : tie.Need-returns
+returns c = simp (c .before .if1 .taken, c .release .ensures)
+
+returns-2 : tie.Need-returns-2
+returns-2 c = simp (c .if1 .left)
+
+pub cleared-spec : {M : Type 1} → statement M
+cleared-spec = tie.close (tie.spec release-requires returns returns-2)

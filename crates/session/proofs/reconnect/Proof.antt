@@ -1,0 +1,50 @@
+use Rattle.session.specs.Calls.{reconnectOf}
+use Rattle.session.proofs.Table.{resend-held, when-fine, when-refused}
+use borrow.Author.Needs.{needs}
+use Rattle.session.proofs.reconnect.Statement.{statement}
+use Rattle.session.proofs.reconnect.Tie as tie
+use Rattle.session.proofs.reconnect.Reads as reads
+use Rattle.session.proofs.reconnect.Lts as lts
+use Rattle.session.proofs.acked.Reads as acked-reads
+use Rattle.session.proofs.held_count.Reads as held-count-reads
+use Rattle.session.proofs.judge_ack.Reads as judge-ack-reads
+use Rattle.session.proofs.refuse.Reads as refuse-reads
+
+judge-ack-requires : tie.Need-judge-ack-requires
+judge-ack-requires c κs = search needs
+
+enum-told : tie.Need-enum-told
+enum-told c = search needs
+
+acked-requires : tie.Need-acked-requires
+acked-requires c κs = search needs
+
+held-count-requires : tie.Need-held-count-requires
+held-count-requires c κs = search needs
+
+enum-known-v : tie.Need-enum-known-v
+enum-known-v c = search needs
+
+refuse-requires : tie.Need-refuse-requires
+refuse-requires c κs = search needs
+
+returns : tie.Need-returns
+unfolding reconnectOf
+returns c = when-fine _ _ _ _ _ (c .before .before .before .before .judge-ack .ensures) (c .before .before .enum-told .given .1) (resend-held _ _ _ (c .before .acked .ensures) (c .held-count .ensures))
+
+returns-2 : tie.Need-returns-2
+unfolding reconnectOf
+returns-2 c = when-refused _ _ _ _ _ (c .before .before .before .before .judge-ack .ensures) _ (c .before .before .v .given .1) (c .refuse .ensures)
+
+pub reconnect-spec : {M : Type 1} → statement M
+reconnect-spec =
+    tie.close
+    (tie.spec
+    judge-ack-requires
+    enum-told
+    acked-requires
+    held-count-requires
+    enum-known-v
+    refuse-requires
+    returns
+    returns-2)

@@ -1,0 +1,48 @@
+use mathlib.Core.Path.{ap}
+use Rattle.session.specs.declared.Session.{Session}
+use Rattle.session.specs.declared.Report.the-variants.{Done}
+use Rattle.session.specs.Calls.{resetOf, outcome}
+use Rattle.session.proofs.Table.{when-fine, when-refused}
+use borrow.Author.Needs.{needs}
+use Rattle.session.proofs.reset.Statement.{statement}
+use Rattle.session.proofs.reset.Tie as tie
+use Rattle.session.proofs.reset.Reads as reads
+use Rattle.session.proofs.reset.Lts as lts
+use Rattle.session.proofs.cleared.Reads as cleared-reads
+use Rattle.session.proofs.judge_state.Reads as judge-state-reads
+use Rattle.session.proofs.refuse.Reads as refuse-reads
+
+judge-state-requires : tie.Need-judge-state-requires
+judge-state-requires c κs = search needs
+
+enum-told : tie.Need-enum-told
+enum-told c = search needs
+
+cleared-requires : tie.Need-cleared-requires
+cleared-requires c κs = search needs
+
+enum-known-v : tie.Need-enum-known-v
+enum-known-v c = search needs
+
+refuse-requires : tie.Need-refuse-requires
+refuse-requires c κs = search needs
+
+returns : tie.Need-returns
+unfolding resetOf
+returns c = when-fine _ _ _ _ _ (c .before .before .before .judge-state .ensures) (c .before .enum-told .given .1) (ap (λ (t : Session). outcome t Done) (c .cleared .ensures))
+
+returns-2 : tie.Need-returns-2
+unfolding resetOf
+returns-2 c = when-refused _ _ _ _ _ (c .before .before .before .before .judge-state .ensures) _ (c .before .before .v .given .1) (c .refuse .ensures)
+
+pub reset-spec : {M : Type 1} → statement M
+reset-spec =
+    tie.close
+    (tie.spec
+    judge-state-requires
+    enum-told
+    cleared-requires
+    enum-known-v
+    refuse-requires
+    returns
+    returns-2)

@@ -1,0 +1,16 @@
+use mathlib.Core.Path.{refl}
+use Rattle.session.specs.Calls.{heldFrom, agrees, judgeState, judgeAccept, judgeAck, acceptOf, ackOf, reconnectOf, resetOf, found, heldAt}
+use Rattle.session.specs.Worked.{Worked, examples}
+use Rattle.session.proofs.worked_histories.Statement.{statement}
+use Rattle.session.proofs.worked_histories.Tie as tie
+
+-- each history computes
+table : Worked
+unfolding Worked examples heldFrom agrees judgeState judgeAccept judgeAck acceptOf ackOf reconnectOf resetOf found heldAt
+table = ((refl, (refl, (refl, (refl, (refl, (refl, (refl, (refl, (refl, (refl, (refl, (refl, (refl, (refl, (refl, (refl, (refl, (refl, (refl, (refl, tt)))))))))))))))))))), (refl, refl, refl, refl, refl), (refl, refl, refl, refl, refl), (refl, refl, refl, refl, refl))
+
+returns : tie.Need-returns
+returns c = table
+
+pub worked-histories-spec : {M : Type 1} → statement M
+worked-histories-spec = tie.close (tie.spec returns)
