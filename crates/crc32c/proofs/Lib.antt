@@ -1,6 +1,2 @@
-pub mod Linear
-pub mod Nibbles
-pub mod Rules
 pub mod Runs
-pub mod Square
 pub mod Words

@@ -1,17 +1,16 @@
 -- Runs of zeros: half a run from the root, squared, is twice that half.
 
 use mathlib.Core.Path.{_≡_, sym, ap, ap₂, _∙_}
-use mathlib.Core.List.{List, [], _∷_}
+use mathlib.Core.List.{[], _∷_}
 use Prim.Native.Nat.{ℕ, zero, suc, _+_, _*_, _/_, _%_, _^_, _<_}
 use native.Mathlib.Omega.{arith}
 use lib.Bits.{xor-zero-r}
 use lib.ListN.{replicate, replicate-append-replicate}
+use Rattle.crc_halves.specs.Square.{square}
+use Rattle.crc_halves.proofs.Squares.{square-steps}
+use Rattle.crc_steps.proofs.Linear.{steps-add, steps-none}
 use Rattle.crc32c.specs.Crc.{steps, crcByte, crcOf}
 use Rattle.crc32c.specs.Laws.{crc-append}
-use Rattle.crc32c.specs.Tables.{Halves, nibbles, square}
-use Rattle.crc32c.proofs.Linear.{steps-add, steps-none}
-use Rattle.crc32c.proofs.Nibbles.{rooted, squared}
-use Rattle.crc32c.proofs.Square.{square-steps}
 
 crc-zeros : (n c : ℕ) → crcOf c (replicate n 0) ≡ steps (8 * n) c
 unfolding crcOf
@@ -33,24 +32,19 @@ unfolding crcOf
 none c n e = rw e
 
 -- r is the root of c, x what half of n zeros make of it, and y the square of x
-module _ (t : List ℕ) (halves : Halves t) (n c r x y : ℕ) (root : r ≡ nibbles t 0 8 c) (half : x ≡ crcOf r (replicate (n / 2) 0)) (whole : y ≡ nibbles t 8 8 x)
-    (c-lt : c < 2 ^ 32) (r-lt : r < 2 ^ 32) (x-lt : x < 2 ^ 32) where
+module _ (n c r x y : ℕ) (root : square r ≡ c) (half : x ≡ crcOf r (replicate (n / 2) 0)) (whole : y ≡ square x) (r-lt : r < 2 ^ 32) where
   halved : y ≡ crcOf c (replicate (n / 2 + n / 2) 0)
-  halved =
-      whole
-      ∙ squared t x x-lt (halves .squares)
-      ∙ ap square half
-      ∙ twice (n / 2) r c r-lt (ap square root ∙ rooted t c c-lt (halves .roots))
+  halved = whole ∙ ap square half ∙ twice (n / 2) r c r-lt root
 
   pub even : n % 2 ≡ 0 → y ≡ crcOf c (replicate n 0)
   even h =
       let e : n / 2 + n / 2 ≡ n = omega arith in
       halved ∙ ap (λ (k : ℕ). crcOf c (replicate k 0)) e
 
-  pub odd : n % 2 ≡ 1 → crcByte y 0 ≡ crcOf c (replicate n 0)
+  pub odd : n % 2 ≡ 1 → steps 8 y ≡ crcOf c (replicate n 0)
   unfolding crcOf
   odd h =
       let e : n / 2 + n / 2 + 1 ≡ n = omega arith in
-      ap (λ (z : ℕ). crcByte z 0) halved
+      ap (steps 8) (halved ∙ sym (xor-zero-r (crcOf c (replicate (n / 2 + n / 2) 0))))
       ∙ sym (crc-append c (replicate (n / 2 + n / 2) 0) (0 ∷ []))
       ∙ ap (crcOf c) (replicate-append-replicate (n / 2 + n / 2) 1 0 ∙ ap (λ (k : ℕ). replicate k 0) e)

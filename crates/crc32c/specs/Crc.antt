@@ -1,18 +1,9 @@
 -- CRC32-C (01, "Checksums"), bit by bit, low bit first: the reflected polynomial 82F63B78, any start value, no complement at the end.
 use mathlib.Core.List.{List, [], _∷_}
-use Prim.Native.Nat.{ℕ, zero, suc, _*_, _/_, _%_}
+use Prim.Native.Nat.{ℕ}
 use lib.Bits.{bitXor}
-
-abbrev pub poly : ℕ
-poly = 0x82F63B78
-
--- one bit: shift right, and xor the polynomial where the low bit was set
-unfoldable pub step : ℕ → ℕ
-step c = bitXor (c / 2) (c % 2 * poly)
-
-unfoldable pub steps : ℕ → ℕ → ℕ
-steps zero c = c
-steps (suc n) c = steps n (step c)
+-- one bit, and n of them: shift right, and xor the polynomial where the low bit was set
+unfoldable pub use Rattle.crc_steps.specs.Steps.{step, steps}
 
 -- one byte: it is xored into the low bits, and eight bits are shifted out
 abbrev pub crcByte : ℕ → ℕ → ℕ

@@ -1,124 +1,159 @@
-// CRC32-C by tables, from any start value and with no complement at the end: eight bytes at a time, and a run of zeros by halving its length.
-mod halves;
-mod slices;
-
+// CRC32-C by tables, from any start value and with no complement at the end: four words at a time, and a run of zeros by halving its length.
 use buffer::word_at;
-use halves::HALVES;
-use slices::SLICES;
+use crc_halves::root_of;
+use crc_halves::square_of;
+use crc_steps_32::steps_32;
+use crc_steps_64::steps_64;
+use crc_steps_128::steps_128;
 ghost use mathlib.Core.Path.{_≡_};
-ghost use Prim.Native.Nat.{_-_, _%_, _≤_};
+ghost use Prim.Native.Nat.{ℕ, _+_, _*_, _-_, _≤_, _<_};
 ghost use lib.ListN.{length, replicate};
-ghost use Rattle.crc32c.specs.Crc.{crcByte, crcOf};
-ghost use Rattle.crc32c.specs.Tables.{Halves, Slices, nibbles};
+ghost use Rattle.crc32c.specs.Crc.{crcOf, steps};
+ghost use Rattle.crc32c.specs.Left.{LeftBy};
 
-// The tables, each with its rule. They are lent from here on: a constant is stored anew wherever it is named, so no loop names one.
-fn slice_table() -> [u32; 256]
-    ensures { λ r. ⌜ Slices r ⌝ }
+// Fewer than 32 bit steps of a word, at least one. As many zeros below it as they are short of 32 make them 32.
+fn fewer_steps(bits: u32, x: u32) -> u32
+    requires { ⌜ (0 < bits) × (bits < 32) ⌝ }
+    ensures { λ r. ⌜ r ≡ steps bits x ⌝ }
 {
-    SLICES
+    steps_32(x << (32 - bits)) ^ (x >> bits)
 }
 
-fn half_table() -> [u32; 256]
-    ensures { λ r. ⌜ Halves r ⌝ }
+// Up to four bytes, xored in: what is left of their checksum are the bit steps.
+fn mixed(c: u32, group: &[u8]) -> u32
+    requires { ⌜ length (now group) ≤ 4 ⌝ }
+    ensures { λ r. ⌜ steps (8 * length (now (group .entry))) r ≡ crcOf c (now (group .entry)) ⌝ }
 {
-    HALVES
+    c ^ word_at(group, 0)
 }
 
-// What a table has for the nibbles of x, the lowest first, at the places from `from` up to `to`.
-fn by_nibbles(t: &[u32; 256], from: usize, to: usize, x: u32) -> u32
-    requires { ⌜ (from ≤ to) × (to ≤ 16) ⌝ }
-    ensures { λ r. ⌜ r ≡ nibbles (now (t .entry)) from (to - from) x ⌝ }
+// The last bytes, fewer than four.
+fn last(c: u32, rest: &[u8]) -> u32
+    requires { ⌜ length (now rest) < 4 ⌝ }
+    ensures { λ r. ⌜ r ≡ crcOf c (now (rest .entry)) ⌝ }
 {
-    let mut r: u32 = 0;
-    let mut rest = x;
-    let mut j = from;
-    while j < to {
-        let k = (rest & 15) as usize;
-        r = r ^ t[j * 16 + k];
-        rest = rest >> 4;
-        j += 1;
-    }
-    r
-}
-
-// One byte, by the last two places.
-fn next(t: &[u32; 256], c: u32, b: u8) -> u32
-    requires { ⌜ Slices (now t) ⌝ }
-    ensures { λ r. ⌜ r ≡ crcByte c b ⌝ }
-{
-    let low = (c ^ (b as u32)) & 255;
-    by_nibbles(t, 14, 16, low) ^ (c >> 8)
-}
-
-// Eight bytes, by all places; the upper four first, since they do not wait for c.
-fn eight(t: &[u32; 256], c: u32, group: &[u8]) -> u32
-    requires { ⌜ Slices (now t) × (length (now group) ≡ 8) ⌝ }
-    ensures { λ r. ⌜ r ≡ crcOf c (now (group .entry)) ⌝ }
-{
-    let upper = by_nibbles(t, 8, 16, word_at(group, 4));
-    let lower = by_nibbles(t, 0, 8, c ^ word_at(group, 0));
-    upper ^ lower
-}
-
-fn over_bytes(t: &[u32; 256], start: u32, bytes: &[u8]) -> u32
-    requires { ⌜ Slices (now t) ⌝ }
-    ensures { λ r. ⌜ r ≡ crcOf start (now (bytes .entry)) ⌝ }
-{
-    let mut c = start;
-    let mut i = 0;
-    while i < bytes.len() {
-        c = next(t, c, bytes[i]);
-        i += 1;
-    }
-    c
-}
-
-fn over_eights(t: &[u32; 256], start: u32, groups: &[u8]) -> u32
-    requires { ⌜ Slices (now t) × (length (now groups) % 8 ≡ 0) ⌝ }
-    ensures { λ r. ⌜ r ≡ crcOf start (now (groups .entry)) ⌝ }
-{
-    let mut c = start;
-    let mut i = 0;
-    while i < groups.len() {
-        let e = i + 8;
-        c = eight(t, c, &groups[i..e]);
-        i = e;
-    }
-    c
-}
-
-// The square of what half the zeros make of c's root is what twice that half makes of c; an odd zero follows.
-fn over_zeros(t: &[u32; 256], h: &[u32; 256], c: u32, n: usize) -> u32
-    requires { ⌜ Slices (now t) × Halves (now h) ⌝ }
-    ensures { λ r. ⌜ r ≡ crcOf c (replicate n 0) ⌝ }
-{
+    let n = rest.len() as u32;
     if n == 0 {
         return c;
     }
-    let root = by_nibbles(h, 0, 8, c);
-    let half = over_zeros(t, h, root, n / 2);
-    let even = by_nibbles(h, 8, 16, half);
-    if n % 2 == 0 {
-        return even;
-    }
-    next(t, even, 0)
+    fewer_steps(8 * n, mixed(c, rest))
 }
 
-// The checksum of bytes from a start value.
+// What the words before i give those from i on: a is xored into the next one, b, c and d into the three behind it.
+struct Lanes {
+    a: u32,
+    b: u32,
+    c: u32,
+    d: u32,
+    i: usize,
+}
+
+// Four words at once, since none waits for another: what a word gives is xored into the word behind the next three, 128 steps on.
+fn four_words(l: Lanes, bytes: &[u8]) -> Lanes
+    requires { ⌜ l .i + 32 ≤ length (now bytes) ⌝ }
+    ensures { λ r. ⌜ (r .i ≡ l .i + 16) × ((s : ℕ) → LeftBy s (now (bytes .entry)) l → LeftBy s (now (bytes .entry)) r) ⌝ }
+{
+    let mut a = l.a;
+    let mut b = l.b;
+    let mut c = l.c;
+    let mut d = l.d;
+    let mut i = l.i;
+    let mut k: usize = 0;
+    while k < 4 {
+        let e = i + 4;
+        let far = steps_128(mixed(a, &bytes[i..e]));
+        a = b;
+        b = c;
+        c = d;
+        d = far;
+        i = e;
+        k += 1;
+    }
+    Lanes { a, b, c, d, i }
+}
+
+fn over_fours(start: u32, bytes: &[u8]) -> Lanes
+    ensures { λ r. ⌜ LeftBy start (now (bytes .entry)) r ⌝ }
+{
+    let mut l = Lanes {
+        a: start,
+        b: 0,
+        c: 0,
+        d: 0,
+        i: 0,
+    };
+    while 32 <= bytes.len() - l.i {
+        let next = four_words(l, bytes);
+        l = next;
+    }
+    l
+}
+
+fn over_pairs(l: Lanes, bytes: &[u8]) -> Lanes
+    requires { ⌜ l .i ≤ length (now bytes) ⌝ }
+    ensures { λ r. ⌜ (r .i ≤ length (now (bytes .entry))) × ((s : ℕ) → LeftBy s (now (bytes .entry)) l → LeftBy s (now (bytes .entry)) r) ⌝ }
+{
+    let mut a = l.a;
+    let mut b = l.b;
+    let mut c = l.c;
+    let mut d = l.d;
+    let mut i = l.i;
+    while 8 <= bytes.len() - i {
+        let e = i + 4;
+        let f = e + 4;
+        let next = steps_32(mixed(b, &bytes[e..f])) ^ c;
+        a = steps_64(mixed(a, &bytes[i..e])) ^ next;
+        b = d;
+        c = 0;
+        d = 0;
+        i = f;
+    }
+    Lanes { a, b, c, d, i }
+}
+
+fn over_words(l: Lanes, bytes: &[u8]) -> Lanes
+    requires { ⌜ l .i ≤ length (now bytes) ⌝ }
+    ensures { λ r. ⌜ (r .i ≤ length (now (bytes .entry))) × (length (now (bytes .entry)) - r .i < 4) × ((s : ℕ) → LeftBy s (now (bytes .entry)) l → LeftBy s (now (bytes .entry)) r) ⌝ }
+{
+    let mut a = l.a;
+    let mut b = l.b;
+    let mut c = l.c;
+    let mut d = l.d;
+    let mut i = l.i;
+    while 4 <= bytes.len() - i {
+        let e = i + 4;
+        a = steps_32(mixed(a, &bytes[i..e])) ^ b;
+        b = c;
+        c = d;
+        d = 0;
+        i = e;
+    }
+    Lanes { a, b, c, d, i }
+}
+
+// The checksum of bytes from a start value, in words: four at once, then two, then one, and what is left of one.
 pub fn checksum(start: u32, bytes: &[u8]) -> u32
     ensures { λ r. ⌜ r ≡ crcOf start (now (bytes .entry)) ⌝ }
 {
-    let t = slice_table();
-    let whole = bytes.len() / 8 * 8;
-    let c = over_eights(&t, start, &bytes[..whole]);
-    over_bytes(&t, c, &bytes[whole..])
+    let fours = over_fours(start, bytes);
+    let pairs = over_pairs(fours, bytes);
+    let words = over_words(pairs, bytes);
+    let i = words.i;
+    last(words.a, &bytes[i..])
 }
 
-// The checksum of n zero bytes from a start value.
+// The checksum of n zero bytes from a start value. The square of what half the zeros make of the start's root is what twice that half makes of the
+// start; an odd zero follows.
 pub fn checksum_zeros(start: u32, n: usize) -> u32
     ensures { λ r. ⌜ r ≡ crcOf start (replicate n 0) ⌝ }
 {
-    let t = slice_table();
-    let h = half_table();
-    over_zeros(&t, &h, start, n)
+    if n == 0 {
+        return start;
+    }
+    let half = checksum_zeros(root_of(start), n / 2);
+    let even = square_of(half);
+    if n % 2 == 0 {
+        return even;
+    }
+    fewer_steps(8, even)
 }

@@ -1,65 +1,50 @@
-use mathlib.Core.Path.{_≡_, sym, ap, _∙_}
-use mathlib.Core.List.{List}
-use Prim.Native.Nat.{ℕ, _*_, _/_, _-_}
+use mathlib.Core.Path.{_∙_}
 use native.Mathlib.Omega.{arith}
-use lib.ListN.{length, take, drop}
-use lib.Seq.{length-take-le}
-use Rattle.crc32c.specs.Crc.{crcOf}
-use Rattle.crc32c.proofs.Words.{crc-parts}
 use borrow.Author.Needs.{needs}
+use Rattle.crc32c.proofs.Words.{ends, rest-length}
 use Rattle.crc32c.proofs.checksum.Statement.{statement}
 use Rattle.crc32c.proofs.checksum.Tie as tie
-use Rattle.crc32c.proofs.checksum.Reads as reads
-use Rattle.crc32c.proofs.checksum.Lts as lts
-use Rattle.crc32c.proofs.over_bytes.Reads as over-bytes-reads
-use Rattle.crc32c.proofs.over_eights.Reads as over-eights-reads
-use Rattle.crc32c.proofs.slice_table.Reads as slice-table-reads
 
-whole-length : (bs : List ℕ) → length (take (length bs / 8 * 8) bs) ≡ length bs / 8 * 8
-whole-length bs = length-take-le (length bs / 8 * 8) bs (omega arith)
+over-fours-requires : tie.Need-over-fours-requires
+over-fours-requires c κs = search needs
 
-slice-table-requires : tie.Need-slice-table-requires
-slice-table-requires c κs = search needs
+over-pairs-requires : tie.Need-over-pairs-requires
+over-pairs-requires c κs = c .over-fours .ensures .within
 
-mul-whole : tie.Need-mul-whole
-mul-whole c = search needs
+over-words-requires : tie.Need-over-words-requires
+over-words-requires c κs = c .over-pairs .ensures .0
 
-slice-aggregate-over-eights : tie.Need-slice-aggregate-over-eights
-slice-aggregate-over-eights c = sym (whole-length (c .before .before .before .before .args .bytes .now))
+sub-last : tie.Need-sub-last
+sub-last c = search needs
 
-over-eights-requires : tie.Need-over-eights-requires
-over-eights-requires c κs = (c .before .before .slice-table .ensures, omega (arith, whole-length (c .before .before .before .before .args .bytes .now)))
+part-last-start : tie.Need-part-last-start
+part-last-start c = search needs
 
-sub-over-bytes : tie.Need-sub-over-bytes
-sub-over-bytes c = search needs
+part-last-end : tie.Need-part-last-end
+part-last-end c = search needs
 
-part-over-bytes-start : tie.Need-part-over-bytes-start
-part-over-bytes-start c = search needs
-
-part-over-bytes-end : tie.Need-part-over-bytes-end
-part-over-bytes-end c = search needs
-
-over-bytes-requires : tie.Need-over-bytes-requires
-over-bytes-requires c κs = search needs
+last-requires : tie.Need-last-requires
+last-requires c κs =
+    let w = c .before in
+    omega (arith, rest-length (w .over-words .result .i) (w .before .before .before .before .args .bytes .now), w .over-words .ensures .1)
 
 returns : tie.Need-returns
 returns c =
-    let e = c .before .before .before .over-eights .ensures in
-    let a = c .before .before .before .before .before .before .before .before .args in
-    let bs = a .bytes .now in
-    let w : ℕ = length bs / 8 * 8 in
-    c .over-bytes .ensures ∙ ap (λ (x : ℕ). crcOf x (take (length bs - w) (drop w bs))) e ∙ crc-parts (a .start) w bs
+    let w = c .before .before in
+    let z = w .before .before .before .before .args in
+    let l = w .over-words .result in
+    let left = w .over-words .ensures .2 (z .start) (w .before .over-pairs .ensures .1 (z .start) (w .before .before .over-fours .ensures)) in
+    c .last .ensures ∙ ends (z .start) (z .bytes .now) (l .a) (l .b) (l .c) (l .d) (l .i) left (w .over-words .ensures .1)
 
 pub checksum-spec : {M : Type 1} → statement M
 checksum-spec =
     tie.close
     (tie.spec
-    slice-table-requires
-    mul-whole
-    slice-aggregate-over-eights
-    over-eights-requires
-    sub-over-bytes
-    part-over-bytes-start
-    part-over-bytes-end
-    over-bytes-requires
+    over-fours-requires
+    over-pairs-requires
+    over-words-requires
+    sub-last
+    part-last-start
+    part-last-end
+    last-requires
     returns)
