@@ -1,11 +1,14 @@
 -- The banner (000, "Banner"; 01, "Banner" and refusals 1 to 4 and 16).
 use mathlib.Core.List.{List, [], _∷_, _++_}
-use mathlib.Core.Bool.{Bool, true, false, cond, _&&_}
+use mathlib.Core.Bool.{Bool, true, cond, _&&_}
 use Prim.Native.Nat.{ℕ, suc, _%_}
 use lib.ListN.{getD}
 use lib.Dec.{leb, ltb, eqb}
 use Rattle.buffer.specs.Le.{le, numberAt}
-use Rattle.refusal.specs.Refusals.{Judged, fine, refused, row, firstOf, unless}
+use Rattle.refusal.specs.declared.Missing.{Missing}
+use Rattle.refusal.specs.declared.Refusal.{Refusal}
+use Rattle.refusal.specs.declared.Refusal.the-variants as refusal
+use Rattle.refusal.specs.Refusals.{Judged, firstOf, unless}
 use Rattle.banner.specs.declared.Features.{Features}
 use Rattle.banner.specs.declared.Revision.{Revision}
 use Rattle.banner.specs.declared.Revision.the-variants.{Msgr20, Msgr21}
@@ -28,15 +31,21 @@ bannerBytes supported required = magic ++ le 2 payloadLength ++ le 8 supported +
 
 -- own features: no bit but bit 0, and none required that is not supported
 abbrev pub judgeOwn : ℕ → ℕ → Judged
-judgeOwn supported required = unless (ltb supported 2 && ltb required 2 && eqb (missing 64 required supported) 0) 16 0
+judgeOwn supported required = unless (ltb supported 2 && ltb required 2 && eqb (missing 64 required supported) 0) refusal.OwnFeatures
 
 -- bits that one side requires and the other does not support: they, the lowest one's number, how many
-abbrev pub judgeMissing : ℕ → ℕ → Judged
-judgeMissing number bits = cond (eqb bits 0) fine (refused (row number bits (lowestBit 64 bits) (bitCount 64 bits)))
+abbrev pub missingOf : ℕ → Missing
+missingOf bits = record { bits = bits; lowest = lowestBit 64 bits; count = bitCount 64 bits }
+
+abbrev pub judgeMissing : (Missing → Refusal) → ℕ → Judged
+judgeMissing why bits = unless (eqb bits 0) (why (missingOf bits))
 
 unfoldable pub judgeFeatures : ℕ → ℕ → ℕ → ℕ → Judged
 judgeFeatures ownSupported ownRequired supported required =
-    firstOf (judgeMissing 3 (missing 64 required ownSupported) ∷ judgeMissing 4 (missing 64 ownRequired supported) ∷ [])
+    firstOf
+    (judgeMissing refusal.PeerRequires (missing 64 required ownSupported)
+    ∷ judgeMissing refusal.PeerLacks (missing 64 ownRequired supported)
+    ∷ [])
 
 -- msgr2.1 exactly when both sides support bit 0
 abbrev pub revisionOf : ℕ → ℕ → Revision
@@ -54,7 +63,7 @@ sameFrom i [] bytes = true
 sameFrom i (m ∷ ms) bytes = eqb (getD bytes i 0) m && sameFrom (suc i) ms bytes
 
 abbrev pub judgeMagic : List ℕ → Judged
-judgeMagic bytes = unless (sameFrom 0 magic bytes) 1 0
+judgeMagic bytes = unless (sameFrom 0 magic bytes) refusal.Magic
 
 abbrev pub leastPayload : ℕ
 leastPayload = 16
@@ -63,4 +72,4 @@ abbrev pub mostPayload : ℕ
 mostPayload = 1024
 
 abbrev pub judgeLength : ℕ → Judged
-judgeLength n = unless (leb leastPayload n && leb n mostPayload) 2 n
+judgeLength n = unless (leb leastPayload n && leb n mostPayload) (refusal.BannerLength n)

@@ -1,13 +1,7 @@
 -- Bits of a number, lowest first: those that are missing, the lowest one, how many (01, refusals 3 and 4).
-use mathlib.Core.Path.{_≡_, refl, sym, ap, _∙_}
-use mathlib.Core.Bool.{Bool, true, false, cond}
-use Prim.Native.Nat.{ℕ, zero, suc, _+_, _*_, _/_, _%_, _-_, _^_, _<_, _≤_, min}
-use native.Mathlib.Nat.{pow-suc, div-lt-iff-lt-mul, le-antisymm}
-use native.Mathlib.Omega.{arith}
-use lib.Dec.{lit<, eqb}
-use lib.Arith.{lt-one, le-zero}
-use lib.Bits.{bitAnd, and-step, and-zero-l}
-use lib.Count.{ones, ones-step, ones-le, trailingZeros, under}
+use mathlib.Core.Bool.{cond}
+use Prim.Native.Nat.{ℕ, zero, suc, _+_, _*_, _/_, _%_, _-_, min}
+use lib.Dec.{eqb}
 
 -- how many of n's k lowest bits are set
 unfoldable pub bitCount : ℕ → ℕ → ℕ
@@ -19,41 +13,7 @@ unfoldable pub lowestBit : ℕ → ℕ → ℕ
 lowestBit zero n = 0
 lowestBit (suc k) n = cond (eqb (n % 2) 1) 0 (suc (lowestBit k (n / 2)))
 
-halved : (k n : ℕ) → n < 2 ^ suc k → n / 2 < 2 ^ k
-halved k n h = div-lt-iff-lt-mul (lit< tt) .1 (rw pow-suc at h)
-
-pub ones-count : (k n : ℕ) → n < 2 ^ k → ones n ≡ bitCount k n
-unfolding bitCount
-ones-count zero n h = le-zero (ones-le 0 n h)
-ones-count (suc k) n h = ones-step n ∙ ap (λ (x : ℕ). n % 2 + x) (ones-count k (n / 2) (halved k n h))
-
-under-is : (d t : ℕ) → d < 2 → under d t ≡ cond (eqb d 1) 0 (suc t)
-under-is zero t h = refl
-under-is (suc zero) t h = refl
-under-is (suc (suc d)) t h = absurd (omega arith)
-
-pub zeros-lowest : (k n : ℕ) → trailingZeros k n ≡ lowestBit k n
-unfolding trailingZeros lowestBit
-zeros-lowest zero n = refl
-zeros-lowest (suc k) n =
-    under-is (n % 2) (trailingZeros k (n / 2)) (omega arith)
-    ∙ ap (λ (t : ℕ). cond (eqb (n % 2) 1) 0 (suc t)) (zeros-lowest k (n / 2))
-
 -- the bits of r that s has not, among the k lowest
 unfoldable pub missing : ℕ → ℕ → ℕ → ℕ
 missing zero r s = 0
 missing (suc k) r s = missing k (r / 2) (s / 2) * 2 + min (r % 2) (1 - s % 2)
-
-comp-half : (k s : ℕ) → s < 2 ^ suc k → (2 ^ suc k - 1 - s) / 2 ≡ 2 ^ k - 1 - s / 2
-comp-half k s h = omega arith
-
-comp-odd : (k s : ℕ) → s < 2 ^ suc k → (2 ^ suc k - 1 - s) % 2 ≡ 1 - s % 2
-comp-odd k s h = omega arith
-
--- what `r & !s` gives
-pub missing-is : (k r s : ℕ) → r < 2 ^ k → s < 2 ^ k → bitAnd r (2 ^ k - 1 - s) ≡ missing k r s
-unfolding missing
-missing-is zero r s hr hs = rw (lt-one hr) (and-zero-l (2 ^ 0 - 1 - s))
-missing-is (suc k) r s hr hs =
-    and-step r (2 ^ suc k - 1 - s)
-    ∙ rw (comp-half k s hs, comp-odd k s hs) (ap (λ (x : ℕ). x * 2 + min (r % 2) (1 - s % 2)) (missing-is k (r / 2) (s / 2) (halved k r hr) (halved k s hs)))

@@ -8,6 +8,7 @@ use refusal::both;
 use refusal::or_else;
 use refusal::unless_ok;
 ghost use mathlib.Core.Path.{_≡_};
+ghost use Rattle.refusal.specs.declared.Refusal.the-variants as refusal;
 ghost use Rattle.refusal.specs.Refusals.{judgedBy};
 ghost use Rattle.banner.specs.Bits.{missing, lowestBit, bitCount};
 ghost use Rattle.banner.specs.Banner.{bannerBytes, judgeOwn, judgeMissing, judgeFeatures, revisionOf, featuresOf, judgeMagic, judgeLength};
@@ -62,13 +63,13 @@ pub fn judge_own(supported: u64, required: u64) -> Verdict
 }
 
 fn judge_required(bits: u64) -> Verdict
-    ensures { λ r. ⌜ judgedBy r ≡ judgeMissing 3 bits ⌝ }
+    ensures { λ r. ⌜ judgedBy r ≡ judgeMissing refusal.PeerRequires bits ⌝ }
 {
     unless_ok(bits == 0, Refusal::PeerRequires(detail_of(bits)))
 }
 
 fn judge_lacking(bits: u64) -> Verdict
-    ensures { λ r. ⌜ judgedBy r ≡ judgeMissing 4 bits ⌝ }
+    ensures { λ r. ⌜ judgedBy r ≡ judgeMissing refusal.PeerLacks bits ⌝ }
 {
     unless_ok(bits == 0, Refusal::PeerLacks(detail_of(bits)))
 }

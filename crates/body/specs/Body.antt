@@ -1,8 +1,8 @@
 -- The bytes behind a preamble, and whole frames (000, "msgr2.0-crc mode", "msgr2.1-crc mode"; 01, "Checksums", "Bodies").
 use mathlib.Core.List.{List, [], _∷_, _++_}
-use mathlib.Core.Bool.{Bool, false, cond}
-use Prim.Native.Nat.{ℕ, suc, _+_, _-_}
-use lib.ListN.{take, drop, replicate}
+use mathlib.Core.Bool.{Bool, true, false, cond}
+use Prim.Native.Nat.{ℕ, suc, _+_}
+use lib.ListN.{length, take, drop, replicate}
 use lib.Dec.{leb, eqb}
 use Rattle.buffer.specs.Le.{le}
 use Rattle.crc32c.specs.Crc.{crcOf}
@@ -11,17 +11,14 @@ use Rattle.banner.specs.declared.Revision.the-variants.{Msgr20, Msgr21}
 use Rattle.preamble.specs.declared.Header.{Header}
 use Rattle.preamble.specs.Layout.{total, preambleBytes}
 
+-- ---- checksums of segments
+
 -- the start value of a segment's checksum
 abbrev pub segmentStart : ℕ
 segmentStart = 0xFFFFFFFF
 
 abbrev pub segmentSum : List ℕ → ℕ
 segmentSum bytes = crcOf segmentStart bytes
-
--- a payload cut into its segments
-abbrev pub cutInto : List ℕ → List ℕ → List (List ℕ)
-cutInto [] p = []
-cutInto (n ∷ ns) p = take n p ∷ cutInto ns (drop n p)
 
 -- a segment's field in an epilogue: its checksum where it is used, 0 where it is not
 abbrev pub field : ℕ → ℕ → List ℕ → ℕ
@@ -32,38 +29,44 @@ abbrev pub fieldsFrom : ℕ → ℕ → List (List ℕ) → List ℕ
 fieldsFrom count k [] = []
 fieldsFrom count k (s ∷ ss) = field count k s ∷ fieldsFrom count (suc k) ss
 
--- the length of segments 2 to 4, and their fields, where `rest` has their bytes
-abbrev pub restLength : Header → ℕ
-restLength h = h .s2 .len + h .s3 .len + h .s4 .len
-
-abbrev pub restFields : Header → List ℕ → List ℕ
-restFields h rest = fieldsFrom (h .count) 2 (cutInto (h .s2 .len ∷ h .s3 .len ∷ h .s4 .len ∷ []) rest)
-
 abbrev pub words : List ℕ → List ℕ
 words [] = []
 words (n ∷ ns) = le 4 n ++ words ns
 
--- the late byte that we write: late_flags, or late_status
-abbrev pub lateByte : Revision → Bool → ℕ
-lateByte Msgr20 abort = cond abort 0x01 0x00
-lateByte Msgr21 abort = cond abort 0x01 0x0E
+-- ---- segments
 
--- an epilogue is the late byte and checksum fields: four in msgr2.0, those of segments 2 to 4 in msgr2.1
-abbrev pub epilogue20 : Header → ℕ → List ℕ → List ℕ
-epilogue20 h late p = late ∷ words (field (h .count) 1 (take (h .s1 .len) p) ∷ restFields h (drop (h .s1 .len) p))
+-- bytes cut into so many of each
+abbrev pub cutInto : List ℕ → List ℕ → List (List ℕ)
+cutInto [] p = []
+cutInto (n ∷ ns) p = take n p ∷ cutInto ns (drop n p)
 
-abbrev pub epilogue21 : Header → ℕ → List ℕ → List ℕ
-epilogue21 h late rest = late ∷ words (restFields h rest)
+-- the length of segments 2 to 4, and all four segments, where `rest` has the bytes of those
+abbrev pub restLength : Header → ℕ
+restLength h = h .s2 .len + h .s3 .len + h .s4 .len
 
--- what follows segment 1's bytes in msgr2.1: its checksum, unless it is empty
-abbrev pub firstSum : ℕ → List ℕ → List ℕ
-firstSum n bytes = cond (eqb n 0) [] (le 4 (segmentSum bytes))
+abbrev pub segments : Header → List ℕ → List ℕ → List (List ℕ)
+segments h first rest = first ∷ cutInto (h .s2 .len ∷ h .s3 .len ∷ h .s4 .len ∷ []) rest
 
--- the length of that checksum, which only msgr2.1 has, and of the epilogue, which a one-segment msgr2.1 frame has not
+-- an epilogue holds the checksums of all four in msgr2.0, of segments 2 to 4 in msgr2.1: from this number on
+abbrev pub epilogueFrom : Revision → ℕ
+epilogueFrom Msgr20 = 1
+epilogueFrom Msgr21 = 2
+
+abbrev pub inEpilogue : Revision → List (List ℕ) → List (List ℕ)
+inEpilogue Msgr20 ss = ss
+inEpilogue Msgr21 ss = drop 1 ss
+
+-- ---- lengths
+
+-- segment 1 has a checksum behind it only in msgr2.1, and unless it is empty
+abbrev pub noFirstSum : Revision → Header → Bool
+noFirstSum Msgr20 h = true
+noFirstSum Msgr21 h = eqb (h .s1 .len) 0
+
 abbrev pub firstSumLength : Revision → Header → ℕ
-firstSumLength Msgr20 h = 0
-firstSumLength Msgr21 h = cond (eqb (h .s1 .len) 0) 0 4
+firstSumLength revision h = cond (noFirstSum revision h) 0 4
 
+-- a one-segment msgr2.1 frame has no epilogue
 abbrev pub noEpilogue : Revision → Header → Bool
 noEpilogue Msgr20 h = false
 noEpilogue Msgr21 h = leb (h .count) 1
@@ -75,22 +78,33 @@ epilogueLength Msgr21 h = cond (leb (h .count) 1) 0 13
 abbrev pub bodyLength : Revision → Header → ℕ
 bodyLength revision h = total h + firstSumLength revision h + epilogueLength revision h
 
--- the bytes behind the preamble of a frame whose segments, in order, are the payload p
-unfoldable pub body : Revision → Header → ℕ → List ℕ → List ℕ
-body Msgr20 h late p = p ++ epilogue20 h late p
-body Msgr21 h late p =
-    take (h .s1 .len) p ++ firstSum (h .s1 .len) (take (h .s1 .len) p) ++ drop (h .s1 .len) p
-    ++ cond (leb (h .count) 1) [] (epilogue21 h late (drop (h .s1 .len) p))
-
--- an aborted frame carries segment 1 as given and zeros for the rest
-abbrev pub sent : Header → Bool → List ℕ → List ℕ
-sent h abort source = cond abort (take (h .s1 .len) source ++ replicate (total h - h .s1 .len) 0) source
-
--- THE FRAME, whole or aborted
-unfoldable pub frameBytes : Revision → Header → Bool → List ℕ → List ℕ
-frameBytes revision h abort source = preambleBytes h ++ body revision h (lateByte revision abort) (sent h abort source)
-
--- its length
+-- with the preamble
 abbrev pub wireLength : Revision → Header → ℕ
-wireLength Msgr20 h = 32 + total h + 17
-wireLength Msgr21 h = 32 + total h + cond (eqb (h .s1 .len) 0) 0 4 + cond (leb (h .count) 1) 0 13
+wireLength revision h = 32 + bodyLength revision h
+
+-- ---- bytes
+
+abbrev pub firstSum : Revision → Header → List ℕ → List ℕ
+firstSum revision h first = cond (noFirstSum revision h) [] (le 4 (segmentSum first))
+
+-- the late byte that we write: late_flags, or late_status
+abbrev pub lateByte : Revision → Bool → ℕ
+lateByte Msgr20 abort = cond abort 0x01 0x00
+lateByte Msgr21 abort = cond abort 0x01 0x0E
+
+abbrev pub epilogue : Revision → Header → ℕ → List ℕ → List ℕ → List ℕ
+epilogue revision h late first rest =
+    cond (noEpilogue revision h) [] (late ∷ words (fieldsFrom (h .count) (epilogueFrom revision) (inEpilogue revision (segments h first rest))))
+
+-- THE BODY: segment 1, its checksum, the other segments, the epilogue
+unfoldable pub body : Revision → Header → ℕ → List ℕ → List ℕ → List ℕ
+body revision h late first rest = first ++ firstSum revision h first ++ rest ++ epilogue revision h late first rest
+
+-- behind segment 1, an aborted frame carries zeros
+abbrev pub restSent : Bool → List ℕ → List ℕ
+restSent abort rest = cond abort (replicate (length rest) 0) rest
+
+-- THE FRAME, whole or aborted, of segments whose bytes, one behind the other, are source
+unfoldable pub frameBytes : Revision → Header → Bool → List ℕ → List ℕ
+frameBytes revision h abort source =
+    preambleBytes h ++ body revision h (lateByte revision abort) (take (h .s1 .len) source) (restSent abort (drop (h .s1 .len) source))

@@ -1,3 +1,2 @@
 pub mod Body
 pub mod End
-pub mod Laws

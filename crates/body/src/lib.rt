@@ -14,14 +14,15 @@ use refusal::either;
 use refusal::or_else;
 use refusal::unless_ok;
 ghost use mathlib.Core.Path.{_≡_};
-ghost use mathlib.Core.Bool.{cond, _||_};
+ghost use mathlib.Core.Bool.{_||_};
 ghost use mathlib.Core.List.{_∷_, []};
 ghost use Prim.Native.Nat.{_+_, _<_, _≤_};
-ghost use lib.ListN.{replicate, take, drop};
+ghost use lib.ListN.{drop};
 ghost use lib.Dec.{ltb, eqb};
 ghost use Rattle.buffer.specs.Le.{numberAt};
+ghost use Rattle.refusal.specs.declared.Refusal.the-variants as refusal;
 ghost use Rattle.refusal.specs.Refusals.{judgedBy, unless};
-ghost use Rattle.body.specs.Body.{field, restFields, words, lateByte, wireLength, noEpilogue};
+ghost use Rattle.body.specs.Body.{segmentSum, field, fieldsFrom, segments, restSent, words, lateByte, noFirstSum, firstSumLength, noEpilogue, epilogueLength, wireLength};
 ghost use Rattle.body.specs.End.{lateOf, compareFrom, compared, endedBy, endedAs, ending};
 
 // The start value of a segment's checksum.
@@ -48,52 +49,90 @@ pub struct Sums {
     pub s4: u32,
 }
 
-// Segment k's field in an epilogue.
-pub fn field_of(count: u8, k: u8, bytes: &[u8]) -> u32
-    ensures { λ r. ⌜ r ≡ field count k (now (bytes .entry)) ⌝ }
+// ---- lengths
+
+// Segment 1 has no checksum behind it.
+pub fn no_first_sum(revision: Revision, h: Header) -> bool
+    ensures { λ r. ⌜ r ≡ noFirstSum revision h ⌝ }
 {
-    if k <= count {
-        checksum(SEGMENT_START, bytes)
-    } else {
-        0
+    match revision {
+        Revision::Msgr20 => true,
+        Revision::Msgr21 => h.s1.len == 0,
     }
 }
 
-// The same of n zeros.
-fn zero_field(count: u8, k: u8, n: u32) -> u32
-    ensures { λ r. ⌜ r ≡ field count k (replicate n 0) ⌝ }
+// The length of that checksum.
+pub fn first_sum_length(revision: Revision, h: Header) -> usize
+    ensures { λ r. ⌜ (r ≡ firstSumLength revision h) × (r ≤ 4) ⌝ }
 {
-    if k <= count {
-        checksum_zeros(SEGMENT_START, n as usize)
-    } else {
-        0
+    if no_first_sum(revision, h) { 0 } else { 4 }
+}
+
+// A one-segment msgr2.1 frame has no epilogue.
+pub fn no_epilogue(revision: Revision, h: Header) -> bool
+    ensures { λ r. ⌜ r ≡ noEpilogue revision h ⌝ }
+{
+    match revision {
+        Revision::Msgr20 => false,
+        Revision::Msgr21 => h.count <= 1,
     }
+}
+
+// The length of an epilogue.
+pub fn epilogue_length(revision: Revision, h: Header) -> usize
+    ensures { λ r. ⌜ (r ≡ epilogueLength revision h) × (r ≤ 17) ⌝ }
+{
+    match revision {
+        Revision::Msgr20 => 17,
+        Revision::Msgr21 => { if h.count <= 1 { 0 } else { 13 } }
+    }
+}
+
+// The bytes of a frame on the wire.
+pub fn wire_length(revision: Revision, h: Header) -> u64
+    ensures { λ r. ⌜ r ≡ wireLength revision h ⌝ }
+{
+    let first = first_sum_length(revision, h) as u64;
+    let last = epilogue_length(revision, h) as u64;
+    32 + (total_of(h) + first + last)
+}
+
+// ---- checksum fields
+
+// A segment's checksum.
+pub fn segment_sum(bytes: &[u8]) -> u32
+    ensures { λ r. ⌜ r ≡ segmentSum (now (bytes .entry)) ⌝ }
+{
+    checksum(SEGMENT_START, bytes)
+}
+
+// Segment k's field in an epilogue; in place of its bytes an aborted frame carries zeros.
+pub fn field_of(count: u8, k: u8, zeros: bool, bytes: &[u8]) -> u32
+    ensures { λ r. ⌜ r ≡ field count k (restSent zeros (now (bytes .entry))) ⌝ }
+{
+    if count < k {
+        return 0;
+    }
+    if zeros {
+        return checksum_zeros(SEGMENT_START, bytes.len());
+    }
+    segment_sum(bytes)
 }
 
 // The fields of segments 2 to 4, whose bytes, in order, are rest.
-pub fn rest_fields(h: Header, rest: &[u8]) -> Sums
-    ensures { λ r. ⌜ (r .s2 ∷ r .s3 ∷ r .s4 ∷ []) ≡ restFields h (now (rest .entry)) ⌝ }
+pub fn rest_fields(h: Header, abort: bool, rest: &[u8]) -> Sums
+    ensures { λ r. ⌜ (r .s2 ∷ r .s3 ∷ r .s4 ∷ []) ≡ fieldsFrom (h .count) 2 (drop 1 (segments h [] (restSent abort (now (rest .entry))))) ⌝ }
 {
     let n2 = h.s2.len as usize;
     let n3 = h.s3.len as usize;
     let n4 = h.s4.len as usize;
     let count = h.count;
+    let from3 = behind(rest, n2);
+    let from4 = behind(from3, n3);
     Sums {
-        s2: field_of(count, 2, part(rest, 0, n2)),
-        s3: field_of(count, 3, part(rest, n2, n3)),
-        s4: field_of(count, 4, part(rest, n2 + n3, n4)),
-    }
-}
-
-// The same where all of those bytes are zeros, as in an aborted frame.
-pub fn zero_fields(h: Header) -> Sums
-    ensures { λ r. ⌜ (r .s2 ∷ r .s3 ∷ r .s4 ∷ []) ≡ restFields h (replicate (h .s2 .len + h .s3 .len + h .s4 .len) 0) ⌝ }
-{
-    let count = h.count;
-    Sums {
-        s2: zero_field(count, 2, h.s2.len),
-        s3: zero_field(count, 3, h.s3.len),
-        s4: zero_field(count, 4, h.s4.len),
+        s2: field_of(count, 2, abort, part(rest, 0, n2)),
+        s3: field_of(count, 3, abort, part(from3, 0, n3)),
+        s4: field_of(count, 4, abort, part(from4, 0, n4)),
     }
 }
 
@@ -159,26 +198,7 @@ pub fn epilogue21(late: u8, rest: Sums) -> [u8; 13]
     ]
 }
 
-// The bytes of a frame on the wire.
-pub fn wire_length(revision: Revision, h: Header) -> u64
-    ensures { λ r. ⌜ r ≡ wireLength revision h ⌝ }
-{
-    let t = total_of(h);
-    match revision {
-        Revision::Msgr20 => 32 + t + 17,
-        Revision::Msgr21 => {
-            let first = if_not(h.s1.len == 0, 4);
-            let last = if_not(h.count <= 1, 13);
-            32 + t + first + last
-        }
-    }
-}
-
-fn if_not(test: bool, n: u64) -> u64
-    ensures { λ r. ⌜ (r ≡ cond test 0 n) × (r ≤ n) ⌝ }
-{
-    if test { 0 } else { n }
-}
+// ---- the end of a body
 
 // What a late byte says: the one place that reads it.
 pub fn read_late(revision: Revision, b: u8) -> Late
@@ -204,12 +224,13 @@ pub fn read_late(revision: Revision, b: u8) -> Late
     }
 }
 
-// Segment k's checksum as stored in the frame, against that of its bytes.
-fn compare(count: u8, k: u8, stored: u32, sum: u32) -> Verdict
-    ensures { λ r. ⌜ judgedBy r ≡ unless (ltb count k || eqb stored sum) 11 k ⌝ }
+// Segment k's checksum, stored in the epilogue e at place i, against that of its bytes.
+fn compare(count: u8, k: u8, e: &[u8], i: usize, bytes: &[u8]) -> Verdict
+    ensures { λ r. ⌜ judgedBy r ≡ unless (ltb count k || eqb (numberAt 4 i (now (e .entry))) (segmentSum (now (bytes .entry)))) (refusal.SegmentChecksum k) ⌝ }
 {
+    let stored = word_at(e, i);
     unless_ok(
-        either(count < k, stored == sum),
+        either(count < k, stored == segment_sum(bytes)),
         Refusal::SegmentChecksum(k),
     )
 }
@@ -217,25 +238,32 @@ fn compare(count: u8, k: u8, stored: u32, sum: u32) -> Verdict
 // Segments 2 to 4, whose fields stand in the epilogue e from place i on.
 fn compare_rest(h: Header, e: &[u8], i: usize, rest: &[u8]) -> Verdict
     requires { ⌜ i < 250 ⌝ }
-    ensures { λ r. ⌜ judgedBy r ≡ compareFrom (h .count) 2 (numberAt 4 i (now (e .entry)) ∷ numberAt 4 (i + 4) (now (e .entry)) ∷ numberAt 4 (i + 8) (now (e .entry)) ∷ []) (restFields h (now (rest .entry))) ⌝ }
+    ensures { λ r. ⌜ judgedBy r ≡ compareFrom (h .count) 2 (numberAt 4 i (now (e .entry)) ∷ numberAt 4 (i + 4) (now (e .entry)) ∷ numberAt 4 (i + 8) (now (e .entry)) ∷ []) (drop 1 (segments h [] (now (rest .entry)))) ⌝ }
 {
+    let n2 = h.s2.len as usize;
+    let n3 = h.s3.len as usize;
+    let n4 = h.s4.len as usize;
     let count = h.count;
-    let sums = rest_fields(h, rest);
-    let v2 = compare(count, 2, word_at(e, i), sums.s2);
-    let v3 = compare(count, 3, word_at(e, i + 4), sums.s3);
-    let v4 = compare(count, 4, word_at(e, i + 8), sums.s4);
+    let from3 = behind(rest, n2);
+    let from4 = behind(from3, n3);
+    let v2 = compare(count, 2, e, i, part(rest, 0, n2));
+    let v3 = compare(count, 3, e, i + 4, part(from3, 0, n3));
+    let v4 = compare(count, 4, e, i + 8, part(from4, 0, n4));
     or_else(v2, or_else(v3, v4))
 }
 
-// All segments of a msgr2.0 frame.
-fn compare_all(h: Header, e: &[u8], payload: &[u8]) -> Verdict
-    ensures { λ r. ⌜ judgedBy r ≡ compareFrom (h .count) 1 (numberAt 4 1 (now (e .entry)) ∷ numberAt 4 5 (now (e .entry)) ∷ numberAt 4 9 (now (e .entry)) ∷ numberAt 4 13 (now (e .entry)) ∷ []) (field (h .count) 1 (take (h .s1 .len) (now (payload .entry))) ∷ restFields h (drop (h .s1 .len) (now (payload .entry)))) ⌝ }
+fn compare_sums(revision: Revision, h: Header, e: &[u8], payload: &[u8]) -> Verdict
+    ensures { λ r. ⌜ judgedBy r ≡ compared revision h (now (e .entry)) (now (payload .entry)) ⌝ }
 {
     let n = h.s1.len as usize;
-    let count = h.count;
-    let sum = field_of(count, 1, part(payload, 0, n));
-    let first = compare(count, 1, word_at(e, 1), sum);
-    or_else(first, compare_rest(h, e, 5, behind(payload, n)))
+    let rest = behind(payload, n);
+    match revision {
+        Revision::Msgr20 => {
+            let first = compare(h.count, 1, e, 1, part(payload, 0, n));
+            or_else(first, compare_rest(h, e, 5, rest))
+        }
+        Revision::Msgr21 => compare_rest(h, e, 1, rest),
+    }
 }
 
 fn ended(v: Verdict) -> Ending
@@ -244,26 +272,6 @@ fn ended(v: Verdict) -> Ending
     match v {
         Verdict::Fine => Ending::Whole,
         Verdict::Refused(why) => Ending::Refused(why),
-    }
-}
-
-fn compare_sums(revision: Revision, h: Header, e: &[u8], payload: &[u8]) -> Verdict
-    ensures { λ r. ⌜ judgedBy r ≡ compared revision h (now (e .entry)) (now (payload .entry)) ⌝ }
-{
-    let n = h.s1.len as usize;
-    match revision {
-        Revision::Msgr20 => compare_all(h, e, payload),
-        Revision::Msgr21 => compare_rest(h, e, 1, behind(payload, n)),
-    }
-}
-
-// A one-segment msgr2.1 frame has no epilogue.
-pub fn no_epilogue(revision: Revision, h: Header) -> bool
-    ensures { λ r. ⌜ r ≡ noEpilogue revision h ⌝ }
-{
-    match revision {
-        Revision::Msgr20 => false,
-        Revision::Msgr21 => h.count <= 1,
     }
 }
 

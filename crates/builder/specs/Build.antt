@@ -7,6 +7,7 @@ use lib.ListN.{length}
 use lib.Dec.{leb, eqb}
 use Rattle.buffer.specs.Splice.{splice}
 use Rattle.refusal.specs.declared.Numbers.{Numbers}
+use Rattle.refusal.specs.declared.Refusal.the-variants as refusal
 use Rattle.refusal.specs.Refusals.{Judged, fine, refused, numbersOf, firstOf, unless}
 use Rattle.banner.specs.declared.Revision.{Revision}
 use Rattle.banner.specs.declared.Revision.the-variants.{Msgr20, Msgr21}
@@ -20,16 +21,16 @@ use Rattle.builder.specs.declared.Built.the-variants as built
 
 -- the source has the bytes of all segments
 abbrev pub judgeSource : ℕ → ℕ → Judged
-judgeSource source t = unless (eqb source t) 13 0
+judgeSource source t = unless (eqb source t) refusal.SourceLength
 
 -- a one-segment msgr2.1 frame has no late byte to say it in
 abbrev pub judgeAbort : Revision → ℕ → Bool → Judged
 judgeAbort Msgr20 count abort = fine
-judgeAbort Msgr21 count abort = unless (not (abort && eqb count 1)) 15 0
+judgeAbort Msgr21 count abort = unless (not (abort && eqb count 1)) refusal.AbortOneSegment
 
 -- n bytes have room behind the queued ones
 abbrev pub judgeRoom : ℕ → ℕ → ℕ → Judged
-judgeRoom n space queued = unless (leb (queued + n) space) 14 n
+judgeRoom n space queued = unless (leb (queued + n) space) (refusal.NoRoom n)
 
 -- THE ORDER for a frame: 6, 8, 9 of its header, then 13, 15, 14
 unfoldable pub judgeFrame : Revision → Header → Bool → ℕ → ℕ → ℕ → Judged
@@ -78,3 +79,10 @@ frameDone revision h abort source buf queued =
 unfoldable pub bannerDone : ℕ → ℕ → List ℕ → ℕ → Done
 bannerDone supported required buf queued =
     outcome (judgeBanner supported required (length buf) queued) bannerLength buf queued (bannerBytes supported required)
+
+-- THE PROMISES of the two builders: a buffer buf with so many bytes queued, the answer, and the buffer then
+pub record BuiltFrame (revision : Revision) (h : Header) (abort : Bool) (source buf : List ℕ) (queued : ℕ) (answer : Built) (after : List ℕ) : Type 0 where
+  pub promise : done (answered answer) after ≡ frameDone revision h abort source buf queued
+
+pub record BuiltBanner (supported required : ℕ) (buf : List ℕ) (queued : ℕ) (answer : Built) (after : List ℕ) : Type 0 where
+  pub promise : done (answered answer) after ≡ bannerDone supported required buf queued

@@ -2,14 +2,16 @@
 use banner::Revision;
 use banner::banner_bytes;
 use banner::judge_own;
-use body::Sums;
 use body::epilogue20;
 use body::epilogue21;
 use body::field_of;
+use body::first_sum_length;
 use body::late_byte;
+use body::no_epilogue;
+use body::no_first_sum;
 use body::rest_fields;
+use body::segment_sum;
 use body::wire_length;
-use body::zero_fields;
 use buffer::behind;
 use buffer::part;
 use buffer::put;
@@ -26,18 +28,15 @@ use refusal::both;
 use refusal::or_else;
 use refusal::unless_ok;
 ghost use mathlib.Core.Path.{_≡_};
-ghost use mathlib.Core.Bool.{cond};
-ghost use mathlib.Core.List.{_∷_, [], _++_};
-ghost use Prim.Native.Nat.{_+_, _-_, _≤_};
-ghost use lib.ListN.{length, replicate};
-ghost use lib.Dec.{leb, eqb};
+ghost use mathlib.Core.List.{_++_};
+ghost use Prim.Native.Nat.{_+_, _≤_};
+ghost use lib.ListN.{length};
+ghost use lib.Dec.{leb};
 ghost use Rattle.buffer.specs.Splice.{over};
 ghost use Rattle.refusal.specs.Refusals.{judgedBy};
-ghost use Rattle.banner.specs.declared.Revision.the-variants as revision;
 ghost use Rattle.preamble.specs.Layout.{total, preambleBytes};
-ghost use Rattle.body.specs.Body.{restLength, restFields, words, firstSum, body, frameBytes, wireLength, lateByte};
-ghost use Rattle.body.specs.Laws.{restSent};
-ghost use Rattle.builder.specs.Build.{judgeSource, judgeAbort, judgeRoom, judgeFrame, judgeBanner, done, answered, frameDone, bannerDone};
+ghost use Rattle.body.specs.Body.{restLength, firstSumLength, epilogueLength, bodyLength, wireLength, firstSum, lateByte, epilogue, body, restSent, frameBytes};
+ghost use Rattle.builder.specs.Build.{judgeAbort, judgeFrame, judgeBanner, BuiltFrame, BuiltBanner};
 
 // What a build comes to: the bytes written, or why it was refused.
 pub enum Built {
@@ -103,106 +102,78 @@ fn put_preamble(out: &mut [u8], h: Header)
     put(&mut out[28..], &sum);
 }
 
-// Segment 1's checksum, unless the segment is empty.
-fn put_first_sum(out: &mut [u8], n: usize, first: &[u8])
-    requires { ⌜ length (firstSum n (now first)) ≤ length (now out) ⌝ }
-    ensures { λ _. ⌜ now (out .exit) ≡ over (firstSum n (now (first .entry))) (now (out .entry)) ⌝ }
+// Segment 1 and the checksum behind it.
+fn put_first(out: &mut [u8], revision: Revision, h: Header, first: &[u8])
+    requires { ⌜ length (now first) + firstSumLength revision h ≤ length (now out) ⌝ }
+    ensures { λ _. ⌜ now (out .exit) ≡ over (now (first .entry) ++ firstSum revision h (now (first .entry))) (now (out .entry)) ⌝ }
 {
-    if n != 0 {
-        let sum = word_bytes(checksum(0xFFFFFFFF, first));
-        put(out, &sum);
-    }
+    let n = first.len();
+    put(out, first);
+    put_first_sum(&mut out[n..], revision, h, first);
 }
 
-// The n bytes behind segment 1: as given, or zeros in an aborted frame.
-fn put_rest(out: &mut [u8], abort: bool, n: usize, rest: &[u8])
-    requires { ⌜ (n ≤ length (now out)) × (length (now rest) ≡ n) ⌝ }
-    ensures { λ _. ⌜ now (out .exit) ≡ over (cond abort (replicate n 0) (now (rest .entry))) (now (out .entry)) ⌝ }
+fn put_first_sum(out: &mut [u8], revision: Revision, h: Header, first: &[u8])
+    requires { ⌜ firstSumLength revision h ≤ length (now out) ⌝ }
+    ensures { λ _. ⌜ now (out .exit) ≡ over (firstSum revision h (now (first .entry))) (now (out .entry)) ⌝ }
+{
+    if no_first_sum(revision, h) {
+        return;
+    }
+    let sum = word_bytes(segment_sum(first));
+    put(out, &sum);
+}
+
+// The segments behind segment 1: as given, or zeros in an aborted frame.
+fn put_rest(out: &mut [u8], abort: bool, rest: &[u8])
+    requires { ⌜ length (now rest) ≤ length (now out) ⌝ }
+    ensures { λ _. ⌜ now (out .exit) ≡ over (restSent abort (now (rest .entry))) (now (out .entry)) ⌝ }
 {
     if abort {
-        put_zeros(out, n);
+        put_zeros(out, rest.len());
     } else {
         put(out, rest);
     }
 }
 
-// The checksum fields of segments 2 to 4, of the bytes as they are sent.
-fn sums_of(h: Header, abort: bool, rest: &[u8]) -> Sums
-    ensures { λ r. ⌜ (r .s2 ∷ r .s3 ∷ r .s4 ∷ []) ≡ restFields h (restSent h abort (now (rest .entry))) ⌝ }
+// The epilogue, with checksums of the bytes as they are sent.
+fn put_epilogue(
+    out: &mut [u8],
+    revision: Revision,
+    h: Header,
+    abort: bool,
+    first: &[u8],
+    rest: &[u8],
+)
+    requires { ⌜ epilogueLength revision h ≤ length (now out) ⌝ }
+    ensures { λ _. ⌜ now (out .exit) ≡ over (epilogue revision h (lateByte revision abort) (now (first .entry)) (restSent abort (now (rest .entry)))) (now (out .entry)) ⌝ }
 {
-    if abort {
-        zero_fields(h)
-    } else {
-        rest_fields(h, rest)
+    if no_epilogue(revision, h) {
+        return;
     }
-}
-
-// A msgr2.0 body from segment 1 and the rest.
-fn put_body20(out: &mut [u8], h: Header, abort: bool, first: &[u8], rest: &[u8])
-    requires { ⌜ (length (now first) ≡ h .s1 .len) × (length (now rest) ≡ restLength h) × (total h + 17 ≤ length (now out)) ⌝ }
-    ensures { λ _. ⌜ now (out .exit) ≡ over (body revision.Msgr20 h (lateByte revision.Msgr20 abort) (now (first .entry) ++ restSent h abort (now (rest .entry)))) (now (out .entry)) ⌝ }
-{
-    let a = first.len();
-    let n = rest.len();
-    put(out, first);
-    put_rest(&mut out[a..], abort, n, rest);
-    let late = late_byte(Revision::Msgr20, abort);
-    let last = epilogue20(late, field_of(h.count, 1, first), sums_of(h, abort, rest));
-    let end = a + n;
-    put(&mut out[end..], &last);
-}
-
-// The room of segment 1's checksum.
-fn first_room(n: usize) -> usize
-    ensures { λ r. ⌜ (r ≡ cond (eqb n 0) 0 4) × (r ≤ 4) ⌝ }
-{
-    if n == 0 { 0 } else { 4 }
-}
-
-// The epilogue of a msgr2.1 frame, which a one-segment frame does not have.
-fn put_last21(out: &mut [u8], h: Header, abort: bool, rest: &[u8])
-    requires { ⌜ cond (leb (h .count) 1) 0 13 ≤ length (now out) ⌝ }
-    ensures { λ _. ⌜ now (out .exit) ≡ over (cond (leb (h .count) 1) [] (lateByte revision.Msgr21 abort ∷ words (restFields h (restSent h abort (now (rest .entry)))))) (now (out .entry)) ⌝ }
-{
-    if 1 < h.count {
-        let late = late_byte(Revision::Msgr21, abort);
-        let last = epilogue21(late, sums_of(h, abort, rest));
-        put(out, &last);
-    }
-}
-
-// Segment 1 and its checksum, as msgr2.1 has them; answers their length.
-fn put_head21(out: &mut [u8], h: Header, first: &[u8]) -> usize
-    requires { ⌜ (length (now first) ≡ h .s1 .len) × (h .s1 .len + cond (eqb (h .s1 .len) 0) 0 4 ≤ length (now out)) ⌝ }
-    ensures { λ r. ⌜ (r ≡ h .s1 .len + cond (eqb (h .s1 .len) 0) 0 4) × (now (out .exit) ≡ over (now (first .entry) ++ firstSum (h .s1 .len) (now (first .entry))) (now (out .entry))) ⌝ }
-{
-    let n = h.s1.len as usize;
-    put(out, first);
-    put_first_sum(&mut out[n..], n, first);
-    n + first_room(n)
-}
-
-// A msgr2.1 body from segment 1 and the rest.
-fn put_body21(out: &mut [u8], h: Header, abort: bool, first: &[u8], rest: &[u8])
-    requires { ⌜ (length (now first) ≡ h .s1 .len) × (length (now rest) ≡ restLength h) × (total h + cond (eqb (h .s1 .len) 0) 0 4 + cond (leb (h .count) 1) 0 13 ≤ length (now out)) ⌝ }
-    ensures { λ _. ⌜ now (out .exit) ≡ over (body revision.Msgr21 h (lateByte revision.Msgr21 abort) (now (first .entry) ++ restSent h abort (now (rest .entry)))) (now (out .entry)) ⌝ }
-{
-    let n = rest.len();
-    let a = put_head21(out, h, first);
-    put_rest(&mut out[a..], abort, n, rest);
-    let end = a + n;
-    put_last21(&mut out[end..], h, abort, rest);
-}
-
-// The body of either revision.
-fn put_body(out: &mut [u8], revision: Revision, h: Header, abort: bool, first: &[u8], rest: &[u8])
-    requires { ⌜ (length (now first) ≡ h .s1 .len) × (length (now rest) ≡ restLength h) × (wireLength revision h ≤ 32 + length (now out)) ⌝ }
-    ensures { λ _. ⌜ now (out .exit) ≡ over (body revision h (lateByte revision abort) (now (first .entry) ++ restSent h abort (now (rest .entry)))) (now (out .entry)) ⌝ }
-{
+    let late = late_byte(revision, abort);
+    let fields = rest_fields(h, abort, rest);
     match revision {
-        Revision::Msgr20 => put_body20(out, h, abort, first, rest),
-        Revision::Msgr21 => put_body21(out, h, abort, first, rest),
+        Revision::Msgr20 => {
+            let bytes = epilogue20(late, field_of(h.count, 1, false, first), fields);
+            put(out, &bytes);
+        }
+        Revision::Msgr21 => {
+            let bytes = epilogue21(late, fields);
+            put(out, &bytes);
+        }
     }
+}
+
+// The body, from segment 1 and the others.
+fn put_body(out: &mut [u8], revision: Revision, h: Header, abort: bool, first: &[u8], rest: &[u8])
+    requires { ⌜ (length (now first) ≡ h .s1 .len) × (length (now rest) ≡ restLength h) × (bodyLength revision h ≤ length (now out)) ⌝ }
+    ensures { λ _. ⌜ now (out .exit) ≡ over (body revision h (lateByte revision abort) (now (first .entry)) (restSent abort (now (rest .entry)))) (now (out .entry)) ⌝ }
+{
+    let a = first.len() + first_sum_length(revision, h);
+    let end = a + rest.len();
+    put_first(out, revision, h, first);
+    put_rest(&mut out[a..], abort, rest);
+    put_epilogue(&mut out[end..], revision, h, abort, first, rest);
 }
 
 // A whole frame.
@@ -221,7 +192,7 @@ fn put_frame(out: &mut [u8], revision: Revision, h: Header, abort: bool, source:
 
 // Builds our banner behind the queued bytes.
 pub fn build_banner(buf: &mut [u8], queued: usize, supported: u64, required: u64) -> Built
-    ensures { λ r. ⌜ done (answered r) (now (buf .exit)) ≡ bannerDone supported required (now (buf .entry)) queued ⌝ }
+    ensures { λ r. ⌜ BuiltBanner supported required (now (buf .entry)) queued r (now (buf .exit)) ⌝ }
 {
     let verdict = judge_banner(supported, required, buf.len(), queued);
     match verdict {
@@ -243,7 +214,7 @@ pub fn build_frame(
     abort: bool,
     source: &[u8],
 ) -> Built
-    ensures { λ r. ⌜ done (answered r) (now (buf .exit)) ≡ frameDone revision header abort (now (source .entry)) (now (buf .entry)) queued ⌝ }
+    ensures { λ r. ⌜ BuiltFrame revision header abort (now (source .entry)) (now (buf .entry)) queued r (now (buf .exit)) ⌝ }
 {
     let verdict = judge_frame(revision, header, abort, source.len(), buf.len(), queued);
     match verdict {

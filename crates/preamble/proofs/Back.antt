@@ -1,6 +1,6 @@
 -- Reading what was laid out.
-use mathlib.Core.Path.{_≡_, refl, sym, ap, ap₂, _∙_}
-use mathlib.Core.List.{List, [], _∷_, _++_, append-assoc}
+use mathlib.Core.Path.{_≡_, refl, ap, _∙_}
+use mathlib.Core.List.{List, _++_, append-assoc}
 use Prim.Native.Nat.{ℕ}
 use borrow.Author.Tests.{eq-eqb}
 use lib.ListN.{take, drop, getD}
@@ -8,10 +8,10 @@ use Rattle.buffer.specs.Le.{le, numberAt, leOf-le}
 use Rattle.crc32c.specs.Crc.{crcOf}
 use Rattle.refusal.specs.Refusals.{fine}
 use Rattle.preamble.specs.declared.Header.{Header}
-use Rattle.preamble.specs.declared.Preamble.{Preamble}
 use Rattle.preamble.specs.Layout.{preambleFront, preambleBytes}
-use Rattle.preamble.specs.Judge.{headerOf, preambleOf, judgeChecksum}
-use Rattle.preamble.specs.Laws.{HeaderFits, ReadBack, ReadsBack, laidOut, header-back, front-crc-lt}
+use Rattle.preamble.specs.Judge.{preambleOf, judgeChecksum}
+use Rattle.preamble.specs.Reading.{HeaderFits, ReadsBack, laidOut}
+use Rattle.preamble.proofs.Laws.{header-back, front-crc-lt}
 
 whole : (h : Header) (rest : List ℕ) → preambleBytes h ++ rest ≡ preambleFront h ++ (le 4 (crcOf 0 (preambleFront h)) ++ rest)
 unfolding preambleBytes

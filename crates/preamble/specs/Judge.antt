@@ -1,11 +1,13 @@
 -- A preamble's fields, and 01's judgements on them: refusals 5 to 10.
 use mathlib.Core.List.{List, [], _∷_}
-use mathlib.Core.Bool.{Bool, true, false, not, cond, _&&_}
+use mathlib.Core.Bool.{Bool, not, cond, _&&_}
 use Prim.Native.Nat.{ℕ, zero, suc, _+_}
 use lib.ListN.{take, getD}
 use lib.Dec.{leb, ltb, eqb}
 use Rattle.buffer.specs.Le.{numberAt}
 use Rattle.crc32c.specs.Crc.{crcOf}
+use Rattle.refusal.specs.declared.Refusal.{Refusal}
+use Rattle.refusal.specs.declared.Refusal.the-variants as refusal
 use Rattle.refusal.specs.Refusals.{Judged, orElse, firstOf, unless}
 use Rattle.preamble.specs.declared.Segment.{Segment}
 use Rattle.preamble.specs.declared.Header.{Header}
@@ -26,8 +28,8 @@ abbrev pub faultWhen : Bool → ℕ → ℕ
 faultWhen wrong place = cond wrong place 0
 
 -- a refusal whose detail is that place
-abbrev pub unlessFault : ℕ → ℕ → Judged
-unlessFault number place = unless (eqb place 0) number place
+abbrev pub unlessFault : (ℕ → Refusal) → ℕ → Judged
+unlessFault why place = unless (eqb place 0) (why place)
 
 -- ---- shape
 
@@ -58,7 +60,7 @@ shapeFault h =
     ∷ [])
 
 abbrev pub judgeShape : Header → Judged
-judgeShape h = unlessFault 6 (shapeFault h)
+judgeShape h = unlessFault refusal.Shape (shapeFault h)
 
 -- ---- flags, tag, limits, store
 
@@ -66,16 +68,17 @@ abbrev pub flagFault : ℕ → ℕ → ℕ
 flagFault flags reserved = firstFault (faultWhen (not (eqb flags 0)) 26 ∷ faultWhen (not (eqb reserved 0)) 27 ∷ [])
 
 abbrev pub judgeFlags : ℕ → ℕ → Judged
-judgeFlags flags reserved = unlessFault 7 (flagFault flags reserved)
+judgeFlags flags reserved = unlessFault refusal.Flags (flagFault flags reserved)
 
 abbrev pub judgeTag : ℕ → Judged
-judgeTag tag = unless (leb 1 tag && leb tag 20) 8 tag
+judgeTag tag = unless (leb 1 tag && leb tag 20) (refusal.Tag tag)
 
+-- K9's limits, each said here only
 abbrev pub segmentLimit : ℕ
-segmentLimit = 16384
+segmentLimit = 1048576
 
 abbrev pub sumLimit : ℕ
-sumLimit = 32768
+sumLimit = 2097152
 
 abbrev pub above : ℕ → ℕ → ℕ → ℕ
 above limit place n = faultWhen (ltb limit n) place
@@ -95,11 +98,11 @@ limitFault h =
     ∷ [])
 
 abbrev pub judgeLimits : Header → Judged
-judgeLimits h = unlessFault 9 (limitFault h)
+judgeLimits h = unlessFault refusal.Limit (limitFault h)
 
 -- the store holds the bytes that the frame needs
 abbrev pub judgeStore : ℕ → ℕ → Judged
-judgeStore needed store = unless (leb needed store) 10 needed
+judgeStore needed store = unless (leb needed store) (refusal.StoreShort needed)
 
 -- what is asked of a header by itself: 6, 8, 9
 unfoldable pub judgeHeader : Header → Judged
@@ -125,7 +128,7 @@ abbrev pub preambleOf : List ℕ → Preamble
 preambleOf bs = record { header = headerOf bs; flags = getD bs 26 0; reserved = getD bs 27 0; checksum = numberAt 4 28 bs }
 
 abbrev pub judgeChecksum : List ℕ → Judged
-judgeChecksum bs = unless (eqb (crcOf 0 (take 28 bs)) (numberAt 4 28 bs)) 5 28
+judgeChecksum bs = unless (eqb (crcOf 0 (take 28 bs)) (numberAt 4 28 bs)) refusal.PreambleChecksum
 
 -- THE ORDER at a preamble's last byte: the checksum first, then the fields. store is the store's length
 unfoldable pub judgeFields : Preamble → ℕ → Judged

@@ -1,3 +1,3 @@
 pub mod Layout
 pub mod Judge
-pub mod Laws
+pub mod Reading

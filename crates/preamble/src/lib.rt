@@ -13,13 +13,13 @@ ghost use mathlib.Core.Path.{_≡_};
 ghost use Prim.Native.Nat.{_<_};
 ghost use Rattle.refusal.specs.Refusals.{judgedBy};
 ghost use Rattle.preamble.specs.Layout.{total, frontList};
-ghost use Rattle.preamble.specs.Laws.{ReadsBack};
+ghost use Rattle.preamble.specs.Reading.{ReadsBack};
 ghost use Rattle.preamble.specs.Judge.{first, faultWhen, lengthWrong, segmentFault, shapeFault, judgeShape, judgeFlags, judgeTag, above, limitFault, judgeLimits, judgeStore, judgeHeader, segmentAt, headerOf, preambleOf, judgeFields, judgePreamble};
 
 // At most so many bytes in a segment, and in all segments of a frame.
-pub const SEGMENT_LIMIT: u64 = 16384;
+pub const SEGMENT_LIMIT: u64 = 1048576;
 
-pub const SUM_LIMIT: u64 = 32768;
+pub const SUM_LIMIT: u64 = 2097152;
 
 // A segment's two fields in a preamble.
 #[repr(C)]

@@ -1,12 +1,10 @@
--- 01's table of refusals: each case's number and its three details (0 where it has fewer).
-use mathlib.Core.Path.{_≡_, refl}
-use mathlib.Core.Bool.{Bool, true, false, cond}
+-- 01's table of refusals, the one place of their numbers and details (three, 0 where a case has fewer), and judgements, which name a case.
+use mathlib.Core.Bool.{Bool, cond}
 use mathlib.Core.List.{List, [], _∷_}
 use Prim.Native.Nat.{ℕ}
-use Rattle.refusal.specs.declared.Missing.{Missing}
 use Rattle.refusal.specs.declared.Numbers.{Numbers}
 use Rattle.refusal.specs.declared.Refusal.{Refusal}
-use Rattle.refusal.specs.declared.Refusal.the-variants.{Magic, BannerLength, PeerRequires, PeerLacks, PreambleChecksum, Shape, Flags, Tag, Limit, StoreShort, SegmentChecksum, LateStatus, SourceLength, NoRoom, AbortOneSegment, OwnFeatures, TableFull, AckAhead, NumbersSpent, StateContradicts}
+use Rattle.refusal.specs.declared.Refusal.the-variants.{Magic, BannerLength, PeerRequires, PeerLacks, PreambleChecksum, Shape, Flags, Tag, Limit, StoreShort, SegmentChecksum, LateStatus, SourceLength, NoRoom, AbortOneSegment, OwnFeatures, AuthTag, BodyMalformed, UnexpectedTag, TableFull, AckAhead, NonCanonical, NumbersSpent, StateContradicts}
 use Rattle.refusal.specs.declared.Verdict.{Verdict}
 use Rattle.refusal.specs.declared.Verdict.the-variants as verdict
 
@@ -32,8 +30,12 @@ numbersOf SourceLength = row 13 0 0 0
 numbersOf (NoRoom n) = row 14 n 0 0
 numbersOf AbortOneSegment = row 15 0 0 0
 numbersOf OwnFeatures = row 16 0 0 0
+numbersOf AuthTag = row 17 0 0 0
+numbersOf (BodyMalformed place) = row 20 place 0 0
+numbersOf (UnexpectedTag t) = row 21 t 0 0
 numbersOf TableFull = row 22 0 0 0
 numbersOf AckAhead = row 23 0 0 0
+numbersOf (NonCanonical k) = row 24 k 0 0
 numbersOf NumbersSpent = row 25 0 0 0
 numbersOf StateContradicts = row 26 0 0 0
 
@@ -42,12 +44,12 @@ pub data Judged : Type 0 where
   fine : Judged
   refused : Numbers → Judged
 
-abbrev pub told : Refusal → Judged
-told r = refused (numbersOf r)
+abbrev pub refusedWith : Refusal → Judged
+refusedWith r = refused (numbersOf r)
 
 abbrev pub judgedBy : Verdict → Judged
 judgedBy verdict.Fine = fine
-judgedBy (verdict.Refused r) = told r
+judgedBy (verdict.Refused r) = refusedWith r
 
 -- the first of two that is a refusal
 abbrev pub orElse : Judged → Judged → Judged
@@ -59,21 +61,6 @@ abbrev pub firstOf : List Judged → Judged
 firstOf [] = fine
 firstOf (j ∷ js) = orElse j (firstOf js)
 
--- a refusal with one detail, unless a test holds
-abbrev pub unless : Bool → ℕ → ℕ → Judged
-unless ok n d = cond ok fine (refused (row n d 0 0))
-
--- behind the last judgement nothing is wrong
-pub or-else-last : (j : Judged) → orElse j fine ≡ j
-or-else-last fine = refl
-or-else-last (refused n) = refl
-
--- where nothing is wrong, nothing was wrong with either
-pub past : (a b : Judged) → orElse a b ≡ fine → (a ≡ fine) × (b ≡ fine)
-past fine b e = (refl, e)
-past (refused n) b e = (e, cc)
-
--- and a test held
-pub passed : (ok : Bool) (n d : ℕ) → unless ok n d ≡ fine → ok ≡ true
-passed true n d e = refl
-passed false n d e = cc
+-- a refusal, unless a test holds
+abbrev pub unless : Bool → Refusal → Judged
+unless ok r = cond ok fine (refusedWith r)

@@ -1,7 +1,7 @@
 // What can be turned away, as 01's table has it: cases, their numbers and details, and verdicts put in order.
 ghost use mathlib.Core.Path.{_≡_};
-ghost use mathlib.Core.Bool.{cond, _&&_, _||_};
-ghost use Rattle.refusal.specs.Refusals.{fine, row, numbersOf, told, judgedBy, orElse};
+ghost use mathlib.Core.Bool.{_&&_, _||_};
+ghost use Rattle.refusal.specs.Refusals.{row, numbersOf, judgedBy, orElse, unless};
 
 // Feature bits that one side requires and the other does not support.
 pub struct Missing {
@@ -10,7 +10,7 @@ pub struct Missing {
     pub count: u32,
 }
 
-// Refusals: a case for each number of the rules, with the values that its details are made of. Of a preamble that is the place of the field at fault.
+// Refusals: a case for each number of the rules, with the values that its details are made of. Of a preamble that is the place of the field at fault; where no field is, as for a text too long to be sealed, a limit's place is 0.
 pub enum Refusal {
     Magic,
     BannerLength(u16),
@@ -28,8 +28,14 @@ pub enum Refusal {
     NoRoom(u64),
     AbortOneSegment,
     OwnFeatures,
+    AuthTag,
+    // The place of the field at fault in a control frame's body.
+    BodyMalformed(u64),
+    // The tag that a handshake did not wait for.
+    UnexpectedTag(u8),
     TableFull,
     AckAhead,
+    NonCanonical(u8),
     NumbersSpent,
     StateContradicts,
 }
@@ -92,8 +98,12 @@ pub fn in_numbers(refusal: Refusal) -> Numbers
         Refusal::NoRoom(n) => one(14, n),
         Refusal::AbortOneSegment => one(15, 0),
         Refusal::OwnFeatures => one(16, 0),
+        Refusal::AuthTag => one(17, 0),
+        Refusal::BodyMalformed(place) => one(20, place),
+        Refusal::UnexpectedTag(t) => one(21, t as u64),
         Refusal::TableFull => one(22, 0),
         Refusal::AckAhead => one(23, 0),
+        Refusal::NonCanonical(k) => one(24, k as u64),
         Refusal::NumbersSpent => one(25, 0),
         Refusal::StateContradicts => one(26, 0),
     }
@@ -111,7 +121,7 @@ pub fn or_else(a: Verdict, b: Verdict) -> Verdict
 
 // The refusal, unless a test held.
 pub fn unless_ok(ok: bool, refusal: Refusal) -> Verdict
-    ensures { λ r. ⌜ judgedBy r ≡ cond ok fine (told refusal) ⌝ }
+    ensures { λ r. ⌜ judgedBy r ≡ unless ok refusal ⌝ }
 {
     if ok {
         Verdict::Fine

@@ -7,6 +7,7 @@ use native.Mathlib.Omega.{arith}
 use lib.ListN.{length, length-append}
 use lib.Dec.{leb, ltb}
 use borrow.Author.Tests.{leb-true, leb-false, lt-ltb, le-ltb}
+use Rattle.refusal.specs.declared.Refusal.the-variants as why
 use Rattle.refusal.specs.Refusals.{Judged, fine, refused, unless, firstOf}
 use Rattle.session.specs.declared.Session.{Session}
 use Rattle.session.specs.declared.Message.{Message}
@@ -196,13 +197,13 @@ report-by (refused n) s t r = refl
 module _ (past : List Event) (s : Session) (u : Upto past s) where
   reported : (c : Call) → callOf s c .report ≡ due past c
   reported (accept h) =
-      rw (accept-is s (u .agreeing) h, report-by (firstOf (unless (ltb (s .last) finalNumber) 25 0 ∷ unless (ltb (length (heldOf s)) places) 22 0 ∷ [])) s, u .held, u .last)
-  reported (ack n) = rw (ack-is s (u .agreeing) n, report-by (unless (leb n (s .last)) 23 0) s, u .last)
+      rw (accept-is s (u .agreeing) h, report-by (firstOf (unless (ltb (s .last) finalNumber) why.NumbersSpent ∷ unless (ltb (length (heldOf s)) places) why.TableFull ∷ [])) s, u .held, u .last)
+  reported (ack n) = rw (ack-is s (u .agreeing) n, report-by (unless (leb n (s .last)) why.AckAhead) s, u .last)
   reported (reconnect n) = rw (reconnect-is s (u .agreeing) n, ← u .last) (go (leb n (s .last)) refl)
     where
       go : (t : Bool) → leb n (s .last) ≡ t
-          → unlessRefused (unless t 23 0) (refusing s) (outcome (acked s n) (report.Resend (length (heldOf (acked s n))))) .report
-          ≡ unlessRefused (unless t 23 0) report.Refused (report.Resend (length (withFate isHeld (past ++ (acknowledged n ∷ [])))))
+          → unlessRefused (unless t why.AckAhead) (refusing s) (outcome (acked s n) (report.Resend (length (heldOf (acked s n))))) .report
+          ≡ unlessRefused (unless t why.AckAhead) report.Refused (report.Resend (length (withFate isHeld (past ++ (acknowledged n ∷ [])))))
       go true t = ap (λ (l : List Message). report.Resend (length l))
           (acked-is s (u .agreeing) n (leb-true n (s .last) t) .table ∙ ap (above n) (u .held) ∙ sym (held-snoc past (acknowledged n)))
       go false t = refl

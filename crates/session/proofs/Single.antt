@@ -8,7 +8,9 @@ use lib.ListN.{length, length-set}
 use lib.Dec.{leb, ltb}
 use borrow.Author.Tests.{ltb-true, leb-true, leb-false, le-leb, lt-leb}
 use Rattle.refusal.specs.declared.Numbers.{Numbers}
-use Rattle.refusal.specs.Refusals.{unless, firstOf, row, or-else-last}
+use Rattle.refusal.specs.declared.Refusal.the-variants as why
+use Rattle.refusal.specs.Refusals.{unless, firstOf, row}
+use Rattle.refusal.proofs.Judgements.{or-else-last}
 use Rattle.session.specs.declared.Session.{Session}
 use Rattle.session.specs.declared.Report.{Report}
 use Rattle.session.specs.declared.Report.the-variants as report
@@ -31,10 +33,10 @@ contradicted s (reset full) e = rw e
 module _ (s : Session) (ok : agrees s ≡ true) where
   -- the judgements behind 26
   abbrev pub acceptBy : Bool → Bool → ℕ → Outcome
-  acceptBy left room h = unlessRefused (firstOf (unless left 25 0 ∷ unless room 22 0 ∷ [])) (refusing s) (outcome (adding s (s .last + 1) h) (report.Accepted (s .last + 1)))
+  acceptBy left room h = unlessRefused (firstOf (unless left why.NumbersSpent ∷ unless room why.TableFull ∷ [])) (refusing s) (outcome (adding s (s .last + 1) h) (report.Accepted (s .last + 1)))
 
   abbrev pub ackBy : Bool → ℕ → Report → Outcome
-  ackBy sent n r = unlessRefused (unless sent 23 0) (refusing s) (outcome (acked s n) r)
+  ackBy sent n r = unlessRefused (unless sent why.AckAhead) (refusing s) (outcome (acked s n) r)
 
   pub accept-is : (h : ℕ) → acceptOf s h ≡ acceptBy (ltb (s .last) finalNumber) (ltb (length (heldOf s)) places) h
   unfolding acceptOf judgeAccept judgeState
@@ -42,11 +44,11 @@ module _ (s : Session) (ok : agrees s ≡ true) where
 
   pub ack-is : (n : ℕ) → ackOf s n ≡ ackBy (leb n (s .last)) n report.Done
   unfolding ackOf judgeAck judgeState
-  ack-is n = rw (ok, or-else-last (unless (leb n (s .last)) 23 0))
+  ack-is n = rw (ok, or-else-last (unless (leb n (s .last)) why.AckAhead))
 
   pub reconnect-is : (n : ℕ) → reconnectOf s n ≡ ackBy (leb n (s .last)) n (report.Resend (length (heldOf (acked s n))))
   unfolding reconnectOf judgeAck judgeState
-  reconnect-is n = rw (ok, or-else-last (unless (leb n (s .last)) 23 0))
+  reconnect-is n = rw (ok, or-else-last (unless (leb n (s .last)) why.AckAhead))
 
   pub reset-is : (full : Bool) → resetOf s full ≡ outcome (cleared s full) report.Done
   unfolding resetOf judgeState

@@ -13,7 +13,9 @@ use Rattle.refusal.specs.declared.Numbers.{Numbers}
 use Rattle.refusal.specs.declared.Refusal.{Refusal}
 use Rattle.refusal.specs.declared.Verdict.{Verdict}
 use Rattle.refusal.specs.declared.Verdict.the-variants as verdict
-use Rattle.refusal.specs.Refusals.{Judged, fine, numbersOf, judgedBy, past, passed}
+use Rattle.refusal.specs.declared.Refusal.the-variants as why
+use Rattle.refusal.specs.Refusals.{Judged, fine, numbersOf, judgedBy, unless}
+use Rattle.refusal.proofs.Judgements.{passed, all-fine}
 use Rattle.session.specs.declared.Session.{Session}
 use Rattle.session.specs.declared.Message.{Message}
 use Rattle.session.specs.declared.Report.the-variants as report
@@ -135,13 +137,13 @@ agrees-by s order room = rw (le-leb (s .released) (s .last) order, le-leb (s .la
 -- where a session is not turned away
 pub fine-state : (s : Session) → judgeState s ≡ fine → Agreeing s
 unfolding judgeState
-fine-state s e = agreeing s (passed (agrees s) 26 0 e)
+fine-state s e = agreeing s (passed (agrees s) why.StateContradicts e)
 
 pub fine-accept : (s : Session) → judgeAccept s ≡ fine → s .last < finalNumber
 unfolding judgeAccept
 fine-accept s e =
     ltb-true (s .last) finalNumber
-    (passed (ltb (s .last) finalNumber) 25 0 (past _ _ (past (judgeState s) _ e .1) .0))
+    (passed (ltb (s .last) finalNumber) why.NumbersSpent (all-fine (judgeState s ∷ unless (ltb (s .last) finalNumber) why.NumbersSpent ∷ unless (ltb (length (heldOf s)) places) why.TableFull ∷ []) e .1 .0))
 
 -- ---- what a call answers, by its verdict
 

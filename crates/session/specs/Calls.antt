@@ -5,6 +5,7 @@ use Prim.Native.Nat.{ℕ, zero, suc, _+_, _-_, _%_}
 use lib.ListN.{length, getD, set, replicate}
 use lib.Dec.{leb, ltb}
 use Rattle.refusal.specs.declared.Numbers.{Numbers}
+use Rattle.refusal.specs.declared.Refusal.the-variants as refusal
 use Rattle.refusal.specs.Refusals.{Judged, fine, refused, unless, firstOf}
 use Rattle.session.specs.declared.Session.{Session}
 use Rattle.session.specs.declared.Message.{Message}
@@ -49,13 +50,13 @@ freshSession = record { handles = replicate places 0; released = 0; last = 0 }
 -- ---- what is turned away, in order
 
 unfoldable pub judgeState : Session → Judged
-judgeState s = unless (agrees s) 26 0
+judgeState s = unless (agrees s) refusal.StateContradicts
 
 unfoldable pub judgeAccept : Session → Judged
-judgeAccept s = firstOf (judgeState s ∷ unless (ltb (s .last) finalNumber) 25 0 ∷ unless (ltb (length (heldOf s)) places) 22 0 ∷ [])
+judgeAccept s = firstOf (judgeState s ∷ unless (ltb (s .last) finalNumber) refusal.NumbersSpent ∷ unless (ltb (length (heldOf s)) places) refusal.TableFull ∷ [])
 
 unfoldable pub judgeAck : Session → ℕ → Judged
-judgeAck s n = firstOf (judgeState s ∷ unless (leb n (s .last)) 23 0 ∷ [])
+judgeAck s n = firstOf (judgeState s ∷ unless (leb n (s .last)) refusal.AckAhead ∷ [])
 
 -- ---- sessions that follow from one another
 
@@ -85,8 +86,8 @@ abbrev pub refusing : Session → Numbers → Outcome
 refusing s n = outcome s (report.Refused n)
 
 abbrev pub unlessRefused : {A : Type 0} → Judged → (Numbers → A) → A → A
-unlessRefused fine refusal a = a
-unlessRefused (refused n) refusal a = refusal n
+unlessRefused fine f a = a
+unlessRefused (refused n) f a = f n
 
 unfoldable pub acceptOf : Session → ℕ → Outcome
 acceptOf s h = unlessRefused (judgeAccept s) (refusing s) (outcome (adding s (s .last + 1) h) (report.Accepted (s .last + 1)))

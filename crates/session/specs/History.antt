@@ -5,6 +5,7 @@ use mathlib.Core.Bool.{Bool, true, false, cond}
 use Prim.Native.Nat.{ℕ, zero, suc, _+_, _≤_, max}
 use lib.ListN.{length}
 use lib.Dec.{leb, ltb}
+use Rattle.refusal.specs.declared.Refusal.the-variants as refusal
 use Rattle.refusal.specs.Refusals.{Judged, unless, firstOf}
 use Rattle.session.specs.declared.Session.{Session}
 use Rattle.session.specs.declared.Message.{Message}
@@ -94,11 +95,11 @@ dueBy j r = unlessRefused j report.Refused r
 
 abbrev pub due : List Event → Call → Report
 due past (accept h) =
-    dueBy (firstOf (unless (ltb (length (acceptedIn past)) finalNumber) 25 0 ∷ unless (ltb (length (withFate isHeld past)) places) 22 0 ∷ []))
+    dueBy (firstOf (unless (ltb (length (acceptedIn past)) finalNumber) refusal.NumbersSpent ∷ unless (ltb (length (withFate isHeld past)) places) refusal.TableFull ∷ []))
     (report.Accepted (length (acceptedIn past) + 1))
-due past (ack n) = dueBy (unless (leb n (length (acceptedIn past))) 23 0) report.Done
+due past (ack n) = dueBy (unless (leb n (length (acceptedIn past))) refusal.AckAhead) report.Done
 due past (reconnect n) =
-    dueBy (unless (leb n (length (acceptedIn past))) 23 0)
+    dueBy (unless (leb n (length (acceptedIn past))) refusal.AckAhead)
     (report.Resend (length (withFate isHeld (past ++ (acknowledged n ∷ [])))))
 due past (reset full) = report.Done
 

@@ -1,8 +1,6 @@
-use Rattle.banner.specs.Bits.{ones-count}
+use Rattle.banner.proofs.Bits.{ones-count}
 use Rattle.banner.proofs.count_of.Statement.{statement}
 use Rattle.banner.proofs.count_of.Tie as tie
-use Rattle.banner.proofs.count_of.Reads as reads
-use Rattle.banner.proofs.count_of.Lts as lts
 
 returns : tie.Need-returns
 returns c = ones-count 64 (c .args .bits) (c .fits .bits .fits)

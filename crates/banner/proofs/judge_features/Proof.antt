@@ -1,15 +1,9 @@
-use Rattle.banner.specs.Banner.{judgeFeatures, judgeMissing}
+use Rattle.banner.specs.Banner.{judgeFeatures}
 use Rattle.refusal.specs.Refusals.{judgedBy}
-use Rattle.refusal.specs.Refusals.{or-else-last}
+use Rattle.refusal.proofs.Judgements.{or-else-last}
 use borrow.Author.Needs.{needs}
 use Rattle.banner.proofs.judge_features.Statement.{statement}
 use Rattle.banner.proofs.judge_features.Tie as tie
-use Rattle.banner.proofs.judge_features.Reads as reads
-use Rattle.banner.proofs.judge_features.Lts as lts
-use Rattle.banner.proofs.judge_lacking.Reads as judge-lacking-reads
-use Rattle.banner.proofs.judge_required.Reads as judge-required-reads
-use Rattle.banner.proofs.missing_of.Reads as missing-of-reads
-use Rattle.refusal.proofs.or_else.Reads as or-else-reads
 
 missing-of-requires : tie.Need-missing-of-requires
 missing-of-requires c κs = search needs

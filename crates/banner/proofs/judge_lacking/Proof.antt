@@ -1,10 +1,6 @@
 use borrow.Author.Needs.{needs}
 use Rattle.banner.proofs.judge_lacking.Statement.{statement}
 use Rattle.banner.proofs.judge_lacking.Tie as tie
-use Rattle.banner.proofs.judge_lacking.Reads as reads
-use Rattle.banner.proofs.judge_lacking.Lts as lts
-use Rattle.banner.proofs.detail_of.Reads as detail-of-reads
-use Rattle.refusal.proofs.unless_ok.Reads as unless-ok-reads
 
 detail-of-requires : tie.Need-detail-of-requires
 detail-of-requires c κs = search needs

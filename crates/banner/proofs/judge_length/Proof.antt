@@ -1,10 +1,6 @@
 use borrow.Author.Needs.{needs}
 use Rattle.banner.proofs.judge_length.Statement.{statement}
 use Rattle.banner.proofs.judge_length.Tie as tie
-use Rattle.banner.proofs.judge_length.Reads as reads
-use Rattle.banner.proofs.judge_length.Lts as lts
-use Rattle.refusal.proofs.both.Reads as both-reads
-use Rattle.refusal.proofs.unless_ok.Reads as unless-ok-reads
 
 both-requires : tie.Need-both-requires
 both-requires c κs = search needs

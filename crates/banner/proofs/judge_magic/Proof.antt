@@ -4,11 +4,6 @@ use lib.ListN.{getD}
 use borrow.Author.Needs.{needs}
 use Rattle.banner.proofs.judge_magic.Statement.{statement}
 use Rattle.banner.proofs.judge_magic.Tie as tie
-use Rattle.banner.proofs.judge_magic.Reads as reads
-use Rattle.banner.proofs.judge_magic.Lts as lts
-use Rattle.buffer.proofs.byte_at.Reads as byte-at-reads
-use Rattle.refusal.proofs.both.Reads as both-reads
-use Rattle.refusal.proofs.unless_ok.Reads as unless-ok-reads
 
 byte-at-requires : tie.Need-byte-at-requires
 byte-at-requires c κs = search needs

@@ -1,11 +1,6 @@
 use borrow.Author.Needs.{needs}
 use Rattle.banner.proofs.judge_own.Statement.{statement}
 use Rattle.banner.proofs.judge_own.Tie as tie
-use Rattle.banner.proofs.judge_own.Reads as reads
-use Rattle.banner.proofs.judge_own.Lts as lts
-use Rattle.banner.proofs.missing_of.Reads as missing-of-reads
-use Rattle.refusal.proofs.both.Reads as both-reads
-use Rattle.refusal.proofs.unless_ok.Reads as unless-ok-reads
 
 missing-of-requires : tie.Need-missing-of-requires
 missing-of-requires c κs = search needs

@@ -1,8 +1,6 @@
-use Rattle.banner.specs.Bits.{zeros-lowest}
+use Rattle.banner.proofs.Bits.{zeros-lowest}
 use Rattle.banner.proofs.lowest_of.Statement.{statement}
 use Rattle.banner.proofs.lowest_of.Tie as tie
-use Rattle.banner.proofs.lowest_of.Reads as reads
-use Rattle.banner.proofs.lowest_of.Lts as lts
 
 returns : tie.Need-returns
 returns c = zeros-lowest 64 (c .args .bits)

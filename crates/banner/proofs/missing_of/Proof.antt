@@ -1,8 +1,6 @@
-use Rattle.banner.specs.Bits.{missing-is}
+use Rattle.banner.proofs.Bits.{missing-is}
 use Rattle.banner.proofs.missing_of.Statement.{statement}
 use Rattle.banner.proofs.missing_of.Tie as tie
-use Rattle.banner.proofs.missing_of.Reads as reads
-use Rattle.banner.proofs.missing_of.Lts as lts
 
 returns : tie.Need-returns
 returns c = missing-is 64 (c .args .required) (c .args .supported) (c .fits .required .fits) (c .fits .supported .fits)

@@ -1,9 +1,6 @@
 use borrow.Author.Needs.{needs}
 use Rattle.banner.proofs.read_features.Statement.{statement}
 use Rattle.banner.proofs.read_features.Tie as tie
-use Rattle.banner.proofs.read_features.Reads as reads
-use Rattle.banner.proofs.read_features.Lts as lts
-use Rattle.buffer.proofs.long_at.Reads as long-at-reads
 
 long-at-requires : tie.Need-long-at-requires
 long-at-requires c κs = search needs

@@ -2,9 +2,6 @@ use mathlib.Core.Path.{sym, _∙_}
 use borrow.Author.Needs.{needs}
 use Rattle.banner.proofs.revision_of.Statement.{statement}
 use Rattle.banner.proofs.revision_of.Tie as tie
-use Rattle.banner.proofs.revision_of.Reads as reads
-use Rattle.banner.proofs.revision_of.Lts as lts
-use Rattle.refusal.proofs.both.Reads as both-reads
 
 both-requires : tie.Need-both-requires
 both-requires c κs = search needs

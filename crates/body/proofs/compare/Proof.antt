@@ -1,9 +1,12 @@
 use borrow.Author.Needs.{needs}
 use Rattle.body.proofs.compare.Statement.{statement}
 use Rattle.body.proofs.compare.Tie as tie
-use Rattle.body.proofs.compare.Reads as reads
-use Rattle.body.proofs.compare.Lts as lts
-use Rattle.refusal.proofs.unless_ok.Reads as unless-ok-reads
+
+word-at-requires : tie.Need-word-at-requires
+word-at-requires c κs = search needs
+
+segment-sum-requires : tie.Need-segment-sum-requires
+segment-sum-requires c κs = search needs
 
 either-requires : tie.Need-either-requires
 either-requires c κs = search needs
@@ -12,7 +15,7 @@ unless-ok-requires : tie.Need-unless-ok-requires
 unless-ok-requires c κs = search needs
 
 returns : tie.Need-returns
-returns c = cc
+returns c = simp (c .unless-ok .ensures, c .before .either .ensures, c .before .before .segment-sum .ensures, c .before .before .before .word-at .ensures)
 
 pub compare-spec : {M : Type 1} → statement M
-compare-spec = tie.close (tie.spec either-requires unless-ok-requires returns)
+compare-spec = tie.close (tie.spec word-at-requires segment-sum-requires either-requires unless-ok-requires returns)

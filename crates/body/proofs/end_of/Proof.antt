@@ -1,18 +1,8 @@
-use mathlib.Core.Path.{_≡_, _∙_, refl, sym, ap, ap₂}
-use mathlib.Core.Bool.{true, false}
-use Prim.Native.Nat.{ℕ}
-use lib.ListN.{getD}
-use Rattle.body.specs.End.{ending, lateOf, endedBy, byLate, compared}
+use mathlib.Core.Path.{_∙_, sym, ap}
+use Rattle.body.specs.End.{ending, lateOf, endedBy}
 use borrow.Author.Needs.{needs}
 use Rattle.body.proofs.end_of.Statement.{statement}
 use Rattle.body.proofs.end_of.Tie as tie
-use Rattle.body.proofs.end_of.Reads as reads
-use Rattle.body.proofs.end_of.Lts as lts
-use Rattle.body.proofs.compare_sums.Reads as compare-sums-reads
-use Rattle.body.proofs.ended.Reads as ended-reads
-use Rattle.body.proofs.no_epilogue.Reads as no-epilogue-reads
-use Rattle.body.proofs.read_late.Reads as read-late-reads
-use Rattle.buffer.proofs.byte_at.Reads as byte-at-reads
 
 no-epilogue-requires : tie.Need-no-epilogue-requires
 no-epilogue-requires c κs = search needs

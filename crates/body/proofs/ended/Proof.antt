@@ -5,8 +5,6 @@ use Rattle.body.specs.End.{endedBy}
 use borrow.Author.Needs.{needs}
 use Rattle.body.proofs.ended.Statement.{statement}
 use Rattle.body.proofs.ended.Tie as tie
-use Rattle.body.proofs.ended.Reads as reads
-use Rattle.body.proofs.ended.Lts as lts
 
 enum-told : tie.Need-enum-told
 enum-told c = search needs

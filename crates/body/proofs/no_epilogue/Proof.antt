@@ -1,8 +1,6 @@
 use borrow.Author.Needs.{needs}
 use Rattle.body.proofs.no_epilogue.Statement.{statement}
 use Rattle.body.proofs.no_epilogue.Tie as tie
-use Rattle.body.proofs.no_epilogue.Reads as reads
-use Rattle.body.proofs.no_epilogue.Lts as lts
 
 enum-told : tie.Need-enum-told
 enum-told c = search needs

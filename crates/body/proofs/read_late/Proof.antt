@@ -1,12 +1,7 @@
-use mathlib.Core.Path.{_≡_, sym, ap, _∙_}
 use borrow.Author.Tests.{eq-eqb, ne-eqb}
-use Rattle.banner.specs.declared.Revision.{Revision}
-use Rattle.body.specs.End.{lateOf}
 use borrow.Author.Needs.{needs}
 use Rattle.body.proofs.read_late.Statement.{statement}
 use Rattle.body.proofs.read_late.Tie as tie
-use Rattle.body.proofs.read_late.Reads as reads
-use Rattle.body.proofs.read_late.Lts as lts
 
 enum-told : tie.Need-enum-told
 enum-told c = search needs

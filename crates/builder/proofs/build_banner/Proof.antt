@@ -1,6 +1,6 @@
-use mathlib.Core.Path.{_≡_, _∙_, refl, sym, ap, ap₂}
+use mathlib.Core.Path.{_≡_, _∙_, sym, ap}
 use mathlib.Core.List.{List}
-use Prim.Native.Nat.{ℕ, _+_, _-_, _≤_}
+use Prim.Native.Nat.{ℕ, _-_}
 use native.Mathlib.Omega.{arith}
 use lib.ListN.{length}
 use Rattle.buffer.specs.Splice.{rest, length-rest, placed, laid-over}
@@ -11,11 +11,6 @@ use Rattle.builder.proofs.Accepted.{banner-fits}
 use borrow.Author.Needs.{needs}
 use Rattle.builder.proofs.build_banner.Statement.{statement}
 use Rattle.builder.proofs.build_banner.Tie as tie
-use Rattle.builder.proofs.build_banner.Reads as reads
-use Rattle.builder.proofs.build_banner.Lts as lts
-use Rattle.banner.proofs.banner_bytes.Reads as banner-bytes-reads
-use Rattle.buffer.proofs.put.Reads as put-reads
-use Rattle.builder.proofs.judge_banner.Reads as judge-banner-reads
 
 judge-banner-requires : tie.Need-judge-banner-requires
 judge-banner-requires c κs = search needs
@@ -52,7 +47,7 @@ put-requires c κs = search needs
 
 returns : tie.Need-returns
 unfolding bannerDone
-returns c = rw (sym (c .before .before .before .judge-banner .ensures) ∙ ap judgedBy (c .before .verdict .given .1))
+returns c = record { promise = rw (sym (c .before .before .before .judge-banner .ensures) ∙ ap judgedBy (c .before .verdict .given .1)) }
 
 same-length : tie.Need-same-length
 same-length c = search needs
@@ -64,8 +59,11 @@ returns-2 c =
     let f = banner-fits (g .supported) (g .required) (length (g .buf .now)) (g .queued) (sym (c .before .before .before .before .before .before .before .before .judge-banner .ensures) ∙ ap judgedBy (c .before .before .before .before .before .before .enum-told .given .1)) in
     let bytes : List ℕ = bannerBytes (g .supported) (g .required) in
     let b : length (rest (g .buf .now) (g .queued)) ≡ length (g .buf .now) - g .queued = length-rest (g .buf .now) (g .queued) in
-    rw (sym (c .before .before .before .before .before .before .before .before .judge-banner .ensures) ∙ ap judgedBy (c .before .before .before .before .before .before .enum-told .given .1))
-    (ap (done (wrote 26)) (placed (g .buf .now) bytes (c .before .before .put .last .0) (g .queued) (rw (c .before .before .before .before .before .banner-bytes .ensures) at (c .before .before .put .ensures) ∙ laid-over bytes (rest (g .buf .now) (g .queued)) (omega arith))))
+    record {
+      promise =
+          rw (sym (c .before .before .before .before .before .before .before .before .judge-banner .ensures) ∙ ap judgedBy (c .before .before .before .before .before .before .enum-told .given .1))
+          (ap (done (wrote 26)) (placed (g .buf .now) bytes (c .before .before .put .last .0) (g .queued) (rw (c .before .before .before .before .before .banner-bytes .ensures) at (c .before .before .put .ensures) ∙ laid-over bytes (rest (g .buf .now) (g .queued)) (omega arith))));
+    }
 
 pub build-banner-spec : {M : Type 1} → statement M
 build-banner-spec =

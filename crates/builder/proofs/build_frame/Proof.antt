@@ -1,9 +1,9 @@
-use mathlib.Core.Path.{_≡_, _∙_, refl, sym, ap, ap₂}
+use mathlib.Core.Path.{_≡_, _∙_, sym, ap, ap₂}
 use mathlib.Core.List.{List}
-use Prim.Native.Nat.{ℕ, _+_, _-_, _≤_}
+use Prim.Native.Nat.{ℕ, _-_}
 use native.Mathlib.Omega.{arith}
 use lib.ListN.{length}
-use Rattle.buffer.specs.Splice.{rest, length-rest, placed, laid-over}
+use Rattle.buffer.specs.Splice.{rest, length-rest, placed}
 use Rattle.refusal.specs.Refusals.{judgedBy}
 use Rattle.body.specs.Body.{frameBytes}
 use Rattle.builder.specs.Build.{frameDone, done, wrote}
@@ -11,11 +11,6 @@ use Rattle.builder.proofs.Accepted.{accepted}
 use borrow.Author.Needs.{needs}
 use Rattle.builder.proofs.build_frame.Statement.{statement}
 use Rattle.builder.proofs.build_frame.Tie as tie
-use Rattle.builder.proofs.build_frame.Reads as reads
-use Rattle.builder.proofs.build_frame.Lts as lts
-use Rattle.body.proofs.wire_length.Reads as wire-length-reads
-use Rattle.builder.proofs.judge_frame.Reads as judge-frame-reads
-use Rattle.builder.proofs.put_frame.Reads as put-frame-reads
 
 judge-frame-requires : tie.Need-judge-frame-requires
 judge-frame-requires c κs = search needs
@@ -53,7 +48,7 @@ wire-length-requires c κs = search needs
 
 returns : tie.Need-returns
 unfolding frameDone
-returns c = rw (sym (c .before .before .before .judge-frame .ensures) ∙ ap judgedBy (c .before .verdict .given .1))
+returns c = record { promise = rw (sym (c .before .before .before .judge-frame .ensures) ∙ ap judgedBy (c .before .verdict .given .1)) }
 
 same-length : tie.Need-same-length
 same-length c = search needs
@@ -63,8 +58,11 @@ unfolding frameDone
 returns-2 c =
     let g = c .before .before .before .before .before .before .before .before .before .before .args in
     let frame : List ℕ = frameBytes (g .revision) (g .header) (g .abort) (g .source .now) in
-    rw (sym (c .before .before .before .before .before .before .before .judge-frame .ensures) ∙ ap judgedBy (c .before .before .before .before .before .enum-told .given .1))
-    (ap₂ (λ (n : ℕ) (b : List ℕ). done (wrote n) b) (c .wire-length .ensures) (placed (g .buf .now) frame (c .before .before .before .put-frame .last .0) (g .queued) (c .before .before .before .put-frame .ensures)))
+    record {
+      promise =
+          rw (sym (c .before .before .before .before .before .before .before .judge-frame .ensures) ∙ ap judgedBy (c .before .before .before .before .before .enum-told .given .1))
+          (ap₂ (λ (n : ℕ) (b : List ℕ). done (wrote n) b) (c .wire-length .ensures) (placed (g .buf .now) frame (c .before .before .before .put-frame .last .0) (g .queued) (c .before .before .before .put-frame .ensures)));
+    }
 
 pub build-frame-spec : {M : Type 1} → statement M
 build-frame-spec =

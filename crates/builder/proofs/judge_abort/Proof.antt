@@ -1,11 +1,6 @@
-use mathlib.Core.Path.{_≡_}
 use borrow.Author.Needs.{needs}
 use Rattle.builder.proofs.judge_abort.Statement.{statement}
 use Rattle.builder.proofs.judge_abort.Tie as tie
-use Rattle.builder.proofs.judge_abort.Reads as reads
-use Rattle.builder.proofs.judge_abort.Lts as lts
-use Rattle.refusal.proofs.both.Reads as both-reads
-use Rattle.refusal.proofs.unless_ok.Reads as unless-ok-reads
 
 enum-told : tie.Need-enum-told
 enum-told c = search needs

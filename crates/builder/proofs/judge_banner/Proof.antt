@@ -1,14 +1,9 @@
-use Rattle.refusal.specs.Refusals.{judgedBy, or-else-last}
+use Rattle.refusal.specs.Refusals.{judgedBy}
+use Rattle.refusal.proofs.Judgements.{or-else-last}
 use Rattle.builder.specs.Build.{judgeBanner}
 use borrow.Author.Needs.{needs}
 use Rattle.builder.proofs.judge_banner.Statement.{statement}
 use Rattle.builder.proofs.judge_banner.Tie as tie
-use Rattle.builder.proofs.judge_banner.Reads as reads
-use Rattle.builder.proofs.judge_banner.Lts as lts
-use Rattle.banner.proofs.judge_own.Reads as judge-own-reads
-use Rattle.builder.proofs.room.Reads as room-reads
-use Rattle.refusal.proofs.or_else.Reads as or-else-reads
-use Rattle.refusal.proofs.unless_ok.Reads as unless-ok-reads
 
 room-requires : tie.Need-room-requires
 room-requires c κs = search needs

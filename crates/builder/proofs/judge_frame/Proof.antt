@@ -1,20 +1,12 @@
 use mathlib.Core.Path.{_≡_, _∙_, refl, sym, ap₂}
-use Rattle.refusal.specs.Refusals.{judgedBy, orElse, or-else-last}
+use Rattle.refusal.specs.Refusals.{judgedBy, orElse}
+use Rattle.refusal.proofs.Judgements.{or-else-last}
 use Rattle.preamble.specs.Layout.{total}
 use Rattle.body.specs.Body.{wireLength}
 use Rattle.builder.specs.Build.{judgeFrame, judgeRoom, judgeSource}
 use borrow.Author.Needs.{needs}
 use Rattle.builder.proofs.judge_frame.Statement.{statement}
 use Rattle.builder.proofs.judge_frame.Tie as tie
-use Rattle.builder.proofs.judge_frame.Reads as reads
-use Rattle.builder.proofs.judge_frame.Lts as lts
-use Rattle.body.proofs.wire_length.Reads as wire-length-reads
-use Rattle.builder.proofs.judge_abort.Reads as judge-abort-reads
-use Rattle.builder.proofs.room.Reads as room-reads
-use Rattle.preamble.proofs.judge_header.Reads as judge-header-reads
-use Rattle.preamble.proofs.total_of.Reads as total-of-reads
-use Rattle.refusal.proofs.or_else.Reads as or-else-reads
-use Rattle.refusal.proofs.unless_ok.Reads as unless-ok-reads
 
 wire-length-requires : tie.Need-wire-length-requires
 wire-length-requires c κs = search needs

@@ -1,58 +1,86 @@
-use mathlib.Core.Path.{_≡_, ap}
-use Prim.Native.Nat.{ℕ, _+_, _≤_}
-use native.Mathlib.Omega.{arith}
-use lib.ListN.{length}
-use Rattle.banner.specs.declared.Revision.{Revision}
-use Rattle.body.specs.Body.{wireLength}
+use mathlib.Core.Path.{_≡_, sym, ap, ap₂, _∙_}
+use mathlib.Core.List.{List, _++_}
+use Prim.Native.Nat.{ℕ, _+_}
+use lib.ListN.{length, length-append}
+use Rattle.buffer.specs.Splice.{over, back, next}
+use Rattle.body.specs.Body.{firstSum, lateByte, epilogue, body, restSent}
+use Rattle.body.proofs.Laws.{length-first-sum, length-sent}
 use borrow.Author.Needs.{needs}
 use Rattle.builder.proofs.put_body.Statement.{statement}
 use Rattle.builder.proofs.put_body.Tie as tie
-use Rattle.builder.proofs.put_body.Reads as reads
-use Rattle.builder.proofs.put_body.Lts as lts
-use Rattle.builder.proofs.put_body20.Reads as put-body20-reads
-use Rattle.builder.proofs.put_body21.Reads as put-body21-reads
 
-enum-told : tie.Need-enum-told
-enum-told c = search needs
+first-sum-length-requires : tie.Need-first-sum-length-requires
+first-sum-length-requires c κs = search needs
 
-put-body20-requires : tie.Need-put-body20-requires
-put-body20-requires c κs =
-    let g = c .before .before .before .before .before .before .args in
-    let p = c .before .before .before .before .before .before .pre in
-    let w = ap (λ (v : Revision). wireLength v (g .h)) (c .before .enum-told .given .1) in
-    (p .0, p .1, omega (arith, p, w))
+add-a : tie.Need-add-a
+add-a c = search needs
 
-enum-told-2 : tie.Need-enum-told-2
-enum-told-2 c = search needs
+add-end : tie.Need-add-end
+add-end c = search needs
 
-put-body21-requires : tie.Need-put-body21-requires
-put-body21-requires c κs =
-    let g = c .before .before .before .before .before .before .args in
-    let p = c .before .before .before .before .before .before .pre in
-    let w = ap (λ (v : Revision). wireLength v (g .h)) (c .before .enum-told2 .given .1) in
-    (p .0, p .1, omega (arith, p, w))
+put-first-requires : tie.Need-put-first-requires
+put-first-requires c κs = search needs
+
+sub-put-rest : tie.Need-sub-put-rest
+sub-put-rest c = search needs
+
+part-put-rest-start : tie.Need-part-put-rest-start
+part-put-rest-start c = search needs
+
+part-put-rest-end : tie.Need-part-put-rest-end
+part-put-rest-end c = search needs
+
+put-rest-requires : tie.Need-put-rest-requires
+put-rest-requires c κs = search needs
+
+sub-put-epilogue : tie.Need-sub-put-epilogue
+sub-put-epilogue c = search needs
+
+part-put-epilogue-start : tie.Need-part-put-epilogue-start
+part-put-epilogue-start c = search needs
+
+part-put-epilogue-end : tie.Need-part-put-epilogue-end
+part-put-epilogue-end c = search needs
+
+put-epilogue-requires : tie.Need-put-epilogue-requires
+put-epilogue-requires c κs = search needs
 
 same-length : tie.Need-same-length
 same-length c = search needs
 
 returns : tie.Need-returns
-returns c = rw (c .before .before .before .before .enum-told .given .1) (c .before .before .put-body20 .ensures)
-
-same-length-2 : tie.Need-same-length-2
-same-length-2 c = search needs
-
-returns-2 : tie.Need-returns-2
-returns-2 c = rw (c .before .before .before .before .enum-told2 .given .1) (c .before .before .put-body21 .ensures)
+unfolding body
+returns c =
+    let g = c .before .before .before .before .before .before .before .before .before .before .before .before .before .before .before .before .args in
+    let out = g .out .now in
+    let first = g .first .now in
+    let q : List ℕ = restSent (g .abort) (g .rest .now) in
+    let head : List ℕ = first ++ firstSum (g .revision) (g .h) first in
+    let a : ℕ = length first + c .before .before .before .before .before .before .before .before .before .before .before .before .first-sum-length .result in
+    let l₁ = c .before .before .before .before .before .before .before .before .before .before .put-first .last .0 in
+    let l₂ : List ℕ = back l₁ a (c .before .before .before .before .before .before .put-rest .last .0) in
+    let k : length head ≡ a = length-append first (firstSum (g .revision) (g .h) first) ∙ ap (λ (n : ℕ). length first + n) (length-first-sum (g .revision) (g .h) first ∙ sym (c .before .before .before .before .before .before .before .before .before .before .before .before .first-sum-length .ensures .0)) in
+    let e : l₂ ≡ over (head ++ q) out = next out l₁ head q (c .before .before .before .before .before .before .put-rest .last .0) a k (c .before .before .before .before .before .before .before .before .before .before .put-first .ensures) (c .before .before .before .before .before .before .put-rest .ensures) in
+    next out l₂ (head ++ q) (epilogue (g .revision) (g .h) (lateByte (g .revision) (g .abort)) first q) (c .before .before .put-epilogue .last .0) (a + length (g .rest .now))
+    (length-append head q ∙ ap₂ _+_ k (length-sent (g .abort) (g .rest .now)))
+    e
+    (c .before .before .put-epilogue .ensures)
 
 pub put-body-spec : {M : Type 1} → statement M
 put-body-spec =
     tie.close
     (tie.spec
-    enum-told
-    put-body20-requires
-    enum-told-2
-    put-body21-requires
+    first-sum-length-requires
+    add-a
+    add-end
+    put-first-requires
+    sub-put-rest
+    part-put-rest-start
+    part-put-rest-end
+    put-rest-requires
+    sub-put-epilogue
+    part-put-epilogue-start
+    part-put-epilogue-end
+    put-epilogue-requires
     same-length
-    returns
-    same-length-2
-    returns-2)
+    returns)

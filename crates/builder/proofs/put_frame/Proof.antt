@@ -1,27 +1,20 @@
-use mathlib.Core.Path.{_≡_, _∙_, refl, sym, ap, ap₂}
-use mathlib.Core.List.{List, _∷_, [], _++_}
-use Prim.Native.Nat.{ℕ, _+_, _-_, _≤_}
+use mathlib.Core.Path.{_≡_, _∙_, ap, ap₂}
+use mathlib.Core.List.{List}
+use Prim.Native.Nat.{ℕ, _-_}
 use native.Mathlib.Omega.{arith}
 use denote.Ref.{now}
 use lib.ListN.{length, take, drop, length-drop}
 use lib.Seq.{length-take-le}
-use Rattle.buffer.specs.Splice.{over, rest, back, next, length-rest, length-over}
-use Rattle.preamble.specs.Layout.{preambleBytes, total}
-use Rattle.preamble.specs.Laws.{length-preamble}
-use Rattle.body.specs.Body.{restLength, lateByte, body, frameBytes, sent}
-use Rattle.body.specs.Laws.{restSent, sent-split}
-use Rattle.builder.proofs.Accepted.{least}
+use Rattle.buffer.specs.Splice.{over, rest, next, length-rest}
+use Rattle.preamble.specs.Layout.{preambleBytes}
+use Rattle.preamble.proofs.Laws.{length-preamble}
+use Rattle.body.specs.Body.{lateByte, body, restSent, frameBytes}
 use borrow.Author.Needs.{needs}
 use Rattle.builder.proofs.put_frame.Statement.{statement}
 use Rattle.builder.proofs.put_frame.Tie as tie
-use Rattle.builder.proofs.put_frame.Reads as reads
-use Rattle.builder.proofs.put_frame.Lts as lts
-use Rattle.buffer.proofs.part.Reads as part-reads
-use Rattle.builder.proofs.put_body.Reads as put-body-reads
-use Rattle.builder.proofs.put_preamble.Reads as put-preamble-reads
 
 put-preamble-requires : tie.Need-put-preamble-requires
-put-preamble-requires c κs = omega (arith, c .before .before .before .pre .1, least (c .before .before .before .args .revision) (c .before .before .before .args .h))
+put-preamble-requires c κs = omega (arith, c .before .before .before .pre .1)
 
 cast-n : tie.Need-cast-n
 cast-n c = search needs
@@ -33,10 +26,10 @@ behind-requires : tie.Need-behind-requires
 behind-requires c κs = search needs
 
 sub-put-body : tie.Need-sub-put-body
-sub-put-body c = omega (arith, c .before .before .before .before .before .before .before .before .before .pre .1, least (c .before .before .before .before .before .before .before .before .before .args .revision) (c .before .before .before .before .before .before .before .before .before .args .h), c .before .before .before .before .before .put-preamble .kept .0)
+sub-put-body c = omega (arith, c .before .before .before .before .before .before .before .before .before .pre .1, c .before .before .before .before .before .put-preamble .kept .0)
 
 part-put-body-start : tie.Need-part-put-body-start
-part-put-body-start c = omega (arith, c .before .before .before .before .before .before .before .before .before .pre .1, least (c .before .before .before .before .before .before .before .before .before .args .revision) (c .before .before .before .before .before .before .before .before .before .args .h), c .before .before .before .before .before .put-preamble .kept .0)
+part-put-body-start c = omega (arith, c .before .before .before .before .before .before .before .before .before .pre .1, c .before .before .before .before .before .put-preamble .kept .0)
 
 part-put-body-end : tie.Need-part-put-body-end
 part-put-body-end c = search needs
@@ -62,17 +55,14 @@ returns : tie.Need-returns
 unfolding frameBytes
 returns c =
     let g = c .before .before .before .before .before .before .before .before .before .before .before .before .before .args in
-    let out = g .out .now in
     let s = g .source .now in
     let n = g .h .s1 .len in
-    let late : ℕ = lateByte (g .revision) (g .abort) in
-    let e : _≡_ {A = List ℕ} (now (c .before .before .before .before .before .part .result) ++ restSent (g .h) (g .abort) (now (c .before .before .before .before .behind .result))) (sent (g .h) (g .abort) s) =
-    ap₂ (λ (x y : List ℕ). x ++ restSent (g .h) (g .abort) y) (c .before .before .before .before .before .part .ensures) (c .before .before .before .before .behind .ensures) ∙ sym (sent-split (g .h) (g .abort) s)
-    in
-    next out (c .before .before .before .before .before .before .before .before .before .put-preamble .last .0) (preambleBytes (g .h)) (body (g .revision) (g .h) late (sent (g .h) (g .abort) s)) (c .before .before .put-body .last .0) 32
+    let l₁ = c .before .before .before .before .before .before .before .before .before .put-preamble .last .0 in
+    let of : List ℕ → List ℕ → List ℕ = λ first rest. body (g .revision) (g .h) (lateByte (g .revision) (g .abort)) first (restSent (g .abort) rest) in
+    next (g .out .now) l₁ (preambleBytes (g .h)) (of (take n s) (drop n s)) (c .before .before .put-body .last .0) 32
     (length-preamble (g .h))
     (c .before .before .before .before .before .before .before .before .before .put-preamble .ensures)
-    (c .before .before .put-body .ensures ∙ ap (λ (p : List ℕ). over (body (g .revision) (g .h) late p) (rest (c .before .before .before .before .before .before .before .before .before .put-preamble .last .0) 32)) e)
+    (c .before .before .put-body .ensures ∙ ap₂ (λ (x y : List ℕ). over (of x y) (rest l₁ 32)) (c .before .before .before .before .before .part .ensures) (c .before .before .before .before .behind .ensures))
 
 pub put-frame-spec : {M : Type 1} → statement M
 put-frame-spec =

@@ -2,21 +2,14 @@ use mathlib.Core.Path.{_≡_, _∙_, ap}
 use mathlib.Core.List.{List}
 use Prim.Native.Nat.{ℕ}
 use native.Mathlib.Omega.{arith}
-use lib.ListN.{length}
 use Rattle.buffer.specs.Le.{le}
-use Rattle.buffer.specs.Splice.{over, laid, laid-over, next-laid}
+use Rattle.buffer.specs.Splice.{over, laid-over, next-laid}
 use Rattle.crc32c.specs.Crc.{crcOf}
 use Rattle.preamble.specs.Layout.{preambleFront, preambleBytes}
-use Rattle.preamble.specs.Laws.{front-is, length-front}
+use Rattle.preamble.proofs.Laws.{front-is, length-front}
 use borrow.Author.Needs.{needs}
 use Rattle.builder.proofs.put_preamble.Statement.{statement}
 use Rattle.builder.proofs.put_preamble.Tie as tie
-use Rattle.builder.proofs.put_preamble.Reads as reads
-use Rattle.builder.proofs.put_preamble.Lts as lts
-use Rattle.buffer.proofs.put.Reads as put-reads
-use Rattle.buffer.proofs.word_bytes.Reads as word-bytes-reads
-use Rattle.crc32c.proofs.checksum.Reads as checksum-reads
-use Rattle.preamble.proofs.preamble_front.Reads as preamble-front-reads
 
 preamble-front-requires : tie.Need-preamble-front-requires
 preamble-front-requires c κs = search needs

@@ -1,8 +1,6 @@
 use Rattle.builder.proofs.Behind.{inside, outside}
 use Rattle.builder.proofs.room.Statement.{statement}
 use Rattle.builder.proofs.room.Tie as tie
-use Rattle.builder.proofs.room.Reads as reads
-use Rattle.builder.proofs.room.Lts as lts
 
 returns : tie.Need-returns
 returns c = inside (c .before .args .n) (c .before .args .space) (c .before .args .queued) (c .if1 .taken)

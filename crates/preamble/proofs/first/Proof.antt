@@ -2,8 +2,6 @@ use Rattle.preamble.proofs.Faults.{first-is}
 use borrow.Author.Needs.{needs}
 use Rattle.preamble.proofs.first.Statement.{statement}
 use Rattle.preamble.proofs.first.Tie as tie
-use Rattle.preamble.proofs.first.Reads as reads
-use Rattle.preamble.proofs.first.Lts as lts
 
 returns : tie.Need-returns
 returns c = search needs

@@ -1,18 +1,11 @@
-use Rattle.preamble.specs.Judge.{judgeFields}
-use Rattle.refusal.specs.Refusals.{judgedBy}
-use Rattle.refusal.specs.Refusals.{or-else-last}
+use Prim.Native.Nat.{ℕ}
+use mathlib.Core.Path.{_∙_, sym, ap, ap₂}
+use Rattle.preamble.specs.Judge.{judgeStore, judgeFields}
+use Rattle.refusal.specs.Refusals.{Judged, fine, judgedBy, orElse}
+use Rattle.refusal.proofs.Judgements.{or-else-last}
 use borrow.Author.Needs.{needs}
 use Rattle.preamble.proofs.judge_fields.Statement.{statement}
 use Rattle.preamble.proofs.judge_fields.Tie as tie
-use Rattle.preamble.proofs.judge_fields.Reads as reads
-use Rattle.preamble.proofs.judge_fields.Lts as lts
-use Rattle.preamble.proofs.judge_flags.Reads as judge-flags-reads
-use Rattle.preamble.proofs.judge_limits.Reads as judge-limits-reads
-use Rattle.preamble.proofs.judge_shape.Reads as judge-shape-reads
-use Rattle.preamble.proofs.judge_store.Reads as judge-store-reads
-use Rattle.preamble.proofs.judge_tag.Reads as judge-tag-reads
-use Rattle.preamble.proofs.total_of.Reads as total-of-reads
-use Rattle.refusal.proofs.or_else.Reads as or-else-reads
 
 judge-limits-requires : tie.Need-judge-limits-requires
 judge-limits-requires c κs = search needs
@@ -46,7 +39,17 @@ or-else-requires-4 c κs = search needs
 
 returns : tie.Need-returns
 unfolding judgeFields
-returns c = cc (or-else-last (judgedBy (c .before .before .before .before .before .before .before .judge-store .result)))
+returns c =
+    c .or-else4 .ensures
+    ∙ ap₂ orElse (c .before .judge-shape .ensures)
+    (c .before .before .or-else3 .ensures
+    ∙ ap₂ orElse (c .before .before .before .judge-flags .ensures)
+    (c .before .before .before .before .or-else2 .ensures
+    ∙ ap₂ orElse (c .before .before .before .before .before .judge-tag .ensures)
+    (c .before .before .before .before .before .before .or-else .ensures
+    ∙ ap₂ orElse (c .before .before .before .before .before .before .before .before .before .judge-limits .ensures)
+    (sym (or-else-last (judgedBy (c .before .before .before .before .before .before .before .judge-store .result)))
+    ∙ ap (λ (j : Judged). orElse j fine) (c .before .before .before .before .before .before .before .judge-store .ensures ∙ ap (λ (n : ℕ). judgeStore n (c .before .before .before .before .before .before .before .before .before .before .before .args .store)) (c .before .before .before .before .before .before .before .before .total-of .ensures))))))
 
 pub judge-fields-spec : {M : Type 1} → statement M
 judge-fields-spec =

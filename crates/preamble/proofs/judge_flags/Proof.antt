@@ -2,11 +2,6 @@ use Rattle.preamble.proofs.Faults.{first-last}
 use borrow.Author.Needs.{needs}
 use Rattle.preamble.proofs.judge_flags.Statement.{statement}
 use Rattle.preamble.proofs.judge_flags.Tie as tie
-use Rattle.preamble.proofs.judge_flags.Reads as reads
-use Rattle.preamble.proofs.judge_flags.Lts as lts
-use Rattle.preamble.proofs.fault_when.Reads as fault-when-reads
-use Rattle.preamble.proofs.first.Reads as first-reads
-use Rattle.refusal.proofs.unless_ok.Reads as unless-ok-reads
 
 fault-when-requires : tie.Need-fault-when-requires
 fault-when-requires c κs = search needs

@@ -1,14 +1,9 @@
-use Rattle.refusal.specs.Refusals.{judgedBy, or-else-last}
+use Rattle.refusal.specs.Refusals.{judgedBy}
+use Rattle.refusal.proofs.Judgements.{or-else-last}
 use Rattle.preamble.specs.Judge.{judgeHeader}
 use borrow.Author.Needs.{needs}
 use Rattle.preamble.proofs.judge_header.Statement.{statement}
 use Rattle.preamble.proofs.judge_header.Tie as tie
-use Rattle.preamble.proofs.judge_header.Reads as reads
-use Rattle.preamble.proofs.judge_header.Lts as lts
-use Rattle.preamble.proofs.judge_limits.Reads as judge-limits-reads
-use Rattle.preamble.proofs.judge_shape.Reads as judge-shape-reads
-use Rattle.preamble.proofs.judge_tag.Reads as judge-tag-reads
-use Rattle.refusal.proofs.or_else.Reads as or-else-reads
 
 judge-tag-requires : tie.Need-judge-tag-requires
 judge-tag-requires c κs = search needs

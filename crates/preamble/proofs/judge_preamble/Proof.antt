@@ -1,22 +1,14 @@
-use mathlib.Core.Path.{_≡_, ap, ap₂, _∙_}
-use mathlib.Core.List.{List}
+use mathlib.Core.Path.{ap, ap₂, _∙_}
 use Prim.Native.Nat.{ℕ}
 use lib.Dec.{eqb}
 use Rattle.crc32c.specs.Crc.{crcOf}
+use Rattle.refusal.specs.declared.Refusal.the-variants.{PreambleChecksum}
 use Rattle.refusal.specs.Refusals.{orElse, unless}
 use Rattle.preamble.specs.declared.Preamble.{Preamble}
 use Rattle.preamble.specs.Judge.{judgePreamble, judgeFields}
 use borrow.Author.Needs.{needs}
 use Rattle.preamble.proofs.judge_preamble.Statement.{statement}
 use Rattle.preamble.proofs.judge_preamble.Tie as tie
-use Rattle.preamble.proofs.judge_preamble.Reads as reads
-use Rattle.preamble.proofs.judge_preamble.Lts as lts
-use Rattle.buffer.proofs.part.Reads as part-reads
-use Rattle.crc32c.proofs.checksum.Reads as checksum-reads
-use Rattle.preamble.proofs.judge_fields.Reads as judge-fields-reads
-use Rattle.preamble.proofs.read_preamble.Reads as read-preamble-reads
-use Rattle.refusal.proofs.or_else.Reads as or-else-reads
-use Rattle.refusal.proofs.unless_ok.Reads as unless-ok-reads
 
 read-preamble-requires : tie.Need-read-preamble-requires
 read-preamble-requires c κs = search needs
@@ -43,7 +35,7 @@ returns c =
     let s = c .before .before .before .checksum .ensures ∙ ap (crcOf 0) (c .before .before .before .before .part .ensures) in
     c .or-else .ensures
     ∙ ap₂ orElse
-    (c .before .before .unless-ok .ensures ∙ ap₂ (λ (x y : ℕ). unless (eqb x y) 5 28) s (ap (λ (p : Preamble). p .checksum) e))
+    (c .before .before .unless-ok .ensures ∙ ap₂ (λ (x y : ℕ). unless (eqb x y) PreambleChecksum) s (ap (λ (p : Preamble). p .checksum) e))
     (c .before .judge-fields .ensures ∙ ap (λ (p : Preamble). judgeFields p (c .before .before .before .before .before .before .before .args .store)) e)
 
 pub judge-preamble-spec : {M : Type 1} → statement M

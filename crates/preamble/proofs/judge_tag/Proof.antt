@@ -1,10 +1,6 @@
 use borrow.Author.Needs.{needs}
 use Rattle.preamble.proofs.judge_tag.Statement.{statement}
 use Rattle.preamble.proofs.judge_tag.Tie as tie
-use Rattle.preamble.proofs.judge_tag.Reads as reads
-use Rattle.preamble.proofs.judge_tag.Lts as lts
-use Rattle.refusal.proofs.both.Reads as both-reads
-use Rattle.refusal.proofs.unless_ok.Reads as unless-ok-reads
 
 both-requires : tie.Need-both-requires
 both-requires c κs = search needs

@@ -2,9 +2,6 @@ use borrow.Author.Tests.{lt-ltb, le-ltb}
 use borrow.Author.Needs.{needs}
 use Rattle.preamble.proofs.length_wrong.Statement.{statement}
 use Rattle.preamble.proofs.length_wrong.Tie as tie
-use Rattle.preamble.proofs.length_wrong.Reads as reads
-use Rattle.preamble.proofs.length_wrong.Lts as lts
-use Rattle.refusal.proofs.both.Reads as both-reads
 
 both-requires : tie.Need-both-requires
 both-requires c κs = search needs

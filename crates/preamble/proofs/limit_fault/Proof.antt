@@ -3,10 +3,6 @@ use Rattle.preamble.proofs.Faults.{first-last}
 use borrow.Author.Needs.{needs}
 use Rattle.preamble.proofs.limit_fault.Statement.{statement}
 use Rattle.preamble.proofs.limit_fault.Tie as tie
-use Rattle.preamble.proofs.limit_fault.Reads as reads
-use Rattle.preamble.proofs.limit_fault.Lts as lts
-use Rattle.preamble.proofs.above.Reads as above-reads
-use Rattle.preamble.proofs.first.Reads as first-reads
 
 cast-a : tie.Need-cast-a
 cast-a c = search needs

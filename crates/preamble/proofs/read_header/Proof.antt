@@ -2,10 +2,6 @@ use Rattle.preamble.specs.Judge.{headerOf}
 use borrow.Author.Needs.{needs}
 use Rattle.preamble.proofs.read_header.Statement.{statement}
 use Rattle.preamble.proofs.read_header.Tie as tie
-use Rattle.preamble.proofs.read_header.Reads as reads
-use Rattle.preamble.proofs.read_header.Lts as lts
-use Rattle.buffer.proofs.byte_at.Reads as byte-at-reads
-use Rattle.preamble.proofs.segment_at.Reads as segment-at-reads
 
 byte-at-requires : tie.Need-byte-at-requires
 byte-at-requires c κs = search needs

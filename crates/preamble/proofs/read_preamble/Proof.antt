@@ -1,11 +1,6 @@
 use borrow.Author.Needs.{needs}
 use Rattle.preamble.proofs.read_preamble.Statement.{statement}
 use Rattle.preamble.proofs.read_preamble.Tie as tie
-use Rattle.preamble.proofs.read_preamble.Reads as reads
-use Rattle.preamble.proofs.read_preamble.Lts as lts
-use Rattle.buffer.proofs.byte_at.Reads as byte-at-reads
-use Rattle.buffer.proofs.word_at.Reads as word-at-reads
-use Rattle.preamble.proofs.read_header.Reads as read-header-reads
 
 read-header-requires : tie.Need-read-header-requires
 read-header-requires c κs = search needs

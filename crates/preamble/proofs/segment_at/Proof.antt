@@ -1,10 +1,6 @@
 use borrow.Author.Needs.{needs}
 use Rattle.preamble.proofs.segment_at.Statement.{statement}
 use Rattle.preamble.proofs.segment_at.Tie as tie
-use Rattle.preamble.proofs.segment_at.Reads as reads
-use Rattle.preamble.proofs.segment_at.Lts as lts
-use Rattle.buffer.proofs.half_at.Reads as half-at-reads
-use Rattle.buffer.proofs.word_at.Reads as word-at-reads
 
 word-at-requires : tie.Need-word-at-requires
 word-at-requires c κs = search needs

@@ -1,12 +1,6 @@
 use borrow.Author.Needs.{needs}
 use Rattle.preamble.proofs.segment_fault.Statement.{statement}
 use Rattle.preamble.proofs.segment_fault.Tie as tie
-use Rattle.preamble.proofs.segment_fault.Reads as reads
-use Rattle.preamble.proofs.segment_fault.Lts as lts
-use Rattle.preamble.proofs.fault_when.Reads as fault-when-reads
-use Rattle.preamble.proofs.first.Reads as first-reads
-use Rattle.preamble.proofs.length_wrong.Reads as length-wrong-reads
-use Rattle.refusal.proofs.both.Reads as both-reads
 
 length-wrong-requires : tie.Need-length-wrong-requires
 length-wrong-requires c κs = search needs

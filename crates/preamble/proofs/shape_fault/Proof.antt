@@ -3,12 +3,6 @@ use Rattle.preamble.proofs.Faults.{first-last}
 use borrow.Author.Needs.{needs}
 use Rattle.preamble.proofs.shape_fault.Statement.{statement}
 use Rattle.preamble.proofs.shape_fault.Tie as tie
-use Rattle.preamble.proofs.shape_fault.Reads as reads
-use Rattle.preamble.proofs.shape_fault.Lts as lts
-use Rattle.preamble.proofs.fault_when.Reads as fault-when-reads
-use Rattle.preamble.proofs.first.Reads as first-reads
-use Rattle.preamble.proofs.segment_fault.Reads as segment-fault-reads
-use Rattle.refusal.proofs.both.Reads as both-reads
 
 segment-fault-requires : tie.Need-segment-fault-requires
 segment-fault-requires c κs = search needs

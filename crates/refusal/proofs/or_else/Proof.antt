@@ -4,8 +4,6 @@ use Rattle.refusal.specs.declared.Verdict.{Verdict}
 use borrow.Author.Needs.{needs}
 use Rattle.refusal.proofs.or_else.Statement.{statement}
 use Rattle.refusal.proofs.or_else.Tie as tie
-use Rattle.refusal.proofs.or_else.Reads as reads
-use Rattle.refusal.proofs.or_else.Lts as lts
 
 enum-told : tie.Need-enum-told
 enum-told c = search needs

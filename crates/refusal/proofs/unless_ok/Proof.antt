@@ -1,7 +1,5 @@
 use Rattle.refusal.proofs.unless_ok.Statement.{statement}
 use Rattle.refusal.proofs.unless_ok.Tie as tie
-use Rattle.refusal.proofs.unless_ok.Reads as reads
-use Rattle.refusal.proofs.unless_ok.Lts as lts
 
 returns : tie.Need-returns
 returns c = simp (c .if1 .taken)

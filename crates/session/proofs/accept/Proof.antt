@@ -9,11 +9,6 @@ use Rattle.refusal.specs.Refusals.{judgedBy}
 use borrow.Author.Needs.{needs}
 use Rattle.session.proofs.accept.Statement.{statement}
 use Rattle.session.proofs.accept.Tie as tie
-use Rattle.session.proofs.accept.Reads as reads
-use Rattle.session.proofs.accept.Lts as lts
-use Rattle.session.proofs.add.Reads as add-reads
-use Rattle.session.proofs.judge_accept.Reads as judge-accept-reads
-use Rattle.session.proofs.refuse.Reads as refuse-reads
 
 judge-accept-requires : tie.Need-judge-accept-requires
 judge-accept-requires c κs = search needs

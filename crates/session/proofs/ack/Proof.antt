@@ -6,11 +6,6 @@ use Rattle.session.proofs.Table.{when-fine, when-refused}
 use borrow.Author.Needs.{needs}
 use Rattle.session.proofs.ack.Statement.{statement}
 use Rattle.session.proofs.ack.Tie as tie
-use Rattle.session.proofs.ack.Reads as reads
-use Rattle.session.proofs.ack.Lts as lts
-use Rattle.session.proofs.acked.Reads as acked-reads
-use Rattle.session.proofs.judge_ack.Reads as judge-ack-reads
-use Rattle.session.proofs.refuse.Reads as refuse-reads
 
 judge-ack-requires : tie.Need-judge-ack-requires
 judge-ack-requires c κs = search needs

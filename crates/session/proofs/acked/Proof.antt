@@ -2,9 +2,6 @@ use borrow.Author.Tests.{le-leb, lt-leb}
 use borrow.Author.Needs.{needs}
 use Rattle.session.proofs.acked.Statement.{statement}
 use Rattle.session.proofs.acked.Tie as tie
-use Rattle.session.proofs.acked.Reads as reads
-use Rattle.session.proofs.acked.Lts as lts
-use Rattle.session.proofs.release.Reads as release-reads
 
 returns : tie.Need-returns
 returns c = simp (le-leb _ _ (c .if1 .taken))

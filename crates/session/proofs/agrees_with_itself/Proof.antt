@@ -2,10 +2,6 @@ use Rattle.session.specs.Calls.{agrees}
 use borrow.Author.Needs.{needs}
 use Rattle.session.proofs.agrees_with_itself.Statement.{statement}
 use Rattle.session.proofs.agrees_with_itself.Tie as tie
-use Rattle.session.proofs.agrees_with_itself.Reads as reads
-use Rattle.session.proofs.agrees_with_itself.Lts as lts
-use Rattle.refusal.proofs.both.Reads as both-reads
-use Rattle.session.proofs.held_count.Reads as held-count-reads
 
 held-count-requires : tie.Need-held-count-requires
 held-count-requires c κs = search needs

@@ -1,9 +1,6 @@
 use borrow.Author.Needs.{needs}
 use Rattle.session.proofs.cleared.Statement.{statement}
 use Rattle.session.proofs.cleared.Tie as tie
-use Rattle.session.proofs.cleared.Reads as reads
-use Rattle.session.proofs.cleared.Lts as lts
-use Rattle.session.proofs.release.Reads as release-reads
 
 release-requires : tie.Need-release-requires
 release-requires c κs = search needs

@@ -1,8 +1,6 @@
 use Rattle.session.proofs.Single.{every-call}
 use Rattle.session.proofs.every_call.Statement.{statement}
 use Rattle.session.proofs.every_call.Tie as tie
-use Rattle.session.proofs.every_call.Reads as reads
-use Rattle.session.proofs.every_call.Lts as lts
 
 returns : tie.Need-returns
 returns c = every-call

@@ -1,8 +1,6 @@
 use Rattle.session.proofs.Past.{every-history}
 use Rattle.session.proofs.every_history.Statement.{statement}
 use Rattle.session.proofs.every_history.Tie as tie
-use Rattle.session.proofs.every_history.Reads as reads
-use Rattle.session.proofs.every_history.Lts as lts
 
 returns : tie.Need-returns
 returns c = every-history

@@ -6,11 +6,6 @@ use Rattle.session.proofs.Table.{found-held, found-beyond, when-fine, w
 use borrow.Author.Needs.{needs}
 use Rattle.session.proofs.held_at.Statement.{statement}
 use Rattle.session.proofs.held_at.Tie as tie
-use Rattle.session.proofs.held_at.Reads as reads
-use Rattle.session.proofs.held_at.Lts as lts
-use Rattle.refusal.proofs.in_numbers.Reads as in-numbers-reads
-use Rattle.session.proofs.held_count.Reads as held-count-reads
-use Rattle.session.proofs.judge_state.Reads as judge-state-reads
 
 judge-state-requires : tie.Need-judge-state-requires
 judge-state-requires c κs = search needs

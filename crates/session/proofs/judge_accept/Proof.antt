@@ -1,16 +1,11 @@
 use Prim.Native.Nat.{_-_}
-use Rattle.refusal.specs.Refusals.{judgedBy, or-else-last}
+use Rattle.refusal.specs.Refusals.{judgedBy}
+use Rattle.refusal.proofs.Judgements.{or-else-last}
 use Rattle.session.proofs.Table.{held-length}
 use Rattle.session.specs.Calls.{judgeAccept}
 use borrow.Author.Needs.{needs}
 use Rattle.session.proofs.judge_accept.Statement.{statement}
 use Rattle.session.proofs.judge_accept.Tie as tie
-use Rattle.session.proofs.judge_accept.Reads as reads
-use Rattle.session.proofs.judge_accept.Lts as lts
-use Rattle.refusal.proofs.or_else.Reads as or-else-reads
-use Rattle.refusal.proofs.unless_ok.Reads as unless-ok-reads
-use Rattle.session.proofs.held_count.Reads as held-count-reads
-use Rattle.session.proofs.judge_state.Reads as judge-state-reads
 
 unless-ok-requires : tie.Need-unless-ok-requires
 unless-ok-requires c κs = search needs

@@ -1,13 +1,9 @@
-use Rattle.refusal.specs.Refusals.{judgedBy, or-else-last}
+use Rattle.refusal.specs.Refusals.{judgedBy}
+use Rattle.refusal.proofs.Judgements.{or-else-last}
 use Rattle.session.specs.Calls.{judgeAck}
 use borrow.Author.Needs.{needs}
 use Rattle.session.proofs.judge_ack.Statement.{statement}
 use Rattle.session.proofs.judge_ack.Tie as tie
-use Rattle.session.proofs.judge_ack.Reads as reads
-use Rattle.session.proofs.judge_ack.Lts as lts
-use Rattle.refusal.proofs.or_else.Reads as or-else-reads
-use Rattle.refusal.proofs.unless_ok.Reads as unless-ok-reads
-use Rattle.session.proofs.judge_state.Reads as judge-state-reads
 
 judge-state-requires : tie.Need-judge-state-requires
 judge-state-requires c κs = search needs

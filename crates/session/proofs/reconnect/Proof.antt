@@ -3,12 +3,6 @@ use Rattle.session.proofs.Table.{resend-held, when-fine, when-refused}
 use borrow.Author.Needs.{needs}
 use Rattle.session.proofs.reconnect.Statement.{statement}
 use Rattle.session.proofs.reconnect.Tie as tie
-use Rattle.session.proofs.reconnect.Reads as reads
-use Rattle.session.proofs.reconnect.Lts as lts
-use Rattle.session.proofs.acked.Reads as acked-reads
-use Rattle.session.proofs.held_count.Reads as held-count-reads
-use Rattle.session.proofs.judge_ack.Reads as judge-ack-reads
-use Rattle.session.proofs.refuse.Reads as refuse-reads
 
 judge-ack-requires : tie.Need-judge-ack-requires
 judge-ack-requires c κs = search needs

@@ -1,9 +1,6 @@
 use borrow.Author.Needs.{needs}
 use Rattle.session.proofs.refuse.Statement.{statement}
 use Rattle.session.proofs.refuse.Tie as tie
-use Rattle.session.proofs.refuse.Reads as reads
-use Rattle.session.proofs.refuse.Lts as lts
-use Rattle.refusal.proofs.in_numbers.Reads as in-numbers-reads
 
 in-numbers-requires : tie.Need-in-numbers-requires
 in-numbers-requires c κs = search needs

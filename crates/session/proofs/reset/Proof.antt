@@ -6,11 +6,6 @@ use Rattle.session.proofs.Table.{when-fine, when-refused}
 use borrow.Author.Needs.{needs}
 use Rattle.session.proofs.reset.Statement.{statement}
 use Rattle.session.proofs.reset.Tie as tie
-use Rattle.session.proofs.reset.Reads as reads
-use Rattle.session.proofs.reset.Lts as lts
-use Rattle.session.proofs.cleared.Reads as cleared-reads
-use Rattle.session.proofs.judge_state.Reads as judge-state-reads
-use Rattle.session.proofs.refuse.Reads as refuse-reads
 
 judge-state-requires : tie.Need-judge-state-requires
 judge-state-requires c κs = search needs
