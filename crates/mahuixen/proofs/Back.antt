@@ -9,14 +9,16 @@ use Rattle.banner.specs.declared.Revision.{Revision}
 use Rattle.banner.specs.declared.Revision.the-variants.{Msgr20, Msgr21}
 use Rattle.receiver.specs.declared.Stage.{Stage}
 use Rattle.receiver.specs.declared.Stage.the-variants as stage
+use Rattle.stream.specs.declared.Event.the-variants as event
+use Rattle.receiver.specs.State.{rank}
 use Rattle.receiver.specs.declared.State.{State}
 use Rattle.receiver.specs.declared.Report.{Report}
 use Rattle.receiver.specs.declared.Report.the-variants as report
 use Rattle.mahuixen.specs.declared.PlainState.{PlainState}
-use Rattle.mahuixen.specs.Plain.{stageNumber, stageOf, revisionNumber, revisionOf, plainOf, stateOf, known, plainReport}
+use Rattle.mahuixen.specs.Plain.{stageOf, revisionNumber, revisionOf, markNumber, markOf, plainOf, stateOf, known, plainReport}
 use Rattle.mahuixen.specs.Calls.{reportOf, ReadsBack}
 
-stage-back : (s : Stage) → stageOf (stageNumber s) ≡ s
+stage-back : (s : Stage) → stageOf (rank s) ≡ s
 unfolding stageOf
 stage-back stage.Magic = refl
 stage-back stage.Length = refl
@@ -33,10 +35,18 @@ revision-back : (v : Revision) → revisionOf (revisionNumber v) ≡ v
 revision-back Msgr20 = refl
 revision-back Msgr21 = refl
 
-pub state-back : (st : State) → stateOf (plainOf st) ≡ st
-state-back st = rw (stage-back (st .stage), revision-back (st .revision))
+mark-back : (b : Bool) → markOf (markNumber b) ≡ b
+mark-back true = refl
+mark-back false = refl
 
-stage-known : (s : Stage) → leb (stageNumber s) 9 ≡ true
+mark-known : (b : Bool) → leb (markNumber b) 1 ≡ true
+mark-known true = refl
+mark-known false = refl
+
+pub state-back : (st : State) → stateOf (plainOf st) ≡ st
+state-back st = rw (stage-back (st .position .stage), revision-back (st .known .revision), mark-back (st .known .first))
+
+stage-known : (s : Stage) → leb (rank s) 9 ≡ true
 stage-known stage.Magic = refl
 stage-known stage.Length = refl
 stage-known stage.Payload = refl
@@ -54,9 +64,9 @@ revision-known Msgr21 = refl
 
 pub state-known : (st : State) → known (plainOf st) ≡ true
 unfolding known
-state-known st = rw (stage-known (st .stage), revision-known (st .revision))
+state-known st = rw (stage-known (st .position .stage), revision-known (st .known .revision), mark-known (st .known .first))
 
-number-back : (n : ℕ) → n ≤ 9 → stageNumber (stageOf n) ≡ n
+number-back : (n : ℕ) → n ≤ 9 → rank (stageOf n) ≡ n
 unfolding stageOf
 number-back zero h = refl
 number-back (suc zero) h = refl
@@ -77,6 +87,12 @@ truth-back (suc n) h =
     let e : n ≡ 0 = omega arith in
     rw e
 
+mark-number : (n : ℕ) → n ≤ 1 → markNumber (markOf n) ≡ n
+mark-number zero h = refl
+mark-number (suc n) h =
+    let e : n ≡ 0 = omega arith in
+    rw e
+
 both-true : (a b : Bool) → (a && b) ≡ true → (a ≡ true) × (b ≡ true)
 both-true true b e = (refl, e)
 both-true false b e = (e, cc)
@@ -84,15 +100,17 @@ both-true false b e = (e, cc)
 plain-back : (p : PlainState) → known p ≡ true → plainOf (stateOf p) ≡ p
 unfolding known
 plain-back p e =
-    let h = both-true (leb (p .stage) 9) (leb (p .revision) 1) e in
-    rw (number-back (p .stage) (leb-true (p .stage) 9 (h .0)), truth-back (p .revision) (leb-true (p .revision) 1 (h .1)))
+    let g = both-true (leb (p .stage) 9 && leb (p .revision) 1) (leb (p .first) 1) e in
+    let h = both-true (leb (p .stage) 9) (leb (p .revision) 1) (g .0) in
+    rw (number-back (p .stage) (leb-true (p .stage) 9 (h .0)), truth-back (p .revision) (leb-true (p .revision) 1 (h .1)), mark-number (p .first) (leb-true (p .first) 1 (g .1)))
 
 report-back : (r : Report) → reportOf (plainReport r) ≡ r
 report-back report.More = refl
-report-back (report.Banner p v) = rw (revision-back v)
-report-back (report.Frame h) = refl
-report-back (report.Dropped h) = refl
-report-back (report.Refused n) = refl
+report-back (report.Event (event.Banner p v)) = rw (revision-back v)
+report-back (report.Event (event.First h)) = refl
+report-back (report.Event (event.Frame h)) = refl
+report-back (report.Event (event.Dropped h)) = refl
+report-back (report.Event (event.Refused n)) = refl
 
 pub reads-back : ReadsBack
 reads-back = record { state = state-back; knows = state-known; plain = plain-back; report = report-back }

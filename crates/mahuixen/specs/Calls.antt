@@ -5,11 +5,12 @@ use mathlib.Core.Bool.{true, cond}
 use Prim.Native.Nat.{ℕ, _+_}
 use lib.Dec.{eqb}
 use Rattle.banner.specs.declared.Features.{Features}
+use Rattle.stream.specs.declared.Event.the-variants as event
 use Rattle.receiver.specs.declared.State.{State}
 use Rattle.receiver.specs.declared.Report.{Report}
 use Rattle.receiver.specs.declared.Report.the-variants as report
 use Rattle.receiver.specs.Step.{started}
-use Rattle.receiver.specs.Calls.{Call, pieceAt, Chained, Kept}
+use Rattle.receiver.specs.Calls.{Call, pieceAt, Chained, AsDefined}
 use Rattle.mahuixen.specs.declared.PlainState.{PlainState}
 use Rattle.mahuixen.specs.declared.PlainReport.{PlainReport}
 use Rattle.mahuixen.specs.declared.PlainReceived.{PlainReceived}
@@ -20,9 +21,11 @@ use Rattle.mahuixen.specs.Plain.{revisionOf, plainOf, stateOf, known, pl
 abbrev pub reportOf : PlainReport → Report
 reportOf q =
     cond (eqb (q .kind) 0) report.More
-    (cond (eqb (q .kind) 1) (report.Banner (q .peer) (revisionOf (q .revision)))
-    (cond (eqb (q .kind) 2) (report.Frame (q .header))
-    (cond (eqb (q .kind) 3) (report.Dropped (q .header)) (report.Refused (q .refusal)))))
+    (report.Event
+    (cond (eqb (q .kind) 1) (event.Banner (q .peer) (revisionOf (q .revision)))
+    (cond (eqb (q .kind) 2) (event.Frame (q .header))
+    (cond (eqb (q .kind) 3) (event.Dropped (q .header))
+    (cond (eqb (q .kind) 4) (event.Refused (q .refusal)) (event.First (q .header)))))))
 
 pub record ReadsBack : Type 0 where
   -- every state comes back from its plain form, which is a known one
@@ -57,12 +60,12 @@ plainCalls [] = []
 plainCalls (c ∷ cs) = plainCall c ∷ plainCalls cs
 
 -- THE CLAIM, of calls by C on a stream, from a start with the features own and from a store: they are, call by call, calls of `receive`, of which demand 3 holds
-pub record PlainKept (own : Features) (stream store : List ℕ) (ps : List PlainCall) : Type 0 where
+pub record PlainDefined (own : Features) (stream store : List ℕ) (ps : List PlainCall) : Type 0 where
   pub calls : List Call
   pub plain : ps ≡ plainCalls calls
   pub chained : Chained stream (started own) store 0 calls
-  pub kept : Kept own stream store calls
+  pub defined : AsDefined own stream store calls
 
 unfoldable pub PlainDemand3 : Type 0
 PlainDemand3 =
-    (own : Features) (stream store : List ℕ) (ps : List PlainCall) → PlainChained stream (plainStarted own .state) store 0 ps → PlainKept own stream store ps
+    (own : Features) (stream store : List ℕ) (ps : List PlainCall) → PlainChained stream (plainStarted own .state) store 0 ps → PlainDefined own stream store ps

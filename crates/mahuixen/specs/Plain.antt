@@ -2,11 +2,11 @@
 -- defined elsewhere: `answer` and `started` of the receiver, `frameDone` and `bannerDone` of the builder, `crcOf`.
 use mathlib.Core.Path.{_≡_}
 use mathlib.Core.List.{List}
-use mathlib.Core.Bool.{Bool, true, false, cond, _&&_}
+use mathlib.Core.Bool.{Bool, not, cond, _&&_}
 use Prim.Native.Nat.{ℕ}
 use lib.Dec.{leb, eqb}
 use Rattle.refusal.specs.declared.Numbers.{Numbers}
-use Rattle.refusal.specs.Refusals.{Judged, fine, refused, row}
+use Rattle.refusal.specs.Refusals.{Judged, fine, refused}
 use Rattle.banner.specs.declared.Features.{Features}
 use Rattle.banner.specs.declared.Revision.{Revision}
 use Rattle.banner.specs.declared.Revision.the-variants.{Msgr20, Msgr21}
@@ -18,7 +18,10 @@ use Rattle.receiver.specs.declared.State.{State}
 use Rattle.receiver.specs.declared.Report.{Report}
 use Rattle.receiver.specs.declared.Report.the-variants as report
 use Rattle.receiver.specs.declared.Received.{Received}
-use Rattle.receiver.specs.Step.{Answer, answer, started, zeroFeatures, zeroHeader}
+use Rattle.stream.specs.declared.Event.{Event}
+use Rattle.stream.specs.declared.Event.the-variants as event
+use Rattle.receiver.specs.State.{rank, noFeatures, noHeader, noRefusal}
+use Rattle.receiver.specs.Step.{Answer, answer, started, contradiction}
 use Rattle.builder.specs.Build as build
 use Rattle.mahuixen.specs.declared.PlainState.{PlainState}
 use Rattle.mahuixen.specs.declared.PlainReport.{PlainReport}
@@ -26,19 +29,7 @@ use Rattle.mahuixen.specs.declared.PlainReceived.{PlainReceived}
 use Rattle.mahuixen.specs.declared.PlainStarted.{PlainStarted}
 use Rattle.mahuixen.specs.declared.PlainBuilt.{PlainBuilt}
 
--- ---- numbers of stages and revisions
-
-abbrev pub stageNumber : Stage → ℕ
-stageNumber stage.Magic = 0
-stageNumber stage.Length = 1
-stageNumber stage.Payload = 2
-stageNumber stage.Skip = 3
-stageNumber stage.Preamble = 4
-stageNumber stage.First = 5
-stageNumber stage.FirstSum = 6
-stageNumber stage.Rest = 7
-stageNumber stage.Epilogue = 8
-stageNumber stage.Refused = 9
+-- ---- numbers of stages (their rank), revisions and marks
 
 -- 9, and any number above it, which `known` rules out
 unfoldable pub stageOf : ℕ → Stage
@@ -61,52 +52,61 @@ revisionNumber Msgr21 = 1
 abbrev pub revisionOf : ℕ → Revision
 revisionOf n = cond (eqb n 0) Msgr20 Msgr21
 
+abbrev pub markNumber : Bool → ℕ
+markNumber b = cond b 1 0
+
+abbrev pub markOf : ℕ → Bool
+markOf n = not (eqb n 0)
+
 -- ---- states
 
 abbrev pub plainOf : State → PlainState
 plainOf st = record {
-  got = st .got;
-  own = st .own;
-  peer = st .peer;
-  refusal = st .refusal;
-  header = st .header;
-  payload = st .payload;
-  stage = stageNumber (st .stage);
-  revision = revisionNumber (st .revision);
-  block = st .block;
+  got = st .position .got;
+  own = st .known .own;
+  peer = st .known .peer;
+  refusal = st .known .refusal;
+  header = st .known .header;
+  payload = st .known .payload;
+  stage = rank (st .position .stage);
+  revision = revisionNumber (st .known .revision);
+  first = markNumber (st .known .first);
+  block = st .position .block;
 }
 
 abbrev pub stateOf : PlainState → State
 stateOf p = record {
-  stage = stageOf (p .stage);
-  got = p .got;
-  block = p .block;
-  own = p .own;
-  payload = p .payload;
-  peer = p .peer;
-  revision = revisionOf (p .revision);
-  header = p .header;
-  refusal = p .refusal;
+  position = record { stage = stageOf (p .stage); got = p .got; block = p .block };
+  known = record {
+    own = p .own;
+    payload = p .payload;
+    peer = p .peer;
+    revision = revisionOf (p .revision);
+    header = p .header;
+    first = markOf (p .first);
+    refusal = p .refusal;
+  };
 }
 
--- its stage and its revision are numbers of one
+-- its stage, its revision and its mark are numbers of one
 unfoldable pub known : PlainState → Bool
-known p = leb (p .stage) 9 && leb (p .revision) 1
+known p = (leb (p .stage) 9 && leb (p .revision) 1) && leb (p .first) 1
 
--- ---- reports: kind 0 more, 1 banner, 2 frame, 3 dropped, 4 refused; what a kind does not use is 0
-
-abbrev pub noRefusal : Numbers
-noRefusal = row 0 0 0 0
+-- ---- reports: kind 0 more, 1 banner, 2 frame, 3 dropped, 4 refused, 5 segment 1 early; what a kind does not use is 0
 
 abbrev pub reporting : ℕ → ℕ → Features → Header → Numbers → PlainReport
 reporting k v p h n = record { kind = k; revision = v; peer = p; header = h; refusal = n }
 
+abbrev pub plainEvent : Event → PlainReport
+plainEvent (event.Banner p v) = reporting 1 (revisionNumber v) p noHeader noRefusal
+plainEvent (event.First h) = reporting 5 0 noFeatures h noRefusal
+plainEvent (event.Frame h) = reporting 2 0 noFeatures h noRefusal
+plainEvent (event.Dropped h) = reporting 3 0 noFeatures h noRefusal
+plainEvent (event.Refused n) = reporting 4 0 noFeatures noHeader n
+
 abbrev pub plainReport : Report → PlainReport
-plainReport report.More = reporting 0 0 zeroFeatures zeroHeader noRefusal
-plainReport (report.Banner p v) = reporting 1 (revisionNumber v) p zeroHeader noRefusal
-plainReport (report.Frame h) = reporting 2 0 zeroFeatures h noRefusal
-plainReport (report.Dropped h) = reporting 3 0 zeroFeatures h noRefusal
-plainReport (report.Refused n) = reporting 4 0 zeroFeatures zeroHeader n
+plainReport report.More = reporting 0 0 noFeatures noHeader noRefusal
+plainReport (report.Event e) = plainEvent e
 
 -- ---- calls
 
@@ -122,7 +122,7 @@ plainly a = record { received = plainReceived (a .received); store = a .store }
 
 -- takes nothing, keeps the store, hands the state back as it came, and says 26
 abbrev pub contradicts : PlainState → PlainReceived
-contradicts p = record { state = p; taken = 0; report = plainReport (report.Refused (row 26 0 0 0)) }
+contradicts p = record { state = p; taken = 0; report = plainReport (report.Event (event.Refused contradiction)) }
 
 -- WHAT A CALL ANSWERS
 unfoldable pub plainAnswer : PlainState → List ℕ → List ℕ → PlainAnswer

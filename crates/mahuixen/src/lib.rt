@@ -24,7 +24,7 @@ ghost use Rattle.builder.specs.Build.{frameDone, bannerDone};
 ghost use Rattle.mahuixen.specs.Plain.{revisionOf, PlainAnswered, plainStarted, plainDone, inPlain};
 ghost use Rattle.mahuixen.specs.Calls.{ReadsBack, PlainDemand3};
 
-// A receiver between two calls; the stage and the revision as numbers.
+// A receiver between two calls; the stage, the revision and the mark of an early report as numbers.
 #[repr(C)]
 pub struct PlainState {
     pub got: usize,
@@ -35,6 +35,8 @@ pub struct PlainState {
     pub payload: u16,
     pub stage: u8,
     pub revision: u8,
+    // 1 from the report of segment 1 to the frame's end, else 0.
+    pub first: u8,
     pub block: [u8; 32],
 }
 

@@ -9,6 +9,8 @@ use banner::Revision;
 use builder::Built;
 use preamble::Header;
 use preamble::Segment;
+use receiver::Known;
+use receiver::Position;
 use receiver::Received;
 use receiver::Report;
 use receiver::Stage;
@@ -18,14 +20,16 @@ use refusal::Numbers;
 use refusal::Verdict;
 use refusal::both;
 use refusal::in_numbers;
+use stream::Event;
 ghost use mathlib.Core.Path.{_≡_};
 ghost use Rattle.refusal.specs.Refusals.{judgedBy, row};
-ghost use Rattle.receiver.specs.Step.{zeroFeatures, zeroHeader};
+ghost use Rattle.receiver.specs.State.{noFeatures, noHeader, noRefusal, rank};
+ghost use mathlib.Core.Bool.{cond};
 ghost use Rattle.builder.specs.Build.{answered};
-ghost use Rattle.mahuixen.specs.Plain.{stageNumber, stageOf, revisionNumber, revisionOf, plainOf, stateOf, known, reporting, noRefusal, plainReport, plainReceived, contradicts, refusalOf, plainStart, plainBuilt};
+ghost use Rattle.mahuixen.specs.Plain.{stageOf, revisionNumber, revisionOf, markNumber, plainOf, stateOf, known, reporting, plainEvent, plainReport, plainReceived, contradicts, refusalOf, plainStart, plainBuilt};
 
 fn stage_number(stage: Stage) -> u8
-    ensures { λ r. ⌜ r ≡ stageNumber stage ⌝ }
+    ensures { λ r. ⌜ r ≡ rank stage ⌝ }
 {
     match stage {
         Stage::Magic => 0,
@@ -80,25 +84,35 @@ pub(crate) fn revision_of(n: u8) -> Revision
 
 // ---- states
 
+// A mark as a number.
+fn mark_number(mark: bool) -> u8
+    ensures { λ r. ⌜ r ≡ markNumber mark ⌝ }
+{
+    if mark { 1 } else { 0 }
+}
+
 fn plain_of(st: State) -> PlainState
     ensures { λ r. ⌜ r ≡ plainOf st ⌝ }
 {
-    let stage = st.stage;
-    let revision = st.revision;
-    let own = st.own;
-    let peer = st.peer;
-    let refusal = st.refusal;
-    let header = st.header;
-    let block = st.block;
+    let position = st.position;
+    let stage = position.stage;
+    let block = position.block;
+    let known = st.known;
+    let revision = known.revision;
+    let own = known.own;
+    let peer = known.peer;
+    let refusal = known.refusal;
+    let header = known.header;
     PlainState {
-        got: st.got,
+        got: position.got,
         own: own,
         peer: peer,
         refusal: refusal,
         header: header,
-        payload: st.payload,
+        payload: known.payload,
         stage: stage_number(stage),
         revision: revision_number(revision),
+        first: mark_number(known.first),
         block: block,
     }
 }
@@ -112,29 +126,34 @@ pub(crate) fn state_of(p: PlainState) -> State
     let header = p.header;
     let block = p.block;
     State {
-        stage: stage_of(p.stage),
-        got: p.got,
-        block: block,
-        own: own,
-        payload: p.payload,
-        peer: peer,
-        revision: revision_of(p.revision),
-        header: header,
-        refusal: refusal,
+        position: Position {
+            stage: stage_of(p.stage),
+            got: p.got,
+            block: block,
+        },
+        known: Known {
+            own: own,
+            payload: p.payload,
+            peer: peer,
+            revision: revision_of(p.revision),
+            header: header,
+            first: p.first != 0,
+            refusal: refusal,
+        },
     }
 }
 
-// Its stage and its revision are numbers of one.
+// Its stage, its revision and its mark are numbers of one.
 pub(crate) fn is_known(p: PlainState) -> bool
     ensures { λ r. ⌜ r ≡ known p ⌝ }
 {
-    both(p.stage <= 9, p.revision <= 1)
+    both(both(p.stage <= 9, p.revision <= 1), p.first <= 1)
 }
 
 // ---- reports
 
 fn no_features() -> Features
-    ensures { λ r. ⌜ r ≡ zeroFeatures ⌝ }
+    ensures { λ r. ⌜ r ≡ noFeatures ⌝ }
 {
     Features {
         supported: 0,
@@ -143,7 +162,7 @@ fn no_features() -> Features
 }
 
 fn no_header() -> Header
-    ensures { λ r. ⌜ r ≡ zeroHeader ⌝ }
+    ensures { λ r. ⌜ r ≡ noHeader ⌝ }
 {
     let none = Segment { len: 0, align: 0 };
     Header {
@@ -168,7 +187,7 @@ fn no_refusal() -> Numbers
 }
 
 fn more() -> PlainReport
-    ensures { λ r. ⌜ r ≡ reporting 0 0 zeroFeatures zeroHeader noRefusal ⌝ }
+    ensures { λ r. ⌜ r ≡ reporting 0 0 noFeatures noHeader noRefusal ⌝ }
 {
     PlainReport {
         kind: 0,
@@ -180,7 +199,7 @@ fn more() -> PlainReport
 }
 
 fn met(peer: Features, revision: u8) -> PlainReport
-    ensures { λ r. ⌜ r ≡ reporting 1 revision peer zeroHeader noRefusal ⌝ }
+    ensures { λ r. ⌜ r ≡ reporting 1 revision peer noHeader noRefusal ⌝ }
 {
     PlainReport {
         kind: 1,
@@ -191,9 +210,9 @@ fn met(peer: Features, revision: u8) -> PlainReport
     }
 }
 
-// A frame that is handed over, kind 2, or dropped, kind 3.
+// A frame that is handed over, kind 2, dropped, kind 3, or of which segment 1 is reported early, kind 5.
 fn framed(kind: u8, header: Header) -> PlainReport
-    ensures { λ r. ⌜ r ≡ reporting kind 0 zeroFeatures header noRefusal ⌝ }
+    ensures { λ r. ⌜ r ≡ reporting kind 0 noFeatures header noRefusal ⌝ }
 {
     PlainReport {
         kind: kind,
@@ -205,7 +224,7 @@ fn framed(kind: u8, header: Header) -> PlainReport
 }
 
 fn refused(n: Numbers) -> PlainReport
-    ensures { λ r. ⌜ r ≡ reporting 4 0 zeroFeatures zeroHeader n ⌝ }
+    ensures { λ r. ⌜ r ≡ reporting 4 0 noFeatures noHeader n ⌝ }
 {
     PlainReport {
         kind: 4,
@@ -216,15 +235,24 @@ fn refused(n: Numbers) -> PlainReport
     }
 }
 
+fn plain_event(event: Event) -> PlainReport
+    ensures { λ r. ⌜ r ≡ plainEvent event ⌝ }
+{
+    match event {
+        Event::Banner(peer, revision) => met(peer, revision_number(revision)),
+        Event::First(header) => framed(5, header),
+        Event::Frame(header) => framed(2, header),
+        Event::Dropped(header) => framed(3, header),
+        Event::Refused(n) => refused(n),
+    }
+}
+
 fn plain_report(report: Report) -> PlainReport
     ensures { λ r. ⌜ r ≡ plainReport report ⌝ }
 {
     match report {
         Report::More => more(),
-        Report::Banner(peer, revision) => met(peer, revision_number(revision)),
-        Report::Frame(header) => framed(2, header),
-        Report::Dropped(header) => framed(3, header),
-        Report::Refused(n) => refused(n),
+        Report::Event(event) => plain_event(event),
     }
 }
 

@@ -1,17 +1,17 @@
 -- What the step keeps: a receiver that is not refused has its fields in order, and a refusal leaves it refused.
-use Prim.Native.Nat.{ℕ, zero, suc, _+_, _-_, _≤_, _<_, zero-le}
-use mathlib.Core.List.{List, [], _∷_, _++_}
-use mathlib.Core.Path.{_≡_, refl, sym, ap, ap₂, _∙_}
+use Prim.Native.Nat.{ℕ, suc, _+_, _-_, _≤_, _<_, zero-le}
+use mathlib.Core.List.{List, [], _∷_}
+use mathlib.Core.Path.{_≡_, refl, sym, ap, _∙_}
 use mathlib.Core.Bool.{Bool, true, false, not, cond, _&&_, _||_}
 use native.Mathlib.Omega.{arith}
 use lib.ListN.{length, take, drop, getD}
-use lib.Seq.{sets, length-sets}
+use lib.Seq.{length-sets}
 use lib.Dec.{lit<, leb, ltb, eqb}
-use borrow.Author.Tests.{lt-ltb, ltb-true, ltb-false, leb-false, eqb-false}
+use borrow.Author.Tests.{lt-ltb, ltb-true, leb-true, leb-false, le-leb}
 use Rattle.buffer.specs.Le.{numberAt}
-use Rattle.buffer.specs.Splice.{over, length-over}
 use Rattle.crc32c.specs.Crc.{crcOf}
 use Rattle.refusal.specs.declared.Numbers.{Numbers}
+use Rattle.refusal.specs.declared.Refusal.the-variants as refusal
 use Rattle.refusal.specs.Refusals.{Judged, fine, refused, row, orElse, unless}
 use Rattle.banner.specs.declared.Features.{Features}
 use Rattle.banner.specs.declared.Revision.{Revision}
@@ -20,267 +20,462 @@ use Rattle.banner.specs.Bits.{missing, lowestBit, bitCount}
 use Rattle.banner.specs.Banner.{magic, sameFrom, judgeOwn, judgeMagic, judgeLength, judgeMissing, judgeFeatures, revisionOf, featuresOf}
 use Rattle.preamble.specs.declared.Header.{Header}
 use Rattle.preamble.specs.Layout.{total}
-use Rattle.preamble.specs.Judge.{shapeFault, flagFault, limitFault, headerOf, preambleOf, judgeChecksum, judgeShape, judgeFlags, judgeTag, judgeLimits, judgeStore, judgeHeader, judgeFields, judgePreamble}
-use Rattle.preamble.specs.Laws.{accepted-preamble}
+use Rattle.preamble.specs.Judge.{shapeFault, flagFault, limitFault, headerOf, judgeChecksum, judgeShape, judgeFlags, judgeTag, judgeLimits, judgeStore, judgeHeader, judgeFields, judgePreamble}
+use Rattle.preamble.proofs.Laws.{accepted-preamble, accepted-header, store-fits}
 use Rattle.body.specs.declared.Late.{Late}
 use Rattle.body.specs.declared.Late.the-variants as late
-use Rattle.body.specs.Body.{field, restFields, segmentSum, noEpilogue, epilogueLength}
+use Rattle.body.specs.Body.{segmentSum, segments, epilogueFrom, inEpilogue, noFirstSum, noEpilogue}
+use Rattle.body.specs.End as ended
 use Rattle.body.specs.End.{Ended, whole, dropped, turnedAway, compareFrom, compared, endedBy, byLate, lateOf, ending}
+use Rattle.stream.specs.declared.Event.{Event}
+use Rattle.stream.specs.declared.Event.the-variants as event
 use Rattle.stream.specs.Stream.{zeroed}
 use Rattle.receiver.specs.declared.Stage.{Stage}
 use Rattle.receiver.specs.declared.Stage.the-variants as stage
+use Rattle.receiver.specs.declared.Place.{Place}
+use Rattle.receiver.specs.declared.Place.the-variants as place
+use Rattle.receiver.specs.declared.Known.{Known}
 use Rattle.receiver.specs.declared.State.{State}
 use Rattle.receiver.specs.declared.Report.{Report}
 use Rattle.receiver.specs.declared.Report.the-variants as report
-use Rattle.receiver.specs.Step.{sizeOf, Place, block, store, nowhere, placeOf, needed, isFine, isMsgr21, ownOk, payloadOk, headerOk, given, rules, isRefused, agrees, holding, moved, withPayload, withPeer, withRevision, withHeader, withRefusal, held, absorbed, kept, stored, Stepped, silent, refuse, unlessRefused, meet, close, behindRest, fill, enter, reached, chunk, finish, onByte, Fed, further, feed, Running}
-use Rattle.receiver.proofs.Flags.{both-left}
-use Rattle.receiver.proofs.Frames.{has-length}
-use Rattle.receiver.proofs.Runs.{size-absorbed}
+use Rattle.receiver.specs.State.{sizeOf, placeOf, isRefused, inBody, needed, blank, noRefusal, isFine, sameRevision, hasFirstSum, given, ownRule, payloadRule, peerRule, revisionRule, headerRule, firstRule, markRule, refusalRule, rules, leastOf, countRule, isZeros, inBlock, blockRule, agreesAt, agrees}
+use Rattle.receiver.specs.Step.{at, onlyOwn, withPayload, withPeer, withRevision, withHeader, withFirst, nextFrame, refusedState, blockWith, storeWith, absorbed, stored, size, Stepped, silent, refuse, unlessRefused, endBanner, endFrame, beginEpilogue, beginRest, beginBody, reportFirst, behindFirstSum, reached, chunk, finish, onByte, onward, feed, Running}
+use Rattle.receiver.proofs.Booleans.{wrong, both-left, both-right}
+use Rattle.receiver.proofs.Zeros.{zeros-later, drop-sets}
+use Rattle.receiver.proofs.Frames.{has-length, first-some, not-so, rest-silent}
+use Rattle.receiver.proofs.Due.{Passes}
 
 -- ---- refusals that a receiver gives
 
-pub record Known (j : Judged) : Type 0 where
-  pub known : (n : Numbers) → j ≡ refused n → given n ≡ true
+-- a refusal of bytes that segmentBytes, and not of our own features
+abbrev pub ofBytes : Numbers → Bool
+ofBytes n = given n && not (eqb (n .number) 16)
 
-pub known-cond : (b : Bool) (n : Numbers) → given n ≡ true → Known (cond b fine (refused n))
-known-cond true n g = record { known = λ m e. absurd (let z : _≡_ {A = ℕ} 0 1 = cc in omega arith) }
-known-cond false n g = record { known = λ m e. (let k : n ≡ m = cc in rw k at g) }
+pub record Given (j : Judged) : Type 0 where
+  pub gives : (n : Numbers) → j ≡ refused n → ofBytes n ≡ true
 
-known-or : {a b : Judged} → Known a → Known b → Known (orElse a b)
-known-or {a} {b} ka kb = go a ka
+given-cond : (b : Bool) (n : Numbers) → ofBytes n ≡ true → Given (cond b fine (refused n))
+given-cond true n g = record { gives = λ m e. absurd (let z : _≡_ {A = ℕ} 0 1 = cc in omega arith) }
+given-cond false n g = record { gives = λ m e. (let k : n ≡ m = cc in rw k at g) }
+
+given-or : {a b : Judged} → Given a → Given b → Given (orElse a b)
+given-or {a} {b} ka kb = go a ka
   where
-    go : (j : Judged) → Known j → Known (orElse j b)
+    go : (j : Judged) → Given j → Given (orElse j b)
     go fine k = kb
     go (refused n) k = k
 
-known-fine : Known fine
-known-fine = record { known = λ m e. absurd (let z : _≡_ {A = ℕ} 0 1 = cc in omega arith) }
+given-fine : Given fine
+given-fine = record { gives = λ m e. absurd (let z : _≡_ {A = ℕ} 0 1 = cc in omega arith) }
 
-known-features : (a b c d : ℕ) → Known (judgeFeatures a b c d)
+given-features : (a b c d : ℕ) → Given (judgeFeatures a b c d)
 unfolding judgeFeatures
-known-features a b c d =
-    let k3 : Known (judgeMissing 3 (missing 64 d a)) = known-cond (eqb (missing 64 d a) 0) (row 3 (missing 64 d a) (lowestBit 64 (missing 64 d a)) (bitCount 64 (missing 64 d a))) refl in
-    let k4 : Known (judgeMissing 4 (missing 64 b c)) = known-cond (eqb (missing 64 b c) 0) (row 4 (missing 64 b c) (lowestBit 64 (missing 64 b c)) (bitCount 64 (missing 64 b c))) refl in
-    known-or k3 (known-or k4 known-fine)
+given-features a b c d =
+    let k3 : Given (judgeMissing refusal.PeerRequires (missing 64 d a)) = given-cond (eqb (missing 64 d a) 0) (row 3 (missing 64 d a) (lowestBit 64 (missing 64 d a)) (bitCount 64 (missing 64 d a))) refl in
+    let k4 : Given (judgeMissing refusal.PeerLacks (missing 64 b c)) = given-cond (eqb (missing 64 b c) 0) (row 4 (missing 64 b c) (lowestBit 64 (missing 64 b c)) (bitCount 64 (missing 64 b c))) refl in
+    given-or k3 (given-or k4 given-fine)
 
-known-preamble : (bs : List ℕ) (n : ℕ) → Known (judgePreamble bs n)
+given-preamble : (bs : List ℕ) (n : ℕ) → Given (judgePreamble bs n)
 unfolding judgePreamble judgeFields
-known-preamble bs n =
+given-preamble bs n =
     let h = headerOf bs in
-    let k5 : Known (judgeChecksum bs) = known-cond (eqb (crcOf 0 (take 28 bs)) (numberAt 4 28 bs)) (row 5 28 0 0) refl in
-    let k6 : Known (judgeShape h) = known-cond (eqb (shapeFault h) 0) (row 6 (shapeFault h) 0 0) refl in
-    let k7 : Known (judgeFlags (getD bs 26 0) (getD bs 27 0)) = known-cond (eqb (flagFault (getD bs 26 0) (getD bs 27 0)) 0) (row 7 (flagFault (getD bs 26 0) (getD bs 27 0)) 0 0) refl in
-    let k8 : Known (judgeTag (h .tag)) = known-cond (leb 1 (h .tag) && leb (h .tag) 20) (row 8 (h .tag) 0 0) refl in
-    let k9 : Known (judgeLimits h) = known-cond (eqb (limitFault h) 0) (row 9 (limitFault h) 0 0) refl in
-    let k10 : Known (judgeStore (total h) n) = known-cond (leb (total h) n) (row 10 (total h) 0 0) refl in
-    known-or k5 (known-or k6 (known-or k7 (known-or k8 (known-or k9 (known-or k10 known-fine)))))
+    let k5 : Given (judgeChecksum bs) = given-cond (eqb (crcOf 0 (take 28 bs)) (numberAt 4 28 bs)) (row 5 28 0 0) refl in
+    let k6 : Given (judgeShape h) = given-cond (eqb (shapeFault h) 0) (row 6 (shapeFault h) 0 0) refl in
+    let k7 : Given (judgeFlags (getD bs 26 0) (getD bs 27 0)) = given-cond (eqb (flagFault (getD bs 26 0) (getD bs 27 0)) 0) (row 7 (flagFault (getD bs 26 0) (getD bs 27 0)) 0 0) refl in
+    let k8 : Given (judgeTag (h .tag)) = given-cond (leb 1 (h .tag) && leb (h .tag) 20) (row 8 (h .tag) 0 0) refl in
+    let k9 : Given (judgeLimits h) = given-cond (eqb (limitFault h) 0) (row 9 (limitFault h) 0 0) refl in
+    let k10 : Given (judgeStore (total h) n) = given-cond (leb (total h) n) (row 10 (total h) 0 0) refl in
+    given-or k5 (given-or k6 (given-or k7 (given-or k8 (given-or k9 (given-or k10 given-fine)))))
 
-known-compare : (count k : ℕ) (fs sums : List ℕ) → Known (compareFrom count k fs sums)
-known-compare count k [] sums = known-fine
-known-compare count k (f ∷ fs) sums =
-    let one : Known (unless (ltb count k || eqb f (getD sums 0 0)) 11 k) = known-cond (ltb count k || eqb f (getD sums 0 0)) (row 11 k 0 0) refl in
-    known-or one (known-compare count (suc k) fs (drop 1 sums))
+given-compare : (count k : ℕ) (fs : List ℕ) (ss : List (List ℕ)) → Given (compareFrom count k fs ss)
+given-compare count k [] ss = given-fine
+given-compare count k (f ∷ fs) ss =
+    let one : Given (unless (ltb count k || eqb f (segmentSum (getD ss 0 []))) (refusal.SegmentChecksum k)) = given-cond (ltb count k || eqb f (segmentSum (getD ss 0 []))) (row 11 k 0 0) refl in
+    given-or one (given-compare count (suc k) fs (drop 1 ss))
 
-known-compared : (revision : Revision) (h : Header) (e p : List ℕ) → Known (compared revision h e p)
-known-compared Msgr20 h e p =
-    known-compare (h .count) 1 (numberAt 4 1 e ∷ numberAt 4 5 e ∷ numberAt 4 9 e ∷ numberAt 4 13 e ∷ [])
-    (field (h .count) 1 (take (h .s1 .len) p) ∷ restFields h (drop (h .s1 .len) p))
-known-compared Msgr21 h e p =
-    known-compare (h .count) 2 (numberAt 4 1 e ∷ numberAt 4 5 e ∷ numberAt 4 9 e ∷ []) (restFields h (drop (h .s1 .len) p))
+given-compared : (revision : Revision) (h : Header) (e p : List ℕ) → Given (compared revision h e p)
+given-compared revision h e p =
+    given-compare (h .count) (epilogueFrom revision) (ended.stored revision e) (inEpilogue revision (segments h (take (h .s1 .len) p) (drop (h .s1 .len) p)))
 
-pub record KnownEnd (x : Ended) : Type 0 where
-  pub known : (n : Numbers) → x ≡ turnedAway n → given n ≡ true
+pub record GivenEnd (x : Ended) : Type 0 where
+  pub gives : (n : Numbers) → x ≡ turnedAway n → ofBytes n ≡ true
 
-end-whole : KnownEnd whole
-end-whole = record { known = λ m e. absurd (let z : _≡_ {A = ℕ} 0 1 = cc in omega arith) }
+end-whole : GivenEnd whole
+end-whole = record { gives = λ m e. absurd (let z : _≡_ {A = ℕ} 0 1 = cc in omega arith) }
 
-end-of : (x : Late) (b : ℕ) {j : Judged} → Known j → KnownEnd (byLate x b j)
-end-of late.Wrong b k = record { known = λ m e. (let i : row 12 b 0 0 ≡ m = cc in ap given (sym i)) }
-end-of late.Aborted b k = record { known = λ m e. absurd (let z : _≡_ {A = ℕ} 0 1 = cc in omega arith) }
+end-of : (x : Late) (b : ℕ) {j : Judged} → Given j → GivenEnd (byLate x b j)
+end-of late.Wrong b k = record { gives = λ m e. (let i : row 12 b 0 0 ≡ m = cc in ap ofBytes (sym i)) }
+end-of late.Aborted b k = record { gives = λ m e. absurd (let z : _≡_ {A = ℕ} 0 1 = cc in omega arith) }
 end-of late.Complete b {j} k = go j k
   where
-    go : (j : Judged) → Known j → KnownEnd (endedBy j)
+    go : (j : Judged) → Given j → GivenEnd (endedBy j)
     go fine k = end-whole
-    go (refused n) k = record { known = λ m e. k .known m (let i : n ≡ m = cc in ap refused i) }
+    go (refused n) k = record { gives = λ m e. k .gives m (let i : n ≡ m = cc in ap refused i) }
 
-known-ending : (revision : Revision) (h : Header) (e p : List ℕ) → KnownEnd (ending revision h e p)
+given-ending : (revision : Revision) (h : Header) (e p : List ℕ) → GivenEnd (ending revision h e p)
 unfolding ending
-known-ending revision h e p = go (noEpilogue revision h)
+given-ending revision h e p = go (noEpilogue revision h)
   where
-    go : (b : Bool) → KnownEnd (cond b whole (byLate (lateOf revision (getD e 0 0)) (getD e 0 0) (compared revision h e p)))
+    go : (b : Bool) → GivenEnd (cond b whole (byLate (lateOf revision (getD e 0 0)) (getD e 0 0) (compared revision h e p)))
     go true = end-whole
-    go false = end-of (lateOf revision (getD e 0 0)) (getD e 0 0) (known-compared revision h e p)
+    go false = end-of (lateOf revision (getD e 0 0)) (getD e 0 0) (given-compared revision h e p)
 
--- ---- what holds of a state
+-- ---- the rules, one by one
+
+pub record Rules (k : Stage) (v : Known) : Type 0 where
+  pub own : ownRule k v ≡ true
+  pub payload : payloadRule k v ≡ true
+  pub peer : peerRule k v ≡ true
+  pub revision : revisionRule k v ≡ true
+  pub header : headerRule k v ≡ true
+  pub first : firstRule k v ≡ true
+  pub mark : markRule k v ≡ true
+  pub refusal : refusalRule k v ≡ true
+
+pub rules-of : (k : Stage) (v : Known) → rules k v ≡ true → Rules k v
+rules-of k v e =
+    let a = both-left ((ownRule k v && payloadRule k v) && (peerRule k v && revisionRule k v)) ((headerRule k v && (firstRule k v && markRule k v)) && refusalRule k v) e in
+    let b = both-right ((ownRule k v && payloadRule k v) && (peerRule k v && revisionRule k v)) ((headerRule k v && (firstRule k v && markRule k v)) && refusalRule k v) e in
+    let op = both-left (ownRule k v && payloadRule k v) (peerRule k v && revisionRule k v) a in
+    let pr = both-right (ownRule k v && payloadRule k v) (peerRule k v && revisionRule k v) a in
+    let hf = both-left (headerRule k v && (firstRule k v && markRule k v)) (refusalRule k v) b in
+    let fm = both-right (headerRule k v) (firstRule k v && markRule k v) hf in
+    record {
+      own = both-left (ownRule k v) (payloadRule k v) op;
+      payload = both-right (ownRule k v) (payloadRule k v) op;
+      peer = both-left (peerRule k v) (revisionRule k v) pr;
+      revision = both-right (peerRule k v) (revisionRule k v) pr;
+      header = both-left (headerRule k v) (firstRule k v && markRule k v) hf;
+      first = both-left (firstRule k v) (markRule k v) fm;
+      mark = both-right (firstRule k v) (markRule k v) fm;
+      refusal = both-right (headerRule k v && (firstRule k v && markRule k v)) (refusalRule k v) b;
+    }
+
+rules-all : (k : Stage) (v : Known) → Rules k v → rules k v ≡ true
+rules-all k v r = rw (r .own, r .payload, r .peer, r .revision, r .header, r .first, r .mark, r .refusal)
+
+-- ---- what holds of a live state, whatever the store
+
+pub record Live (k : Stage) (got : ℕ) (block : List ℕ) (v : Known) : Type 0 where
+  pub rule : Rules k v
+  pub least : leastOf k v ≤ got
+  pub inside : got < sizeOf k v
+  pub zeros : blockRule k got block ≡ true
+
+agree-live : (k : Stage) (got : ℕ) (b : List ℕ) (v : Known) → isRefused k ≡ false → Live k got b v → agreesAt k got b v ≡ true
+unfolding agreesAt
+agree-live k got b v o l =
+    rw (rules-all k v (l .rule), o, le-leb (leastOf k v) got (l .least), lt-ltb got (sizeOf k v) (l .inside), l .zeros)
+
+pub live-of : (k : Stage) (got : ℕ) (b : List ℕ) (v : Known) → isRefused k ≡ false → agreesAt k got b v ≡ true → Live k got b v
+unfolding agreesAt
+live-of k got b v o e =
+    let a = both-left (rules k v && countRule k v got) (blockRule k got b) e in
+    let n : (leb (leastOf k v) got && ltb got (sizeOf k v)) ≡ true = rw o at (both-right (rules k v) (countRule k v got) a) in
+    record {
+      rule = rules-of k v (both-left (rules k v) (countRule k v got) a);
+      least = leb-true (leastOf k v) got (both-left (leb (leastOf k v) got) (ltb got (sizeOf k v)) n);
+      inside = ltb-true got (sizeOf k v) (both-right (leb (leastOf k v) got) (ltb got (sizeOf k v)) n);
+      zeros = both-right (rules k v && countRule k v got) (blockRule k got b) e;
+    }
+
+pub live : {st : State} {s : List ℕ} → Running st s → Live (st .position .stage) (st .position .got) (st .position .block) (st .known)
+live {st} r = live-of (st .position .stage) (st .position .got) (st .position .block) (st .known) (r .live) (r .agree)
+
+pub inside-of : {st : State} {s : List ℕ} → Running st s → st .position .got < size st
+inside-of r = live r .inside
+
+-- ---- what a step leaves
 
 pub record Gone (n : Numbers) (st : State) : Type 0 where
-  pub stage : st .stage ≡ stage.Refused
-  pub why : st .refusal ≡ n
-  pub rule : given n ≡ true
+  pub stage : st .position .stage ≡ stage.Refused
+  pub why : st .known .refusal ≡ n
+  pub agree : agrees st ≡ true
+  pub gives : given n ≡ true
+
+abbrev pub AfterEvent : Event → State → List ℕ → Type 0
+AfterEvent (event.Banner p r) st s = Running st s
+AfterEvent (event.First h) st s = Running st s
+AfterEvent (event.Frame h) st s = Running st s
+AfterEvent (event.Dropped h) st s = Running st s
+AfterEvent (event.Refused n) st s = Gone n st
 
 abbrev pub After : Report → State → List ℕ → Type 0
 After report.More st s = Running st s
-After (report.Banner p r) st s = Running st s
-After (report.Frame h) st s = Running st s
-After (report.Dropped h) st s = Running st s
-After (report.Refused n) st s = Gone n st
+After (report.Event e) st s = AfterEvent e st s
 
 abbrev AfterStep : Stepped → Type 0
 AfterStep x = After (x .report) (x .state) (x .store)
 
-refused-after : (st : State) (n : Numbers) (s : List ℕ) → given n ≡ true → AfterStep (refuse st n s)
-refused-after st n s g = record { stage = refl; why = refl; rule = g }
+-- our own features are fine while nothing is refused
+abbrev OwnFine : Known → Type 0
+OwnFine v = isFine (judgeOwn (v .own .supported) (v .own .required)) ≡ true
 
-judged-after : (j : Judged) (st : State) (s : List ℕ) (x : Stepped) → Known j → (j ≡ fine → AfterStep x) → AfterStep (unlessRefused j st s x)
-judged-after fine st s x k f = f refl
-judged-after (refused n) st s x k f = refused-after st n s (k .known n refl)
+-- the state of a refusal
+pub gone-at : (own : Features) (n : Numbers) → given n ≡ true → cond (eqb (n .number) 16) true (isFine (judgeOwn (own .supported) (own .required))) ≡ true → Gone n (at stage.Refused 0 (onlyOwn own n))
+unfolding agreesAt
+gone-at own n g o = record { stage = refl; why = refl; agree = rw (o, g); gives = g }
 
-meet-after : (st : State) (s : List ℕ) → AfterStep (meet st s)
-meet-after st s =
-    judged-after (judgeFeatures (st .own .supported) (st .own .required) (st .peer .supported) (st .peer .required)) st s _
-    (known-features (st .own .supported) (st .own .required) (st .peer .supported) (st .peer .required))
-    (λ _. record { rule = refl; live = refl; inside = lit< tt; fits = zero-le })
+own-cond : (b : Bool) (c : Bool) → c ≡ true → cond b true c ≡ true
+own-cond true c e = refl
+own-cond false c e = e
 
-close-after : (x : Ended) (st : State) (s : List ℕ) → KnownEnd x → AfterStep (close x st s)
-close-after whole st s k = record { rule = refl; live = refl; inside = lit< tt; fits = zero-le }
-close-after dropped st s k = record { rule = refl; live = refl; inside = lit< tt; fits = zero-le }
-close-after (turnedAway n) st s k = refused-after st n (zeroed (st .header) s) (k .known n refl)
+pub refused-after : (v : Known) (n : Numbers) (s : List ℕ) → OwnFine v → given n ≡ true → AfterStep (refuse v n s)
+refused-after v n s o g = gone-at (v .own) n g (own-cond (eqb (n .number) 16) (isFine (judgeOwn (v .own .supported) (v .own .required))) o)
 
-module _ (st : State) (s : List ℕ) (ok : headerOk st ≡ true) (fits : total (st .header) ≤ length s) where
-  behind-after : AfterStep (behindRest st s)
-  behind-after = go (noEpilogue (st .revision) (st .header)) refl
-    where
-      go : (b : Bool) → noEpilogue (st .revision) (st .header) ≡ b → AfterStep (cond b (close whole st s) (silent (moved st stage.Epilogue 0) s))
-      go true e = close-after whole st s end-whole
-      go false e = record { rule = ok; live = refl; inside = has-length (st .revision) (st .header) e .0; fits = fits }
+judged-after : (j : Judged) (v : Known) (s : List ℕ) (x : Stepped) → OwnFine v → Given j → (j ≡ fine → AfterStep x) → AfterStep (unlessRefused j v s x)
+judged-after fine v s x o k f = f refl
+judged-after (refused n) v s x o k f = refused-after v n s o (both-left (given n) (not (eqb (n .number) 16)) (k .gives n refl))
 
-  fill-after : (got : ℕ) → AfterStep (fill st got s)
-  fill-after got = go (ltb got (total (st .header))) refl
-    where
-      go : (b : Bool) → ltb got (total (st .header)) ≡ b → AfterStep (cond b (silent (moved st stage.Rest got) s) (behindRest st s))
-      go true e = record { rule = ok; live = refl; inside = ltb-true got (total (st .header)) e; fits = fits }
-      go false e = behind-after
+module _ (k : Stage) (got : ℕ) (v : Known) (s : List ℕ) (o : isRefused k ≡ false) where
+  running-at : Rules k v → leastOf k v ≤ got → got < sizeOf k v → needed k v ≤ length s → isZeros (drop (inBlock (placeOf k) got) blank) ≡ true → Running (at k got v) s
+  running-at r l i f z =
+      record { agree = agree-live k got blank v o (record { rule = r; least = l; inside = i; zeros = z }); live = o; fits = f }
 
-  enter-after : AfterStep (enter st s)
-  enter-after = go (isMsgr21 (st .revision)) refl (eqb (st .header .s1 .len) 0) refl
-    where
-      go : (a : Bool) → isMsgr21 (st .revision) ≡ a → (b : Bool) → eqb (st .header .s1 .len) 0 ≡ b
-          → AfterStep (cond (a && not b) (silent (moved st stage.First 0) s) (fill st 0 s))
-      go false v b e = fill-after 0
-      go true v true e = fill-after 0
-      go true v false e =
-          let z = eqb-false (st .header .s1 .len) 0 e in
-          record { rule = rw (ok, v); live = refl; inside = omega arith; fits = fits }
+-- behind the banner, between two frames
+abbrev Linked : Known → Type 0
+Linked v = Rules stage.Preamble v
+
+between : (v : Known) (s : List ℕ) → Linked v → Running (at stage.Preamble 0 v) s
+between v s r = running-at stage.Preamble 0 v s refl r zero-le (lit< tt) zero-le refl
+
+same-revision : (r : Revision) → sameRevision r r ≡ true
+same-revision Msgr20 = refl
+same-revision Msgr21 = refl
 
 fine-true : {j : Judged} → j ≡ fine → isFine j ≡ true
 fine-true e = ap isFine e
 
-finish-after : (k : Stage) (st : State) (s : List ℕ) → rules k st ≡ true → isRefused k ≡ false → needed k st ≤ length s → AfterStep (finish k st s)
+banner-after : (v : Known) (s : List ℕ) → Rules stage.Skip v → AfterStep (endBanner v s)
+banner-after v s r =
+    judged-after (judgeFeatures (v .own .supported) (v .own .required) (v .peer .supported) (v .peer .required)) v s _ (r .own)
+    (given-features (v .own .supported) (v .own .required) (v .peer .supported) (v .peer .required))
+    (λ e. between (withRevision v (revisionOf (v .own .supported) (v .peer .supported))) s (record {
+      own = r .own;
+      payload = r .payload;
+      peer = refl;
+      revision = rw (fine-true e) (same-revision (revisionOf (v .own .supported) (v .peer .supported)));
+      header = r .header;
+      first = refl;
+      mark = r .mark;
+      refusal = r .refusal;
+    }))
+
+-- in a body, whatever its stage
+pub record Framed (v : Known) : Type 0 where
+  pub own : OwnFine v
+  pub payload : isFine (judgeLength (v .payload)) ≡ true
+  pub revision : revisionRule stage.Preamble v ≡ true
+  pub header : isFine (judgeHeader (v .header)) ≡ true
+  pub refusal : refusalRule stage.Preamble v ≡ true
+
+next-after : (v : Known) (s : List ℕ) → Framed v → Running (nextFrame v) s
+next-after v s f =
+    between _ s (record { own = f .own; payload = f .payload; peer = refl; revision = f .revision; header = refl; first = refl; mark = refl; refusal = f .refusal })
+
+frame-after : (x : Ended) (v : Known) (s : List ℕ) → Framed v → GivenEnd x → AfterStep (endFrame x v s)
+frame-after whole v s f k = next-after v s f
+frame-after dropped v s f k = next-after v (zeroed (v .header) s) f
+frame-after (turnedAway n) v s f k = refused-after v n (zeroed (v .header) s) (f .own) (both-left (given n) (not (eqb (n .number) 16)) (k .gives n refl))
+
+least-other : (b : Bool) (n m : ℕ) → n ≤ m → cond b n 0 ≤ m
+least-other true n m h = h
+least-other false n m h = zero-le
+
+module _ (v : Known) (s : List ℕ) (f : Framed v) (m : markRule stage.Rest v ≡ true) (fits : total (v .header) ≤ length s) where
+  epilogue-after : AfterStep (beginEpilogue v s)
+  epilogue-after = go (noEpilogue (v .revision) (v .header)) refl
+    where
+      go : (b : Bool) → noEpilogue (v .revision) (v .header) ≡ b → AfterStep (cond b (endFrame whole v s) (silent (at stage.Epilogue 0 v) s))
+      go true e = frame-after whole v s f end-whole
+      go false e =
+          running-at stage.Epilogue 0 v s refl (record { own = f .own; payload = f .payload; peer = refl; revision = f .revision; header = f .header; first = refl; mark = m; refusal = f .refusal }) zero-le (has-length (v .revision) (v .header) e .0) fits refl
+
+  rest-after : (got : ℕ) → leastOf stage.Rest v ≤ got → AfterStep (beginRest v got s)
+  rest-after got l = go (ltb got (total (v .header))) refl
+    where
+      go : (b : Bool) → ltb got (total (v .header)) ≡ b → AfterStep (cond b (silent (at stage.Rest got v) s) (beginEpilogue v s))
+      go true e =
+          running-at stage.Rest got v s refl (record { own = f .own; payload = f .payload; peer = refl; revision = f .revision; header = f .header; first = refl; mark = m; refusal = f .refusal }) l (ltb-true got (total (v .header)) e) fits refl
+      go false e = epilogue-after
+
+-- behind an accepted preamble nothing of the frame is reported yet
+body-after : (v : Known) (s : List ℕ) → Framed v → v .first ≡ false → total (v .header) ≤ length s → AfterStep (beginBody v s)
+body-after v s f u fits = go (hasFirstSum v) refl
+  where
+    go : (b : Bool) → hasFirstSum v ≡ b → AfterStep (cond b (silent (at stage.First 0 v) s) (beginRest v 0 s))
+    go false e = rest-after v s f (rw (u, e)) fits 0 (rw e zero-le)
+    go true e =
+        running-at stage.First 0 v s refl (record { own = f .own; payload = f .payload; peer = refl; revision = f .revision; header = f .header; first = e; mark = rw u; refusal = f .refusal }) zero-le
+        (first-some (v .revision) (v .header) (not-so (noFirstSum (v .revision) (v .header)) e)) fits refl
+
+-- segment 1 is reported early
+first-after : (v : Known) (s : List ℕ) → Framed v → hasFirstSum v ≡ true → total (v .header) ≤ length s → AfterStep (behindFirstSum v s)
+first-after v s f e fits = go (ltb 1 (v .header .count)) refl
+  where
+    x : AfterStep (beginRest (withFirst v) (v .header .s1 .len) s)
+    x = rest-after (withFirst v) s (record { own = f .own; payload = f .payload; revision = f .revision; header = f .header; refusal = f .refusal }) e fits (v .header .s1 .len) (least-other (hasFirstSum v) (v .header .s1 .len) (v .header .s1 .len) (omega arith))
+
+    go : (c : Bool) → ltb 1 (v .header .count) ≡ c → AfterStep (reportFirst c (v .header) (beginRest (withFirst v) (v .header .s1 .len) s))
+    go true c = rw (rest-silent (withFirst v) (v .header .s1 .len) s e c) at x
+    go false c = x
+
+-- the rules of a stage in a body are those of the frame
+framed-by : (k : Stage) (v : Known) → inBody k ≡ true → Rules k v → Framed v
+framed-by stage.Magic v i r = wrong i
+framed-by stage.Length v i r = wrong i
+framed-by stage.Payload v i r = wrong i
+framed-by stage.Skip v i r = wrong i
+framed-by stage.Preamble v i r = wrong i
+framed-by stage.First v i r = record { own = r .own; payload = r .payload; revision = r .revision; header = r .header; refusal = r .refusal }
+framed-by stage.FirstSum v i r = record { own = r .own; payload = r .payload; revision = r .revision; header = r .header; refusal = r .refusal }
+framed-by stage.Rest v i r = record { own = r .own; payload = r .payload; revision = r .revision; header = r .header; refusal = r .refusal }
+framed-by stage.Epilogue v i r = record { own = r .own; payload = r .payload; revision = r .revision; header = r .header; refusal = r .refusal }
+framed-by stage.Refused v i r = wrong i
+
+finish-after : (k : Stage) (b : List ℕ) (v : Known) (s : List ℕ) → Rules k v → isRefused k ≡ false → needed k v ≤ length s → AfterStep (finish k b v s)
 unfolding finish
-finish-after stage.Magic st s r o f =
-    judged-after (judgeMagic (take 8 (st .block))) st s _ (known-cond (sameFrom 0 magic (take 8 (st .block))) (row 1 0 0 0) refl) (λ _. record { rule = r; live = refl; inside = lit< tt; fits = zero-le })
-finish-after stage.Length st s r o f =
-    judged-after (judgeLength (numberAt 2 0 (st .block))) st s _ (known-cond (leb 16 (numberAt 2 0 (st .block)) && leb (numberAt 2 0 (st .block)) 1024) (row 2 (numberAt 2 0 (st .block)) 0 0) refl)
-    (λ e. record { rule = rw (r, fine-true e); live = refl; inside = lit< tt; fits = zero-le })
-finish-after stage.Payload st s r o f = go (leb (st .payload) 16) refl
+finish-after stage.Magic b v s r o f =
+    judged-after (judgeMagic (take 8 b)) v s _ (r .own) (given-cond (sameFrom 0 magic (take 8 b)) (row 1 0 0 0) refl)
+    (λ _. running-at stage.Length 0 v s refl (record { own = r .own; payload = r .payload; peer = r .peer; revision = r .revision; header = r .header; first = refl; mark = r .mark; refusal = r .refusal }) zero-le (lit< tt) zero-le refl)
+finish-after stage.Length b v s r o f =
+    judged-after (judgeLength (numberAt 2 0 b)) v s _ (r .own) (given-cond (leb 16 (numberAt 2 0 b) && leb (numberAt 2 0 b) 1024) (row 2 (numberAt 2 0 b) 0 0) refl)
+    (λ e. running-at stage.Payload 0 (withPayload v (numberAt 2 0 b)) s refl (record { own = r .own; payload = fine-true e; peer = r .peer; revision = r .revision; header = r .header; first = refl; mark = r .mark; refusal = r .refusal }) zero-le (lit< tt) zero-le refl)
+finish-after stage.Payload b v s r o f = go (leb (v .payload) 16) refl
   where
-    go : (b : Bool) → leb (st .payload) 16 ≡ b
-        → AfterStep (cond b (meet (withPeer st (featuresOf (take 16 (st .block)))) s) (silent (moved (withPeer st (featuresOf (take 16 (st .block)))) stage.Skip 0) s))
-    go true e = meet-after (withPeer st (featuresOf (take 16 (st .block)))) s
-    go false e = record { rule = r; live = refl; inside = (let z = leb-false (st .payload) 16 e in omega arith); fits = zero-le }
-finish-after stage.Skip st s r o f = meet-after st s
-finish-after stage.Preamble st s r o f =
-    judged-after (judgePreamble (st .block) (length s)) st s _ (known-preamble (st .block) (length s))
-    (λ e. let a = accepted-preamble (st .block) (length s) e in enter-after (withHeader st (headerOf (st .block))) s (fine-true (a .header)) (a .fits))
-finish-after stage.First st s r o f = record { rule = r; live = refl; inside = lit< tt; fits = f }
-finish-after stage.FirstSum st s r o f = go (eqb (numberAt 4 0 (st .block)) (segmentSum (take (st .header .s1 .len) s)))
+    w : Known
+    w = withPeer v (featuresOf (take 16 b))
+
+    skip : Rules stage.Skip (withPeer v (featuresOf (take 16 b)))
+    skip = record { own = r .own; payload = r .payload; peer = refl; revision = r .revision; header = r .header; first = refl; mark = r .mark; refusal = r .refusal }
+
+    go : (c : Bool) → leb (v .payload) 16 ≡ c
+        → AfterStep (cond c (endBanner (withPeer v (featuresOf (take 16 b))) s) (silent (at stage.Skip 0 (withPeer v (featuresOf (take 16 b)))) s))
+    go true e = banner-after (withPeer v (featuresOf (take 16 b))) s skip
+    go false e = running-at stage.Skip 0 (withPeer v (featuresOf (take 16 b))) s refl skip zero-le (let z = leb-false (v .payload) 16 e in omega arith) zero-le refl
+finish-after stage.Skip b v s r o f = banner-after v s r
+finish-after stage.Preamble b v s r o f =
+    judged-after (judgePreamble b (length s)) v s _ (r .own) (given-preamble b (length s))
+    (λ e.
+    let a = accepted-preamble b (length s) e in
+    body-after (withHeader v (headerOf b)) s (record { own = r .own; payload = r .payload; revision = r .revision; header = fine-true (accepted-header a); refusal = r .refusal }) refl (store-fits (a .store)))
+finish-after stage.First b v s r o f =
+    running-at stage.FirstSum 0 v s refl (record { own = r .own; payload = r .payload; peer = refl; revision = r .revision; header = r .header; first = r .first; mark = r .mark; refusal = r .refusal }) zero-le (lit< tt) f refl
+finish-after stage.FirstSum b v s r o f = go (eqb (numberAt 4 0 b) (segmentSum (take (v .header .s1 .len) s)))
   where
-    go : (b : Bool) → AfterStep (cond b (fill st (st .header .s1 .len) s) (refuse st (row 11 1 0 0) (zeroed (st .header) s)))
-    go true = fill-after st s (both-left (headerOk st) (isMsgr21 (st .revision)) r) f (st .header .s1 .len)
-    go false = refused-after st (row 11 1 0 0) (zeroed (st .header) s) refl
-finish-after stage.Rest st s r o f = behind-after st s r f
-finish-after stage.Epilogue st s r o f =
-    close-after (ending (st .revision) (st .header) (st .block) (take (total (st .header)) s)) st s (known-ending (st .revision) (st .header) (st .block) (take (total (st .header)) s))
-finish-after stage.Refused st s r o f = absurd (let z : _≡_ {A = ℕ} 0 1 = cc in omega arith)
+    go : (c : Bool) → AfterStep (cond c (behindFirstSum v s) (refuse v (row 11 1 0 0) (zeroed (v .header) s)))
+    go true = first-after v s (framed-by stage.FirstSum v refl r) (r .first) f
+    go false = refused-after v (row 11 1 0 0) (zeroed (v .header) s) (r .own) refl
+finish-after stage.Rest b v s r o f = epilogue-after v s (framed-by stage.Rest v refl r) (r .mark) f
+finish-after stage.Epilogue b v s r o f =
+    frame-after (ending (v .revision) (v .header) b (take (total (v .header)) s)) v s (framed-by stage.Epilogue v refl r)
+    (given-ending (v .revision) (v .header) b (take (total (v .header)) s))
+finish-after stage.Refused b v s r o f = absurd (let z : _≡_ {A = ℕ} 0 1 = cc in omega arith)
 
 -- ---- bytes of a stage leave the rest as it was
 
-rules-holding : (k : Stage) (st : State) (g : ℕ) (b : List ℕ) → rules k (holding st g b) ≡ rules k st
-rules-holding stage.Magic st g b = refl
-rules-holding stage.Length st g b = refl
-rules-holding stage.Payload st g b = refl
-rules-holding stage.Skip st g b = refl
-rules-holding stage.Preamble st g b = refl
-rules-holding stage.First st g b = refl
-rules-holding stage.FirstSum st g b = refl
-rules-holding stage.Rest st g b = refl
-rules-holding stage.Epilogue st g b = refl
-rules-holding stage.Refused st g b = refl
+block-kept : (p : Place) (got : ℕ) (b xs : List ℕ) → isZeros (drop (inBlock p got) b) ≡ true
+    → isZeros (drop (inBlock p (got + length xs)) (blockWith p got b xs)) ≡ true
+block-kept place.Block got b xs e = ap isZeros (drop-sets b got xs) ∙ zeros-later b got (length xs) e
+block-kept place.Store got b xs e = e
+block-kept place.Nowhere got b xs e = e
 
-needed-holding : (k : Stage) (st : State) (g : ℕ) (b : List ℕ) → needed k (holding st g b) ≡ needed k st
-needed-holding stage.Magic st g b = refl
-needed-holding stage.Length st g b = refl
-needed-holding stage.Payload st g b = refl
-needed-holding stage.Skip st g b = refl
-needed-holding stage.Preamble st g b = refl
-needed-holding stage.First st g b = refl
-needed-holding stage.FirstSum st g b = refl
-needed-holding stage.Rest st g b = refl
-needed-holding stage.Epilogue st g b = refl
-needed-holding stage.Refused st g b = refl
-
-length-kept : (p : Place) (st : State) (s xs : List ℕ) → length (kept p st s xs) ≡ length s
-length-kept block st s xs = refl
-length-kept store st s xs = length-sets s (st .got) xs
-length-kept nowhere st s xs = refl
-
-pub needed-absorbed : (st : State) (xs : List ℕ) → needed (st .stage) (absorbed st xs) ≡ needed (st .stage) st
-needed-absorbed st xs = needed-holding (st .stage) st (st .got + length xs) (held (placeOf (st .stage)) st xs)
+length-with : (p : Place) (got : ℕ) (s xs : List ℕ) → length (storeWith p got s xs) ≡ length s
+length-with place.Block got s xs = refl
+length-with place.Store got s xs = length-sets s got xs
+length-with place.Nowhere got s xs = refl
 
 pub length-stored : (st : State) (s xs : List ℕ) → length (stored st s xs) ≡ length s
-length-stored st s xs = length-kept (placeOf (st .stage)) st s xs
+length-stored st s xs = length-with (placeOf (st .position .stage)) (st .position .got) s xs
 
 pub chunk-after : (st : State) (s xs : List ℕ) → Running st s → AfterStep (chunk st s xs)
-chunk-after st s xs l = go (ltb (st .got + length xs) (sizeOf (st .stage) st)) refl
+chunk-after st s xs r = go (ltb (st .position .got + length xs) (size st)) refl
   where
-    go : (t : Bool) → ltb (st .got + length xs) (sizeOf (st .stage) st) ≡ t → AfterStep (reached (absorbed st xs) (stored st s xs) t)
-    go true e = record {
-      rule = rules-holding (st .stage) st _ _ ∙ l .rule;
-      live = l .live;
-      inside = rw (size-absorbed st xs) (ltb-true (st .got + length xs) (sizeOf (st .stage) st) e);
-      fits = rw (needed-absorbed st xs, length-stored st s xs) (l .fits);
-    }
-    go false e =
-        finish-after (st .stage) (absorbed st xs) (stored st s xs) (rules-holding (st .stage) st _ _ ∙ l .rule) (l .live)
-        (rw (needed-absorbed st xs, length-stored st s xs) (l .fits))
+    go : (t : Bool) → ltb (st .position .got + length xs) (size st) ≡ t → AfterStep (reached (absorbed st xs) (stored st s xs) t)
+    go true e =
+        let l = live r in
+        record {
+          agree = agree-live (st .position .stage) (st .position .got + length xs) _ (st .known) (r .live) (record {
+            rule = l .rule;
+            least = omega (arith, l .least);
+            inside = ltb-true (st .position .got + length xs) (size st) e;
+            zeros = block-kept (placeOf (st .position .stage)) (st .position .got) (st .position .block) xs (l .zeros);
+          });
+          live = r .live;
+          fits = rw (length-stored st s xs) (r .fits);
+        }
+    go false e = finish-after (st .position .stage) _ (st .known) (stored st s xs) (live r .rule) (r .live) (rw (length-stored st s xs) (r .fits))
 
-pub feed-after : (st : State) (s piece : List ℕ) → Running st s → After (feed st s piece .report) (feed st s piece .state) (feed st s piece .store)
+pub feed-after : (st : State) (s piece : List ℕ) → Running st s → After (feed st s piece .received .report) (feed st s piece .received .state) (feed st s piece .store)
 unfolding feed onByte
-feed-after st s [] l = l
-feed-after st s (b ∷ bs) l = by-report (chunk st s (b ∷ []) .report) (chunk st s (b ∷ [])) (chunk-after st s (b ∷ []) l) (feed-after (chunk st s (b ∷ []) .state) (chunk st s (b ∷ []) .store) bs)
+feed-after st s [] r = r
+feed-after st s (b ∷ bs) r = by-report (chunk st s (b ∷ []) .report) (chunk st s (b ∷ [])) (chunk-after st s (b ∷ []) r) (feed-after (chunk st s (b ∷ []) .state) (chunk st s (b ∷ []) .store) bs)
   where
     by-report : (r : Report) (x : Stepped) → After r (x .state) (x .store)
-        → (Running (x .state) (x .store) → After (feed (x .state) (x .store) bs .report) (feed (x .state) (x .store) bs .state) (feed (x .state) (x .store) bs .store))
-        → (let f = further r x (feed (x .state) (x .store) bs) in After (f .report) (f .state) (f .store))
+        → (Running (x .state) (x .store) → After (feed (x .state) (x .store) bs .received .report) (feed (x .state) (x .store) bs .received .state) (feed (x .state) (x .store) bs .store))
+        → (let a = onward r 1 x (feed (x .state) (x .store) bs) in After (a .received .report) (a .received .state) (a .store))
     by-report report.More x a ih = ih a
-    by-report (report.Banner p r) x a ih = a
-    by-report (report.Frame h) x a ih = a
-    by-report (report.Dropped h) x a ih = a
-    by-report (report.Refused n) x a ih = a
+    by-report (report.Event e) x a ih = a
 
--- ---- and so a live or a refused state agrees with itself
+-- ---- and so a state that a call hands back agrees with itself
 
-pub live-agrees : {st : State} {s : List ℕ} → Running st s → agrees st ≡ true
-unfolding agrees
-live-agrees {st} l = rw (l .rule, l .live) (lt-ltb (st .got) (sizeOf (st .stage) st) (l .inside))
-
-pub gone-agrees : {n : Numbers} {st : State} → Gone n st → agrees st ≡ true
-unfolding agrees
-gone-agrees {n} {st} g = rw (g .stage, g .why, g .rule)
+event-agrees : (e : Event) (st : State) (s : List ℕ) → AfterEvent e st s → agrees st ≡ true
+event-agrees (event.Banner p r) st s a = a .agree
+event-agrees (event.First h) st s a = a .agree
+event-agrees (event.Frame h) st s a = a .agree
+event-agrees (event.Dropped h) st s a = a .agree
+event-agrees (event.Refused n) st s a = a .agree
 
 pub after-agrees : (r : Report) (st : State) (s : List ℕ) → After r st s → agrees st ≡ true
-after-agrees report.More st s a = live-agrees a
-after-agrees (report.Banner p r) st s a = live-agrees a
-after-agrees (report.Frame h) st s a = live-agrees a
-after-agrees (report.Dropped h) st s a = live-agrees a
-after-agrees (report.Refused n) st s a = gone-agrees a
+after-agrees report.More st s a = a .agree
+after-agrees (report.Event e) st s a = event-agrees e st s a
+
+-- ---- refused states
+
+stage-refused : (k : Stage) → isRefused k ≡ true → k ≡ stage.Refused
+stage-refused stage.Magic e = wrong e
+stage-refused stage.Length e = wrong e
+stage-refused stage.Payload e = wrong e
+stage-refused stage.Skip e = wrong e
+stage-refused stage.Preamble e = wrong e
+stage-refused stage.First e = wrong e
+stage-refused stage.FirstSum e = wrong e
+stage-refused stage.Rest e = wrong e
+stage-refused stage.Epilogue e = wrong e
+stage-refused stage.Refused e = refl
+
+rules-agreed : (st : State) → agrees st ≡ true → Rules (st .position .stage) (st .known)
+unfolding agreesAt
+rules-agreed st e =
+    let p = st .position in
+    let k = p .stage in
+    let v = st .known in
+    rules-of k v (both-left (rules k v) (countRule k v (p .got)) (both-left (rules k v && countRule k v (p .got)) (blockRule k (p .got) (p .block)) e))
+
+pub refused-gone : (st : State) → agrees st ≡ true → isRefused (st .position .stage) ≡ true → Gone (st .known .refusal) st
+refused-gone st e r =
+    record { stage = stage-refused (st .position .stage) r; why = refl; agree = e; gives = rw r at (rules-agreed st e .refusal) }
+
+pub agree-own : (st : State) → agrees st ≡ true → isRefused (st .position .stage) ≡ false → (n : Numbers) → given n ≡ true → Gone n (refusedState (st .known) n)
+agree-own st e r n g = refused-after (st .known) n [] (rw r at (rules-agreed st e .own)) g
+
+-- ---- the start
+
+pub start-running : (own : Features) (s : List ℕ) → judgeOwn (own .supported) (own .required) ≡ fine → Running (at stage.Magic 0 (onlyOwn own noRefusal)) s
+start-running own s e =
+    running-at stage.Magic 0 (onlyOwn own noRefusal) s refl (record { own = fine-true e; payload = refl; peer = refl; revision = refl; header = refl; first = refl; mark = refl; refusal = refl }) zero-le (lit< tt) zero-le refl
+
+pub start-gone : (own : Features) (n : Numbers) → judgeOwn (own .supported) (own .required) ≡ refused n → Gone n (at stage.Refused 0 (onlyOwn own n))
+start-gone own n e = go (ltb (own .supported) 2 && ltb (own .required) 2 && eqb (missing 64 (own .required) (own .supported)) 0) e
+  where
+    go : (b : Bool) → cond b fine (refused (row 16 0 0 0)) ≡ refused n → Gone n (at stage.Refused 0 (onlyOwn own n))
+    go true q = absurd (let z : _≡_ {A = ℕ} 0 1 = cc in omega arith)
+    go false q = (let k : row 16 0 0 0 ≡ n = cc in rw k at (gone-at own (row 16 0 0 0) refl refl))
+
+-- an event that is passed leaves a live receiver
+pub passed-live : (w : Event) (st : State) (s : List ℕ) → Passes w → AfterEvent w st s → Running st s
+passed-live (event.Banner p r) st s q a = a
+passed-live (event.First h) st s q a = a
+passed-live (event.Frame h) st s q a = a
+passed-live (event.Dropped h) st s q a = a
+passed-live (event.Refused n) st s q a = wrong (sym (q .passes Bool false (λ m. true)))

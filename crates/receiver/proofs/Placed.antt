@@ -1,11 +1,11 @@
 -- Bytes placed in a store or in a block, as lists.
-use Prim.Native.Nat.{ℕ, zero, suc, _+_, _-_, _≤_, _<_}
+use Prim.Native.Nat.{ℕ, zero, suc, _+_, _-_, _≤_}
 use mathlib.Core.List.{List, [], _∷_, _++_, append-nil}
-use mathlib.Core.Path.{_≡_, refl, sym, subst, ap, ap₂, _∙_}
+use mathlib.Core.Path.{_≡_, refl, sym, subst, ap, _∙_}
 use native.Mathlib.Omega.{arith}
 use native.Mathlib.Nat.{zero-add}
-use lib.ListN.{length, take, drop, replicate, length-append, length-drop, length-replicate, drop-of-length-le, take-append-drop}
-use lib.Seq.{sets, sets-eq, length-sets, take-at, drop-at, take-take, take-all, length-take-le, drop-drop, drop-append-add}
+use lib.ListN.{length, take, drop, drop-of-length-le}
+use lib.Seq.{sets, sets-eq, take-at, drop-at, take-take, drop-drop, drop-append-add}
 use Rattle.buffer.specs.Le.{leOf, numberAt}
 use Rattle.buffer.specs.Splice.{over, splice, laid, rest, over-next, length-over, length-rest, laid-over, placed}
 

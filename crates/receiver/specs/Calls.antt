@@ -1,23 +1,24 @@
--- Demand 3: one claim about every stream and every list of calls on it. `Chained` is what a list of calls is, `Kept` what is claimed of it.
+-- Demand 3: one claim about every stream and every list of calls on it. `Chained` is what a list of calls is, `AsDefined` what is claimed of it.
 use mathlib.Core.Path.{_≡_}
-use mathlib.Core.List.{List, [], _∷_, _++_}
+use mathlib.Core.List.{List, [], _∷_}
 use mathlib.Core.Bool.{Bool, true, false, cond}
-use Prim.Native.Nat.{ℕ, zero, suc, _+_, _-_, _≤_, _<_, min}
+use Prim.Native.Nat.{ℕ, _+_, _-_, _≤_, min}
 use lib.ListN.{length, take, drop}
 use lib.Dec.{leb}
 use Rattle.refusal.specs.declared.Numbers.{Numbers}
-use Rattle.refusal.specs.Refusals.{Judged, fine, refused, row}
+use Rattle.refusal.specs.Refusals.{Judged, fine, refused}
 use Rattle.banner.specs.declared.Features.{Features}
-use Rattle.banner.specs.declared.Revision.{Revision}
 use Rattle.banner.specs.Banner.{judgeOwn}
-use Rattle.preamble.specs.declared.Header.{Header}
-use Rattle.stream.specs.Stream.{What, banner, frame, aborted, refusal, Entry, entry, Told, entriesOf}
+use Rattle.stream.specs.declared.Event.{Event}
+use Rattle.stream.specs.declared.Event.the-variants as event
+use Rattle.stream.specs.Stream.{Entry, entry, traceOf}
 use Rattle.stream.specs.Adds.{AddsUp}
 use Rattle.receiver.specs.declared.State.{State}
 use Rattle.receiver.specs.declared.Report.{Report}
 use Rattle.receiver.specs.declared.Report.the-variants as report
 use Rattle.receiver.specs.declared.Received.{Received}
-use Rattle.receiver.specs.Step.{Answered, Running, started, agrees}
+use Rattle.receiver.specs.State.{agrees}
+use Rattle.receiver.specs.Step.{Answered, started}
 
 -- ---- lists of calls
 
@@ -51,13 +52,18 @@ abbrev pub storeBy : List ℕ → List Call → List ℕ
 storeBy s [] = s
 storeBy s (c ∷ cs) = storeBy (c .store) cs
 
+-- behind an event that is passed, what the later ones give; behind a refusal, what the refusal gives
+abbrev pub passing : {A : Type 0} → Event → A → (Numbers → A) → A
+passing (event.Banner p r) a f = a
+passing (event.First h) a f = a
+passing (event.Frame h) a f = a
+passing (event.Dropped h) a f = a
+passing (event.Refused n) a f = f n
+
 -- a report's entry, before those of later calls; a refusal is entered once, and ends the list
 abbrev pub entered : Report → ℕ → List ℕ → List Entry → List Entry
 entered report.More at s es = es
-entered (report.Banner p r) at s es = entry (banner p r) at s ∷ es
-entered (report.Frame h) at s es = entry (frame h) at s ∷ es
-entered (report.Dropped h) at s es = entry (aborted h) at s ∷ es
-entered (report.Refused n) at s es = entry (refusal n) at s ∷ []
+entered (report.Event e) at s es = entry e at s ∷ passing e es (λ n. [])
 
 abbrev pub reportedBy : ℕ → List Call → List Entry
 reportedBy t [] = []
@@ -70,30 +76,17 @@ listOf (refused n) cs = []
 
 -- ---- what is due
 
-abbrev pub reportOf : What → Report
-reportOf (banner p r) = report.Banner p r
-reportOf (frame h) = report.Frame h
-reportOf (aborted h) = report.Dropped h
-reportOf (refusal n) = report.Refused n
-
--- behind an entry that is passed, what is due by the later ones; behind a refusal, the refusal
-abbrev pub passing : {A : Type 0} → What → A → (Numbers → A) → A
-passing (banner p r) a f = a
-passing (frame h) a f = a
-passing (aborted h) a f = a
-passing (refusal n) a f = f n
-
 -- how many bytes a call takes of a piece of k bytes, t being taken before: up to and including the byte of the next entry, or the whole piece; after a refusal none
 unfoldable pub dueTaken : List Entry → ℕ → ℕ → ℕ
 dueTaken [] t k = k
-dueTaken (e ∷ es) t k = cond (leb (e .at) t) (passing (e .what) (dueTaken es t k) (λ n. 0)) (min k (e .at - t))
+dueTaken (e ∷ es) t k = cond (leb (e .at) t) (passing (e .event) (dueTaken es t k) (λ n. 0)) (min k (e .at - t))
 
 -- and its report: that entry, more wanted, or the refusal again
 unfoldable pub dueReport : List Entry → ℕ → ℕ → Report
 dueReport [] t k = report.More
 dueReport (e ∷ es) t k =
-    cond (leb (e .at) t) (passing (e .what) (dueReport es t k) (λ n. report.Refused n))
-    (cond (leb (e .at) (t + k)) (reportOf (e .what)) report.More)
+    cond (leb (e .at) t) (passing (e .event) (dueReport es t k) (λ n. report.Event (event.Refused n)))
+    (cond (leb (e .at) (t + k)) (report.Event (e .event)) report.More)
 
 abbrev pub Each : List Entry → List ℕ → ℕ → List Call → Type 0
 Each es stream t [] = Unit {0}
@@ -105,7 +98,7 @@ Each es stream t (c ∷ cs) =
 -- every call takes nothing and repeats the refusal
 abbrev pub Repeats : Numbers → List Call → Type 0
 Repeats n [] = Unit {0}
-Repeats n (c ∷ cs) = (c .received .taken ≡ 0) × (c .received .report ≡ report.Refused n) × Repeats n cs
+Repeats n (c ∷ cs) = (c .received .taken ≡ 0) × (c .received .report ≡ report.Event (event.Refused n)) × Repeats n cs
 
 abbrev pub EachBy : Judged → List Entry → List ℕ → List Call → Type 0
 EachBy fine es stream cs = Each es stream 0 cs
@@ -114,60 +107,43 @@ EachBy (refused n) es stream cs = Repeats n cs
 -- a refusal is among the entries
 abbrev pub refusedIn : List Entry → Bool
 refusedIn [] = false
-refusedIn (e ∷ es) = passing (e .what) (refusedIn es) (λ n. true)
+refusedIn (e ∷ es) = passing (e .event) (refusedIn es) (λ n. true)
 
 -- THE CLAIM, of the calls cs on a stream, from a start with the features own and from a store
-pub record Kept (own : Features) (stream store : List ℕ) (cs : List Call) : Type 0 where
+pub record AsDefined (own : Features) (stream store : List ℕ) (cs : List Call) : Type 0 where
   -- no call takes a byte that is not there
   pub within : takenBy 0 cs ≤ length stream
   -- each call takes up to and including the byte of the next entry of the whole stream, or its whole piece, and reports that entry, or more wanted;
   -- after a refusal it takes nothing and repeats it
-  pub each : EachBy (judgeOwn (own .supported) (own .required)) (entriesOf own stream store .entries) stream cs
+  pub each : EachBy (judgeOwn (own .supported) (own .required)) (traceOf own stream store .entries) stream cs
   -- the reports, each with its byte and the store then, are the entries for the bytes taken so far, and the store is the defined one
-  pub reports : listOf (judgeOwn (own .supported) (own .required)) cs ≡ entriesOf own (take (takenBy 0 cs) stream) store .entries
-  pub final : storeBy store cs ≡ entriesOf own (take (takenBy 0 cs) stream) store .store
+  pub reports : listOf (judgeOwn (own .supported) (own .required)) cs ≡ traceOf own (take (takenBy 0 cs) stream) store .entries
+  pub final : storeBy store cs ≡ traceOf own (take (takenBy 0 cs) stream) store .store
   -- once the stream is refused, they are those of the uncut stream (and so they are where no byte is left, by the two lines above)
   pub whole : refusedIn (listOf (judgeOwn (own .supported) (own .required)) cs) ≡ true
-      → (listOf (judgeOwn (own .supported) (own .required)) cs ≡ entriesOf own stream store .entries) × (storeBy store cs ≡ entriesOf own stream store .store)
+      → (listOf (judgeOwn (own .supported) (own .required)) cs ≡ traceOf own stream store .entries) × (storeBy store cs ≡ traceOf own stream store .store)
   -- any other list of calls, on any stream, that took the same bytes ends with the same state and store
   pub same : (stream′ : List ℕ) (cs′ : List Call) → Chained stream′ (started own) store 0 cs′ → take (takenBy 0 cs′) stream′ ≡ take (takenBy 0 cs) stream
       → (stateBy (started own) cs′ ≡ stateBy (started own) cs) × (storeBy store cs′ ≡ storeBy store cs)
-  -- bytes add up: each report stands at the byte of the one before it plus its own length on the wire, and what was taken beyond the last is of an unfinished part
+  -- each report stands at the byte of the one before it plus its own length on the wire
   pub adds : AddsUp (listOf (judgeOwn (own .supported) (own .required)) cs)
   -- no call gave 26
   pub agreeing : agrees (stateBy (started own) cs) ≡ true
 
 unfoldable pub Demand3 : Type 0
-Demand3 = (own : Features) (stream store : List ℕ) (cs : List Call) → Chained stream (started own) store 0 cs → Kept own stream store cs
+Demand3 = (own : Features) (stream store : List ℕ) (cs : List Call) → Chained stream (started own) store 0 cs → AsDefined own stream store cs
 
--- ---- the same claim of calls that were made: what `drive` promises. The calls are those of its cuts, and each met the promise of `receive`
+-- ---- the same claim of calls that were made: what `receive_all` promises. The calls are those of its cuts, and each met the promise of `receive`
 
 abbrev pub sizesOf : List Call → List ℕ
 sizesOf [] = []
 sizesOf (c ∷ cs) = c .size ∷ sizesOf cs
 
-pub record Drove (own : Features) (stream cuts store : List ℕ) (st : State) (t : ℕ) (store′ : List ℕ) : Type 0 where
+pub record ReceivedAll (own : Features) (stream cuts store : List ℕ) (st : State) (t : ℕ) (store′ : List ℕ) : Type 0 where
   pub calls : List Call
   pub sizes : sizesOf calls ≡ cuts
   pub chained : Chained stream (started own) store 0 calls
   pub state : st ≡ stateBy (started own) calls
   pub taken : t ≡ takenBy 0 calls
   pub final : store′ ≡ storeBy store calls
-  pub kept : Kept own stream store calls
-
--- ---- what holds of every single call, whatever its state, store and piece
-
-pub record Sound (st : State) (s piece : List ℕ) (r : Received) : Type 0 where
-  -- 26 is given exactly where the fields contradict each other
-  pub contradicts : agrees st ≡ false → r .report ≡ report.Refused (row 26 0 0 0)
-  pub never26 : agrees st ≡ true → r .report ≡ report.Refused (row 26 0 0 0) → ⊥
-  -- and a call that does not give it hands back no such state
-  pub agreeing : agrees st ≡ true → agrees (r .state) ≡ true
-  -- on a live receiver with a store long enough, a piece that is not empty gives up at least one byte, and an empty one asks for more
-  pub progress : Running st s → 0 < length piece → 0 < r .taken
-  pub nothing : Running st s → length piece ≡ 0 → (r .taken ≡ 0) × (r .report ≡ report.More)
-
-unfoldable pub Soundness : Type 0
-Soundness =
-    ((own : Features) → agrees (started own) ≡ true)
-    × ((st : State) (s piece : List ℕ) (r : Received) (s′ : List ℕ) → Answered st s piece r s′ → Sound st s piece r)
+  pub defined : AsDefined own stream store calls

@@ -1,13 +1,13 @@
 // Receives a stream that may be cut anywhere: a call takes bytes up to and including the one that completes a report.
 mod pieces;
 mod states;
-mod turns;
+mod transitions;
 
 use banner::Features;
 use banner::Revision;
 use banner::judge_own;
 use buffer::less;
-use pieces::run;
+use pieces::feed;
 use preamble::Header;
 use refusal::Numbers;
 use refusal::Refusal;
@@ -16,14 +16,15 @@ use refusal::in_numbers;
 use states::agrees_with_itself;
 use states::fresh;
 use states::is_refused;
-use states::needed_of;
-use states::with_refusal;
+use states::needed_by;
+use states::refused_state;
+use stream::Event;
 ghost use mathlib.Core.Path.{_≡_};
 ghost use mathlib.Core.List.{List};
-ghost use Prim.Native.Nat.{ℕ, min};
-ghost use Rattle.refusal.specs.Refusals.{row};
-ghost use Rattle.receiver.specs.Step.{stays, Answered, StartedWith};
-ghost use Rattle.receiver.specs.Calls.{Demand3, Drove, Soundness};
+ghost use Prim.Native.Nat.{ℕ};
+ghost use Rattle.receiver.specs.Step.{refuseUnchanged, Answered, StartedWith};
+ghost use Rattle.receiver.specs.Calls.{Demand3, ReceivedAll};
+ghost use Rattle.receiver.specs.Every.{EveryCall};
 
 // What the next bytes of the stream are.
 pub enum Stage {
@@ -39,27 +40,43 @@ pub enum Stage {
     Refused,
 }
 
-// What a receiver is between two calls. It goes in by value and comes back.
-pub struct State {
+// Where the bytes of a stage go.
+pub enum Place {
+    Block,
+    Store,
+    Nowhere,
+}
+
+// Where a receiver stands in the stream.
+pub struct Position {
     pub stage: Stage,
     // Bytes of the stage that came; in Rest, segment bytes that stand in the store.
     pub got: usize,
     // Bytes that are judged together, as far as they came.
     pub block: [u8; 32],
+}
+
+// What it knows from earlier bytes. A field that the stage does not use yet, or no longer, is zero.
+pub struct Known {
     pub own: Features,
     pub payload: u16,
     pub peer: Features,
     pub revision: Revision,
     pub header: Header,
+    // Segment 1's checksum held, and the frame has not ended.
+    pub first: bool,
     pub refusal: Numbers,
+}
+
+// What a receiver is between two calls. It goes in by value and comes back.
+pub struct State {
+    pub position: Position,
+    pub known: Known,
 }
 
 pub enum Report {
     More,
-    Banner(Features, Revision),
-    Frame(Header),
-    Dropped(Header),
-    Refused(Numbers),
+    Event(Event),
 }
 
 // What a call answers.
@@ -70,7 +87,7 @@ pub struct Received {
 }
 
 // What the last byte of a stage comes to.
-pub struct Turn {
+pub struct Transition {
     pub state: State,
     pub report: Report,
 }
@@ -85,28 +102,27 @@ pub struct Started {
 pub fn start(own: Features) -> Started
     ensures { λ r. ⌜ StartedWith own r ⌝ }
 {
-    let st = fresh(own);
     let v = judge_own(own.supported, own.required);
     match v {
         Verdict::Fine => Started {
-            state: st,
+            state: fresh(own),
             verdict: v,
         },
         Verdict::Refused(why) => Started {
-            state: with_refusal(st, in_numbers(why)),
+            state: refused_state(own, in_numbers(why)),
             verdict: Verdict::Refused(why),
         },
     }
 }
 
 // Takes nothing and refuses.
-fn stays(st: State, n: Numbers) -> Received
-    ensures { λ r. ⌜ ((s : List ℕ) → r ≡ stays st n s .received) ⌝ }
+fn refuse_unchanged(st: State, n: Numbers) -> Received
+    ensures { λ r. ⌜ ((s : List ℕ) → r ≡ refuseUnchanged st n s .received) ⌝ }
 {
     Received {
         state: st,
         taken: 0,
-        report: Report::Refused(n),
+        report: Report::Event(Event::Refused(n)),
     }
 }
 
@@ -115,18 +131,20 @@ pub fn receive(state: State, piece: &[u8], store: &mut [u8]) -> Received
     ensures { λ r. ⌜ Answered state (now (store .entry)) (now (piece .entry)) r (now (store .exit)) ⌝ }
 {
     if !agrees_with_itself(state) {
-        return stays(state, in_numbers(Refusal::StateContradicts));
+        return refuse_unchanged(state, in_numbers(Refusal::StateContradicts));
     }
-    let stage = state.stage;
+    let position = state.position;
+    let stage = position.stage;
+    let known = state.known;
     if is_refused(stage) {
-        return stays(state, state.refusal);
+        return refuse_unchanged(state, known.refusal);
     }
-    let need = needed_of(state);
+    let need = needed_by(stage, known);
     if (store.len() as u64) < need {
         let n = in_numbers(Refusal::StoreShort(need));
-        return stays(with_refusal(state, n), n);
+        return refuse_unchanged(refused_state(known.own, n), n);
     }
-    run(state, piece, store)
+    feed(state, piece, store)
 }
 
 // DEMAND 3, as a promise: it holds of every start, stream and store, and of every list of calls of `receive`. The body does nothing:
@@ -135,21 +153,21 @@ pub fn every_cutting()
     ensures { λ _. ⌜ Demand3 ⌝ }
 {}
 
-// What holds of every single call, as a promise: 26 exactly for a state that contradicts itself, which no start and no other call hands back;
-// at least one byte of a piece that is not empty.
+// What holds of every call, as a promise: 26 exactly for a state that contradicts itself, which no start and no other call hands back; a refused
+// stream stays refused, whatever the later calls lend; at least one byte of a piece that is not empty; bytes add up.
 pub fn every_call()
-    ensures { λ _. ⌜ Soundness ⌝ }
+    ensures { λ _. ⌜ EveryCall ⌝ }
 {}
 
 // What a list of calls comes to.
-pub struct Driven {
+pub struct AllReceived {
     pub state: State,
     pub taken: usize,
 }
 
 // Calls `receive` once for each number of cuts, each time on as many bytes of the stream from the first one not yet taken, or on as many as are left.
-pub fn drive(own: Features, stream: &[u8], cuts: &[usize], store: &mut [u8]) -> Driven
-    ensures { λ r. ⌜ Drove own (now (stream .entry)) (now (cuts .entry)) (now (store .entry)) (r .state) (r .taken) (now (store .exit)) ⌝ }
+pub fn receive_all(own: Features, stream: &[u8], cuts: &[usize], store: &mut [u8]) -> AllReceived
+    ensures { λ r. ⌜ ReceivedAll own (now (stream .entry)) (now (cuts .entry)) (now (store .entry)) (r .state) (r .taken) (now (store .exit)) ⌝ }
 {
     let first = start(own);
     let mut state = first.state;
@@ -163,7 +181,7 @@ pub fn drive(own: Features, stream: &[u8], cuts: &[usize], store: &mut [u8]) -> 
         t = t + o.taken;
         i += 1;
     }
-    Driven {
+    AllReceived {
         state: state,
         taken: t,
     }

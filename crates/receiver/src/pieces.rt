@@ -1,112 +1,81 @@
 // Pieces of the stream: the bytes of one stage at a time, until one gives a report.
+use crate::Place;
+use crate::Position;
 use crate::Received;
 use crate::Report;
-use crate::Stage;
 use crate::State;
-use crate::states::holding;
+use crate::states::place_of;
 use crate::states::size_of;
-use crate::turns::end_stage;
+use crate::transitions::end_stage;
 use buffer::less;
 use buffer::part;
 use buffer::put;
 ghost use mathlib.Core.Path.{_≡_};
-ghost use mathlib.Core.List.{List};
-ghost use Prim.Native.Nat.{ℕ, _+_, _-_, _≤_, _<_, min};
-ghost use lib.ListN.{length, take, drop};
+ghost use Prim.Native.Nat.{_+_, _≤_, _<_};
+ghost use lib.ListN.{length};
 ghost use lib.Seq.{sets};
-ghost use Rattle.receiver.specs.Step.{sizeOf, needed, placeOf, isBlock, isStore, isMore, absorbed, stored, Chunked, Ran, Running};
+ghost use Rattle.receiver.specs.declared.Place.the-variants as places;
+ghost use Rattle.receiver.specs.State.{sizeOf, needed};
+ghost use Rattle.receiver.specs.Step.{blockWith, storeWith, isMore, Chunked, Fed, Running};
 
-fn into_block(stage: Stage) -> bool
-    ensures { λ r. ⌜ r ≡ isBlock (placeOf stage) ⌝ }
-{
-    match stage {
-        Stage::Magic => true,
-        Stage::Length => true,
-        Stage::Payload => true,
-        Stage::Skip => false,
-        Stage::Preamble => true,
-        Stage::First => false,
-        Stage::FirstSum => true,
-        Stage::Rest => false,
-        Stage::Epilogue => true,
-        Stage::Refused => false,
-    }
-}
-
-fn into_store(stage: Stage) -> bool
-    ensures { λ r. ⌜ r ≡ isStore (placeOf stage) ⌝ }
-{
-    match stage {
-        Stage::Magic => false,
-        Stage::Length => false,
-        Stage::Payload => false,
-        Stage::Skip => false,
-        Stage::Preamble => false,
-        Stage::First => true,
-        Stage::FirstSum => false,
-        Stage::Rest => true,
-        Stage::Epilogue => false,
-        Stage::Refused => false,
-    }
-}
-
-// Bytes of the stream put into a block from place at on.
-fn take_in(block: [u8; 32], at: usize, bytes: &[u8]) -> [u8; 32]
-    requires { ⌜ at + length (now bytes) ≤ 32 ⌝ }
-    ensures { λ r. ⌜ r ≡ sets block at (now (bytes .entry)) ⌝ }
+// The block with the stage's next bytes, of which it had so many.
+fn fill_block(place: Place, block: [u8; 32], at: usize, bytes: &[u8]) -> [u8; 32]
+    requires { ⌜ (place ≡ places.Block → at + length (now bytes) ≤ 32) ⌝ }
+    ensures { λ r. ⌜ r ≡ blockWith place at block (now (bytes .entry)) ⌝ }
 {
     let mut b = block;
-    put(&mut b[at..], bytes);
+    match place {
+        Place::Block => put(&mut b[at..], bytes),
+        Place::Store => {}
+        Place::Nowhere => {}
+    }
     b
 }
 
-// The state with the stage's next bytes, of which it then has so many.
-fn absorb(st: State, bytes: &[u8], to: usize) -> State
-    requires { ⌜ (to ≡ st .got + length (now bytes)) × (to ≤ sizeOf (st .stage) st) ⌝ }
-    ensures { λ r. ⌜ r ≡ absorbed st (now (bytes .entry)) ⌝ }
-{
-    let block = st.block;
-    let got = st.got;
-    let stage = st.stage;
-    if into_block(stage) {
-        holding(st, to, take_in(block, got, bytes))
-    } else {
-        holding(st, to, block)
-    }
-}
-
 // The store with them.
-fn keep(st: State, bytes: &[u8], store: &mut [u8])
-    requires { ⌜ (st .got + length (now bytes) ≤ sizeOf (st .stage) st) × (needed (st .stage) st ≤ length (now store)) ⌝ }
-    ensures { λ _. ⌜ now (store .exit) ≡ stored st (now (store .entry)) (now (bytes .entry)) ⌝ }
+fn fill_store(place: Place, store: &mut [u8], at: usize, bytes: &[u8])
+    requires { ⌜ (place ≡ places.Store → at + length (now bytes) ≤ length (now store)) ⌝ }
+    ensures { λ _. ⌜ now (store .exit) ≡ storeWith place at (now (store .entry)) (now (bytes .entry)) ⌝ }
 {
-    let got = st.got;
-    let stage = st.stage;
-    if into_store(stage) {
-        put(&mut store[got..], bytes);
+    match place {
+        Place::Block => {}
+        Place::Store => put(&mut store[at..], bytes),
+        Place::Nowhere => {}
     }
 }
 
 // As many bytes as the stage still reads, or as the piece has.
 fn step(st: State, piece: &[u8], store: &mut [u8]) -> Received
-    requires { ⌜ (st .got < sizeOf (st .stage) st) × (needed (st .stage) st ≤ length (now store)) ⌝ }
+    requires { ⌜ (st .position .got < sizeOf (st .position .stage) (st .known)) × (needed (st .position .stage) (st .known) ≤ length (now store)) ⌝ }
     ensures { λ r. ⌜ Chunked st (now (store .entry)) (now (piece .entry)) r (now (store .exit)) ⌝ }
 {
-    let n = size_of(st);
-    let got = st.got;
+    let position = st.position;
+    let stage = position.stage;
+    let got = position.got;
+    let old = position.block;
+    let known = st.known;
+    let n = size_of(stage, known);
     let m = less(n - got, piece.len());
     let bytes = part(piece, 0, m);
+    let place = place_of(stage);
+    let block = fill_block(place, old, got, bytes);
+    fill_store(place, store, got, bytes);
     let to = got + m;
-    let held = absorb(st, bytes, to);
-    keep(st, bytes, store);
     if to < n {
         return Received {
-            state: held,
+            state: State {
+                position: Position {
+                    stage: stage,
+                    got: to,
+                    block: block,
+                },
+                known: known,
+            },
             taken: m,
             report: Report::More,
         };
     }
-    let t = end_stage(held, store);
+    let t = end_stage(stage, &block, known, store);
     let state = t.state;
     let report = t.report;
     Received {
@@ -121,17 +90,14 @@ fn is_more(report: Report) -> bool
 {
     match report {
         Report::More => true,
-        Report::Banner(_, _) => false,
-        Report::Frame(_) => false,
-        Report::Dropped(_) => false,
-        Report::Refused(_) => false,
+        Report::Event(_) => false,
     }
 }
 
 // A piece, up to and including the byte of the first report.
-pub(crate) fn run(state: State, piece: &[u8], store: &mut [u8]) -> Received
+pub(crate) fn feed(state: State, piece: &[u8], store: &mut [u8]) -> Received
     requires { ⌜ Running state (now store) ⌝ }
-    ensures { λ r. ⌜ Ran state (now (store .entry)) (now (piece .entry)) r (now (store .exit)) ⌝ }
+    ensures { λ r. ⌜ Fed state (now (store .entry)) (now (piece .entry)) r (now (store .exit)) ⌝ }
 {
     let mut st = state;
     let mut at: usize = 0;

@@ -1,10 +1,17 @@
 // States that follow from one another, and what a state says of itself.
+use crate::Known;
+use crate::Place;
+use crate::Position;
 use crate::Stage;
 use crate::State;
 use banner::Features;
 use banner::Revision;
+use banner::judge_features;
 use banner::judge_length;
 use banner::judge_own;
+use banner::revision_of;
+use body::epilogue_length;
+use body::no_first_sum;
 use preamble::Header;
 use preamble::Segment;
 use preamble::judge_header;
@@ -14,113 +21,36 @@ use refusal::Verdict;
 use refusal::both;
 use refusal::either;
 ghost use mathlib.Core.Path.{_≡_};
-ghost use mathlib.Core.Bool.{_||_};
+ghost use mathlib.Core.Bool.{cond, _&&_};
 ghost use Prim.Native.Nat.{_-_};
+ghost use lib.ListN.{drop};
 ghost use Rattle.refusal.specs.Refusals.{judgedBy};
-ghost use Rattle.banner.specs.Banner.{judgeOwn, judgeLength};
-ghost use Rattle.preamble.specs.Judge.{judgeHeader};
-ghost use Rattle.body.specs.Body.{epilogueLength, noEpilogue};
-ghost use Rattle.receiver.specs.Step.{holding, moved, withPayload, withPeer, withRevision, withHeader, withRefusal, fresh, sizeOf, needed, isFine, isMsgr21, given, rules, isRefused, agrees};
+ghost use Rattle.receiver.specs.State.{rank, sizeOf, placeOf, isRefused, inBody, liveFrom, needed, noRefusal, isFine, isMsgr21, sameRevision, isNoFeatures, isNoSegment, isNoHeader, isNoRefusal, given, ownRule, payloadRule, peerRule, revisionRule, headerRule, hasFirstSum, firstRule, markRule, refusalRule, rules, leastOf, countRule, isZeros, inBlock, blockRule, agrees};
+ghost use Rattle.receiver.specs.declared.Stage.the-variants as stage;
+ghost use Rattle.receiver.specs.Step.{at, onlyOwn, withPayload, withPeer, withRevision, withHeader, withFirst, nextFrame};
 
-// So many bytes of the stage came, and the block holds these.
-pub(crate) fn holding(st: State, got: usize, block: [u8; 32]) -> State
-    ensures { λ r. ⌜ r ≡ holding st got block ⌝ }
-{
-    let mut next = st;
-    next.got = got;
-    next.block = block;
-    next
-}
+// ---- states
 
-// On to another stage.
-pub(crate) fn moved(st: State, stage: Stage, got: usize) -> State
-    ensures { λ r. ⌜ r ≡ moved st stage got ⌝ }
+// At a stage of which so many bytes came, with an empty block.
+pub(crate) fn state_at(stage: Stage, got: usize, known: Known) -> State
+    ensures { λ r. ⌜ r ≡ at stage got known ⌝ }
 {
-    let own = st.own;
-    let payload = st.payload;
-    let peer = st.peer;
-    let revision = st.revision;
-    let header = st.header;
-    let refusal = st.refusal;
     State {
-        stage: stage,
-        got: got,
-        block: [0u8; 32],
-        own: own,
-        payload: payload,
-        peer: peer,
-        revision: revision,
-        header: header,
-        refusal: refusal,
+        position: Position {
+            stage: stage,
+            got: got,
+            block: [0u8; 32],
+        },
+        known: known,
     }
 }
 
-pub(crate) fn with_payload(st: State, payload: u16) -> State
-    ensures { λ r. ⌜ r ≡ withPayload st payload ⌝ }
-{
-    let mut next = st;
-    next.payload = payload;
-    next
-}
-
-pub(crate) fn with_peer(st: State, peer: Features) -> State
-    ensures { λ r. ⌜ r ≡ withPeer st peer ⌝ }
-{
-    let mut next = st;
-    next.peer = peer;
-    next
-}
-
-pub(crate) fn with_revision(st: State, revision: Revision) -> State
-    ensures { λ r. ⌜ r ≡ withRevision st revision ⌝ }
-{
-    let stage = st.stage;
-    let got = st.got;
-    let block = st.block;
-    let own = st.own;
-    let payload = st.payload;
-    let peer = st.peer;
-    let header = st.header;
-    let refusal = st.refusal;
-    State {
-        stage: stage,
-        got: got,
-        block: block,
-        own: own,
-        payload: payload,
-        peer: peer,
-        revision: revision,
-        header: header,
-        refusal: refusal,
-    }
-}
-
-pub(crate) fn with_header(st: State, header: Header) -> State
-    ensures { λ r. ⌜ r ≡ withHeader st header ⌝ }
-{
-    let mut next = st;
-    next.header = header;
-    next
-}
-
-// Refused from now on.
-pub(crate) fn with_refusal(st: State, refusal: Numbers) -> State
-    ensures { λ r. ⌜ r ≡ withRefusal st refusal ⌝ }
-{
-    let mut next = st;
-    next.refusal = refusal;
-    moved(next, Stage::Refused, 0)
-}
-
-// A receiver before its first byte.
-pub(crate) fn fresh(own: Features) -> State
-    ensures { λ r. ⌜ r ≡ fresh own ⌝ }
+// What a receiver knows before its first byte, and once it is refused.
+pub(crate) fn only_own(own: Features, refusal: Numbers) -> Known
+    ensures { λ r. ⌜ r ≡ onlyOwn own refusal ⌝ }
 {
     let none = Segment { len: 0, align: 0 };
-    State {
-        stage: Stage::Magic,
-        got: 0,
-        block: [0u8; 32],
+    Known {
         own: own,
         payload: 0,
         peer: Features {
@@ -136,21 +66,114 @@ pub(crate) fn fresh(own: Features) -> State
             s3: none,
             s4: none,
         },
-        refusal: Numbers {
-            number: 0,
-            first: 0,
-            second: 0,
-            third: 0,
-        },
+        first: false,
+        refusal: refusal,
     }
 }
 
-fn epilogue_length(revision: Revision, h: Header) -> usize
-    ensures { λ r. ⌜ r ≡ epilogueLength revision h ⌝ }
+// A receiver before its first byte.
+pub(crate) fn fresh(own: Features) -> State
+    ensures { λ r. ⌜ r ≡ at stage.Magic 0 (onlyOwn own noRefusal) ⌝ }
 {
-    match revision {
-        Revision::Msgr20 => 17,
-        Revision::Msgr21 => { if h.count <= 1 { 0 } else { 13 } }
+    let none = Numbers {
+        number: 0,
+        first: 0,
+        second: 0,
+        third: 0,
+    };
+    state_at(Stage::Magic, 0, only_own(own, none))
+}
+
+pub(crate) fn refused_state(own: Features, n: Numbers) -> State
+    ensures { λ r. ⌜ r ≡ at stage.Refused 0 (onlyOwn own n) ⌝ }
+{
+    state_at(Stage::Refused, 0, only_own(own, n))
+}
+
+pub(crate) fn with_payload(v: Known, payload: u16) -> Known
+    ensures { λ r. ⌜ r ≡ withPayload v payload ⌝ }
+{
+    let mut next = v;
+    next.payload = payload;
+    next
+}
+
+pub(crate) fn with_peer(v: Known, peer: Features) -> Known
+    ensures { λ r. ⌜ r ≡ withPeer v peer ⌝ }
+{
+    let mut next = v;
+    next.peer = peer;
+    next
+}
+
+pub(crate) fn with_revision(v: Known, revision: Revision) -> Known
+    ensures { λ r. ⌜ r ≡ withRevision v revision ⌝ }
+{
+    let own = v.own;
+    let peer = v.peer;
+    let header = v.header;
+    let refusal = v.refusal;
+    Known {
+        own: own,
+        payload: v.payload,
+        peer: peer,
+        revision: revision,
+        header: header,
+        first: v.first,
+        refusal: refusal,
+    }
+}
+
+pub(crate) fn with_header(v: Known, header: Header) -> Known
+    ensures { λ r. ⌜ r ≡ withHeader v header ⌝ }
+{
+    let mut next = v;
+    next.header = header;
+    next.first = false;
+    next
+}
+
+// Segment 1's checksum holds.
+pub(crate) fn with_first(v: Known) -> Known
+    ensures { λ r. ⌜ r ≡ withFirst v ⌝ }
+{
+    let mut next = v;
+    next.first = true;
+    next
+}
+
+// The next frame begins.
+pub(crate) fn next_frame(v: Known) -> State
+    ensures { λ r. ⌜ r ≡ nextFrame v ⌝ }
+{
+    let none = Segment { len: 0, align: 0 };
+    let header = Header {
+        tag: 0,
+        count: 0,
+        s1: none,
+        s2: none,
+        s3: none,
+        s4: none,
+    };
+    state_at(Stage::Preamble, 0, with_header(v, header))
+}
+
+// ---- stages
+
+pub(crate) fn rank(stage: Stage) -> u8
+    ensures { λ r. ⌜ r ≡ rank stage ⌝ }
+{
+    match stage {
+        Stage::Magic => 0,
+        Stage::Length => 1,
+        Stage::Payload => 2,
+        Stage::Skip => 3,
+        Stage::Preamble => 4,
+        Stage::First => 5,
+        Stage::FirstSum => 6,
+        Stage::Rest => 7,
+        Stage::Epilogue => 8,
+        Stage::Refused => 9,
     }
 }
 
@@ -165,43 +188,73 @@ fn past_features(payload: u16) -> usize
 }
 
 // How many bytes the stage reads.
-pub(crate) fn size_of(st: State) -> usize
-    ensures { λ r. ⌜ r ≡ sizeOf (st .stage) st ⌝ }
+pub(crate) fn size_of(stage: Stage, v: Known) -> usize
+    ensures { λ r. ⌜ r ≡ sizeOf stage v ⌝ }
 {
-    let stage = st.stage;
-    let revision = st.revision;
+    let revision = v.revision;
     match stage {
         Stage::Magic => 8,
         Stage::Length => 2,
         Stage::Payload => 16,
-        Stage::Skip => past_features(st.payload),
+        Stage::Skip => past_features(v.payload),
         Stage::Preamble => 32,
-        Stage::First => st.header.s1.len as usize,
+        Stage::First => v.header.s1.len as usize,
         Stage::FirstSum => 4,
-        Stage::Rest => total_of(st.header) as usize,
-        Stage::Epilogue => epilogue_length(revision, st.header),
+        Stage::Rest => total_of(v.header) as usize,
+        Stage::Epilogue => epilogue_length(revision, v.header),
         Stage::Refused => 0,
     }
 }
 
-// The store that an unfinished frame needs.
-pub(crate) fn needed_of(st: State) -> u64
-    ensures { λ r. ⌜ r ≡ needed (st .stage) st ⌝ }
+// Where they go.
+pub(crate) fn place_of(stage: Stage) -> Place
+    ensures { λ r. ⌜ r ≡ placeOf stage ⌝ }
 {
-    let stage = st.stage;
     match stage {
-        Stage::Magic => 0,
-        Stage::Length => 0,
-        Stage::Payload => 0,
-        Stage::Skip => 0,
-        Stage::Preamble => 0,
-        Stage::First => total_of(st.header),
-        Stage::FirstSum => total_of(st.header),
-        Stage::Rest => total_of(st.header),
-        Stage::Epilogue => total_of(st.header),
-        Stage::Refused => 0,
+        Stage::Magic => Place::Block,
+        Stage::Length => Place::Block,
+        Stage::Payload => Place::Block,
+        Stage::Skip => Place::Nowhere,
+        Stage::Preamble => Place::Block,
+        Stage::First => Place::Store,
+        Stage::FirstSum => Place::Block,
+        Stage::Rest => Place::Store,
+        Stage::Epilogue => Place::Block,
+        Stage::Refused => Place::Nowhere,
     }
 }
+
+pub(crate) fn is_refused(stage: Stage) -> bool
+    ensures { λ r. ⌜ r ≡ isRefused stage ⌝ }
+{
+    rank(stage) == 9
+}
+
+fn in_body(stage: Stage) -> bool
+    ensures { λ r. ⌜ r ≡ inBody stage ⌝ }
+{
+    let n = rank(stage);
+    both(4 < n, n < 9)
+}
+
+fn live_from(n: u8, stage: Stage) -> bool
+    ensures { λ r. ⌜ r ≡ liveFrom n stage ⌝ }
+{
+    both(n <= rank(stage), !is_refused(stage))
+}
+
+// The store that an unfinished frame needs.
+pub(crate) fn needed_by(stage: Stage, v: Known) -> u64
+    ensures { λ r. ⌜ r ≡ needed stage v ⌝ }
+{
+    if in_body(stage) {
+        total_of(v.header)
+    } else {
+        0
+    }
+}
+
+// ---- what refusal 26 asks
 
 fn is_fine(v: Verdict) -> bool
     ensures { λ r. ⌜ r ≡ isFine (judgedBy v) ⌝ }
@@ -212,22 +265,11 @@ fn is_fine(v: Verdict) -> bool
     }
 }
 
-fn own_ok(own: Features) -> bool
-    ensures { λ r. ⌜ r ≡ isFine (judgeOwn (own .supported) (own .required)) ⌝ }
+// One of two tests, by a third: a function, so that a chain of tests is one equation.
+fn pick(test: bool, a: bool, b: bool) -> bool
+    ensures { λ r. ⌜ r ≡ cond test a b ⌝ }
 {
-    is_fine(judge_own(own.supported, own.required))
-}
-
-fn payload_ok(n: u16) -> bool
-    ensures { λ r. ⌜ r ≡ isFine (judgeLength n) ⌝ }
-{
-    is_fine(judge_length(n))
-}
-
-fn header_ok(h: Header) -> bool
-    ensures { λ r. ⌜ r ≡ isFine (judgeHeader h) ⌝ }
-{
-    is_fine(judge_header(h))
+    if test { a } else { b }
 }
 
 pub(crate) fn is_msgr21(revision: Revision) -> bool
@@ -239,55 +281,189 @@ pub(crate) fn is_msgr21(revision: Revision) -> bool
     }
 }
 
+fn same_revision(a: Revision, b: Revision) -> bool
+    ensures { λ r. ⌜ r ≡ sameRevision a b ⌝ }
+{
+    match a {
+        Revision::Msgr20 => !is_msgr21(b),
+        Revision::Msgr21 => is_msgr21(b),
+    }
+}
+
+fn is_no_features(f: Features) -> bool
+    ensures { λ r. ⌜ r ≡ isNoFeatures f ⌝ }
+{
+    both(f.supported == 0, f.required == 0)
+}
+
+fn is_no_segment(s: Segment) -> bool
+    ensures { λ r. ⌜ r ≡ isNoSegment s ⌝ }
+{
+    both(s.len == 0, s.align == 0)
+}
+
+fn is_no_header(h: Header) -> bool
+    ensures { λ r. ⌜ r ≡ isNoHeader h ⌝ }
+{
+    let last = both(is_no_segment(h.s3), is_no_segment(h.s4));
+    let segments = both(both(is_no_segment(h.s1), is_no_segment(h.s2)), last);
+    both(both(h.tag == 0, h.count == 0), segments)
+}
+
+fn is_no_refusal(n: Numbers) -> bool
+    ensures { λ r. ⌜ r ≡ isNoRefusal n ⌝ }
+{
+    let details = both(n.second == 0, n.third == 0);
+    both(both(n.number == 0, n.first == 0), details)
+}
+
 // A refusal that a receiver gives.
 fn is_given(n: Numbers) -> bool
     ensures { λ r. ⌜ r ≡ given n ⌝ }
 {
-    let known = both(1 <= n.number, n.number <= 12);
-    either(known, n.number == 16)
+    let k = n.number;
+    let known = either(both(1 <= k, k <= 12), k == 16);
+    let one = both(n.second == 0, n.third == 0);
+    both(known, either(either(k == 3, k == 4), one))
 }
 
-fn rules_hold(st: State) -> bool
-    ensures { λ r. ⌜ r ≡ rules (st .stage) st ⌝ }
+fn own_and_payload(stage: Stage, v: Known) -> bool
+    ensures { λ r. ⌜ r ≡ (ownRule stage v && payloadRule stage v) ⌝ }
 {
-    let stage = st.stage;
-    let revision = st.revision;
-    match stage {
-        Stage::Magic => own_ok(st.own),
-        Stage::Length => own_ok(st.own),
-        Stage::Payload => both(own_ok(st.own), payload_ok(st.payload)),
-        Stage::Skip => both(own_ok(st.own), payload_ok(st.payload)),
-        Stage::Preamble => true,
-        Stage::First => both(header_ok(st.header), is_msgr21(revision)),
-        Stage::FirstSum => both(header_ok(st.header), is_msgr21(revision)),
-        Stage::Rest => header_ok(st.header),
-        Stage::Epilogue => header_ok(st.header),
-        Stage::Refused => is_given(st.refusal),
+    let start = both(is_refused(stage), v.refusal.number == 16);
+    let own = pick(
+        start,
+        true,
+        is_fine(judge_own(v.own.supported, v.own.required)),
+    );
+    let known = live_from(2, stage);
+    let payload = pick(known, is_fine(judge_length(v.payload)), v.payload == 0);
+    both(own, payload)
+}
+
+fn revision_rule(stage: Stage, v: Known) -> bool
+    ensures { λ r. ⌜ r ≡ revisionRule stage v ⌝ }
+{
+    let revision = v.revision;
+    let chosen = revision_of(v.own.supported, v.peer.supported);
+    let fine = is_fine(judge_features(v.own, v.peer));
+    let agreed = both(fine, same_revision(chosen, revision));
+    pick(live_from(4, stage), agreed, !is_msgr21(revision))
+}
+
+fn peer_and_revision(stage: Stage, v: Known) -> bool
+    ensures { λ r. ⌜ r ≡ (peerRule stage v && revisionRule stage v) ⌝ }
+{
+    let peer = pick(live_from(3, stage), true, is_no_features(v.peer));
+    both(peer, revision_rule(stage, v))
+}
+
+// Segment 1 has its checksum behind it.
+pub(crate) fn has_first_sum(v: Known) -> bool
+    ensures { λ r. ⌜ r ≡ hasFirstSum v ⌝ }
+{
+    let revision = v.revision;
+    !no_first_sum(revision, v.header)
+}
+
+fn header_rule(stage: Stage, v: Known) -> bool
+    ensures { λ r. ⌜ r ≡ headerRule stage v ⌝ }
+{
+    pick(
+        in_body(stage),
+        is_fine(judge_header(v.header)),
+        is_no_header(v.header),
+    )
+}
+
+fn first_and_mark(stage: Stage, v: Known) -> bool
+    ensures { λ r. ⌜ r ≡ (firstRule stage v && markRule stage v) ⌝ }
+{
+    let n = rank(stage);
+    let sum = has_first_sum(v);
+    let first = pick(either(n == 5, n == 6), sum, true);
+    let behind = both(either(n == 7, n == 8), sum);
+    both(first, pick(v.first, behind, !behind))
+}
+
+fn refusal_rule(stage: Stage, v: Known) -> bool
+    ensures { λ r. ⌜ r ≡ refusalRule stage v ⌝ }
+{
+    pick(
+        is_refused(stage),
+        is_given(v.refusal),
+        is_no_refusal(v.refusal),
+    )
+}
+
+// How many bytes of the stage came at least.
+fn least_of(stage: Stage, v: Known) -> usize
+    ensures { λ r. ⌜ r ≡ leastOf stage v ⌝ }
+{
+    if both(rank(stage) == 7, has_first_sum(v)) {
+        v.header.s1.len as usize
+    } else {
+        0
     }
 }
 
-pub(crate) fn is_refused(stage: Stage) -> bool
-    ensures { λ r. ⌜ r ≡ isRefused stage ⌝ }
+fn count_rule(stage: Stage, v: Known, got: usize) -> bool
+    ensures { λ r. ⌜ r ≡ countRule stage v got ⌝ }
 {
-    match stage {
-        Stage::Magic => false,
-        Stage::Length => false,
-        Stage::Payload => false,
-        Stage::Skip => false,
-        Stage::Preamble => false,
-        Stage::First => false,
-        Stage::FirstSum => false,
-        Stage::Rest => false,
-        Stage::Epilogue => false,
-        Stage::Refused => true,
+    let inside = both(least_of(stage, v) <= got, got < size_of(stage, v));
+    pick(is_refused(stage), got == 0, inside)
+}
+
+// How many bytes of the stage stand in the block.
+fn in_block(place: Place, got: usize) -> usize
+    ensures { λ r. ⌜ r ≡ inBlock place got ⌝ }
+{
+    match place {
+        Place::Block => got,
+        Place::Store => 0,
+        Place::Nowhere => 0,
     }
+}
+
+// Zeros from a place on.
+fn zeros_from(block: &[u8], from: usize) -> bool
+    ensures { λ r. ⌜ r ≡ isZeros (drop from (now (block .entry))) ⌝ }
+{
+    let mut i = from;
+    while i < block.len() {
+        if block[i] != 0 {
+            return false;
+        }
+        i += 1;
+    }
+    true
+}
+
+fn block_rule(stage: Stage, got: usize, block: [u8; 32]) -> bool
+    ensures { λ r. ⌜ r ≡ blockRule stage got block ⌝ }
+{
+    zeros_from(&block, in_block(place_of(stage), got))
+}
+
+fn rules_hold(stage: Stage, v: Known) -> bool
+    ensures { λ r. ⌜ r ≡ rules stage v ⌝ }
+{
+    let banner = both(own_and_payload(stage, v), peer_and_revision(stage, v));
+    let frame = both(header_rule(stage, v), first_and_mark(stage, v));
+    both(banner, both(frame, refusal_rule(stage, v)))
 }
 
 // The fields agree: what refusal 26 asks.
 pub(crate) fn agrees_with_itself(st: State) -> bool
     ensures { λ r. ⌜ r ≡ agrees st ⌝ }
 {
-    let stage = st.stage;
-    let inside = either(is_refused(stage), st.got < size_of(st));
-    both(rules_hold(st), inside)
+    let position = st.position;
+    let known = st.known;
+    let stage = position.stage;
+    let block = position.block;
+    let counted = both(
+        rules_hold(stage, known),
+        count_rule(stage, known, position.got),
+    );
+    both(counted, block_rule(stage, position.got, block))
 }

@@ -1,7 +1,7 @@
 -- Bytes add up.
 use Prim.Native.Nat.{ℕ, zero, suc, _+_, _≤_, _<_}
 use mathlib.Core.Path.{_≡_, refl}
-use mathlib.Core.List.{List, [], _∷_}
+use mathlib.Core.List.{List}
 use mathlib.Core.Bool.{Bool, true, false, cond}
 use native.Mathlib.Omega.{arith}
 use lib.ListN.{length, take, drop}
@@ -15,48 +15,51 @@ use Rattle.preamble.specs.declared.Header.{Header}
 use Rattle.preamble.specs.Layout.{total}
 use Rattle.preamble.specs.Judge.{headerOf, judgePreamble}
 use Rattle.body.specs.Body.{bodyLength, firstSumLength, wireLength}
-use Rattle.body.specs.End.{Ended, whole, dropped, turnedAway, came, ending}
-use Rattle.banner.specs.declared.Revision.the-variants.{Msgr20, Msgr21}
-use Rattle.stream.specs.Stream.{Told, ended, unlessRefused, refusedAt, zeroed, firstWrong, atEnd, bodyTold, frames, bannerTold, payloadOf, peerOf, streamTold, byOwn, entriesOf}
+use Rattle.body.specs.End.{Ended, whole, dropped, turnedAway, segmentBytes, ending}
+use Rattle.stream.specs.Stream.{Trace, ended, unlessRefused, refusedAt, zeroed, firstWrong, firstReported, reportedFirst, atEnd, bodyTrace, frames, bannerTrace, payloadOf, peerOf, streamTrace, byOwn, traceOf}
 use Rattle.stream.specs.Adds.{Adds, AddsUp, AllAddUp}
 
 pub least : (revision : Revision) (h : Header) → 32 ≤ wireLength revision h
-least Msgr20 h = omega arith
-least Msgr21 h = omega arith
+least revision h = omega arith
 
-abbrev AddsTold : Revision → ℕ → Told → Type 0
-AddsTold revision P t = Adds revision P (t .entries)
+abbrev AddsTrace : Revision → ℕ → Trace → Type 0
+AddsTrace revision P t = Adds revision P (t .entries)
 
-judged : (revision : Revision) (P at : ℕ) (j : Judged) (s : List ℕ) (t : Told) → P < at → AddsTold revision P t → AddsTold revision P (unlessRefused j at s t)
+judged : (revision : Revision) (P at : ℕ) (j : Judged) (s : List ℕ) (t : Trace) → P < at → AddsTrace revision P t → AddsTrace revision P (unlessRefused j at s t)
 judged revision P at fine s t l a = a
 judged revision P at (refused n) s t l a = l
 
-module _ (revision : Revision) (h : Header) (P : ℕ) (b s : List ℕ) (next : List ℕ → Told) (a : (t : List ℕ) → AddsTold revision (P + wireLength revision h) (next t)) where
-  end-adds : (x : Ended) (p : List ℕ) → AddsTold revision P (atEnd x h (P + wireLength revision h) s p next)
+module _ (revision : Revision) (h : Header) (P : ℕ) (b s : List ℕ) (next : List ℕ → Trace) (a : (t : List ℕ) → AddsTrace revision (P + wireLength revision h) (next t)) where
+  end-adds : (x : Ended) (p : List ℕ) → AddsTrace revision P (atEnd x h (P + wireLength revision h) s p next)
   end-adds whole p = (refl, a _)
   end-adds dropped p = (refl, a _)
   end-adds (turnedAway n) p = (let w = least revision h in omega arith)
 
-  body-adds : AddsTold revision P (bodyTold revision h P b s next)
+  first-adds : (f : Bool) (at : ℕ) (x : List ℕ) (t : Trace) → at ≡ P + 36 + h .s1 .len → AddsTrace revision P t → AddsTrace revision P (reportedFirst f h at x t)
+  first-adds true at x t e u = (e, u)
+  first-adds false at x t e u = u
+
+  body-adds : AddsTrace revision P (bodyTrace revision h P b s next)
   body-adds = go (firstWrong revision h b) (ltb (length b) (bodyLength revision h))
     where
-      go : (w c : Bool) → AddsTold revision P
+      go : (w c : Bool) → AddsTrace revision P
           (cond w (refusedAt (row 11 1 0 0) (P + 36 + h .s1 .len) (zeroed h s))
-          (cond c (ended (over (came revision h b) s)) (atEnd (ending revision h (drop (total h + firstSumLength revision h) b) (came revision h b)) h (P + wireLength revision h) s (came revision h b) next)))
+          (reportedFirst (firstReported revision h b) h (P + 36 + h .s1 .len) (over (take (h .s1 .len) b) s)
+          (cond c (ended (over (segmentBytes revision h b) s)) (atEnd (ending revision h (drop (total h + firstSumLength revision h) b) (segmentBytes revision h b)) h (P + wireLength revision h) s (segmentBytes revision h b) next))))
       go true c = omega arith
-      go false true = tt
-      go false false = end-adds (ending revision h (drop (total h + firstSumLength revision h) b) (came revision h b)) (came revision h b)
+      go false true = first-adds (firstReported revision h b) (P + 36 + h .s1 .len) (over (take (h .s1 .len) b) s) _ refl tt
+      go false false = first-adds (firstReported revision h b) (P + 36 + h .s1 .len) (over (take (h .s1 .len) b) s) _ refl (end-adds (ending revision h (drop (total h + firstSumLength revision h) b) (segmentBytes revision h b)) (segmentBytes revision h b))
 
-frames-add : (f : ℕ) (revision : Revision) (P : ℕ) (rest s : List ℕ) → AddsTold revision P (frames f revision P rest s)
+frames-add : (f : ℕ) (revision : Revision) (P : ℕ) (rest s : List ℕ) → AddsTrace revision P (frames f revision P rest s)
 unfolding frames
 frames-add zero revision P rest s = tt
 frames-add (suc f) revision P rest s = go (ltb (length rest) 32) (λ Q r t. frames-add f revision Q r t)
   where
-    go : (c : Bool) → ((Q : ℕ) (r t : List ℕ) → AddsTold revision Q (frames f revision Q r t))
-        → AddsTold revision P
+    go : (c : Bool) → ((Q : ℕ) (r t : List ℕ) → AddsTrace revision Q (frames f revision Q r t))
+        → AddsTrace revision P
         (cond c (ended s)
         (unlessRefused (judgePreamble (take 32 rest) (length s)) (P + 32) s
-        (bodyTold revision (headerOf (take 32 rest)) P (drop 32 rest) s
+        (bodyTrace revision (headerOf (take 32 rest)) P (drop 32 rest) s
         (λ t. frames f revision (P + wireLength revision (headerOf (take 32 rest))) (drop (32 + bodyLength revision (headerOf (take 32 rest))) rest) t))))
     go true ih = tt
     go false ih =
@@ -65,25 +68,25 @@ frames-add (suc f) revision P rest s = go (ltb (length rest) 32) (λ Q r t. fram
 
 -- ---- the banner
 
-abbrev Up : Told → Type 0
+abbrev Up : Trace → Type 0
 Up t = AddsUp (t .entries)
 
-up-judged : (j : Judged) (at : ℕ) (s : List ℕ) (t : Told) → Up t → Up (unlessRefused j at s t)
+up-judged : (j : Judged) (at : ℕ) (s : List ℕ) (t : Trace) → Up t → Up (unlessRefused j at s t)
 up-judged fine at s t u = u
 up-judged (refused n) at s t u = tt
 
-up-cond : (c : Bool) (s : List ℕ) (t : Told) → Up t → Up (cond c (ended s) t)
+up-cond : (c : Bool) (s : List ℕ) (t : Trace) → Up t → Up (cond c (ended s) t)
 up-cond true s t u = tt
 up-cond false s t u = u
 
-banner-up : (own : Features) (stream s : List ℕ) → Up (bannerTold own stream s)
+banner-up : (own : Features) (stream s : List ℕ) → Up (bannerTrace own stream s)
 banner-up own stream s =
     let p = peerOf stream in
     up-judged (judgeFeatures (own .supported) (own .required) (p .supported) (p .required)) (10 + payloadOf stream) s _
     (frames-add (length stream) (revisionOf (own .supported) (p .supported)) (10 + payloadOf stream) (drop (10 + payloadOf stream) stream) s)
 
-stream-up : (own : Features) (stream s : List ℕ) → Up (streamTold own stream s)
-unfolding streamTold
+stream-up : (own : Features) (stream s : List ℕ) → Up (streamTrace own stream s)
+unfolding streamTrace
 stream-up own stream s =
     up-cond (ltb (length stream) 8) s _
     (up-judged (judgeMagic (take 8 stream)) 8 s _
@@ -91,10 +94,10 @@ stream-up own stream s =
     (up-judged (judgeLength (payloadOf stream)) 10 s _
     (up-cond (ltb (length stream) (10 + payloadOf stream)) s _ (banner-up own stream s)))))
 
-own-up : (j : Judged) (t : Told) (s : List ℕ) → Up t → Up (byOwn j t s)
+own-up : (j : Judged) (t : Trace) (s : List ℕ) → Up t → Up (byOwn j t s)
 own-up fine t s u = u
 own-up (refused n) t s u = tt
 
 pub all-add-up : AllAddUp
-unfolding AllAddUp entriesOf
-all-add-up own stream s = own-up (judgeOwn (own .supported) (own .required)) (streamTold own stream s) s (stream-up own stream s)
+unfolding AllAddUp traceOf
+all-add-up own stream s = own-up (judgeOwn (own .supported) (own .required)) (streamTrace own stream s) s (stream-up own stream s)

@@ -1,35 +1,38 @@
 -- Bytes add up (01): a banner's or a frame's report stands at the byte that the one before it left, plus its own length on the wire.
 use mathlib.Core.Path.{_≡_}
 use mathlib.Core.List.{List, [], _∷_}
-use Prim.Native.Nat.{ℕ, _+_, _≤_, _<_}
-use lib.ListN.{length}
+use Prim.Native.Nat.{ℕ, _+_, _<_}
 use Rattle.banner.specs.declared.Features.{Features}
 use Rattle.banner.specs.declared.Revision.{Revision}
 use Rattle.body.specs.Body.{wireLength}
-use Rattle.stream.specs.Stream.{What, banner, frame, aborted, refusal, Entry, Told, entriesOf}
+use Rattle.stream.specs.declared.Event.{Event}
+use Rattle.stream.specs.declared.Event.the-variants.{Banner, First, Frame, Dropped, Refused}
+use Rattle.stream.specs.Stream.{Entry, traceOf}
 
--- an entry from P on, and what is asked of the later ones
-abbrev pub AddsAt : Revision → ℕ → What → ℕ → Type 0 → Type 0
-AddsAt revision P (banner p r) at later = ⊥
-AddsAt revision P (frame h) at later = (at ≡ P + wireLength revision h) × later
-AddsAt revision P (aborted h) at later = (at ≡ P + wireLength revision h) × later
-AddsAt revision P (refusal n) at later = P < at
+-- an entry from P on, and what is asked of the later ones. An early report of segment 1 adds no bytes: its frame still begins at P
+abbrev pub AddsAt : Revision → ℕ → Event → ℕ → (ℕ → Type 0) → Type 0
+AddsAt revision P (Banner p r) at later = ⊥
+AddsAt revision P (First h) at later = (at ≡ P + 36 + h .s1 .len) × later P
+AddsAt revision P (Frame h) at later = (at ≡ P + wireLength revision h) × later at
+AddsAt revision P (Dropped h) at later = (at ≡ P + wireLength revision h) × later at
+AddsAt revision P (Refused n) at later = P < at
 
 -- frames from P on
 abbrev pub Adds : Revision → ℕ → List Entry → Type 0
 Adds revision P [] = Unit {0}
-Adds revision P (e ∷ es) = AddsAt revision P (e .what) (e .at) (Adds revision (e .at) es)
+Adds revision P (e ∷ es) = AddsAt revision P (e .event) (e .at) (λ Q. Adds revision Q es)
 
 -- a list begins with a banner, which chooses the revision, or with a refusal
-abbrev pub AddsFirst : What → ℕ → List Entry → Type 0
-AddsFirst (banner p r) at es = Adds r at es
-AddsFirst (frame h) at es = ⊥
-AddsFirst (aborted h) at es = ⊥
-AddsFirst (refusal n) at es = Unit {0}
+abbrev pub AddsFirst : Event → ℕ → List Entry → Type 0
+AddsFirst (Banner p r) at es = Adds r at es
+AddsFirst (First h) at es = ⊥
+AddsFirst (Frame h) at es = ⊥
+AddsFirst (Dropped h) at es = ⊥
+AddsFirst (Refused n) at es = Unit {0}
 
 abbrev pub AddsUp : List Entry → Type 0
 AddsUp [] = Unit {0}
-AddsUp (e ∷ es) = AddsFirst (e .what) (e .at) es
+AddsUp (e ∷ es) = AddsFirst (e .event) (e .at) es
 
 unfoldable pub AllAddUp : Type 0
-AllAddUp = (own : Features) (stream store : List ℕ) → AddsUp (entriesOf own stream store .entries)
+AllAddUp = (own : Features) (stream store : List ℕ) → AddsUp (traceOf own stream store .entries)

@@ -1,3 +1,4 @@
 pub mod Stream
+pub mod Rows
 pub mod Worked
 pub mod Adds

@@ -1,29 +1,44 @@
 -- Worked streams: the definition computed on a few dozen bytes each, as one table.
-use mathlib.Core.Path.{_≡_}
 use mathlib.Core.List.{List, [], _∷_, _++_}
-use mathlib.Core.Bool.{Bool, true, false}
 use Prim.Native.Nat.{ℕ}
-use lib.ListN.{take, set, replicate}
+use lib.ListN.{length, take, drop, set, replicate}
 use Rattle.refusal.specs.Refusals.{row}
 use Rattle.banner.specs.declared.Features.{Features}
 use Rattle.banner.specs.declared.Revision.{Revision}
 use Rattle.banner.specs.declared.Revision.the-variants.{Msgr20, Msgr21}
 use Rattle.banner.specs.Banner.{bannerBytes}
-use Rattle.preamble.specs.declared.Segment.{Segment}
 use Rattle.preamble.specs.declared.Header.{Header}
-use Rattle.body.specs.Body.{frameBytes}
-use Rattle.stream.specs.Stream.{What, banner, frame, aborted, refusal, Entry, entry, Told, entriesOf}
+use Rattle.stream.specs.declared.Event.the-variants.{Banner, First, Frame, Dropped, Refused}
+use Rattle.stream.specs.Stream.{Entry, entry, Trace, traceOf}
+use Rattle.stream.specs.Rows.{Row, _⇒_, Holds, features, segment, header}
 
-abbrev features : ℕ → ℕ → Features
-features s r = record { supported = s; required = r }
+-- ---- entries, and a stream's row: our features, the stream, the store; the entries, and the store at the end
 
-abbrev segment : ℕ → ℕ → Segment
-segment n a = record { len = n; align = a }
+abbrev bannerAt : ℕ → Features → Revision → List ℕ → Entry
+bannerAt at peer revision store = entry (Banner peer revision) at store
 
-abbrev header : ℕ → ℕ → Segment → Segment → Segment → Segment → Header
-header t c a b d e = record { tag = t; count = c; s1 = a; s2 = b; s3 = d; s4 = e }
+abbrev frameAt : ℕ → Header → List ℕ → Entry
+frameAt at h store = entry (Frame h) at store
 
--- our features, two peers' banners, a store
+-- segment 1 early
+abbrev firstAt : ℕ → Header → List ℕ → Entry
+firstAt at h store = entry (First h) at store
+
+abbrev dropAt : ℕ → Header → List ℕ → Entry
+dropAt at h store = entry (Dropped h) at store
+
+abbrev refusalAt : ℕ → ℕ → ℕ → List ℕ → Entry
+refusalAt at number detail store = entry (Refused (row number detail 0 0)) at store
+
+abbrev missingAt : ℕ → ℕ → ℕ → ℕ → ℕ → List ℕ → Entry
+missingAt at number bits lowest count store = entry (Refused (row number bits lowest count)) at store
+
+abbrev worked : Features → List ℕ → List ℕ → List Entry → List ℕ → Row Trace
+worked own stream store entries final = traceOf own stream store ⇒ record { entries = entries; store = final }
+
+-- ---- what the rows are made of
+
+-- our features, the banners of a msgr2.1 and of a msgr2.0 peer, a store, and the store with bytes at its front
 abbrev ours : Features
 ours = features 1 0
 
@@ -36,7 +51,17 @@ sent20 = bannerBytes 0 0
 abbrev store : List ℕ
 store = replicate 8 0xAA
 
--- frames of one, two, four and no segment bytes
+abbrev front : List ℕ → List ℕ
+front bytes = bytes ++ drop (length bytes) store
+
+-- a stream behind either banner
+abbrev in21 : List ℕ → List Entry → List ℕ → Row Trace
+in21 stream entries final = worked ours (sent21 ++ stream) store (bannerAt 26 (features 1 0) Msgr21 store ∷ entries) final
+
+abbrev in20 : List ℕ → List Entry → List ℕ → Row Trace
+in20 stream entries final = worked ours (sent20 ++ stream) store (bannerAt 26 (features 0 0) Msgr20 store ∷ entries) final
+
+-- headers, and bytes of segments
 abbrev one : Header
 one = header 18 1 (segment 2 8) (segment 0 0) (segment 0 0) (segment 0 0)
 
@@ -55,72 +80,174 @@ bytes2 = 0x61 ∷ 0x62 ∷ []
 abbrev bytes3 : List ℕ
 bytes3 = 0x61 ∷ 0x62 ∷ 0x63 ∷ []
 
-pub record Example : Type 0 where
-  pub own : Features
-  pub stream : List ℕ
-  pub store : List ℕ
-  pub entries : List Entry
-  pub final : List ℕ
+-- frames as bytes: with one, two, four and no segment bytes, and the second one aborted
+abbrev onePreamble : List ℕ
+onePreamble = 0x12 ∷ 0x01 ∷ 0x02 ∷ 0x00 ∷ 0x00 ∷ 0x00 ∷ 0x08 ∷ 0x00 ∷ 0x00 ∷ 0x00 ∷ 0x00 ∷ 0x00 ∷ 0x00 ∷ 0x00 ∷ 0x00 ∷ 0x00 ∷ 0x00 ∷ 0x00 ∷ 0x00 ∷ 0x00 ∷ 0x00 ∷ 0x00 ∷ 0x00 ∷ 0x00 ∷ 0x00 ∷ 0x00 ∷ 0x00 ∷ 0x00 ∷ 0x4F ∷ 0x8B ∷ 0x30 ∷ 0xAA ∷ []
 
-abbrev pub Holds : Example → Type 0
-Holds e = entriesOf (e .own) (e .stream) (e .store) ≡ record { entries = e .entries; store = e .final }
+abbrev twoPreamble : List ℕ
+twoPreamble = 0x11 ∷ 0x02 ∷ 0x01 ∷ 0x00 ∷ 0x00 ∷ 0x00 ∷ 0x08 ∷ 0x00 ∷ 0x02 ∷ 0x00 ∷ 0x00 ∷ 0x00 ∷ 0x08 ∷ 0x00 ∷ 0x00 ∷ 0x00 ∷ 0x00 ∷ 0x00 ∷ 0x00 ∷ 0x00 ∷ 0x00 ∷ 0x00 ∷ 0x00 ∷ 0x00 ∷ 0x00 ∷ 0x00 ∷ 0x00 ∷ 0x00 ∷ 0x4E ∷ 0x9B ∷ 0x30 ∷ 0x3A ∷ []
 
-abbrev pub Each : List Example → Type 0
-Each [] = Unit {0}
-Each (e ∷ es) = Holds e × Each es
+abbrev fourPreamble : List ℕ
+fourPreamble = 0x11 ∷ 0x04 ∷ 0x00 ∷ 0x00 ∷ 0x00 ∷ 0x00 ∷ 0x08 ∷ 0x00 ∷ 0x01 ∷ 0x00 ∷ 0x00 ∷ 0x00 ∷ 0x08 ∷ 0x00 ∷ 0x00 ∷ 0x00 ∷ 0x00 ∷ 0x00 ∷ 0x08 ∷ 0x00 ∷ 0x01 ∷ 0x00 ∷ 0x00 ∷ 0x00 ∷ 0x00 ∷ 0x10 ∷ 0x00 ∷ 0x00 ∷ 0x14 ∷ 0xF5 ∷ 0x75 ∷ 0xF0 ∷ []
 
-abbrev worked : Features → List ℕ → List ℕ → List Entry → List ℕ → Example
-worked own stream store entries final = record { own = own; stream = stream; store = store; entries = entries; final = final }
+abbrev nonePreamble : List ℕ
+nonePreamble = 0x10 ∷ 0x01 ∷ 0x00 ∷ 0x00 ∷ 0x00 ∷ 0x00 ∷ 0x08 ∷ 0x00 ∷ 0x00 ∷ 0x00 ∷ 0x00 ∷ 0x00 ∷ 0x00 ∷ 0x00 ∷ 0x00 ∷ 0x00 ∷ 0x00 ∷ 0x00 ∷ 0x00 ∷ 0x00 ∷ 0x00 ∷ 0x00 ∷ 0x00 ∷ 0x00 ∷ 0x00 ∷ 0x00 ∷ 0x00 ∷ 0x00 ∷ 0xC8 ∷ 0xE3 ∷ 0xAA ∷ 0xB0 ∷ []
 
--- THE TABLE
-unfoldable pub examples : List Example
-examples =
+abbrev one21 : List ℕ
+one21 = onePreamble ++ (0x61 ∷ 0x62 ∷ 0xC9 ∷ 0xD6 ∷ 0x5D ∷ 0x1D ∷ [])
+
+abbrev one20 : List ℕ
+one20 = onePreamble ++ (0x61 ∷ 0x62 ∷ 0x00 ∷ 0xC9 ∷ 0xD6 ∷ 0x5D ∷ 0x1D ∷ 0x00 ∷ 0x00 ∷ 0x00 ∷ 0x00 ∷ 0x00 ∷ 0x00 ∷ 0x00 ∷ 0x00 ∷ 0x00 ∷ 0x00 ∷ 0x00 ∷ 0x00 ∷ [])
+
+abbrev two21 : List ℕ
+two21 = twoPreamble ++ (0x61 ∷ 0xCF ∷ 0xBC ∷ 0x2F ∷ 0x3E ∷ 0x62 ∷ 0x63 ∷ 0x0E ∷ 0x53 ∷ 0xFD ∷ 0xD1 ∷ 0xDB ∷ 0x00 ∷ 0x00 ∷ 0x00 ∷ 0x00 ∷ 0x00 ∷ 0x00 ∷ 0x00 ∷ 0x00 ∷ [])
+
+abbrev two20 : List ℕ
+two20 = twoPreamble ++ (0x61 ∷ 0x62 ∷ 0x63 ∷ 0x00 ∷ 0xCF ∷ 0xBC ∷ 0x2F ∷ 0x3E ∷ 0x53 ∷ 0xFD ∷ 0xD1 ∷ 0xDB ∷ 0x00 ∷ 0x00 ∷ 0x00 ∷ 0x00 ∷ 0x00 ∷ 0x00 ∷ 0x00 ∷ 0x00 ∷ [])
+
+abbrev dropped21 : List ℕ
+dropped21 = twoPreamble ++ (0x61 ∷ 0xCF ∷ 0xBC ∷ 0x2F ∷ 0x3E ∷ 0x00 ∷ 0x00 ∷ 0x01 ∷ 0x2D ∷ 0x88 ∷ 0x9E ∷ 0x0E ∷ 0x00 ∷ 0x00 ∷ 0x00 ∷ 0x00 ∷ 0x00 ∷ 0x00 ∷ 0x00 ∷ 0x00 ∷ [])
+
+abbrev dropped20 : List ℕ
+dropped20 = twoPreamble ++ (0x61 ∷ 0x00 ∷ 0x00 ∷ 0x01 ∷ 0xCF ∷ 0xBC ∷ 0x2F ∷ 0x3E ∷ 0x2D ∷ 0x88 ∷ 0x9E ∷ 0x0E ∷ 0x00 ∷ 0x00 ∷ 0x00 ∷ 0x00 ∷ 0x00 ∷ 0x00 ∷ 0x00 ∷ 0x00 ∷ [])
+
+abbrev four21 : List ℕ
+four21 = fourPreamble ++ (0x64 ∷ 0x65 ∷ 0x0E ∷ 0xD3 ∷ 0xA8 ∷ 0xDE ∷ 0x0B ∷ 0xFF ∷ 0xFF ∷ 0xFF ∷ 0xFF ∷ 0xD0 ∷ 0x2B ∷ 0xB5 ∷ 0xF9 ∷ [])
+
+abbrev four20 : List ℕ
+four20 = fourPreamble ++ (0x64 ∷ 0x65 ∷ 0x00 ∷ 0xFF ∷ 0xFF ∷ 0xFF ∷ 0xFF ∷ 0xD3 ∷ 0xA8 ∷ 0xDE ∷ 0x0B ∷ 0xFF ∷ 0xFF ∷ 0xFF ∷ 0xFF ∷ 0xD0 ∷ 0x2B ∷ 0xB5 ∷ 0xF9 ∷ [])
+
+abbrev none21 : List ℕ
+none21 = nonePreamble
+
+abbrev none20 : List ℕ
+none20 = nonePreamble ++ (0x00 ∷ 0xFF ∷ 0xFF ∷ 0xFF ∷ 0xFF ∷ 0x00 ∷ 0x00 ∷ 0x00 ∷ 0x00 ∷ 0x00 ∷ 0x00 ∷ 0x00 ∷ 0x00 ∷ 0x00 ∷ 0x00 ∷ 0x00 ∷ 0x00 ∷ [])
+
+-- ---- tables. A row with two numbers has both faults at once: the order decides
+
+-- frames and drops
+unfoldable pub frameRows : List (Row Trace)
+frameRows =
     -- one segment, msgr2.1
-    worked ours (sent21 ++ frameBytes Msgr21 one false bytes2) store (entry (banner (features 1 0) Msgr21) 26 (store) ∷ entry (frame one) 64 (bytes2 ++ replicate 6 0xAA) ∷ []) (bytes2 ++ replicate 6 0xAA)
+    in21 one21 (frameAt 64 one (front bytes2) ∷ []) (front bytes2)
     -- the same in msgr2.0, which the peer's banner chooses
-    ∷ worked ours (sent20 ++ frameBytes Msgr20 one false bytes2) store (entry (banner (features 0 0) Msgr20) 26 (store) ∷ entry (frame one) 77 (bytes2 ++ replicate 6 0xAA) ∷ []) (bytes2 ++ replicate 6 0xAA)
-    -- two segments, then a frame with an empty first segment and four in all
-    ∷ worked ours (sent21 ++ frameBytes Msgr21 two false bytes3 ++ frameBytes Msgr21 four false bytes2) store (entry (banner (features 1 0) Msgr21) 26 (store) ∷ entry (frame two) 78 (bytes3 ++ replicate 5 0xAA) ∷ entry (frame four) 125 (bytes2 ++ (0x63 ∷ []) ++ replicate 5 0xAA) ∷ []) (bytes2 ++ (0x63 ∷ []) ++ replicate 5 0xAA)
+    ∷ in20 one20 (frameAt 77 one (front bytes2) ∷ []) (front bytes2)
+    -- two segments, the first one reported early, then a frame with an empty first segment and four in all, which has no early report
+    ∷ in21 (two21 ++ four21) (firstAt 63 two (front (0x61 ∷ [])) ∷ frameAt 78 two (front bytes3) ∷ frameAt 125 four (front (0x64 ∷ 0x65 ∷ 0x63 ∷ [])) ∷ []) (front (0x64 ∷ 0x65 ∷ 0x63 ∷ []))
     -- four segments, an empty first one, in msgr2.0
-    ∷ worked ours (sent20 ++ frameBytes Msgr20 four false bytes2) store (entry (banner (features 0 0) Msgr20) 26 (store) ∷ entry (frame four) 77 (bytes2 ++ replicate 6 0xAA) ∷ []) (bytes2 ++ replicate 6 0xAA)
+    ∷ in20 four20 (frameAt 77 four (front (0x64 ∷ 0x65 ∷ [])) ∷ []) (front (0x64 ∷ 0x65 ∷ []))
     -- an empty frame, reported at the preamble's last byte
-    ∷ worked ours (sent21 ++ frameBytes Msgr21 none false []) store (entry (banner (features 1 0) Msgr21) 26 (store) ∷ entry (frame none) 58 (store) ∷ []) (store)
+    ∷ in21 none21 (frameAt 58 none store ∷ []) store
+    -- and in msgr2.0, where it has an epilogue
+    ∷ in20 none20 (frameAt 75 none store ∷ []) store
     -- a drop, then a frame
-    ∷ worked ours (sent21 ++ frameBytes Msgr21 two true bytes3 ++ frameBytes Msgr21 one false bytes2) store (entry (banner (features 1 0) Msgr21) 26 (store) ∷ entry (aborted two) 78 (replicate 3 0 ++ replicate 5 0xAA) ∷ entry (frame one) 116 (bytes2 ++ (0 ∷ []) ++ replicate 5 0xAA) ∷ []) (bytes2 ++ (0 ∷ []) ++ replicate 5 0xAA)
-    -- refusal 1, with more bytes behind it
-    ∷ worked ours (set sent21 7 0x0B ++ bytes3) store (entry (refusal (row 1 0 0 0)) 8 (store) ∷ []) (store)
-    -- refusal 2
-    ∷ worked ours (set sent21 8 15) store (entry (refusal (row 2 15 0 0)) 10 (store) ∷ []) (store)
-    -- refusal 3
-    ∷ worked ours (bannerBytes 3 2) store (entry (refusal (row 3 2 1 1)) 26 (store) ∷ []) (store)
-    -- refusal 4
-    ∷ worked (features 1 1) (sent20) store (entry (refusal (row 4 1 0 1)) 26 (store) ∷ []) (store)
-    -- refusal 5
-    ∷ worked ours (sent21 ++ set (frameBytes Msgr21 one false bytes2) 28 0) store (entry (banner (features 1 0) Msgr21) 26 (store) ∷ entry (refusal (row 5 28 0 0)) 58 (store) ∷ []) (store)
-    -- refusal 6: a preamble of zeros
-    ∷ worked ours (sent21 ++ replicate 40 0) store (entry (banner (features 1 0) Msgr21) 26 (store) ∷ entry (refusal (row 6 1 0 0)) 58 (store) ∷ []) (store)
-    -- refusal 10
-    ∷ worked ours (sent21 ++ frameBytes Msgr21 one false bytes2) (0xAA ∷ []) (entry (banner (features 1 0) Msgr21) 26 (0xAA ∷ []) ∷ entry (refusal (row 10 2 0 0)) 58 (0xAA ∷ []) ∷ []) ((0xAA ∷ []))
-    -- refusal 11 at segment 1
-    ∷ worked ours (sent21 ++ set (frameBytes Msgr21 two false bytes3) 32 0) store (entry (banner (features 1 0) Msgr21) 26 (store) ∷ entry (refusal (row 11 1 0 0)) 63 (replicate 3 0 ++ replicate 5 0xAA) ∷ []) (replicate 3 0 ++ replicate 5 0xAA)
-    -- refusal 11 at the end
-    ∷ worked ours (sent21 ++ set (frameBytes Msgr21 two false bytes3) 38 0) store (entry (banner (features 1 0) Msgr21) 26 (store) ∷ entry (refusal (row 11 2 0 0)) 78 (replicate 3 0 ++ replicate 5 0xAA) ∷ []) (replicate 3 0 ++ replicate 5 0xAA)
-    -- refusal 12
-    ∷ worked ours (sent21 ++ set (frameBytes Msgr21 two false bytes3) 39 0x0F) store (entry (banner (features 1 0) Msgr21) 26 (store) ∷ entry (refusal (row 12 0x0F 0 0)) 78 (replicate 3 0 ++ replicate 5 0xAA) ∷ []) (replicate 3 0 ++ replicate 5 0xAA)
-    -- cut in the banner
-    ∷ worked ours (take 25 sent21) store ([]) (store)
-    -- cut in a preamble
-    ∷ worked ours (take 57 (sent21 ++ frameBytes Msgr21 one false bytes2)) store (entry (banner (features 1 0) Msgr21) 26 (store) ∷ []) (store)
-    -- cut in a segment
-    ∷ worked ours (take 63 (sent21 ++ frameBytes Msgr21 two false bytes3)) store (entry (banner (features 1 0) Msgr21) 26 (store) ∷ []) (take 1 bytes3 ++ replicate 7 0xAA)
-    -- cut behind a segment byte past segment 1's checksum
-    ∷ worked ours (take 64 (sent21 ++ frameBytes Msgr21 two false bytes3)) store (entry (banner (features 1 0) Msgr21) 26 (store) ∷ []) (take 2 bytes3 ++ replicate 6 0xAA)
-    -- cut in an epilogue
-    ∷ worked ours (take 77 (sent21 ++ frameBytes Msgr21 two false bytes3)) store (entry (banner (features 1 0) Msgr21) 26 (store) ∷ []) (bytes3 ++ replicate 5 0xAA)
-    -- a start refused with 16
-    ∷ worked (features 2 0) (sent21) store ([]) (store)
+    ∷ in21 (dropped21 ++ one21) (firstAt 63 two (front (0x61 ∷ [])) ∷ dropAt 78 two (front (0 ∷ 0 ∷ 0 ∷ [])) ∷ frameAt 116 one (front (0x61 ∷ 0x62 ∷ 0 ∷ [])) ∷ []) (front (0x61 ∷ 0x62 ∷ 0 ∷ []))
+    -- the same in msgr2.0
+    ∷ in20 (dropped20 ++ one20) (dropAt 78 two (front (0 ∷ 0 ∷ 0 ∷ [])) ∷ frameAt 129 one (front (0x61 ∷ 0x62 ∷ 0 ∷ [])) ∷ []) (front (0x61 ∷ 0x62 ∷ 0 ∷ []))
     ∷ []
 
--- THE CLAIM
+-- banners, and refusals 1 to 4 and 16
+unfoldable pub bannerRows : List (Row Trace)
+bannerRows =
+    -- payloads of 17 and 1,024 bytes, of which the first 16 are read
+    worked ours (set sent21 8 17 ++ (0xFF ∷ []) ++ none21) store (bannerAt 27 (features 1 0) Msgr21 store ∷ frameAt 59 none store ∷ []) store
+    ∷ worked ours (set (set sent21 8 0x00) 9 0x04 ++ replicate 1008 0xFF ++ none21) store (bannerAt 1034 (features 1 0) Msgr21 store ∷ frameAt 1066 none store ∷ []) store
+    -- 1, with more bytes behind it
+    ∷ worked ours (set sent21 7 0x0B ++ bytes3) store (refusalAt 8 1 0 store ∷ []) store
+    -- 1 and 2
+    ∷ worked ours (set (set sent21 0 0x43) 8 15) store (refusalAt 8 1 0 store ∷ []) store
+    -- 2, below and above
+    ∷ worked ours (set sent21 8 15) store (refusalAt 10 2 15 store ∷ []) store
+    ∷ worked ours (set (set sent21 8 0x01) 9 0x04) store (refusalAt 10 2 1025 store ∷ []) store
+    -- 2 and 3
+    ∷ worked ours (set (bannerBytes 1 2) 8 15) store (refusalAt 10 2 15 store ∷ []) store
+    -- 3
+    ∷ worked ours (bannerBytes 3 2) store (missingAt 26 3 2 1 1 store ∷ []) store
+    -- 3, at a longer payload's last byte
+    ∷ worked ours (set (bannerBytes 1 2) 8 17 ++ (0x00 ∷ [])) store (missingAt 27 3 2 1 1 store ∷ []) store
+    -- 3 and 4
+    ∷ worked (features 1 1) (bannerBytes 0 2) store (missingAt 26 3 2 1 1 store ∷ []) store
+    -- 4
+    ∷ worked (features 1 1) sent20 store (missingAt 26 4 1 0 1 store ∷ []) store
+    -- starts refused with 16: no entry
+    ∷ worked (features 2 0) sent21 store [] store
+    ∷ worked (features 0 1) sent21 store [] store
+    ∷ []
+
+-- refusals 5 to 10
+unfoldable pub preambleRows : List (Row Trace)
+preambleRows =
+    -- 5
+    in21 (set one21 28 0) (refusalAt 58 5 28 store ∷ []) store
+    -- 5 and 6
+    ∷ in21 (set (replicate 40 0) 31 1) (refusalAt 58 5 28 store ∷ []) store
+    -- 6: a preamble of zeros
+    ∷ in21 (replicate 40 0) (refusalAt 58 6 1 store ∷ []) store
+    -- 6 and 7
+    ∷ in21 (0x11 ∷ 0x00 ∷ 0x00 ∷ 0x00 ∷ 0x00 ∷ 0x00 ∷ 0x00 ∷ 0x00 ∷ 0x00 ∷ 0x00 ∷ 0x00 ∷ 0x00 ∷ 0x00 ∷ 0x00 ∷ 0x00 ∷ 0x00 ∷ 0x00 ∷ 0x00 ∷ 0x00 ∷ 0x00 ∷ 0x00 ∷ 0x00 ∷ 0x00 ∷ 0x00 ∷ 0x00 ∷ 0x00 ∷ 0x01 ∷ 0x00 ∷ 0x69 ∷ 0xFA ∷ 0x54 ∷ 0xB4 ∷ []) (refusalAt 58 6 1 store ∷ []) store
+    -- 7 and 8
+    ∷ in21 (0x15 ∷ 0x01 ∷ 0x00 ∷ 0x00 ∷ 0x00 ∷ 0x00 ∷ 0x00 ∷ 0x00 ∷ 0x00 ∷ 0x00 ∷ 0x00 ∷ 0x00 ∷ 0x00 ∷ 0x00 ∷ 0x00 ∷ 0x00 ∷ 0x00 ∷ 0x00 ∷ 0x00 ∷ 0x00 ∷ 0x00 ∷ 0x00 ∷ 0x00 ∷ 0x00 ∷ 0x00 ∷ 0x00 ∷ 0x01 ∷ 0x01 ∷ 0xF8 ∷ 0x2A ∷ 0x8F ∷ 0x9B ∷ []) (refusalAt 58 7 26 store ∷ []) store
+    -- 8 and 9
+    ∷ in20 (0x15 ∷ 0x04 ∷ 0x00 ∷ 0x00 ∷ 0x00 ∷ 0x40 ∷ 0x00 ∷ 0x00 ∷ 0x00 ∷ 0x00 ∷ 0x00 ∷ 0x40 ∷ 0x00 ∷ 0x00 ∷ 0x00 ∷ 0x00 ∷ 0x00 ∷ 0x40 ∷ 0x00 ∷ 0x00 ∷ 0x00 ∷ 0x00 ∷ 0x00 ∷ 0x40 ∷ 0x00 ∷ 0x00 ∷ 0x00 ∷ 0x00 ∷ 0x0C ∷ 0x35 ∷ 0xE1 ∷ 0xB4 ∷ []) (refusalAt 58 8 21 store ∷ []) store
+    -- 9 and 10, by lengths whose sum is 0 in 32 bits (bench case 12)
+    ∷ in20 (0x11 ∷ 0x04 ∷ 0x00 ∷ 0x00 ∷ 0x00 ∷ 0x40 ∷ 0x00 ∷ 0x00 ∷ 0x00 ∷ 0x00 ∷ 0x00 ∷ 0x40 ∷ 0x00 ∷ 0x00 ∷ 0x00 ∷ 0x00 ∷ 0x00 ∷ 0x40 ∷ 0x00 ∷ 0x00 ∷ 0x00 ∷ 0x00 ∷ 0x00 ∷ 0x40 ∷ 0x00 ∷ 0x00 ∷ 0x00 ∷ 0x00 ∷ 0x3E ∷ 0xF4 ∷ 0x6F ∷ 0x37 ∷ []) (refusalAt 58 9 2 store ∷ []) store
+    -- 10: one byte short
+    ∷ worked ours (sent21 ++ one21) (0xAA ∷ []) (bannerAt 26 (features 1 0) Msgr21 (0xAA ∷ []) ∷ refusalAt 58 10 2 (0xAA ∷ []) ∷ []) (0xAA ∷ [])
+    -- a store with no byte to spare
+    ∷ worked ours (sent21 ++ one21) (0xAA ∷ 0xAA ∷ []) (bannerAt 26 (features 1 0) Msgr21 (0xAA ∷ 0xAA ∷ []) ∷ frameAt 64 one bytes2 ∷ []) bytes2
+    ∷ []
+
+-- the end of a body: 12, drop, 11
+unfoldable pub endRows : List (Row Trace)
+endRows =
+    -- msgr2.1: 11 at segment 1's checksum, although the late byte is wrong too
+    in21 (set (set two21 32 0) 39 0x0F) (refusalAt 63 11 1 (front (0 ∷ 0 ∷ 0 ∷ [])) ∷ []) (front (0 ∷ 0 ∷ 0 ∷ []))
+    -- 11 at the end
+    ∷ in21 (set two21 38 0) (firstAt 63 two (front (0x61 ∷ [])) ∷ refusalAt 78 11 2 (front (0 ∷ 0 ∷ 0 ∷ [])) ∷ []) (front (0 ∷ 0 ∷ 0 ∷ []))
+    -- 11: segments 2 and 4, then 4 alone
+    ∷ in21 (set (set four21 32 0) 33 0) (refusalAt 73 11 2 (front (0 ∷ 0 ∷ [])) ∷ []) (front (0 ∷ 0 ∷ []))
+    ∷ in21 (set four21 46 0) (refusalAt 73 11 4 (front (0 ∷ 0 ∷ [])) ∷ []) (front (0 ∷ 0 ∷ []))
+    -- 12
+    ∷ in21 (set two21 39 0x0F) (firstAt 63 two (front (0x61 ∷ [])) ∷ refusalAt 78 12 0x0F (front (0 ∷ 0 ∷ 0 ∷ [])) ∷ []) (front (0 ∷ 0 ∷ 0 ∷ []))
+    -- 12 and 11, with a frame behind it
+    ∷ in21 (set (set two21 38 0) 39 0x1F ++ none21) (firstAt 63 two (front (0x61 ∷ [])) ∷ refusalAt 78 12 0x1F (front (0 ∷ 0 ∷ 0 ∷ [])) ∷ []) (front (0 ∷ 0 ∷ 0 ∷ []))
+    -- a drop and 11
+    ∷ in21 (set (set two21 38 0) 39 0xE1) (firstAt 63 two (front (0x61 ∷ [])) ∷ dropAt 78 two (front (0 ∷ 0 ∷ 0 ∷ [])) ∷ []) (front (0 ∷ 0 ∷ 0 ∷ []))
+    -- what is not looked at: the high four bits of late_status, the field of an unused segment
+    ∷ in21 (set (set two21 39 0x1E) 44 0x01) (firstAt 63 two (front (0x61 ∷ [])) ∷ frameAt 78 two (front bytes3) ∷ []) (front bytes3)
+    -- msgr2.0: 11 at the end for segment 1, where segment 2 differs too
+    ∷ in20 (set (set two20 36 0) 40 0) (refusalAt 78 11 1 (front (0 ∷ 0 ∷ 0 ∷ [])) ∷ []) (front (0 ∷ 0 ∷ 0 ∷ []))
+    -- 11 at segment 4
+    ∷ in20 (set four20 33 0) (refusalAt 77 11 4 (front (0 ∷ 0 ∷ [])) ∷ []) (front (0 ∷ 0 ∷ []))
+    -- a drop and 11
+    ∷ in20 (set (set two20 32 0) 35 0x03) (dropAt 78 two (front (0 ∷ 0 ∷ 0 ∷ [])) ∷ []) (front (0 ∷ 0 ∷ 0 ∷ []))
+    -- what is not looked at: late_flags but for bit 0, the field of an unused segment
+    ∷ in20 (set (set two20 35 0xFE) 48 0x01) (frameAt 78 two (front bytes3) ∷ []) (front bytes3)
+    ∷ []
+
+-- streams that end before a judgement
+unfoldable pub cutRows : List (Row Trace)
+cutRows =
+    -- one byte before 1, 2 and 3
+    worked ours (take 7 (set sent21 0 0)) store [] store
+    ∷ worked ours (take 9 (set sent21 8 15)) store [] store
+    ∷ worked ours (take 25 (bannerBytes 1 2)) store [] store
+    -- in the banner
+    ∷ worked ours (take 25 sent21) store [] store
+    -- one byte before 5
+    ∷ in21 (replicate 31 0xFF) [] store
+    -- one byte before 11 at segment 1
+    ∷ in21 (take 36 (set two21 32 0)) [] (front (0 ∷ []))
+    -- one byte before segment 1 is reported
+    ∷ in21 (take 36 two21) [] (front (take 1 bytes3))
+    -- before and behind the first byte of segment 2
+    ∷ in21 (take 37 two21) (firstAt 63 two (front (0x61 ∷ [])) ∷ []) (front (take 1 bytes3))
+    ∷ in21 (take 38 two21) (firstAt 63 two (front (0x61 ∷ [])) ∷ []) (front (take 2 bytes3))
+    -- in an epilogue
+    ∷ in21 (take 51 two21) (firstAt 63 two (front (0x61 ∷ [])) ∷ []) (front bytes3)
+    ∷ in20 (take 51 two20) [] (front bytes3)
+    ∷ []
+
+-- THE CLAIM: the definition gives the entries of each row
 unfoldable pub Worked : Type 0
-Worked = Each examples
+Worked = Holds frameRows × Holds bannerRows × Holds preambleRows × Holds endRows × Holds cutRows

@@ -1,8 +1,6 @@
 use Rattle.receiver.proofs.Chain.{demand3}
 use Rattle.receiver.proofs.every_cutting.Statement.{statement}
 use Rattle.receiver.proofs.every_cutting.Tie as tie
-use Rattle.receiver.proofs.every_cutting.Reads as reads
-use Rattle.receiver.proofs.every_cutting.Lts as lts
 
 returns : tie.Need-returns
 returns c = demand3

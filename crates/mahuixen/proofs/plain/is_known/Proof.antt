@@ -1,4 +1,4 @@
-use Rattle.mahuixen.specs.Plain as plain
+use Rattle.mahuixen.specs.Plain.{known}
 use borrow.Author.Needs.{needs}
 use Rattle.mahuixen.proofs.plain.is_known.Statement.{statement}
 use Rattle.mahuixen.proofs.plain.is_known.Tie as tie
@@ -6,9 +6,12 @@ use Rattle.mahuixen.proofs.plain.is_known.Tie as tie
 both-requires : tie.Need-both-requires
 both-requires c κs = search needs
 
+both-requires-2 : tie.Need-both-requires-2
+both-requires-2 c κs = search needs
+
 returns : tie.Need-returns
-unfolding plain.known
-returns c = search needs
+unfolding known
+returns c = cc
 
 pub is-known-spec : {M : Type 1} → statement M
-is-known-spec = tie.close (tie.spec both-requires returns)
+is-known-spec = tie.close (tie.spec both-requires both-requires-2 returns)

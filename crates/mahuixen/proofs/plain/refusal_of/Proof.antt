@@ -1,10 +1,6 @@
 use borrow.Author.Needs.{needs}
 use Rattle.mahuixen.proofs.plain.refusal_of.Statement.{statement}
 use Rattle.mahuixen.proofs.plain.refusal_of.Tie as tie
-use Rattle.mahuixen.proofs.plain.refusal_of.Reads as reads
-use Rattle.mahuixen.proofs.plain.refusal_of.Lts as lts
-use Rattle.mahuixen.proofs.plain.no_refusal.Reads as no-refusal-reads
-use Rattle.refusal.proofs.in_numbers.Reads as in-numbers-reads
 
 enum-told : tie.Need-enum-told
 enum-told c = search needs

@@ -1,4 +1,4 @@
-use borrow.Author.Tests.{eq-eqb, ne-eqb, not-true, not-false}
+use borrow.Author.Tests.{eq-eqb, ne-eqb}
 use Rattle.mahuixen.proofs.plain.revision_of.Statement.{statement}
 use Rattle.mahuixen.proofs.plain.revision_of.Tie as tie
 

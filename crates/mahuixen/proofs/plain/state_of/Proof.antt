@@ -9,7 +9,7 @@ revision-of-requires : tie.Need-revision-of-requires
 revision-of-requires c κs = search needs
 
 returns : tie.Need-returns
-returns c = rw (c .before .stage-of .ensures, c .revision-of .ensures)
+returns c = rw (c .before .before .stage-of .ensures, c .before .revision-of .ensures)
 
 pub state-of-spec : {M : Type 1} → statement M
 state-of-spec = tie.close (tie.spec stage-of-requires revision-of-requires returns)

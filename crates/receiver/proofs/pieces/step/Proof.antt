@@ -1,27 +1,20 @@
-use mathlib.Core.Path.{_≡_, _∙_, refl, sym, ap, ap₂}
-use mathlib.Core.Bool.{Bool, true, false}
-use mathlib.Core.List.{List}
-use Prim.Native.Nat.{ℕ, _+_, _-_, _≤_, _<_, min}
-use native.Mathlib.Omega.{arith}
-use lib.Dec.{ltb}
-use lib.ListN.{length, take}
-use lib.Seq.{length-take-le}
-use borrow.Author.Tests.{lt-ltb, le-ltb}
-use denote.Ref.{now}
+use Rattle.receiver.proofs.Bounds.{block-room, store-room}
+use Rattle.receiver.specs.declared.Place.{Place}
 use Rattle.receiver.specs.declared.State.{State}
+use denote.Ref.{now}
+use borrow.Author.Tests.{lt-ltb, le-ltb}
+use lib.Seq.{length-take-le}
+use lib.ListN.{length, take}
+use lib.Dec.{ltb}
+use native.Mathlib.Omega.{arith}
+use Prim.Native.Nat.{ℕ, _+_, _-_, min}
+use mathlib.Core.List.{List}
+use mathlib.Core.Bool.{true, false}
 use Rattle.receiver.specs.Step as step
-use Rattle.receiver.proofs.Live.{needed-absorbed, length-stored}
-use Rattle.receiver.proofs.Runs.{size-absorbed}
+use mathlib.Core.Path.{_≡_, _∙_, sym, ap, ap₂}
 use borrow.Author.Needs.{needs}
 use Rattle.receiver.proofs.pieces.step.Statement.{statement}
 use Rattle.receiver.proofs.pieces.step.Tie as tie
-use Rattle.receiver.proofs.pieces.step.Reads as reads
-use Rattle.receiver.proofs.pieces.step.Lts as lts
-use Rattle.buffer.proofs.part.Reads as part-reads
-use Rattle.receiver.proofs.pieces.absorb.Reads as absorb-reads
-use Rattle.receiver.proofs.pieces.keep.Reads as keep-reads
-use Rattle.receiver.proofs.states.size_of.Reads as size-of-reads
-use Rattle.receiver.proofs.turns.end_stage.Reads as end-stage-reads
 
 -- the bytes of the piece that the stage takes
 abbrev taking : State → List ℕ → List ℕ
@@ -42,66 +35,74 @@ less-requires c κs = search needs
 part-requires : tie.Need-part-requires
 part-requires c κs = search needs
 
+place-of-requires : tie.Need-place-of-requires
+place-of-requires c κs = search needs
+
+fill-block-requires : tie.Need-fill-block-requires
+fill-block-requires c κs =
+    let g = c .before .before .before .before .before .before .before .before .before .args in
+    let st = g .st in
+    let s = g .store .now in
+    let p = g .piece .now in
+    let m : c .before .before .less .result ≡ step.fitting st p = c .before .before .less .ensures ∙ ap (λ (x : ℕ). min (x - st .position .got) (length p)) (c .before .before .before .size-of .ensures) in
+    let b : now (c .before .part .result) ≡ taking st p = c .before .part .ensures ∙ ap (λ (n : ℕ). take n p) m in
+    let l = taking-length st p in
+    λ e. omega (arith, m, ap length b, l, block-room (st .position .stage) (st .known) (sym (c .place-of .ensures) ∙ e))
+
+fill-store-requires : tie.Need-fill-store-requires
+fill-store-requires c κs =
+    let g = c .before .before .before .before .before .before .before .before .before .before .before .args in
+    let st = g .st in
+    let s = g .store .now in
+    let p = g .piece .now in
+    let m : c .before .before .before .before .less .result ≡ step.fitting st p = c .before .before .before .before .less .ensures ∙ ap (λ (x : ℕ). min (x - st .position .got) (length p)) (c .before .before .before .before .before .size-of .ensures) in
+    let b : now (c .before .before .before .part .result) ≡ taking st p = c .before .before .before .part .ensures ∙ ap (λ (n : ℕ). take n p) m in
+    let l = taking-length st p in
+    λ e. omega (arith, m, ap length b, l, c .before .before .before .before .before .before .before .before .before .before .before .pre, store-room (st .position .stage) (st .known) (sym (c .before .before .place-of .ensures) ∙ e))
+
 add-to : tie.Need-add-to
 add-to c = search needs
-
-absorb-requires : tie.Need-absorb-requires
-absorb-requires c κs =
-    let g = c .before .before .before .before .before .args in
-    let m : c .before .less .result ≡ step.fitting (g .st) (g .piece .now) = c .before .less .ensures ∙ ap (λ (x : ℕ). min (x - g .st .got) (length (g .piece .now))) (c .before .before .size-of .ensures) in
-    let b : now (c .part .result) ≡ taking (g .st) (g .piece .now) = c .part .ensures ∙ ap (λ (n : ℕ). take n (g .piece .now)) m in
-    let l = ap length b ∙ taking-length (g .st) (g .piece .now) in
-    (omega (arith, m, l), omega (arith, m, c .before .before .before .before .before .pre))
-
-keep-requires : tie.Need-keep-requires
-keep-requires c κs =
-    let g = c .before .before .before .before .before .before .before .args in
-    let m : c .before .before .before .less .result ≡ step.fitting (g .st) (g .piece .now) = c .before .before .before .less .ensures ∙ ap (λ (x : ℕ). min (x - g .st .got) (length (g .piece .now))) (c .before .before .before .before .size-of .ensures) in
-    let b : now (c .before .before .part .result) ≡ taking (g .st) (g .piece .now) = c .before .before .part .ensures ∙ ap (λ (n : ℕ). take n (g .piece .now)) m in
-    let l = ap length b ∙ taking-length (g .st) (g .piece .now) in
-    (omega (arith, m, l, c .before .before .before .before .before .before .before .pre), c .before .before .before .before .before .before .before .pre .1)
 
 same-length : tie.Need-same-length
 same-length c = search needs
 
 returns : tie.Need-returns
 returns c =
-    let g = c .before .before .before .before .before .before .before .before .before .before .before .args in
+    let g = c .before .before .before .before .before .before .before .before .before .before .before .before .before .before .before .args in
+    let st = g .st in
     let s = g .store .now in
     let p = g .piece .now in
-    let m : c .before .before .before .before .before .before .before .less .result ≡ step.fitting (g .st) p = c .before .before .before .before .before .before .before .less .ensures ∙ ap (λ (x : ℕ). min (x - g .st .got) (length p)) (c .before .before .before .before .before .before .before .before .size-of .ensures) in
-    let b : now (c .before .before .before .before .before .before .part .result) ≡ taking (g .st) p = c .before .before .before .before .before .before .part .ensures ∙ ap (λ (n : ℕ). take n p) m in
-    let l = taking-length (g .st) p in
-    let t : ltb (g .st .got + length (taking (g .st) p)) (step.sizeOf (g .st .stage) (g .st)) ≡ true = lt-ltb (g .st .got + length (taking (g .st) p)) (step.sizeOf (g .st .stage) (g .st)) (omega (arith, m, l, c .before .before .before .before .before .before .before .before .size-of .ensures, c .if1 .taken)) in
-    let eh = c .before .before .before .before .before .absorb .ensures ∙ ap (step.absorbed (g .st)) b in
-    let ek = c .before .before .before .keep .ensures ∙ ap (step.stored (g .st) s) b in
-    record { taken = m; step = rw t (ap₂ (λ (x : State) (y : List ℕ). step.silent x y) eh ek) }
+    let m : c .before .before .before .before .before .before .before .before .less .result ≡ step.fitting st p = c .before .before .before .before .before .before .before .before .less .ensures ∙ ap (λ (x : ℕ). min (x - st .position .got) (length p)) (c .before .before .before .before .before .before .before .before .before .size-of .ensures) in
+    let b : now (c .before .before .before .before .before .before .before .part .result) ≡ taking st p = c .before .before .before .before .before .before .before .part .ensures ∙ ap (λ (n : ℕ). take n p) m in
+    let l = taking-length st p in
+    let t : ltb (st .position .got + length (taking st p)) (step.size st) ≡ true = lt-ltb (st .position .got + length (taking st p)) (step.size st) (omega (arith, m, l, c .before .before .before .before .before .before .before .before .before .size-of .ensures, c .if1 .taken)) in
+    let eb = c .before .before .before .before .before .fill-block .ensures ∙ ap₂ (λ (q : Place) (xs : List ℕ). step.blockWith q (st .position .got) (st .position .block) xs) (c .before .before .before .before .before .before .place-of .ensures) b in
+    let es = c .before .before .before .fill-store .ensures ∙ ap₂ (λ (q : Place) (xs : List ℕ). step.storeWith q (st .position .got) s xs) (c .before .before .before .before .before .before .place-of .ensures) b in
+    let n : st .position .got + c .before .before .before .before .before .before .before .before .less .result ≡ st .position .got + length (taking st p) = ap (λ (k : ℕ). st .position .got + k) (m ∙ sym l) in
+    record { taken = m; step = rw t (rw (eb, es, n)) }
+
+slice-aggregate-end-stage : tie.Need-slice-aggregate-end-stage
+slice-aggregate-end-stage c = search needs
 
 end-stage-requires : tie.Need-end-stage-requires
-end-stage-requires c κs =
-    let g = c .before .before .before .before .before .before .before .before .before .before .before .before .args in
-    let s = g .store .now in
-    let xs = now (c .before .before .before .before .before .before .before .part .result) in
-    let h = c .before .before .before .before .before .before .absorb .ensures in
-    let n = ap (λ (x : State). step.needed (x .stage) x) h ∙ needed-absorbed (g .st) xs in
-    let l = ap length (c .before .before .before .before .keep .ensures) ∙ length-stored (g .st) s xs in
-    omega (arith, n, l, c .before .before .before .before .before .before .before .before .before .before .before .before .pre .1)
+end-stage-requires c κs = search needs
 
 same-length-2 : tie.Need-same-length-2
 same-length-2 c = search needs
 
 returns-2 : tie.Need-returns-2
 returns-2 c =
-    let g = c .before .before .before .before .before .before .before .before .before .before .before .before .before .before .before .before .args in
+    let g = c .before .before .before .before .before .before .before .before .before .before .before .before .before .before .before .before .before .before .before .before .before .args in
+    let st = g .st in
     let s = g .store .now in
     let p = g .piece .now in
-    let m : c .before .before .before .before .before .before .before .before .before .before .before .before .less .result ≡ step.fitting (g .st) p = c .before .before .before .before .before .before .before .before .before .before .before .before .less .ensures ∙ ap (λ (x : ℕ). min (x - g .st .got) (length p)) (c .before .before .before .before .before .before .before .before .before .before .before .before .before .size-of .ensures) in
-    let b : now (c .before .before .before .before .before .before .before .before .before .before .before .part .result) ≡ taking (g .st) p = c .before .before .before .before .before .before .before .before .before .before .before .part .ensures ∙ ap (λ (n : ℕ). take n p) m in
-    let l = taking-length (g .st) p in
-    let t : ltb (g .st .got + length (taking (g .st) p)) (step.sizeOf (g .st .stage) (g .st)) ≡ false = le-ltb (g .st .got + length (taking (g .st) p)) (step.sizeOf (g .st .stage) (g .st)) (omega (arith, m, l, c .before .before .before .before .before .before .before .before .before .before .before .before .before .size-of .ensures, c .before .before .before .before .before .if1 .left)) in
-    let eh = c .before .before .before .before .before .before .before .before .before .before .absorb .ensures ∙ ap (step.absorbed (g .st)) b in
-    let ek = c .before .before .before .before .before .before .before .before .keep .ensures ∙ ap (step.stored (g .st) s) b in
-    record { taken = m; step = rw t (c .before .before .before .end-stage .ensures ∙ ap₂ (λ (x : State) (y : List ℕ). step.finish (x .stage) x y) eh ek) }
+    let m : c .before .before .before .before .before .before .before .before .before .before .before .before .before .before .less .result ≡ step.fitting st p = c .before .before .before .before .before .before .before .before .before .before .before .before .before .before .less .ensures ∙ ap (λ (x : ℕ). min (x - st .position .got) (length p)) (c .before .before .before .before .before .before .before .before .before .before .before .before .before .before .before .size-of .ensures) in
+    let b : now (c .before .before .before .before .before .before .before .before .before .before .before .before .before .part .result) ≡ taking st p = c .before .before .before .before .before .before .before .before .before .before .before .before .before .part .ensures ∙ ap (λ (n : ℕ). take n p) m in
+    let l = taking-length st p in
+    let t : ltb (st .position .got + length (taking st p)) (step.size st) ≡ false = le-ltb (st .position .got + length (taking st p)) (step.size st) (omega (arith, m, l, c .before .before .before .before .before .before .before .before .before .before .before .before .before .before .before .size-of .ensures, c .before .before .before .before .before .before .if1 .left)) in
+    let eb = c .before .before .before .before .before .before .before .before .before .before .before .fill-block .ensures ∙ ap₂ (λ (q : Place) (xs : List ℕ). step.blockWith q (st .position .got) (st .position .block) xs) (c .before .before .before .before .before .before .before .before .before .before .before .before .place-of .ensures) b in
+    let es = c .before .before .before .before .before .before .before .before .before .fill-store .ensures ∙ ap₂ (λ (q : Place) (xs : List ℕ). step.storeWith q (st .position .got) s xs) (c .before .before .before .before .before .before .before .before .before .before .before .before .place-of .ensures) b in
+    record { taken = m; step = rw t (c .before .before .before .end-stage .ensures ∙ ap₂ (λ (x y : List ℕ). step.finish (st .position .stage) x (st .known) y) eb es) }
 
 pub step-spec : {M : Type 1} → statement M
 step-spec =
@@ -111,11 +112,13 @@ step-spec =
     sub-less
     less-requires
     part-requires
+    place-of-requires
+    fill-block-requires
+    fill-store-requires
     add-to
-    absorb-requires
-    keep-requires
     same-length
     returns
+    slice-aggregate-end-stage
     end-stage-requires
     same-length-2
     returns-2)

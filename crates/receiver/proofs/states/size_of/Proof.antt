@@ -1,11 +1,6 @@
 use borrow.Author.Needs.{needs}
 use Rattle.receiver.proofs.states.size_of.Statement.{statement}
 use Rattle.receiver.proofs.states.size_of.Tie as tie
-use Rattle.receiver.proofs.states.size_of.Reads as reads
-use Rattle.receiver.proofs.states.size_of.Lts as lts
-use Rattle.preamble.proofs.total_of.Reads as total-of-reads
-use Rattle.receiver.proofs.states.epilogue_length.Reads as epilogue-length-reads
-use Rattle.receiver.proofs.states.past_features.Reads as past-features-reads
 
 enum-told : tie.Need-enum-told
 enum-told c = search needs
@@ -74,7 +69,7 @@ returns-8 : tie.Need-returns-8
 returns-8 c = simp (c .total-of .ensures, c .before .enum-told8 .given .1)
 
 returns-9 : tie.Need-returns-9
-returns-9 c = simp (c .epilogue-length .ensures, c .before .enum-told9 .given .1)
+returns-9 c = simp (c .epilogue-length .ensures .0, c .before .enum-told9 .given .1)
 
 returns-10 : tie.Need-returns-10
 returns-10 c = simp (c .enum-told10 .given .1)

@@ -1,0 +1,29 @@
+use mathlib.Core.Path.{_∙_, ap}
+use Rattle.refusal.specs.declared.Numbers.{Numbers}
+use Rattle.receiver.specs.Step as step
+use borrow.Author.Needs.{needs}
+use Rattle.receiver.proofs.transitions.unless_refused.Statement.{statement}
+use Rattle.receiver.proofs.transitions.unless_refused.Tie as tie
+
+enum-told : tie.Need-enum-told
+enum-told c = search needs
+
+enum-known-verdict : tie.Need-enum-known-verdict
+enum-known-verdict c = search needs
+
+in-numbers-requires : tie.Need-in-numbers-requires
+in-numbers-requires c κs = search needs
+
+refuse-requires : tie.Need-refuse-requires
+refuse-requires c κs = search needs
+
+returns : tie.Need-returns
+returns c = λ s. rw (c .enum-told .given .1)
+
+returns-2 : tie.Need-returns-2
+returns-2 c = λ s. rw (c .before .before .before .verdict .given .1) (c .refuse .ensures s ∙ ap (λ (n : Numbers). step.refuse (c .before .before .before .before .before .args .v) n s) (c .before .in-numbers .ensures))
+
+pub unless-refused-spec : {M : Type 1} → statement M
+unless-refused-spec =
+    tie.close
+    (tie.spec enum-told enum-known-verdict in-numbers-requires refuse-requires returns returns-2)
