@@ -1,25 +1,23 @@
 -- A whole stream: its banner, met by our features, and the frames behind it.
-use Prim.Native.Nat.{ℕ, zero, suc, _+_, _-_, _≤_, _<_}
-use mathlib.Core.List.{List, [], _∷_, _++_}
-use mathlib.Core.Path.{_≡_, refl, sym, ap, ap₂, _∙_}
-use mathlib.Core.Bool.{Bool, true, false, cond}
+use Prim.Native.Nat.{ℕ, _+_, _-_, _≤_}
+use mathlib.Core.List.{List, _++_}
+use mathlib.Core.Path.{_≡_, refl, ap, _∙_}
+use mathlib.Core.Bool.{Bool, true, false}
 use native.Mathlib.Omega.{arith}
-use native.Mathlib.Nat.{le-refl}
 use lib.ListN.{length, take, drop, length-append, length-drop}
 use lib.Seq.{take-append-le, drop-append-le}
 use lib.Dec.{ltb}
-use borrow.Author.Tests.{le-ltb, ltb-true, ltb-false}
-use Rattle.buffer.specs.Le.{numberAt}
-use Rattle.refusal.specs.declared.Numbers.{Numbers}
+use borrow.Author.Tests.{le-ltb, ltb-false}
 use Rattle.refusal.specs.Refusals.{Judged, fine, refused}
 use Rattle.banner.specs.declared.Features.{Features}
 use Rattle.banner.specs.declared.Revision.{Revision}
 use Rattle.banner.specs.Banner.{judgeOwn, judgeMagic, judgeLength, judgeFeatures, revisionOf, featuresOf}
-use Rattle.stream.specs.Stream.{banner, Entry, Told, ended, after, frames, payloadOf, peerOf, streamTold, entriesOf}
+use Rattle.stream.specs.declared.Event.the-variants.{Banner}
+use Rattle.stream.specs.Stream.{Trace, after, frames, payloadOf, peerOf, streamTrace, traceOf}
 use Rattle.receiver.proofs.Streams.{long-enough}
-use Rattle.ends.specs.Handed.{FramesUpTo, UpTo}
-use Rattle.ends.proofs.Own.{number-append}
-use Rattle.ends.proofs.Goes.{joined, Goes, frames-go}
+use Rattle.ends.specs.Handed.{UpTo}
+use Rattle.ends.proofs.Locality.{number-append}
+use Rattle.ends.proofs.Concatenation.{joined, frames-go}
 
 -- the banner at the front of a stream is there and fits our features
 pub record Met (own : Features) (F : List ℕ) : Type 0 where
@@ -34,10 +32,10 @@ pub record Met (own : Features) (F : List ℕ) : Type 0 where
 abbrev pub spoken : Features → List ℕ → Revision
 spoken own F = revisionOf (own .supported) (peerOf F .supported)
 
-pub met-told : (own : Features) (F s : List ℕ) → Met own F
-    → entriesOf own F s ≡ after (banner (peerOf F) (spoken own F)) (10 + payloadOf F) s (frames (length F) (spoken own F) (10 + payloadOf F) (drop (10 + payloadOf F) F) s)
-unfolding entriesOf streamTold
-met-told own F s m =
+pub met-trace : (own : Features) (F s : List ℕ) → Met own F
+    → traceOf own F s ≡ after (Banner (peerOf F) (spoken own F)) (10 + payloadOf F) s (frames (length F) (spoken own F) (10 + payloadOf F) (drop (10 + payloadOf F) F) s)
+unfolding traceOf streamTrace
+met-trace own F s m =
     rw (m .ours, le-ltb (length F) 8 (m .eight), m .magic, le-ltb (length F) 10 (m .ten), m .payload, le-ltb (length F) (10 + payloadOf F) (m .all), m .features)
 
 -- the same with more bytes behind it
@@ -64,7 +62,7 @@ module _ (own : Features) (F X : List ℕ) (m : Met own F) where
       }
 
 -- a list that goes up to the end of a frame begins with such a banner
-module _ (own : Features) (F s : List ℕ) (r : Revision) (n : ℕ) (up : UpTo r n (entriesOf own F s .entries)) where
+module _ (own : Features) (F s : List ℕ) (r : Revision) (n : ℕ) (up : UpTo r n (traceOf own F s .entries)) where
   abbrev L : ℕ
   L = payloadOf F
 
@@ -73,38 +71,38 @@ module _ (own : Features) (F s : List ℕ) (r : Revision) (n : ℕ) (up : UpTo r
 
   by-features : judgeOwn (own .supported) (own .required) ≡ fine → 8 ≤ length F → judgeMagic (take 8 F) ≡ fine → 10 ≤ length F → judgeLength L ≡ fine → 10 + L ≤ length F
       → (j : Judged) → judgeFeatures (own .supported) (own .required) (p .supported) (p .required) ≡ j → Met own F
-  unfolding entriesOf streamTold
+  unfolding traceOf streamTrace
   by-features o e m t y a fine q = record { ours = o; eight = e; magic = m; ten = t; payload = y; all = a; features = q }
   by-features o e m t y a (refused x) q = absurd (rw (o, le-ltb (length F) 8 e, m, le-ltb (length F) 10 t, y, le-ltb (length F) (10 + L) a, q) at up)
 
   by-all : judgeOwn (own .supported) (own .required) ≡ fine → 8 ≤ length F → judgeMagic (take 8 F) ≡ fine → 10 ≤ length F → judgeLength L ≡ fine
       → (c : Bool) → ltb (length F) (10 + L) ≡ c → Met own F
-  unfolding entriesOf streamTold
+  unfolding traceOf streamTrace
   by-all o e m t y true q = absurd (rw (o, le-ltb (length F) 8 e, m, le-ltb (length F) 10 t, y, q) at up)
   by-all o e m t y false q = by-features o e m t y (ltb-false (length F) (10 + L) q) _ refl
 
   by-payload : judgeOwn (own .supported) (own .required) ≡ fine → 8 ≤ length F → judgeMagic (take 8 F) ≡ fine → 10 ≤ length F → (j : Judged) → judgeLength L ≡ j → Met own F
-  unfolding entriesOf streamTold
+  unfolding traceOf streamTrace
   by-payload o e m t fine q = by-all o e m t q _ refl
   by-payload o e m t (refused x) q = absurd (rw (o, le-ltb (length F) 8 e, m, le-ltb (length F) 10 t, q) at up)
 
   by-ten : judgeOwn (own .supported) (own .required) ≡ fine → 8 ≤ length F → judgeMagic (take 8 F) ≡ fine → (c : Bool) → ltb (length F) 10 ≡ c → Met own F
-  unfolding entriesOf streamTold
+  unfolding traceOf streamTrace
   by-ten o e m true q = absurd (rw (o, le-ltb (length F) 8 e, m, q) at up)
   by-ten o e m false q = by-payload o e m (ltb-false (length F) 10 q) _ refl
 
   by-magic : judgeOwn (own .supported) (own .required) ≡ fine → 8 ≤ length F → (j : Judged) → judgeMagic (take 8 F) ≡ j → Met own F
-  unfolding entriesOf streamTold
+  unfolding traceOf streamTrace
   by-magic o e fine q = by-ten o e q _ refl
   by-magic o e (refused x) q = absurd (rw (o, le-ltb (length F) 8 e, q) at up)
 
   by-eight : judgeOwn (own .supported) (own .required) ≡ fine → (c : Bool) → ltb (length F) 8 ≡ c → Met own F
-  unfolding entriesOf streamTold
+  unfolding traceOf streamTrace
   by-eight o true q = absurd (rw (o, q) at up)
   by-eight o false q = by-magic o (ltb-false (length F) 8 q) _ refl
 
   by-own : (j : Judged) → judgeOwn (own .supported) (own .required) ≡ j → Met own F
-  unfolding entriesOf streamTold
+  unfolding traceOf streamTrace
   by-own fine q = by-eight q _ refl
   by-own (refused x) q = absurd (rw q at up)
 
@@ -114,15 +112,15 @@ module _ (own : Features) (F s : List ℕ) (r : Revision) (n : ℕ) (up : UpTo r
 -- X behind a front F that ends where a frame does
 pub record Follows (own : Features) (F X s : List ℕ) (r : Revision) : Type 0 where
   pub ours : judgeOwn (own .supported) (own .required) ≡ fine
-  pub follows : (k : ℕ) → length X ≤ k → entriesOf own (F ++ X) s ≡ joined (entriesOf own F s) (frames k r (length F) X (entriesOf own F s .store))
-  pub same : length (entriesOf own F s .store) ≡ length s
+  pub follows : (k : ℕ) → length X ≤ k → traceOf own (F ++ X) s ≡ joined (traceOf own F s) (frames k r (length F) X (traceOf own F s .store))
+  pub same : length (traceOf own F s .store) ≡ length s
 
-pub follows-on : (own : Features) (F X s : List ℕ) (r : Revision) → UpTo r (length F) (entriesOf own F s .entries) → Follows own F X s r
+pub follows-on : (own : Features) (F X s : List ℕ) (r : Revision) → UpTo r (length F) (traceOf own F s .entries) → Follows own F X s r
 follows-on own F X s r up =
     let m = up-met own F s r (length F) up in
     let n : ℕ = 10 + payloadOf F in
-    let e = met-told own F s m in
-    let e′ = met-told own (F ++ X) s (met-more own F X m) in
+    let e = met-trace own F s m in
+    let e′ = met-trace own (F ++ X) s (met-more own F X m) in
     let u = rw e at up in
     let d : length (drop n F) ≡ length F - n = length-drop n F in
     let l : n + length (drop n F) ≡ length F = (let a = m .all in omega arith) in
@@ -134,7 +132,7 @@ follows-on own F X s r up =
       ours = m .ours;
       follows = λ k hk.
           rw (more-payload own F X m, v, more-peer own F X m, drop-append-le n F X (m .all)) at e′
-          ∙ ap (after (banner (peerOf F) (spoken own F)) n s) (g .goes (length (F ++ X)) k (omega arith) hk)
+          ∙ ap (after (Banner (peerOf F) (spoken own F)) n s) (g .goes (length (F ++ X)) k (omega arith) hk)
           ∙ rw (e, l, u .0);
-      same = ap (λ (t : Told). length (t .store)) e ∙ g .same;
+      same = ap (λ (t : Trace). length (t .store)) e ∙ g .same;
     }

@@ -1,27 +1,24 @@
 -- What an accepted build leaves: its bytes behind the queued ones; and builds one behind the other.
-use Prim.Native.Nat.{ℕ, zero, suc, _+_, _-_, _≤_, _<_}
-use mathlib.Core.List.{List, [], _∷_, _++_, append-nil, append-assoc}
+use Prim.Native.Nat.{ℕ, _+_, _-_, _≤_}
+use mathlib.Core.List.{List, [], _∷_, _++_, append-nil}
 use mathlib.Core.Path.{_≡_, refl, sym, ap, ap₂, _∙_}
 use mathlib.Core.Bool.{Bool, true, false, true≢false}
 use native.Mathlib.Omega.{arith}
-use native.Mathlib.Nat.{add-zero, add-assoc}
-use lib.ListN.{length, take, drop, length-append, length-take, take-append-drop}
+use native.Mathlib.Nat.{add-zero}
+use lib.ListN.{length, take, drop, length-append, take-append-drop}
 use lib.Seq.{take-at, drop-at, drop-append-le, length-take-le}
-use lib.Dec.{leb, eqb}
-use borrow.Author.Tests.{leb-true, eqb-true}
 use Rattle.buffer.specs.Splice.{splice, length-splice, splice-next}
-use Rattle.refusal.specs.Refusals.{Judged, fine, refused, past, passed}
+use Rattle.refusal.specs.Refusals.{Judged, fine, refused}
+use Rattle.refusal.proofs.Judgements.{all-fine}
 use Rattle.banner.specs.declared.Revision.{Revision}
 use Rattle.banner.specs.Banner.{bannerBytes, judgeOwn}
-use Rattle.preamble.specs.declared.Header.{Header}
-use Rattle.preamble.specs.Layout.{total}
-use Rattle.preamble.specs.Judge.{judgeHeader}
 use Rattle.body.specs.Body.{frameBytes, wireLength}
-use Rattle.body.specs.Laws.{length-frame}
-use Rattle.builder.specs.Build.{judgeSource, judgeAbort, judgeRoom, judgeFrame, judgeBanner, bannerLength, Answer, wrote, turnedAway, Done, done, outcome, frameDone, bannerDone}
-use Rattle.ends.specs.Trip.{Build, Accepts, bytesOf}
+use Rattle.body.proofs.Laws.{length-frame}
+use Rattle.builder.specs.declared.Built.the-variants as built
+use Rattle.builder.specs.Build.{judgeRoom, judgeFrame, judgeBanner, bannerLength, Answer, wrote, turnedAway, Done, done, outcome, frameDone, bannerDone, BuiltBanner}
+use Rattle.builder.proofs.Accepted.{Accepted, accepted, banner-fits}
+use Rattle.ends.specs.Trip.{Build, Accepts}
 use Rattle.ends.specs.Ends.{Queued, bufferBy, queuedBy}
-use Rattle.ends.proofs.Back.{Accepted}
 
 -- ---- an outcome with bytes written was not refused
 
@@ -46,34 +43,26 @@ was-written fine n buf queued xs w after e =
     record { judged = refl; count = ap (λ (d : Done). countIn (d .answer)) e; buffer = ap (λ (d : Done). d .buffer) e }
 was-written (refused r) n buf queued xs w after e = absurd (true≢false (ap (λ (d : Done). isWrote (d .answer)) e))
 
-room : (n space queued : ℕ) → judgeRoom n space queued ≡ fine → queued + n ≤ space
-room n space queued e = leb-true (queued + n) space (passed (leb (queued + n) space) 14 n e)
-
 -- a frame's build
-pub record Laid (r : Revision) (buf : List ℕ) (queued : ℕ) (b : Build) : Type 0 where
-  pub accepted : Accepted r (b .header) (b .abort) (b .source)
+pub record Appended (r : Revision) (buf : List ℕ) (queued : ℕ) (b : Build) : Type 0 where
+  pub request : Accepted r (b .header) (b .abort) (length (b .source)) (length buf) queued
   pub length-bytes : length (frameBytes r (b .header) (b .abort) (b .source)) ≡ b .written
   pub wire : b .written ≡ wireLength r (b .header)
   pub buffer : b .buffer ≡ splice buf queued (frameBytes r (b .header) (b .abort) (b .source))
   pub room : queued + b .written ≤ length buf
 
-pub laid : (r : Revision) (buf : List ℕ) (queued : ℕ) (b : Build) → Accepts r buf queued b → Laid r buf queued b
-unfolding frameDone judgeFrame
-laid r buf queued b p =
+pub appended : (r : Revision) (buf : List ℕ) (queued : ℕ) (b : Build) → Accepts r buf queued b → Appended r buf queued b
+unfolding frameDone
+appended r buf queued b p =
     let h = b .header in
-    let w = was-written (judgeFrame r h (b .abort) (length (b .source)) (length buf) queued) (wireLength r h) buf queued (frameBytes r h (b .abort) (b .source)) (b .written) (b .buffer) (p .promise) in
-    let p6 = past (judgeHeader h) _ (w .judged) in
-    let p13 = past (judgeSource (length (b .source)) (total h)) _ (p6 .1) in
-    let p15 = past (judgeAbort r (h .count) (b .abort)) _ (p13 .1) in
-    let p14 = past (judgeRoom (wireLength r h) (length buf) queued) fine (p15 .1) in
-    let n : length (b .source) ≡ total h = eqb-true (length (b .source)) (total h) (passed (eqb (length (b .source)) (total h)) 13 0 (p13 .0)) in
-    let k = room (wireLength r h) (length buf) queued (p14 .0) in
+    let w = was-written (judgeFrame r h (b .abort) (length (b .source)) (length buf) queued) (wireLength r h) buf queued (frameBytes r h (b .abort) (b .source)) (b .written) (b .buffer) (p .promised .promise) in
+    let a = accepted r h (b .abort) (length (b .source)) (length buf) queued (w .judged) in
     record {
-      accepted = record { header = p6 .0; length-source = n; abort-fine = p15 .0 };
-      length-bytes = length-frame r h (b .abort) (b .source) n ∙ sym (w .count);
+      request = a;
+      length-bytes = length-frame r h (b .abort) (b .source) (a .whole) ∙ sym (w .count);
       wire = w .count;
       buffer = w .buffer;
-      room = (let e = w .count in omega arith);
+      room = (let e = w .count in let k = a .fits in omega arith);
     }
 
 -- the bytes that stand behind the queued ones
@@ -102,7 +91,7 @@ queued-up r buf queued [] h q = record {
 queued-up r buf queued (b ∷ bs) h q =
     let xs = frameBytes r (b .header) (b .abort) (b .source) in
     let ys = allBytes r bs in
-    let l = laid r buf queued b (q .0) in
+    let l = appended r buf queued b (q .0) in
     let s : length (splice buf queued xs) ≡ length buf = length-splice buf queued xs (let e = l .length-bytes in let k = l .room in omega arith) in
     let k : queued + b .written ≤ length (b .buffer) = rw (l .buffer, s) (l .room) in
     let n = queued-up r (b .buffer) (queued + b .written) bs k (q .1) in
@@ -122,10 +111,13 @@ pub record Bannered (supported required : ℕ) (buf : List ℕ) (queued n : ℕ)
   pub buffer : after ≡ splice buf queued (bannerBytes supported required)
   pub room : queued + bannerLength ≤ length buf
 
-pub bannered : (supported required : ℕ) (buf : List ℕ) (queued n : ℕ) (after : List ℕ) → done (wrote n) after ≡ bannerDone supported required buf queued → Bannered supported required buf queued n after
+pub bannered : (supported required : ℕ) (buf : List ℕ) (queued n : ℕ) (after : List ℕ) → BuiltBanner supported required buf queued (built.Wrote n) after → Bannered supported required buf queued n after
 unfolding bannerDone judgeBanner
-bannered supported required buf queued n after e =
-    let w = was-written (judgeBanner supported required (length buf) queued) bannerLength buf queued (bannerBytes supported required) n after e in
-    let p16 = past (judgeOwn supported required) _ (w .judged) in
-    let p14 = past (judgeRoom bannerLength (length buf) queued) fine (p16 .1) in
-    record { ours = p16 .0; count = w .count; buffer = w .buffer; room = room bannerLength (length buf) queued (p14 .0) }
+bannered supported required buf queued n after b =
+    let w = was-written (judgeBanner supported required (length buf) queued) bannerLength buf queued (bannerBytes supported required) n after (b .promise) in
+    record {
+      ours = all-fine (judgeOwn supported required ∷ judgeRoom bannerLength (length buf) queued ∷ []) (w .judged) .0;
+      count = w .count;
+      buffer = w .buffer;
+      room = banner-fits supported required (length buf) queued (w .judged);
+    }

@@ -1,43 +1,37 @@
 -- The judgements of a frame, one after the other, hold exactly when its checks do.
 use Prim.Native.Nat.{ℕ, zero, suc, _+_, _-_, _*_, _≤_, _<_}
-use mathlib.Core.List.{List, [], _∷_, _++_}
+use mathlib.Core.List.{List, [], _∷_}
 use mathlib.Core.Path.{_≡_, refl, sym, ap, ap₂, _∙_}
-use mathlib.Core.Bool.{Bool, true, false, not, cond, _&&_, _||_}
+use mathlib.Core.Bool.{Bool, true, false, not, cond, _&&_}
 use native.Mathlib.Omega.{arith}
 use native.Mathlib.Nat.{add-zero}
 use lib.ListN.{length, take, drop, getD, length-drop}
 use lib.Seq.{take-take, take-at, getD-take, getD-drop, length-take-le}
 use lib.Dec.{lit<, lit≤, leb, ltb, eqb}
-use borrow.Author.Tests.{le-ltb, lt-ltb, ltb-true, ltb-false, le-leb, lt-leb, leb-true, leb-false, eq-eqb, eqb-true, eqb-false, ne-eqb, not-true, not-false}
+use borrow.Author.Tests.{lt-ltb, ltb-true, le-leb, lt-leb, eq-eqb, eqb-true, not-true, not-false}
 use Rattle.buffer.specs.Le.{numberAt}
 use Rattle.crc32c.specs.Crc.{crcOf}
-use Rattle.refusal.specs.Refusals.{Judged, fine, refused, orElse, unless, past, passed}
+use Rattle.refusal.specs.declared.Refusal.the-variants as refusal
+use Rattle.refusal.specs.Refusals.{Judged, fine, refused}
+use Rattle.refusal.proofs.Judgements.{passed}
 use Rattle.banner.specs.declared.Revision.{Revision}
 use Rattle.banner.specs.declared.Revision.the-variants.{Msgr20, Msgr21}
 use Rattle.preamble.specs.declared.Header.{Header}
-use Rattle.preamble.specs.Layout.{total}
-use Rattle.preamble.specs.Judge.{headerOf, judgeChecksum, judgeShape, judgeFlags, judgeTag, judgeLimits, judgeStore, judgeFields, judgePreamble}
+use Rattle.preamble.specs.Judge.{judgeFlags, judgeFields, judgePreamble}
+use Rattle.preamble.proofs.Laws.{accepted-preamble}
 use Rattle.body.specs.declared.Late.{Late}
 use Rattle.body.specs.declared.Late.the-variants as late
-use Rattle.body.specs.Body.{segmentSum, cutInto, noEpilogue, firstSumLength, epilogueLength, bodyLength, wireLength}
+use Rattle.body.specs.Body.{segmentSum, cutInto, noFirstSum, noEpilogue, bodyLength, wireLength}
 use Rattle.body.specs.End as end
-use Rattle.body.specs.End.{Ended, whole, dropped, turnedAway, byLate, lateOf, came, ending}
+use Rattle.body.specs.End.{Ended, whole, dropped, byLate, lateOf, segmentBytes, stored, ending}
 use Rattle.stream.specs.Stream.{firstWrong}
+use Rattle.receiver.proofs.Booleans.{both-left}
 use Rattle.receiver.proofs.Placed.{number-take, number-drop}
-use Rattle.receiver.proofs.Frames.{wire-parts}
-use Rattle.ends.specs.Handed.{headerIn, segmentOf, latePlace, sumPlace, lateIn, compared, Checked}
-use Rattle.ends.proofs.Own.{Judges}
+use Rattle.ends.specs.Handed.{headerIn, segmentOf, latePlace, sumPlace, lateIn, compared, CheckedPreamble, Checked, CheckedFirst}
+use Rattle.ends.proofs.Locality.{Judges, JudgesFirst}
 use Rattle.ends.proofs.Sums.{every-sum, all-sums}
 
 -- ---- the preamble
-
-record Preamble (X : List ℕ) (n : ℕ) : Type 0 where
-  checksum : crcOf 0 (take 28 X) ≡ numberAt 4 28 X
-  shape : judgeShape (headerIn X) ≡ fine
-  flags : judgeFlags (getD X 26 0) (getD X 27 0) ≡ fine
-  tag : judgeTag (headerIn X .tag) ≡ fine
-  limits : judgeLimits (headerIn X) ≡ fine
-  store : judgeStore (total (headerIn X)) n ≡ fine
 
 module _ (X : List ℕ) (n : ℕ) where
   abbrev front : List ℕ
@@ -52,26 +46,20 @@ module _ (X : List ℕ) (n : ℕ) where
   byte : (i : ℕ) → i < 32 → getD front i 0 ≡ getD X i 0
   byte i h = getD-take 32 X i 0 h
 
-  preamble-checks : judgePreamble front n ≡ fine → Preamble X n
-  unfolding judgePreamble judgeFields
-  preamble-checks e =
-      let h = headerIn X in
-      let p5 = past (judgeChecksum front) _ e in
-      let p6 = past (judgeShape h) _ (p5 .1) in
-      let p7 = past (judgeFlags (getD front 26 0) (getD front 27 0)) _ (p6 .1) in
-      let p8 = past (judgeTag (h .tag)) _ (p7 .1) in
-      let p9 = past (judgeLimits h) _ (p8 .1) in
-      let p10 = past (judgeStore (total h) n) fine (p9 .1) in
+  preamble-checks : 32 ≤ length X → judgePreamble front n ≡ fine → CheckedPreamble X n
+  preamble-checks l e =
+      let a = accepted-preamble front n e in
       record {
-        checksum = ap (crcOf 0) (sym front28) ∙ eqb-true (crcOf 0 (take 28 front)) (numberAt 4 28 front) (passed (eqb (crcOf 0 (take 28 front)) (numberAt 4 28 front)) 5 28 (p5 .0)) ∙ sum28;
-        shape = p6 .0;
-        flags = ap₂ judgeFlags (sym (byte 26 (lit< tt))) (sym (byte 27 (lit< tt))) ∙ p7 .0;
-        tag = p8 .0;
-        limits = p9 .0;
-        store = p10 .0;
+        arrived = l;
+        checksum = ap (crcOf 0) (sym front28) ∙ eqb-true (crcOf 0 (take 28 front)) (numberAt 4 28 front) (passed (eqb (crcOf 0 (take 28 front)) (numberAt 4 28 front)) refusal.PreambleChecksum (a .checksum)) ∙ sum28;
+        shape = a .shape;
+        flags = ap₂ judgeFlags (sym (byte 26 (lit< tt))) (sym (byte 27 (lit< tt))) ∙ a .flags;
+        tag = a .tag;
+        limits = a .limits;
+        store = a .store;
       }
 
-  checks-preamble : Preamble X n → judgePreamble front n ≡ fine
+  checks-preamble : CheckedPreamble X n → judgePreamble front n ≡ fine
   unfolding judgePreamble judgeFields
   checks-preamble c =
       let sum : eqb (crcOf 0 (take 28 front)) (numberAt 4 28 front) ≡ true = eq-eqb (crcOf 0 (take 28 front)) (numberAt 4 28 front) (ap (crcOf 0) front28 ∙ c .checksum ∙ sym sum28) in
@@ -109,60 +97,53 @@ module _ (h : Header) (e p : List ℕ) where
   abbrev segments : List (List ℕ)
   segments = cutInto (h .s1 .len ∷ h .s2 .len ∷ h .s3 .len ∷ h .s4 .len ∷ []) p
 
-  -- the checksums that an epilogue holds
-  abbrev stored20 : List ℕ
-  stored20 = numberAt 4 1 e ∷ numberAt 4 5 e ∷ numberAt 4 9 e ∷ numberAt 4 13 e ∷ []
-
-  abbrev stored21 : List ℕ
-  stored21 = numberAt 4 1 e ∷ numberAt 4 5 e ∷ numberAt 4 9 e ∷ []
-
-  at20 : (k : ℕ) → k < 4 → getD stored20 k 0 ≡ numberAt 4 (1 + k * 4) e
+  at20 : (k : ℕ) → k < 4 → getD (stored Msgr20 e) k 0 ≡ numberAt 4 (1 + k * 4) e
   at20 zero l = refl
   at20 (suc zero) l = refl
   at20 (suc (suc zero)) l = refl
   at20 (suc (suc (suc zero))) l = refl
   at20 (suc (suc (suc (suc k)))) l = absurd (omega arith)
 
-  at21 : (k : ℕ) → k < 3 → getD stored21 k 0 ≡ numberAt 4 (1 + k * 4) e
+  at21 : (k : ℕ) → k < 3 → getD (stored Msgr21 e) k 0 ≡ numberAt 4 (1 + k * 4) e
   at21 zero l = refl
   at21 (suc zero) l = refl
   at21 (suc (suc zero)) l = refl
   at21 (suc (suc (suc k))) l = absurd (omega arith)
 
   sums20 : end.compared Msgr20 h e p ≡ fine → (k : ℕ) → k < 4 → ltb k (h .count) ≡ true → numberAt 4 (1 + k * 4) e ≡ segmentSum (getD segments k [])
-  sums20 f k l u = sym (at20 k l) ∙ every-sum (h .count) 1 stored20 segments f k l l (let t = ltb-true k (h .count) u in omega arith)
+  sums20 f k l u = sym (at20 k l) ∙ every-sum (h .count) 1 (stored Msgr20 e) segments f k l (let t = ltb-true k (h .count) u in omega arith)
 
   back20 : ((k : ℕ) → k < 4 → ltb k (h .count) ≡ true → numberAt 4 (1 + k * 4) e ≡ segmentSum (getD segments k [])) → end.compared Msgr20 h e p ≡ fine
-  back20 f = all-sums (h .count) 1 stored20 segments (lit≤ tt) (λ k l u. at20 k l ∙ f k l (lt-ltb k (h .count) (omega arith)))
+  back20 f = all-sums (h .count) 1 (stored Msgr20 e) segments (λ k l u. at20 k l ∙ f k l (lt-ltb k (h .count) (omega arith)))
 
   sums21 : end.compared Msgr21 h e p ≡ fine → (k : ℕ) → suc k < 4 → ltb (suc k) (h .count) ≡ true → numberAt 4 (1 + k * 4) e ≡ segmentSum (getD segments (suc k) [])
   sums21 f k l u =
       let l′ : k < 3 = omega arith in
-      sym (at21 k l′) ∙ every-sum (h .count) 2 stored21 (cutInto (h .s2 .len ∷ h .s3 .len ∷ h .s4 .len ∷ []) (drop (h .s1 .len) p)) f k l′ l′ (let t = ltb-true (suc k) (h .count) u in omega arith)
+      sym (at21 k l′) ∙ every-sum (h .count) 2 (stored Msgr21 e) (drop 1 segments) f k l′ (let t = ltb-true (suc k) (h .count) u in omega arith)
 
   back21 : ((k : ℕ) → suc k < 4 → ltb (suc k) (h .count) ≡ true → numberAt 4 (1 + k * 4) e ≡ segmentSum (getD segments (suc k) [])) → end.compared Msgr21 h e p ≡ fine
   back21 f =
-      all-sums (h .count) 2 stored21 (cutInto (h .s2 .len ∷ h .s3 .len ∷ h .s4 .len ∷ []) (drop (h .s1 .len) p)) (lit≤ tt)
+      all-sums (h .count) 2 (stored Msgr21 e) (drop 1 segments)
       (λ k l u. let l′ : k < 3 = l in at21 k l ∙ f k (omega arith) (lt-ltb (suc k) (h .count) (omega arith)))
 
--- ---- segment 1's checksum in msgr2.1
+-- ---- segment 1's own checksum
 
-first-holds : (h : Header) (b : List ℕ) → firstWrong Msgr21 h b ≡ false → h .s1 .len + 4 ≤ length b → not (eqb (h .s1 .len) 0) ≡ true
+first-holds : (r : Revision) (h : Header) (b : List ℕ) → firstWrong r h b ≡ false → h .s1 .len + 4 ≤ length b → noFirstSum r h ≡ false
     → numberAt 4 (h .s1 .len) b ≡ segmentSum (take (h .s1 .len) b)
-first-holds h b e l u =
+first-holds r h b e l u =
     eqb-true (numberAt 4 (h .s1 .len) b) (segmentSum (take (h .s1 .len) b))
     (not-false (eqb (numberAt 4 (h .s1 .len) b) (segmentSum (take (h .s1 .len) b))) (rw (u, le-leb (h .s1 .len + 4) (length b) l) at e))
 
-pub first-fine : (h : Header) (b : List ℕ) → (not (eqb (h .s1 .len) 0) ≡ true → numberAt 4 (h .s1 .len) b ≡ segmentSum (take (h .s1 .len) b)) → firstWrong Msgr21 h b ≡ false
-first-fine h b f = go (not (eqb (h .s1 .len) 0)) refl (leb (h .s1 .len + 4) (length b))
+pub first-fine : (r : Revision) (h : Header) (b : List ℕ) → (noFirstSum r h ≡ false → numberAt 4 (h .s1 .len) b ≡ segmentSum (take (h .s1 .len) b)) → firstWrong r h b ≡ false
+first-fine r h b f = go (noFirstSum r h) refl (leb (h .s1 .len + 4) (length b))
   where
-    go : (c : Bool) → not (eqb (h .s1 .len) 0) ≡ c → (d : Bool) → (c && (d && not (eqb (numberAt 4 (h .s1 .len) b) (segmentSum (take (h .s1 .len) b))))) ≡ false
-    go false e d = refl
-    go true e false = refl
-    go true e true = rw (eq-eqb (numberAt 4 (h .s1 .len) b) (segmentSum (take (h .s1 .len) b)) (f e))
+    go : (c : Bool) → noFirstSum r h ≡ c → (d : Bool) → (not c && (d && not (eqb (numberAt 4 (h .s1 .len) b) (segmentSum (take (h .s1 .len) b))))) ≡ false
+    go true e d = refl
+    go false e false = refl
+    go false e true = rw (eq-eqb (numberAt 4 (h .s1 .len) b) (segmentSum (take (h .s1 .len) b)) (f e))
 
-first-room : (h : Header) (b : List ℕ) → bodyLength Msgr21 h ≤ length b → not (eqb (h .s1 .len) 0) ≡ true → h .s1 .len + 4 ≤ length b
-first-room h b l u = (let k = rw (not-true (eqb (h .s1 .len) 0) u) at l in omega arith)
+first-room : (r : Revision) (h : Header) (b : List ℕ) → bodyLength r h ≤ length b → noFirstSum r h ≡ false → h .s1 .len + 4 ≤ length b
+first-room r h b l u = (let k = rw u at l in omega arith)
 
 -- ---- the whole frame
 
@@ -182,30 +163,32 @@ module _ (X : List ℕ) (n : ℕ) where
   late-said : (r : Revision) → cond (noEpilogue r h) late.Complete (lateOf r (getD (epilogue r) 0 0)) ≡ lateIn r h X
   late-said r = ap (λ (k : ℕ). cond (noEpilogue r h) late.Complete (lateOf r k)) (late-byte r)
 
-  first-segment : (r : Revision) → bodyLength r h ≤ length b → take (h .s1 .len) (came r h b) ≡ take (h .s1 .len) b
+  first-segment : (r : Revision) → bodyLength r h ≤ length b → take (h .s1 .len) (segmentBytes r h b) ≡ take (h .s1 .len) b
   first-segment r l = take-at (take (h .s1 .len) b) _ (h .s1 .len) (length-take-le (h .s1 .len) b (omega arith))
 
   -- both ways of saying how long it is
   length-body : (r : Revision) → wireLength r h ≤ length X → bodyLength r h ≤ length b
-  length-body r l = (let w = wire-parts r h in let d = length-drop 32 X in omega arith)
+  length-body r l = (let d = length-drop 32 X in omega arith)
 
   length-wire : (r : Revision) → 32 ≤ length X → bodyLength r h ≤ length b → wireLength r h ≤ length X
-  length-wire r f l = (let w = wire-parts r h in let d = length-drop 32 X in omega arith)
+  length-wire r f l = (let d = length-drop 32 X in omega arith)
 
   -- segment 1's checksum, which both kinds of frame compare
   first-sum : {x : Ended} → Judges x Msgr21 X n → not (eqb (h .s1 .len) 0) ≡ true → numberAt 4 (h .s1 .len) b ≡ segmentSum (segmentOf Msgr21 h 0 X)
-  first-sum j u = first-holds h b (j .first) (first-room h b (j .long) u) u ∙ ap segmentSum (sym (first-segment Msgr21 (j .long)))
+  first-sum j u =
+      let v = not-true (eqb (h .s1 .len) 0) u in
+      first-holds Msgr21 h b (j .first) (first-room Msgr21 h b (j .long) v) v ∙ ap segmentSum (sym (first-segment Msgr21 (j .long)))
 
   sums-whole : (r : Revision) → Judges whole r X n → (k : ℕ) → k < 4 → compared late.Complete r h k ≡ true → numberAt 4 (sumPlace r h k) b ≡ segmentSum (segmentOf r h k X)
   unfolding ending
   sums-whole Msgr20 j k l u =
       sym (number-drop 4 (1 + k * 4) (latePlace Msgr20 h) b)
-      ∙ sums20 h (epilogue Msgr20) (came Msgr20 h b) (end-whole false (lateOf Msgr20 (getD (epilogue Msgr20) 0 0)) _ _ (j .end) .1 refl) k l u
+      ∙ sums20 h (epilogue Msgr20) (segmentBytes Msgr20 h b) (end-whole false (lateOf Msgr20 (getD (epilogue Msgr20) 0 0)) _ _ (j .end) .1 refl) k l u
   sums-whole Msgr21 j zero l u = first-sum j u
   sums-whole Msgr21 j (suc k) l u =
       let c : noEpilogue Msgr21 h ≡ false = lt-leb (h .count) 1 (let t = ltb-true (suc k) (h .count) u in omega arith) in
       sym (number-drop 4 (1 + k * 4) (latePlace Msgr21 h) b)
-      ∙ sums21 h (epilogue Msgr21) (came Msgr21 h b) (end-whole (noEpilogue Msgr21 h) (lateOf Msgr21 (getD (epilogue Msgr21) 0 0)) _ _ (j .end) .1 c) k l u
+      ∙ sums21 h (epilogue Msgr21) (segmentBytes Msgr21 h b) (end-whole (noEpilogue Msgr21 h) (lateOf Msgr21 (getD (epilogue Msgr21) 0 0)) _ _ (j .end) .1 c) k l u
 
   sums-dropped : (r : Revision) → Judges dropped r X n → (k : ℕ) → k < 4 → compared late.Aborted r h k ≡ true → numberAt 4 (sumPlace r h k) b ≡ segmentSum (segmentOf r h k X)
   sums-dropped Msgr20 j k l u = cc
@@ -215,19 +198,7 @@ module _ (X : List ℕ) (n : ℕ) where
   checked : (kind : Late) (x : Ended) (r : Revision) → Judges x r X n → lateIn r h X ≡ kind
       → ((k : ℕ) → k < 4 → compared kind r h k ≡ true → numberAt 4 (sumPlace r h k) b ≡ segmentSum (segmentOf r h k X)) → Checked kind r X n
   checked kind x r j said sums =
-      let p = preamble-checks X n (j .accepted) in
-      record {
-        preamble = j .front;
-        whole = length-wire r (j .front) (j .long);
-        checksum = p .checksum;
-        shape = p .shape;
-        flags = p .flags;
-        tag = p .tag;
-        limits = p .limits;
-        store = p .store;
-        late = said;
-        sums = sums;
-      }
+      record { preamble = preamble-checks X n (j .front) (j .accepted); arrived = length-wire r (j .front) (j .long); late = said; sums = sums }
 
   pub whole-checked : (r : Revision) → Judges whole r X n → Checked late.Complete r X n
   unfolding ending
@@ -238,22 +209,22 @@ module _ (X : List ℕ) (n : ℕ) where
   dropped-checked r j = checked late.Aborted dropped r j (sym (late-said r) ∙ end-dropped (noEpilogue r h) (lateOf r (getD (epilogue r) 0 0)) _ _ (j .end)) (sums-dropped r j)
 
   -- and back
-  judges : (kind : Late) (x : Ended) (r : Revision) → Checked kind r X n → firstWrong r h b ≡ false → ending r h (epilogue r) (came r h b) ≡ x → Judges x r X n
+  judges : (kind : Late) (x : Ended) (r : Revision) → Checked kind r X n → firstWrong r h b ≡ false → ending r h (epilogue r) (segmentBytes r h b) ≡ x → Judges x r X n
   judges kind x r c f e = record {
-    front = c .preamble;
-    accepted = checks-preamble X n (record { checksum = c .checksum; shape = c .shape; flags = c .flags; tag = c .tag; limits = c .limits; store = c .store });
-    long = length-body r (c .whole);
+    front = c .preamble .arrived;
+    accepted = checks-preamble X n (c .preamble);
+    long = length-body r (c .arrived);
     first = f;
     end = e;
   }
 
   first-back : (kind : Late) (r : Revision) → Checked kind r X n → compared kind Msgr21 h 0 ≡ not (eqb (h .s1 .len) 0) → firstWrong r h b ≡ false
   first-back kind Msgr20 c e = refl
-  first-back kind Msgr21 c e = first-fine h b (λ u. c .sums 0 (lit< tt) (e ∙ u) ∙ ap segmentSum (first-segment Msgr21 (length-body Msgr21 (c .whole))))
+  first-back kind Msgr21 c e = first-fine Msgr21 h b (λ u. c .sums 0 (lit< tt) (e ∙ ap not u) ∙ ap segmentSum (first-segment Msgr21 (length-body Msgr21 (c .arrived))))
 
-  compared-back : (r : Revision) → Checked late.Complete r X n → end.compared r h (epilogue r) (came r h b) ≡ fine
-  compared-back Msgr20 c = back20 h (epilogue Msgr20) (came Msgr20 h b) (λ k l u. number-drop 4 (1 + k * 4) (latePlace Msgr20 h) b ∙ c .sums k l u)
-  compared-back Msgr21 c = back21 h (epilogue Msgr21) (came Msgr21 h b) (λ k l u. number-drop 4 (1 + k * 4) (latePlace Msgr21 h) b ∙ c .sums (suc k) l u)
+  compared-back : (r : Revision) → Checked late.Complete r X n → end.compared r h (epilogue r) (segmentBytes r h b) ≡ fine
+  compared-back Msgr20 c = back20 h (epilogue Msgr20) (segmentBytes Msgr20 h b) (λ k l u. number-drop 4 (1 + k * 4) (latePlace Msgr20 h) b ∙ c .sums k l u)
+  compared-back Msgr21 c = back21 h (epilogue Msgr21) (segmentBytes Msgr21 h b) (λ k l u. number-drop 4 (1 + k * 4) (latePlace Msgr21 h) b ∙ c .sums (suc k) l u)
 
   pub checked-whole : (r : Revision) → Checked late.Complete r X n → Judges whole r X n
   unfolding ending
@@ -266,3 +237,21 @@ module _ (X : List ℕ) (n : ℕ) where
   checked-dropped r c =
       judges late.Aborted dropped r c (first-back late.Aborted r c refl)
       (dropped-end (noEpilogue r h) (lateOf r (getD (epilogue r) 0 0)) _ _ (late-said r ∙ c .late))
+
+  -- segment 1, reported early
+  pub first-checked : (r : Revision) → JudgesFirst r X n → CheckedFirst r X n
+  first-checked r j = record {
+    preamble = preamble-checks X n (j .front) (j .accepted);
+    early = j .early;
+    arrived = (let d = length-drop 32 X in let l = j .long in let f = j .front in omega arith);
+    sum = first-holds r h b (j .first) (j .long) (not-true (noFirstSum r h) (both-left (not (noFirstSum r h)) (ltb 1 (h .count)) (j .early)));
+  }
+
+  pub checked-first : (r : Revision) → CheckedFirst r X n → JudgesFirst r X n
+  checked-first r c = record {
+    front = c .preamble .arrived;
+    accepted = checks-preamble X n (c .preamble);
+    first = first-fine r h b (λ _. c .sum);
+    early = c .early;
+    long = (let d = length-drop 32 X in let l = c .arrived in omega arith);
+  }

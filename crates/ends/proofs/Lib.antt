@@ -1,9 +1,9 @@
-mod Own
-mod Goes
+mod Locality
+mod Concatenation
 mod Banners
 mod Sums
 mod Checks
-mod Handing
-mod Back
+mod Handover
+mod ReadBack
 mod Builds
 mod Trips

@@ -1,62 +1,79 @@
 -- What is built comes back.
 use Prim.Native.Nat.{ℕ, zero, suc, _+_, _-_, _^_, _≤_, _<_}
-use mathlib.Core.List.{List, [], _∷_, _++_, append-nil}
+use mathlib.Core.List.{List, [], _∷_, _++_, append-assoc}
 use mathlib.Core.Path.{_≡_, refl, sym, ap, ap₂, _∙_}
 use mathlib.Core.Bool.{Bool, true, false, cond, _&&_}
 use native.Mathlib.Omega.{arith}
-use native.Mathlib.Nat.{le-refl}
+use native.Mathlib.Nat.{add-zero}
 use lib.ListN.{length, take, drop, replicate, length-append, length-replicate}
-use lib.Seq.{drop-at}
-use lib.Dec.{lit<, lit≤, ltb, eqb}
+use lib.Dec.{lit≤, ltb, eqb}
 use borrow.Author.Tests.{ltb-true}
-use Rattle.buffer.specs.Le.{le, numberAt, leOf-le}
+use Rattle.buffer.specs.Le.{numberAt, leOf-le}
 use Rattle.buffer.specs.Splice.{over, splice, length-over, length-splice, splice-next}
-use Rattle.refusal.specs.Refusals.{fine, passed}
+use Rattle.refusal.specs.declared.Refusal.the-variants as refusal
+use Rattle.refusal.specs.Refusals.{fine}
+use Rattle.refusal.proofs.Judgements.{passed}
 use Rattle.banner.specs.declared.Features.{Features}
 use Rattle.banner.specs.declared.Revision.{Revision}
 use Rattle.banner.specs.Bits.{missing}
-use Rattle.banner.specs.Banner.{bannerBytes, judgeOwn, judgeFeatures, revisionOf, featuresOf}
-use Rattle.preamble.specs.declared.Header.{Header}
+use Rattle.banner.specs.Banner.{bannerBytes, judgeOwn, judgeFeatures, revisionOf}
 use Rattle.preamble.specs.Layout.{total}
 use Rattle.body.specs.Body.{frameBytes, wireLength}
-use Rattle.stream.specs.Stream.{banner, frame, aborted, Entry, entry, Told, ended, after, zeroed, payloadOf, peerOf, frames, entriesOf}
+use Rattle.stream.specs.declared.Event.the-variants.{Banner, First}
+use Rattle.stream.specs.Stream.{Entry, entry, Trace, after, reportedFirst, zeroed, payloadOf, peerOf, frames, traceOf}
 use Rattle.stream.proofs.Sums.{least}
-use Rattle.receiver.proofs.Flags.{both-left, both-right}
+use Rattle.receiver.proofs.Booleans.{both-left, both-right}
+use Rattle.receiver.specs.Calls.{takenBy}
 use Rattle.builder.specs.Build.{bannerLength}
-use Rattle.ends.specs.Trip.{Build, Accepts, bytesOf, whatOf, storeAfter, RoundTrip}
-use Rattle.ends.specs.Ends.{Queued, bufferBy, queuedBy, Link, Linked, sentBy, Fitting, reportsOf, TwoEnds}
-use Rattle.ends.proofs.Goes.{none}
-use Rattle.ends.proofs.Banners.{Met, spoken, met-told, more-payload, more-peer, met-more, follows-on}
-use Rattle.ends.proofs.Handing.{reported}
-use Rattle.ends.proofs.Back.{built-told}
-use Rattle.ends.proofs.Builds.{laid, written, allBytes, queued-up, bannered}
+use Rattle.ends.specs.Handed.{isEarly}
+use Rattle.ends.specs.Trip.{Build, Accepts, bytesOf, eventOf, storeAfter, entriesOf, RoundTrip}
+use Rattle.ends.specs.Ends.{Queued, bufferBy, queuedBy, Link, Linked, sentBy, Fitting, allEntries, storeAfterAll, TwoEnds}
+use Rattle.ends.proofs.Concatenation.{fuel}
+use Rattle.ends.proofs.Banners.{Met, met-trace, more-payload, more-peer, met-more, follows-on}
+use Rattle.ends.proofs.Handover.{reported}
+use Rattle.ends.proofs.ReadBack.{built-trace}
+use Rattle.ends.proofs.Builds.{appended, written, allBytes, queued-up, bannered}
 
 -- one build, and what follows it
-build-told : (f : ℕ) (r : Revision) (P : ℕ) (buf : List ℕ) (queued : ℕ) (b : Build) (Y s : List ℕ) → Accepts r buf queued b → total (b .header) ≤ length s
-    → frames (suc f) r P (frameBytes r (b .header) (b .abort) (b .source) ++ Y) s
-    ≡ after (whatOf b) (P + wireLength r (b .header)) (storeAfter b s) (frames f r (P + wireLength r (b .header)) Y (storeAfter b s))
-build-told f r P buf queued b Y s p room = built-told f r P (b .header) (b .abort) (b .source) Y s (laid r buf queued b p .accepted) (p .header) (p .source) room
+build-entries : (f k : ℕ) (r : Revision) (P : ℕ) (buf : List ℕ) (queued : ℕ) (b : Build) (Y s : List ℕ) → Accepts r buf queued b → total (b .header) ≤ length s → length Y ≤ f → length Y ≤ k
+    → frames (suc f) r P (frameBytes r (b .header) (b .abort) (b .source) ++ Y) s .entries
+    ≡ entriesOf r P s b ++ frames k r (P + wireLength r (b .header)) Y (storeAfter b s) .entries
+build-entries f k r P buf queued b Y s p room hf hk =
+    let h = b .header in
+    let Q = P + wireLength r h in
+    ap (λ (t : Trace). t .entries)
+    (built-trace f r P h (b .abort) (b .source) Y s (appended r buf queued b p .request) (p .header) (p .source) room
+    ∙ ap (λ (t : Trace). reportedFirst (isEarly r h) h (P + 36 + h .s1 .len) (over (take (h .s1 .len) (b .source)) s) (after (eventOf b) Q (storeAfter b s) t)) (fuel f k r Q Y (storeAfter b s) hf hk))
+    ∙ early (isEarly r h) (over (take (h .s1 .len) (b .source)) s) (frames k r Q Y (storeAfter b s))
+  where
+    early : (c : Bool) (s₁ : List ℕ) (t : Trace)
+        → reportedFirst c (b .header) (P + 36 + b .header .s1 .len) s₁ (after (eventOf b) (P + wireLength r (b .header)) (storeAfter b s) t) .entries
+        ≡ cond c (entry (First (b .header)) (P + 36 + b .header .s1 .len) s₁ ∷ []) [] ++ (entry (eventOf b) (P + wireLength r (b .header)) (storeAfter b s) ∷ []) ++ t .entries
+    early true s₁ t = refl
+    early false s₁ t = refl
 
 -- ---- the round trip
 
 pub round-trip : RoundTrip
 unfolding RoundTrip
-round-trip own front store r up buf queued b p room cs ch t =
-    let l = laid r buf queued b p in
+round-trip own front store r up buf queued b p room behind cs ch t =
+    let l = appended r buf queued b p in
     let X : List ℕ = frameBytes r (b .header) (b .abort) (b .source) in
     let e : bytesOf queued b ≡ X = ap (λ (l : List ℕ). take (b .written) (drop queued l)) (l .buffer) ∙ written buf queued X (b .written) (l .length-bytes) (let k = l .room in omega arith) in
-    let a = follows-on own front X store r up in
-    let s : List ℕ = entriesOf own front store .store in
+    let F : List ℕ = front ++ bytesOf queued b in
+    let Y : List ℕ = take (takenBy 0 cs - length F) behind in
+    let a = follows-on own front (X ++ Y) store r up in
+    let s : List ℕ = traceOf own front store .store in
     let P = length front in
-    let f = length X in
-    let told : frames (suc f) r P X s ≡ after (whatOf b) (P + wireLength r (b .header)) (storeAfter b s) (ended (storeAfter b s))
-    = ap (λ (x : List ℕ). frames (suc f) r P x s) (sym (append-nil X))
-    ∙ build-told f r P buf queued b [] s p (let m = a .same in omega arith)
-    ∙ ap (after (whatOf b) (P + wireLength r (b .header)) (storeAfter b s)) (none f r (P + wireLength r (b .header)) (storeAfter b s)) in
-    reported own (front ++ bytesOf queued b) store cs ch t
-    ∙ ap (λ (x : List ℕ). entriesOf own (front ++ x) store .entries) e
-    ∙ ap (λ (u : Told). u .entries) (a .follows (suc f) (omega arith))
-    ∙ ap (λ (u : Told). entriesOf own front store .entries ++ u .entries) told
+    let n : length F ≡ P + wireLength r (b .header) =
+    (let m = length-append front (bytesOf queued b) in let m₂ : length (bytesOf queued b) ≡ length X = ap length e in let m₃ = l .length-bytes in let m₄ = l .wire in omega arith) in
+    let q = length-append X Y in
+    reported own F behind store cs ch t
+    ∙ ap (λ (x : List ℕ). traceOf own x store .entries) (append-assoc front (bytesOf queued b) Y ∙ ap (λ (x : List ℕ). front ++ (x ++ Y)) e)
+    ∙ ap (λ (u : Trace). u .entries) (a .follows (suc (length (X ++ Y))) (omega arith))
+    ∙ ap (λ (es : List Entry). traceOf own front store .entries ++ es)
+    (build-entries (length (X ++ Y)) (length Y) r P buf queued b Y s p (let m = a .same in omega arith) (omega arith) (omega arith)
+    ∙ ap (λ (k : ℕ). entriesOf r P s b ++ frames (length Y) r k Y (storeAfter b s) .entries) (sym n))
 
 -- ---- many builds
 
@@ -67,28 +84,43 @@ kept-length b s e h = go (b .abort)
     go true = (let z = length-replicate {A = ℕ} (total (b .header)) 0 in length-over (replicate (total (b .header)) 0) s (omega arith))
     go false = length-over (b .source) s (omega arith)
 
-builds-told : (f : ℕ) (r : Revision) (P : ℕ) (buf : List ℕ) (queued : ℕ) (bs : List Build) (s : List ℕ) → Queued r buf queued bs → Fitting (length s) bs → length (allBytes r bs) ≤ f
-    → frames f r P (allBytes r bs) s .entries ≡ reportsOf r P s bs
-builds-told f r P buf queued [] s q fit h = ap (λ (u : Told). u .entries) (none f r P s)
-builds-told zero r P buf queued (b ∷ bs) s q fit h =
-    let l = laid r buf queued b (q .0) in
-    let a = length-append (frameBytes r (b .header) (b .abort) (b .source)) (allBytes r bs) in
-    absurd (let e = l .length-bytes in let w = l .wire in let k = least r (b .header) in omega arith)
-builds-told (suc f) r P buf queued (b ∷ bs) s q fit h =
-    let l = laid r buf queued b (q .0) in
-    let a = length-append (frameBytes r (b .header) (b .abort) (b .source)) (allBytes r bs) in
-    let k : length (allBytes r bs) ≤ f = (let e = l .length-bytes in let w = l .wire in let k = least r (b .header) in omega arith) in
-    let n = kept-length b s (l .accepted .length-source) (fit .0) in
-    ap (λ (u : Told). u .entries) (build-told f r P buf queued b (allBytes r bs) s (q .0) (fit .0))
-    ∙ ap (λ (es : List Entry). entry (whatOf b) (P + wireLength r (b .header)) (storeAfter b s) ∷ es)
-    (builds-told f r (P + wireLength r (b .header)) (b .buffer) (queued + b .written) bs (storeAfter b s) (q .1) (rw n (fit .1)) k)
+builds-entries : (f k : ℕ) (r : Revision) (P : ℕ) (buf : List ℕ) (queued : ℕ) (bs : List Build) (Y s : List ℕ) → Queued r buf queued bs → Fitting (length s) bs
+    → length (allBytes r bs ++ Y) ≤ f → length Y ≤ k
+    → frames f r P (allBytes r bs ++ Y) s .entries ≡ allEntries r P s bs ++ frames k r (P + length (allBytes r bs)) Y (storeAfterAll bs s) .entries
+builds-entries f k r P buf queued [] Y s q fit hf hk =
+    ap (λ (u : Trace). u .entries) (fuel f k r P Y s hf hk)
+    ∙ ap (λ (Q : ℕ). frames k r Q Y s .entries) (sym (add-zero P))
+builds-entries zero k r P buf queued (b ∷ bs) Y s q fit hf hk =
+    let X : List ℕ = frameBytes r (b .header) (b .abort) (b .source) in
+    let l = appended r buf queued b (q .0) in
+    let a = length-append X (allBytes r bs) in
+    let a₂ = length-append (X ++ allBytes r bs) Y in
+    absurd (let e = l .length-bytes in let w = l .wire in let m = least r (b .header) in omega arith)
+builds-entries (suc f) k r P buf queued (b ∷ bs) Y s q fit hf hk =
+    let l = appended r buf queued b (q .0) in
+    let X : List ℕ = frameBytes r (b .header) (b .abort) (b .source) in
+    let A : List ℕ = allBytes r bs in
+    let Q = P + wireLength r (b .header) in
+    let a = length-append X A in
+    let a₂ = length-append (X ++ A) Y in
+    let a₃ = length-append A Y in
+    let m : length (A ++ Y) ≤ f = (let e = l .length-bytes in let w = l .wire in let m₂ = least r (b .header) in omega arith) in
+    let n = kept-length b s (l .request .whole) (fit .0) in
+    let place : Q + length A ≡ P + length (X ++ A) = (let e = l .length-bytes in let w = l .wire in omega arith) in
+    let tail : List Entry = frames k r (P + length (X ++ A)) Y (storeAfterAll bs (storeAfter b s)) .entries in
+    ap (λ (x : List ℕ). frames (suc f) r P x s .entries) (append-assoc X A Y)
+    ∙ build-entries f f r P buf queued b (A ++ Y) s (q .0) (fit .0) m m
+    ∙ ap (λ (es : List Entry). entriesOf r P s b ++ es)
+    (builds-entries f k r Q (b .buffer) (queued + b .written) bs Y (storeAfter b s) (q .1) (rw n (fit .1)) m hk
+    ∙ ap (λ (x : ℕ). allEntries r Q (storeAfter b s) bs ++ frames k r x Y (storeAfterAll bs (storeAfter b s)) .entries) place)
+    ∙ sym (append-assoc (entriesOf r P s b) (allEntries r Q (storeAfter b s) bs) tail)
 
 -- ---- our banner
 
 -- features that are not refused fit 64 bits
 small : (supported required : ℕ) → judgeOwn supported required ≡ fine → (supported < 2 ^ 64) × (required < 2 ^ 64)
 small supported required e =
-    let all = passed (ltb supported 2 && ltb required 2 && eqb (missing 64 required supported) 0) 16 0 e in
+    let all = passed (ltb supported 2 && ltb required 2 && eqb (missing 64 required supported) 0) refusal.OwnFeatures e in
     let two = both-left (ltb supported 2 && ltb required 2) (eqb (missing 64 required supported) 0) all in
     let a = ltb-true supported 2 (both-left (ltb supported 2) (ltb required 2) two) in
     let b = ltb-true required 2 (both-right (ltb supported 2) (ltb required 2) two) in
@@ -115,18 +147,18 @@ met own f ours e fit = record {
 }
 
 -- the definition of a stream that begins with our banner
-banner-told : (own f : Features) (Y s : List ℕ) → judgeOwn (own .supported) (own .required) ≡ fine → judgeOwn (f .supported) (f .required) ≡ fine
+banner-trace : (own f : Features) (Y s : List ℕ) → judgeOwn (own .supported) (own .required) ≡ fine → judgeOwn (f .supported) (f .required) ≡ fine
     → judgeFeatures (own .supported) (own .required) (f .supported) (f .required) ≡ fine
-    → entriesOf own (bannerBytes (f .supported) (f .required) ++ Y) s
-    ≡ after (banner f (revisionOf (own .supported) (f .supported))) bannerLength s
+    → traceOf own (bannerBytes (f .supported) (f .required) ++ Y) s
+    ≡ after (Banner f (revisionOf (own .supported) (f .supported))) bannerLength s
     (frames (length (bannerBytes (f .supported) (f .required) ++ Y)) (revisionOf (own .supported) (f .supported)) bannerLength Y s)
-banner-told own f Y s ours e fit =
+banner-trace own f Y s ours e fit =
     let B : List ℕ = bannerBytes (f .supported) (f .required) in
     let m = met own f ours e fit in
     let p : peerOf (B ++ Y) ≡ f = more-peer own B Y m ∙ peer-back f e in
     let n : payloadOf (B ++ Y) ≡ 16 = more-payload own B Y m ∙ payload-back f in
-    met-told own (B ++ Y) s (met-more own B Y m)
-    ∙ ap₂ (λ (q : Features) (k : ℕ). after (banner q (revisionOf (own .supported) (q .supported))) (10 + k) s (frames (length (B ++ Y)) (revisionOf (own .supported) (q .supported)) (10 + k) (drop (10 + k) (B ++ Y)) s)) p n
+    met-trace own (B ++ Y) s (met-more own B Y m)
+    ∙ ap₂ (λ (q : Features) (k : ℕ). after (Banner q (revisionOf (own .supported) (q .supported))) (10 + k) s (frames (length (B ++ Y)) (revisionOf (own .supported) (q .supported)) (10 + k) (drop (10 + k) (B ++ Y)) s)) p n
 
 -- ---- the two ends
 
@@ -150,15 +182,20 @@ sent-is r l k =
 
 pub two-ends : TwoEnds
 unfolding TwoEnds
-two-ends own store l k ours fit fits cs ch t =
+two-ends own store l k ours fit fits behind cs ch t =
     let f = l .features in
     let r = revisionOf (own .supported) (f .supported) in
     let B : List ℕ = bannerBytes (f .supported) (f .required) in
-    let Y : List ℕ = allBytes r (l .builds) in
+    let A : List ℕ = allBytes r (l .builds) in
+    let Y : List ℕ = take (takenBy 0 cs - length (sentBy l)) behind in
     let b = bannered (f .supported) (f .required) (l .space) (l .queued) (l .written) (l .buffer) (k .banner) in
-    let a = length-append B Y in
-    reported own (sentBy l) store cs ch t
-    ∙ ap (λ (x : List ℕ). entriesOf own x store .entries) (sent-is r l k)
-    ∙ ap (λ (u : Told). u .entries) (banner-told own f Y store ours (b .ours) fit)
-    ∙ ap (λ (es : List Entry). entry (banner f r) bannerLength store ∷ es)
-    (builds-told (length (B ++ Y)) r bannerLength (l .buffer) (l .queued + l .written) (l .builds) store (k .builds) fits (omega arith))
+    let e = sent-is r l k in
+    let a = length-append A Y in
+    let a₂ = length-append B (A ++ Y) in
+    let place : bannerLength + length A ≡ length (sentBy l) = sym (ap length e ∙ length-append B A) in
+    reported own (sentBy l) behind store cs ch t
+    ∙ ap (λ (x : List ℕ). traceOf own x store .entries) (ap (λ (x : List ℕ). x ++ Y) e ∙ append-assoc B A Y)
+    ∙ ap (λ (u : Trace). u .entries) (banner-trace own f (A ++ Y) store ours (b .ours) fit)
+    ∙ ap (λ (es : List Entry). entry (Banner f r) bannerLength store ∷ es)
+    (builds-entries (length (B ++ (A ++ Y))) (length Y) r bannerLength (l .buffer) (l .queued + l .written) (l .builds) Y store (k .builds) fits (omega arith) (omega arith)
+    ∙ ap (λ (x : ℕ). allEntries r bannerLength store (l .builds) ++ frames (length Y) r x Y (storeAfterAll (l .builds) store) .entries) place)

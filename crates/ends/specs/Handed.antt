@@ -1,10 +1,10 @@
 -- Demand 2, "handed over exactly when": the checks of a frame at its place, said one beside the other, and the claim that a frame or a drop is reported there
--- if and only if they hold.
+-- if and only if they hold; and so with segment 1's early report (02, K1).
 use mathlib.Core.Path.{_≡_}
 use mathlib.Core.Logic.{_↔_}
 use mathlib.Core.List.{List, [], _∷_, _++_}
-use mathlib.Core.Bool.{Bool, true, false, not, cond}
-use Prim.Native.Nat.{ℕ, zero, suc, _+_, _*_, _≤_, _<_}
+use mathlib.Core.Bool.{Bool, true, false, not, cond, _&&_}
+use Prim.Native.Nat.{ℕ, zero, suc, _+_, _-_, _*_, _≤_, _<_}
 use lib.ListN.{length, take, drop, getD}
 use lib.Dec.{ltb, eqb}
 use Rattle.buffer.specs.Le.{numberAt}
@@ -14,41 +14,46 @@ use Rattle.refusal.specs.Refusals.{fine}
 use Rattle.banner.specs.declared.Features.{Features}
 use Rattle.banner.specs.declared.Revision.{Revision}
 use Rattle.banner.specs.declared.Revision.the-variants.{Msgr20, Msgr21}
+use Rattle.banner.specs.Banner.{judgeOwn}
 use Rattle.preamble.specs.declared.Header.{Header}
 use Rattle.preamble.specs.Layout.{total}
 use Rattle.preamble.specs.Judge.{headerOf, judgeShape, judgeFlags, judgeTag, judgeLimits, judgeStore}
 use Rattle.body.specs.declared.Late.{Late}
 use Rattle.body.specs.declared.Late.the-variants as late
-use Rattle.body.specs.Body.{segmentSum, cutInto, firstSumLength, noEpilogue, wireLength}
-use Rattle.body.specs.End.{lateOf, came}
-use Rattle.stream.specs.Stream.{What, banner, frame, aborted, refusal, Entry, entry, Told, zeroed, entriesOf}
-use Rattle.receiver.specs.Calls.{Call, Chained, takenBy, listOf}
+use Rattle.body.specs.Body.{segmentSum, cutInto, noFirstSum, firstSumLength, noEpilogue, wireLength}
+use Rattle.body.specs.End.{lateOf, segmentBytes}
+use Rattle.stream.specs.declared.Event.{Event}
+use Rattle.stream.specs.declared.Event.the-variants.{Banner, First, Frame, Dropped, Refused}
+use Rattle.stream.specs.Stream.{Entry, entry, zeroed, traceOf}
+use Rattle.receiver.specs.Calls.{Call, Chained, takenBy, listOf, refusedIn}
 use Rattle.receiver.specs.Step.{started}
-use Rattle.banner.specs.Banner.{judgeOwn}
 
 -- ---- places: where the next frame begins
 
--- frames and drops from byte P on, the last of which ends at byte n
-abbrev pub FramesUpToAt : What → Type 0 → Type 0
-FramesUpToAt (banner p r) later = ⊥
-FramesUpToAt (frame h) later = later
-FramesUpToAt (aborted h) later = later
-FramesUpToAt (refusal n) later = ⊥
+-- an entry, where a frame begins at P: a frame and a drop move that place to their last byte, an early report leaves it
+abbrev pub FramesUpToAt : Event → ℕ → ℕ → (ℕ → Type 0) → Type 0
+FramesUpToAt (Banner p r) P at later = ⊥
+FramesUpToAt (First h) P at later = later P
+FramesUpToAt (Frame h) P at later = later at
+FramesUpToAt (Dropped h) P at later = later at
+FramesUpToAt (Refused n) P at later = ⊥
 
+-- frames and drops from byte P on, the last of which ends at byte n
 abbrev pub FramesUpTo : ℕ → ℕ → List Entry → Type 0
 FramesUpTo n P [] = P ≡ n
-FramesUpTo n P (e ∷ es) = FramesUpToAt (e .what) (FramesUpTo n (e .at) es)
+FramesUpTo n P (e ∷ es) = FramesUpToAt (e .event) P (e .at) (λ Q. FramesUpTo n Q es)
 
-abbrev pub BannerUpTo : Revision → ℕ → What → ℕ → List Entry → Type 0
-BannerUpTo revision n (banner p r) at es = (r ≡ revision) × FramesUpTo n at es
-BannerUpTo revision n (frame h) at es = ⊥
-BannerUpTo revision n (aborted h) at es = ⊥
-BannerUpTo revision n (refusal m) at es = ⊥
+abbrev pub BannerUpTo : Revision → ℕ → Event → ℕ → List Entry → Type 0
+BannerUpTo revision n (Banner p r) at es = (r ≡ revision) × FramesUpTo n at es
+BannerUpTo revision n (First h) at es = ⊥
+BannerUpTo revision n (Frame h) at es = ⊥
+BannerUpTo revision n (Dropped h) at es = ⊥
+BannerUpTo revision n (Refused m) at es = ⊥
 
 -- a banner that chose the revision, and frames and drops behind it, up to byte n
 abbrev pub UpTo : Revision → ℕ → List Entry → Type 0
 UpTo revision n [] = ⊥
-UpTo revision n (e ∷ es) = BannerUpTo revision n (e .what) (e .at) es
+UpTo revision n (e ∷ es) = BannerUpTo revision n (e .event) (e .at) es
 
 -- ---- the checks of the frame at the front of X, in a store of n bytes
 
@@ -57,7 +62,7 @@ headerIn X = headerOf (take 32 X)
 
 -- the bytes of its segment k, counted from 0
 abbrev pub segmentOf : Revision → Header → ℕ → List ℕ → List ℕ
-segmentOf revision h k X = getD (cutInto (h .s1 .len ∷ h .s2 .len ∷ h .s3 .len ∷ h .s4 .len ∷ []) (came revision h (drop 32 X))) k []
+segmentOf revision h k X = getD (cutInto (h .s1 .len ∷ h .s2 .len ∷ h .s3 .len ∷ h .s4 .len ∷ []) (segmentBytes revision h (drop 32 X))) k []
 
 -- where the late byte stands behind the preamble, and the checksum of segment k
 abbrev pub latePlace : Revision → Header → ℕ
@@ -83,61 +88,107 @@ compared late.Aborted Msgr21 h zero = not (eqb (h .s1 .len) 0)
 compared late.Aborted Msgr21 h (suc k) = false
 compared late.Wrong revision h k = false
 
-pub record Checked (kind : Late) (revision : Revision) (X : List ℕ) (n : ℕ) : Type 0 where
-  -- all of it came
-  pub preamble : 32 ≤ length X
-  pub whole : wireLength revision (headerIn X) ≤ length X
-  -- the preamble's CRC32-C, and 01's checks of its fields
+-- its preamble: all of it arrived, its CRC32-C holds, and 01's checks of its fields
+pub record CheckedPreamble (X : List ℕ) (n : ℕ) : Type 0 where
+  pub arrived : 32 ≤ length X
   pub checksum : crcOf 0 (take 28 X) ≡ numberAt 4 28 X
   pub shape : judgeShape (headerIn X) ≡ fine
   pub flags : judgeFlags (getD X 26 0) (getD X 27 0) ≡ fine
   pub tag : judgeTag (headerIn X .tag) ≡ fine
   pub limits : judgeLimits (headerIn X) ≡ fine
   pub store : judgeStore (total (headerIn X)) n ≡ fine
+
+-- the whole frame
+pub record Checked (kind : Late) (revision : Revision) (X : List ℕ) (n : ℕ) : Type 0 where
+  pub preamble : CheckedPreamble X n
+  pub arrived : wireLength revision (headerIn X) ≤ length X
   -- complete or aborted
   pub late : lateIn revision (headerIn X) X ≡ kind
   -- the CRC32-C of each segment that is compared
   pub sums : (k : ℕ) → k < 4 → compared kind revision (headerIn X) k ≡ true
       → numberAt 4 (sumPlace revision (headerIn X) k) (drop 32 X) ≡ segmentSum (segmentOf revision (headerIn X) k X)
 
+-- segment 1 is reported early where it has a checksum behind it (in msgr2.1, unless it is empty) and more segments follow
+abbrev pub isEarly : Revision → Header → Bool
+isEarly revision h = not (noFirstSum revision h) && ltb 1 (h .count)
+
+-- and its own checksum arrived and holds
+pub record CheckedFirst (revision : Revision) (X : List ℕ) (n : ℕ) : Type 0 where
+  pub preamble : CheckedPreamble X n
+  pub early : isEarly revision (headerIn X) ≡ true
+  pub arrived : 36 + headerIn X .s1 .len ≤ length X
+  pub sum : numberAt 4 (headerIn X .s1 .len) (drop 32 X) ≡ segmentSum (take (headerIn X .s1 .len) (drop 32 X))
+
 -- ---- the claim
 
-abbrev pub isFrame : What → Bool
-isFrame (banner p r) = false
-isFrame (frame h) = true
-isFrame (aborted h) = false
-isFrame (refusal n) = false
+abbrev pub isFirst : Event → Bool
+isFirst (Banner p r) = false
+isFirst (First h) = true
+isFirst (Frame h) = false
+isFirst (Dropped h) = false
+isFirst (Refused n) = false
 
-abbrev pub isDrop : What → Bool
-isDrop (banner p r) = false
-isDrop (frame h) = false
-isDrop (aborted h) = true
-isDrop (refusal n) = false
+abbrev pub isFrame : Event → Bool
+isFrame (Banner p r) = false
+isFrame (First h) = false
+isFrame (Frame h) = true
+isFrame (Dropped h) = false
+isFrame (Refused n) = false
+
+abbrev pub isDrop : Event → Bool
+isDrop (Banner p r) = false
+isDrop (First h) = false
+isDrop (Frame h) = false
+isDrop (Dropped h) = true
+isDrop (Refused n) = false
 
 -- the first of some entries
-abbrev pub firstIs : (What → Bool) → List Entry → Bool
+abbrev pub firstIs : (Event → Bool) → List Entry → Bool
 firstIs is [] = false
-firstIs is (e ∷ es) = is (e .what)
+firstIs is (e ∷ es) = is (e .event)
+
+-- the entries behind an early report
+abbrev pub behindFirst : List Entry → List Entry
+behindFirst [] = []
+behindFirst (e ∷ es) = cond (isFirst (e .event)) es (e ∷ es)
 
 -- es are the entries from byte P on, where X is the rest of the stream and s the store
 pub record Exactly (revision : Revision) (P : ℕ) (X s : List ℕ) (es : List Entry) : Type 0 where
-  -- a frame is reported if and only if the checks hold: with its fields, at its last byte, its segments at the store's front
-  pub handed : firstIs isFrame es ≡ true ↔ Checked late.Complete revision X (length s)
-  pub frames : firstIs isFrame es ≡ true
-      → (later : List Entry) × (es ≡ entry (frame (headerIn X)) (P + wireLength revision (headerIn X)) (over (came revision (headerIn X) (drop 32 X)) s) ∷ later)
+  -- segment 1 is reported early if and only if its checks hold: with the frame's fields, at its checksum's last byte, its bytes at the store's front
+  pub first : firstIs isFirst es ≡ true ↔ CheckedFirst revision X (length s)
+  pub firsts : firstIs isFirst es ≡ true
+      → (later : List Entry) × (es ≡ entry (First (headerIn X)) (P + 36 + headerIn X .s1 .len) (over (take (headerIn X .s1 .len) (drop 32 X)) s) ∷ later)
+  -- behind that, a frame is reported if and only if the checks hold: with its fields, at its last byte, its segments at the store's front
+  pub handed : firstIs isFrame (behindFirst es) ≡ true ↔ Checked late.Complete revision X (length s)
+  pub frames : firstIs isFrame (behindFirst es) ≡ true
+      → (later : List Entry) × (behindFirst es ≡ entry (Frame (headerIn X)) (P + wireLength revision (headerIn X)) (over (segmentBytes revision (headerIn X) (drop 32 X)) s) ∷ later)
   -- and a drop, with zeros in the store's first T bytes
-  pub dropped : firstIs isDrop es ≡ true ↔ Checked late.Aborted revision X (length s)
-  pub drops : firstIs isDrop es ≡ true
-      → (later : List Entry) × (es ≡ entry (aborted (headerIn X)) (P + wireLength revision (headerIn X)) (zeroed (headerIn X) s) ∷ later)
+  pub dropped : firstIs isDrop (behindFirst es) ≡ true ↔ Checked late.Aborted revision X (length s)
+  pub drops : firstIs isDrop (behindFirst es) ≡ true
+      → (later : List Entry) × (behindFirst es ≡ entry (Dropped (headerIn X)) (P + wireLength revision (headerIn X)) (zeroed (headerIn X) s) ∷ later)
 
--- of the stream that begins with `front`, at whose end a frame begins, and goes on with X
-pub record HandedAt (own : Features) (front X store : List ℕ) (revision : Revision) : Type 0 where
+-- all are the entries of `front`, at whose end a frame begins, and then those of X
+pub record ExactlyBehind (own : Features) (front X store : List ℕ) (revision : Revision) (all : List Entry) : Type 0 where
   pub later : List Entry
-  pub entries : entriesOf own (front ++ X) store .entries ≡ entriesOf own front store .entries ++ later
-  pub exactly : Exactly revision (length front) X (entriesOf own front store .store) later
-  -- and so the receiver reports it, under any cutting
-  pub reports : (cs : List Call) → Chained (front ++ X) (started own) store 0 cs → takenBy 0 cs ≡ length (front ++ X)
-      → listOf (judgeOwn (own .supported) (own .required)) cs ≡ entriesOf own front store .entries ++ later
+  pub entries : all ≡ traceOf own front store .entries ++ later
+  pub exactly : Exactly revision (length front) X (traceOf own front store .store) later
+
+-- calls on front ++ X that took the bytes of the frame at the front of X, or every byte, or were refused
+pub data Through (own : Features) (front X : List ℕ) (revision : Revision) (cs : List Call) : Type 0 where
+  frame-taken : length front + wireLength revision (headerIn X) ≤ takenBy 0 cs → Through own front X revision cs
+  all-taken : takenBy 0 cs ≡ length (front ++ X) → Through own front X revision cs
+  refused : refusedIn (listOf (judgeOwn (own .supported) (own .required)) cs) ≡ true → Through own front X revision cs
+
+-- of the stream that begins with `front` and goes on with X
+pub record HandedAt (own : Features) (front X store : List ℕ) (revision : Revision) : Type 0 where
+  -- by the definition
+  pub defined : ExactlyBehind own front X store revision (traceOf own (front ++ X) store .entries)
+  -- by the receiver, under any cutting: by the bytes taken so far behind the front
+  pub taken : (cs : List Call) → Chained (front ++ X) (started own) store 0 cs → length front ≤ takenBy 0 cs
+      → ExactlyBehind own front (take (takenBy 0 cs - length front) X) store revision (listOf (judgeOwn (own .supported) (own .required)) cs)
+  -- and by X itself, once the frame's bytes are taken
+  pub reports : (cs : List Call) → Chained (front ++ X) (started own) store 0 cs → Through own front X revision cs
+      → ExactlyBehind own front X store revision (listOf (judgeOwn (own .supported) (own .required)) cs)
 
 unfoldable pub HandedOver : Type 0
-HandedOver = (own : Features) (front X store : List ℕ) (revision : Revision) → UpTo revision (length front) (entriesOf own front store .entries) → HandedAt own front X store revision
+HandedOver = (own : Features) (front X store : List ℕ) (revision : Revision) → UpTo revision (length front) (traceOf own front store .entries) → HandedAt own front X store revision

@@ -1,4 +1,4 @@
-use Rattle.ends.proofs.Handing.{handed-over}
+use Rattle.ends.proofs.Handover.{handed-over}
 use Rattle.ends.proofs.handed_over.Statement.{statement}
 use Rattle.ends.proofs.handed_over.Tie as tie
 

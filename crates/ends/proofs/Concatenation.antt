@@ -1,28 +1,23 @@
 -- Behind a front at whose end a frame begins, the list goes on with the frames of what follows.
-use Prim.Native.Nat.{ℕ, zero, suc, _+_, _-_, _≤_, _<_}
-use mathlib.Core.List.{List, [], _∷_, _++_, append-nil}
+use Prim.Native.Nat.{ℕ, zero, suc, _+_, _-_, _≤_}
+use mathlib.Core.List.{List, [], _∷_, _++_}
 use mathlib.Core.Path.{_≡_, refl, sym, ap, ap₂, _∙_}
-use mathlib.Core.Bool.{Bool, true, false, cond}
+use mathlib.Core.Bool.{Bool, true, false}
 use native.Mathlib.Omega.{arith}
-use native.Mathlib.Nat.{add-zero, add-assoc}
-use lib.ListN.{length, take, drop, replicate, length-append, length-drop, length-take, length-replicate}
-use lib.Seq.{take-append-le, drop-append-le}
-use lib.Dec.{leb, ltb}
-use borrow.Author.Tests.{le-ltb, ltb-true, ltb-false}
+use native.Mathlib.Nat.{add-zero}
+use lib.ListN.{length, take, drop, replicate, length-append, length-drop, length-replicate}
 use Rattle.buffer.specs.Splice.{over, length-over}
-use Rattle.refusal.specs.declared.Numbers.{Numbers}
-use Rattle.refusal.specs.Refusals.{Judged, fine, refused, row}
-use Rattle.banner.specs.declared.Features.{Features}
 use Rattle.banner.specs.declared.Revision.{Revision}
 use Rattle.preamble.specs.declared.Header.{Header}
 use Rattle.preamble.specs.Layout.{total}
-use Rattle.preamble.specs.Laws.{accepted-preamble}
-use Rattle.body.specs.Body.{restLength, firstSumLength, bodyLength, wireLength}
-use Rattle.body.specs.End.{Ended, whole, dropped, turnedAway, came}
-use Rattle.stream.specs.Stream.{What, frame, aborted, Entry, Told, ended, after, refusedAt, zeroed, atEnd, frames}
-use Rattle.receiver.proofs.Frames.{wire-parts}
-use Rattle.ends.specs.Handed.{headerIn, FramesUpTo}
-use Rattle.ends.proofs.Own.{length-came, Judges, told, told-more, Seen, nothing, refuses, hands, drops, seen}
+use Rattle.preamble.proofs.Laws.{accepted-preamble, store-fits}
+use Rattle.body.specs.Body.{bodyLength, wireLength}
+use Rattle.body.specs.End.{Ended, whole, dropped, turnedAway, segmentBytes}
+use Rattle.stream.specs.declared.Event.{Event}
+use Rattle.stream.specs.declared.Event.the-variants.{Frame, Dropped}
+use Rattle.stream.specs.Stream.{Trace, ended, after, refusedAt, zeroed, atEnd, frames}
+use Rattle.ends.specs.Handed.{headerIn, isEarly, FramesUpTo}
+use Rattle.ends.proofs.Locality.{length-segments, Judges, behindEarly, frame-trace, frame-trace-more, Seen, nothing, refuses, hands, drops, seen}
 
 -- ---- how many frames there may be does not matter, as long as it is enough
 
@@ -31,8 +26,8 @@ unfolding frames
 none zero r P s = refl
 none (suc f) r P s = refl
 
--- what is told of a frame, by its continuation
-at-end : (x : Ended) (h : Header) (at : ℕ) (s p : List ℕ) (next next′ : List ℕ → Told) → ((t : List ℕ) → next t ≡ next′ t) → atEnd x h at s p next ≡ atEnd x h at s p next′
+-- the end of a frame, by its continuation
+at-end : (x : Ended) (h : Header) (at : ℕ) (s p : List ℕ) (next next′ : List ℕ → Trace) → ((t : List ℕ) → next t ≡ next′ t) → atEnd x h at s p next ≡ atEnd x h at s p next′
 at-end whole h at s p next next′ e = ap (after _ at (over p s)) (e (over p s))
 at-end dropped h at s p next next′ e = ap (after _ at (zeroed h s)) (e (zeroed h s))
 at-end (turnedAway n) h at s p next next′ e = refl
@@ -44,13 +39,13 @@ behind r X f l h = (let d = length-drop (32 + bodyLength r (headerIn X)) X in om
 module _ (f g : ℕ) (ih : (r : Revision) (P : ℕ) (X s : List ℕ) → length X ≤ f → length X ≤ g → frames f r P X s ≡ frames g r P X s) where
   fuel-frame : {x : Ended} (r : Revision) (P : ℕ) (X s : List ℕ) → length X ≤ suc f → length X ≤ suc g → Judges x r X (length s) → frames (suc f) r P X s ≡ frames (suc g) r P X s
   fuel-frame {x} r P X s hf hg j =
-      told f P X s j
-      ∙ at-end x _ _ s _ _ _ (λ t. ih r _ _ t (behind r X f (j .front) hf) (behind r X g (j .front) hg))
-      ∙ sym (told g P X s j)
+      frame-trace f P X s j
+      ∙ ap (behindEarly (isEarly r (headerIn X)) P X s) (at-end x _ _ s _ _ _ (λ t. ih r _ _ t (behind r X f (j .front) hf) (behind r X g (j .front) hg)))
+      ∙ sym (frame-trace g P X s j)
 
   fuel-seen : (r : Revision) (P : ℕ) (X s : List ℕ) → length X ≤ suc f → length X ≤ suc g → Seen r P X s → frames (suc f) r P X s ≡ frames (suc g) r P X s
-  fuel-seen r P X s hf hg (nothing t e) = e f ∙ sym (e g)
-  fuel-seen r P X s hf hg (refuses n at t e) = e f ∙ sym (e g)
+  fuel-seen r P X s hf hg (nothing c t j e) = e f ∙ sym (e g)
+  fuel-seen r P X s hf hg (refuses c n at t j e) = e f ∙ sym (e g)
   fuel-seen r P X s hf hg (hands j) = fuel-frame r P X s hf hg j
   fuel-seen r P X s hf hg (drops j) = fuel-frame r P X s hf hg j
 
@@ -63,7 +58,7 @@ fuel (suc f) (suc g) r P X s hf hg = fuel-seen f g (fuel f g) r P X s hf hg (see
 
 -- ---- a front and what follows it
 
-abbrev pub joined : Told → Told → Told
+abbrev pub joined : Trace → Trace → Trace
 joined t u = record { entries = t .entries ++ u .entries; store = u .store }
 
 -- from byte P on: Y behind X, which ends where a frame does
@@ -74,16 +69,29 @@ pub record Goes (f : ℕ) (r : Revision) (P : ℕ) (X Y s : List ℕ) : Type 0 w
 goes-none : (f : ℕ) (r : Revision) (P : ℕ) (Y s : List ℕ) → Goes f r P [] Y s
 goes-none f r P Y s = record {
   goes = λ g k hg hk. rw (none f r P s, add-zero P) (fuel g k r P Y s hg hk);
-  same = ap (λ (t : Told). length (t .store)) (none f r P s);
+  same = ap (λ (t : Trace). length (t .store)) (none f r P s);
 }
 
 abbrev Lower : ℕ → Type 0
 Lower f = (r : Revision) (P : ℕ) (X Y s : List ℕ) → length X ≤ f → FramesUpTo (P + length X) P (frames f r P X s .entries) → Goes f r P X Y s
 
+-- an early report goes before
+early-joined : (c : Bool) (P : ℕ) (X s : List ℕ) (t u : Trace) → joined (behindEarly c P X s t) u ≡ behindEarly c P X s (joined t u)
+early-joined true P X s t u = refl
+early-joined false P X s t u = refl
+
+early-store : (c : Bool) (P : ℕ) (X s : List ℕ) (t : Trace) → behindEarly c P X s t .store ≡ t .store
+early-store true P X s t = refl
+early-store false P X s t = refl
+
+early-up : (c : Bool) (n P : ℕ) (X s : List ℕ) (t : Trace) → FramesUpTo n P (behindEarly c P X s t .entries) → FramesUpTo n P (t .entries)
+early-up true n P X s t u = u
+early-up false n P X s t u = u
+
 -- a frame or a drop, to byte Q, and what follows it
-module _ (f : ℕ) (ih : Lower f) (r : Revision) (P : ℕ) (X Y s : List ℕ) (w : What) (Q : ℕ) (X′ s′ : List ℕ)
-    (tells : frames (suc f) r P X s ≡ after w Q s′ (frames f r Q X′ s′))
-    (tells-more : (g : ℕ) → frames (suc g) r P (X ++ Y) s ≡ after w Q s′ (frames g r Q (X′ ++ Y) s′))
+module _ (f : ℕ) (ih : Lower f) (r : Revision) (P : ℕ) (X Y s : List ℕ) (c : Bool) (w : Event) (Q : ℕ) (X′ s′ : List ℕ)
+    (gives : frames (suc f) r P X s ≡ behindEarly c P X s (after w Q s′ (frames f r Q X′ s′)))
+    (gives-more : (g : ℕ) → frames (suc g) r P (X ++ Y) s ≡ behindEarly c P X s (after w Q s′ (frames g r Q (X′ ++ Y) s′)))
     (place : Q + length X′ ≡ P + length X)
     (less : 32 + length X′ ≤ length X)
     (enough : length X ≤ suc f)
@@ -92,18 +100,27 @@ module _ (f : ℕ) (ih : Lower f) (r : Revision) (P : ℕ) (X Y s : List ℕ) (w
   below : Goes f r Q X′ Y s′
   below = ih r Q X′ Y s′ (omega arith) (rw place up)
 
+  store-is : frames (suc f) r P X s .store ≡ frames f r Q X′ s′ .store
+  store-is = ap (λ (t : Trace). t .store) gives ∙ early-store c P X s (after w Q s′ (frames f r Q X′ s′))
+
   goes-on : (g k : ℕ) → length (X ++ Y) ≤ g → length Y ≤ k → frames g r P (X ++ Y) s ≡ joined (frames (suc f) r P X s) (frames k r (P + length X) Y (frames (suc f) r P X s .store))
   goes-on zero k hg hk = (let a = length-append X Y in absurd (omega arith))
   goes-on (suc g) k hg hk =
       let a = length-append X Y in
       let a′ = length-append X′ Y in
-      rw (tells, ← place)
-      (tells-more g ∙ ap (after w Q s′) (below .goes g k (omega arith) hk))
+      let T : Trace = frames f r Q X′ s′ in
+      let U : Trace = frames k r (Q + length X′) Y (T .store) in
+      let W : Trace = frames k r (P + length X) Y (frames (suc f) r P X s .store) in
+      let e : U ≡ W = ap₂ (λ (n : ℕ) (t : List ℕ). frames k r n Y t) place (sym store-is) in
+      gives-more g
+      ∙ ap (λ (t : Trace). behindEarly c P X s (after w Q s′ t)) (below .goes g k (omega arith) hk)
+      ∙ sym (early-joined c P X s (after w Q s′ T) U)
+      ∙ ap₂ joined (sym gives) e
 
   goes-step : Goes (suc f) r P X Y s
   goes-step = record {
     goes = goes-on;
-    same = ap (λ (t : Told). length (t .store)) tells ∙ below .same ∙ kept;
+    same = ap length store-is ∙ below .same ∙ kept;
   }
 
 module _ (f : ℕ) (ih : Lower f) (r : Revision) (P : ℕ) (X Y s : List ℕ) (enough : length X ≤ suc f) where
@@ -119,7 +136,6 @@ module _ (f : ℕ) (ih : Lower f) (r : Revision) (P : ℕ) (X Y s : List ℕ) (e
     frame-place =
         let d₁ = length-drop 32 X in
         let d₂ = length-drop (32 + bodyLength r h) X in
-        let w = wire-parts r h in
         omega arith
 
     frame-less : 32 + length X′ ≤ length X
@@ -128,32 +144,32 @@ module _ (f : ℕ) (ih : Lower f) (r : Revision) (P : ℕ) (X Y s : List ℕ) (e
   goes-whole : Judges whole r X (length s) → FramesUpTo (P + length X) P (frames (suc f) r P X s .entries) → Goes (suc f) r P X Y s
   goes-whole j up =
       let t = total h in
-      let c : length (came r h (drop 32 X)) ≡ t = length-came r h (drop 32 X) [] (j .long) in
-      let e = told f P X s j in
-      goes-step f ih r P X Y s (frame h) (P + wireLength r h) X′ (over (came r h (drop 32 X)) s) e (λ g. told-more g P X Y s j)
+      let c : length (segmentBytes r h (drop 32 X)) ≡ t = length-segments r h (drop 32 X) [] (j .long) in
+      let e = frame-trace f P X s j in
+      goes-step f ih r P X Y s (isEarly r h) (Frame h) (P + wireLength r h) X′ (over (segmentBytes r h (drop 32 X)) s) e (λ g. frame-trace-more g P X Y s j)
       (frame-place (j .front) (j .long)) (frame-less (j .front) (j .long)) enough
-      (length-over (came r h (drop 32 X)) s (let a = accepted-preamble (take 32 X) (length s) (j .accepted) .fits in omega arith))
-      (rw e at up)
+      (length-over (segmentBytes r h (drop 32 X)) s (let a : total h ≤ length s = store-fits (accepted-preamble (take 32 X) (length s) (j .accepted) .store) in omega arith))
+      (early-up (isEarly r h) (P + length X) P X s _ (rw e at up))
 
   goes-dropped : Judges dropped r X (length s) → FramesUpTo (P + length X) P (frames (suc f) r P X s .entries) → Goes (suc f) r P X Y s
   goes-dropped j up =
       let z : length {A = ℕ} (replicate (total h) 0) ≡ total h = length-replicate {A = ℕ} (total h) 0 in
-      let e = told f P X s j in
-      goes-step f ih r P X Y s (aborted h) (P + wireLength r h) X′ (zeroed h s) e (λ g. told-more g P X Y s j)
+      let e = frame-trace f P X s j in
+      goes-step f ih r P X Y s (isEarly r h) (Dropped h) (P + wireLength r h) X′ (zeroed h s) e (λ g. frame-trace-more g P X Y s j)
       (frame-place (j .front) (j .long)) (frame-less (j .front) (j .long)) enough
-      (length-over (replicate (total h) 0) s (let a = accepted-preamble (take 32 X) (length s) (j .accepted) .fits in omega arith))
-      (rw e at up)
+      (length-over (replicate (total h) 0) s (let a : total h ≤ length s = store-fits (accepted-preamble (take 32 X) (length s) (j .accepted) .store) in omega arith))
+      (early-up (isEarly r h) (P + length X) P X s _ (rw e at up))
 
   goes-seen : Seen r P X s → FramesUpTo (P + length X) P (frames (suc f) r P X s .entries) → Goes (suc f) r P X Y s
-  goes-seen (nothing t e) up = at-once X refl
+  goes-seen (nothing c t j e) up = at-once X refl
     where
       at-once : (Z : List ℕ) → X ≡ Z → Goes (suc f) r P X Y s
       at-once [] z = rw z (goes-none (suc f) r P Y s)
       at-once (b ∷ bs) z =
-          let u : P ≡ P + length X = rw (e f) at up in
+          let u : P ≡ P + length X = early-up c (P + length X) P X s (ended t) (rw (e f) at up) in
           let n : length X ≡ suc (length bs) = ap length z in
           absurd (omega arith)
-  goes-seen (refuses n at t e) up = absurd (rw (e f) at up)
+  goes-seen (refuses c n at t j e) up = absurd (early-up c (P + length X) P X s (refusedAt n at t) (rw (e f) at up))
   goes-seen (hands j) up = goes-whole j up
   goes-seen (drops j) up = goes-dropped j up
 

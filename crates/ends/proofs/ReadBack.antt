@@ -1,0 +1,338 @@
+-- A built frame is read back: its judgements come to a frame, or to a drop where it was built aborted.
+use Prim.Native.Nat.{ℕ, suc, _+_, _-_, _^_, _≤_, _<_}
+use mathlib.Core.List.{List, [], _∷_, _++_, append-nil}
+use mathlib.Core.Path.{_≡_, refl, sym, ap, ap₂, _∙_}
+use mathlib.Core.Bool.{Bool, true, false, not, cond, true≢false}
+use native.Mathlib.Omega.{arith}
+use lib.ListN.{length, take, drop, getD, replicate, length-append, length-drop, length-take, length-replicate, take-append-drop, drop-of-length-le, getD-replicate, List·getD-eq-default}
+use lib.Seq.{take-at, drop-at, take-append-le, drop-append-le, getD-take, getD-drop, length-take-le}
+use lib.Dec.{lit<, leb, ltb, eqb}
+use borrow.Author.Tests.{ltb-true, ltb-false, le-leb, leb-true, eq-eqb, eqb-true}
+use Rattle.buffer.specs.Splice.{over}
+use Rattle.buffer.specs.Le.{le, leOf, numberAt, leOf-le, Bytes}
+use Rattle.crc32c.specs.Laws.{crc-lt}
+use Rattle.refusal.specs.declared.Refusal.the-variants as refusal
+use Rattle.refusal.specs.Refusals.{fine, orElse}
+use Rattle.refusal.proofs.Judgements.{all-fine, passed}
+use Rattle.banner.specs.declared.Revision.{Revision}
+use Rattle.banner.specs.declared.Revision.the-variants.{Msgr20, Msgr21}
+use Rattle.preamble.specs.declared.Header.{Header}
+use Rattle.preamble.specs.declared.Preamble.{Preamble}
+use Rattle.preamble.specs.Layout.{total, preambleBytes}
+use Rattle.preamble.specs.Judge.{headerOf, preambleOf, judgeChecksum, shapeFault, judgeShape, judgeTag, judgeLimits, judgeHeader, judgeFields, judgePreamble}
+use Rattle.preamble.specs.Reading.{HeaderFits, laidOut, ReadsBack}
+use Rattle.preamble.proofs.Laws.{length-preamble}
+use Rattle.preamble.proofs.Back as preamble
+use Rattle.body.specs.Body.{segmentSum, cutInto, segments, field, restLength, words, lateByte, epilogue, firstSum, firstSumLength, bodyLength, wireLength, body, restSent, frameBytes}
+use Rattle.body.specs.End as end
+use Rattle.body.specs.End.{Ended, whole, dropped, compareFrom, segmentBytes, stored, ending}
+use Rattle.body.proofs.Laws.{length-sent, length-first-sum, length-frame}
+use Rattle.builder.specs.Build.{judgeAbort}
+use Rattle.builder.proofs.Accepted.{Accepted}
+use Rattle.stream.specs.declared.Event.the-variants.{Frame, Dropped}
+use Rattle.stream.specs.Stream.{Trace, after, reportedFirst, zeroed, firstWrong, atEnd, frames}
+use Rattle.ends.specs.Handed.{isEarly}
+use Rattle.ends.proofs.Locality.{number-append, Judges, frame-trace-more}
+use Rattle.ends.proofs.Sums.{same-sums}
+use Rattle.ends.proofs.Checks.{first-fine}
+
+-- ---- bytes
+
+bytes-take : (n : ℕ) {l : List ℕ} → Bytes l → Bytes (take n l)
+bytes-take n {l} h = record { at = λ i. go i (ltb i n) refl }
+  where
+    go : (i : ℕ) (c : Bool) → ltb i n ≡ c → getD (take n l) i 0 < 256
+    go i true c = rw (getD-take n l i 0 (ltb-true i n c)) (h .at i)
+    go i false c =
+        let k = ltb-false i n c in
+        let m = length-take n l in
+        rw (List·getD-eq-default (take n l) 0 {n = i} (omega arith)) (lit< tt)
+
+bytes-drop : (n : ℕ) {l : List ℕ} → Bytes l → Bytes (drop n l)
+bytes-drop n {l} h = record { at = λ i. rw (getD-drop n l i 0) (h .at (n + i)) }
+
+bytes-zeros : (n : ℕ) → Bytes (replicate n 0)
+bytes-zeros n = record { at = λ i. go i (ltb i n) refl }
+  where
+    go : (i : ℕ) (c : Bool) → ltb i n ≡ c → getD (replicate n 0) i 0 < 256
+    go i true c = rw (getD-replicate {A = ℕ} n i 0 0 (ltb-true i n c)) (lit< tt)
+    go i false c =
+        let k = ltb-false i n c in
+        let m = length-replicate {A = ℕ} n 0 in
+        rw (List·getD-eq-default {A = ℕ} (replicate n 0) 0 {n = i} (omega arith)) (lit< tt)
+
+sum-lt : {l : List ℕ} → Bytes l → segmentSum l < 2 ^ 32
+sum-lt {l} h = crc-lt 0xFFFFFFFF l (lit< tt) (h .at)
+
+field-lt : (count k : ℕ) {l : List ℕ} → Bytes l → field count k l < 2 ^ 32
+field-lt count k {l} h = go (leb k count)
+  where
+    go : (c : Bool) → cond c (segmentSum l) 0 < 2 ^ 32
+    go true = sum-lt h
+    go false = lit< tt
+
+-- ---- segment 1, what stands behind it in msgr2.1, the rest, the epilogue
+
+module _ (r : Revision) (h : Header) (first mid rest last : List ℕ) (e₁ : length first ≡ h .s1 .len) (e₂ : length mid ≡ firstSumLength r h) (e₃ : length rest ≡ restLength h) where
+  a₁ : length (first ++ mid) ≡ h .s1 .len + firstSumLength r h
+  a₁ = length-append first mid ∙ ap₂ _+_ e₁ e₂
+
+  a₂ : length (first ++ mid ++ rest) ≡ total h + firstSumLength r h
+  a₂ = length-append (first ++ mid) rest ∙ omega (arith, a₁, e₃)
+
+  first-part : take (h .s1 .len) (first ++ mid ++ rest ++ last) ≡ first
+  first-part =
+      let n = h .s1 .len in
+      take-append-le n (first ++ mid ++ rest) last (omega (arith, a₂)) ∙ take-append-le n (first ++ mid) rest (omega (arith, a₁)) ∙ take-at first mid n e₁
+
+  segment-parts : segmentBytes r h (first ++ mid ++ rest ++ last) ≡ first ++ rest
+  segment-parts =
+      let k = h .s1 .len + firstSumLength r h in
+      ap₂ _++_
+      first-part
+      (ap (take (restLength h)) (drop-append-le k (first ++ mid ++ rest) last (omega (arith, a₂)) ∙ ap (λ (t : List ℕ). t ++ last) (drop-at (first ++ mid) rest k a₁)) ∙ take-at rest last (restLength h) e₃)
+
+  last-part : drop (total h + firstSumLength r h) (first ++ mid ++ rest ++ last) ≡ last
+  last-part = drop-at (first ++ mid ++ rest) last (total h + firstSumLength r h) a₂
+
+-- a number behind the first part
+number-mid : (first rest last : List ℕ) (v n : ℕ) → length first ≡ n → v < 2 ^ 32 → numberAt 4 n (first ++ le 4 v ++ rest ++ last) ≡ v
+unfolding numberAt
+number-mid first rest last v n e lt =
+    let m : List ℕ = le 4 v in
+    let a₁ : length (first ++ m) ≡ n + 4 = length-append first m ∙ ap (λ (k : ℕ). k + 4) e in
+    let a₂ = length-append (first ++ m) rest in
+    number-append 4 n (first ++ m ++ rest) last (omega arith)
+    ∙ number-append 4 n (first ++ m) rest (omega arith)
+    ∙ ap (λ (t : List ℕ). leOf (take 4 t)) (drop-at first m n e)
+    ∙ leOf-le 4 v lt
+
+-- ---- the preamble
+
+fields-fine : (h : Header) (n : ℕ) → judgeHeader h ≡ fine → total h ≤ n → judgeFields (laidOut h) n ≡ fine
+unfolding judgeHeader judgeFields
+fields-fine h n e l =
+    let f = all-fine (judgeShape h ∷ judgeTag (h .tag) ∷ judgeLimits h ∷ []) e in
+    rw (f .0, f .1 .0, f .1 .1 .0, le-leb (total h) n l)
+
+record Front (h : Header) (n : ℕ) : Type 0 where
+  header : headerOf (preambleBytes h) ≡ h
+  accepted : judgePreamble (preambleBytes h) n ≡ fine
+
+front-back : (h : Header) (n : ℕ) → HeaderFits h → judgeHeader h ≡ fine → total h ≤ n → Front h n
+unfolding ReadsBack judgePreamble
+front-back h n f e l =
+    let b = preamble.reads-back h [] f in
+    let a = sym (append-nil (preambleBytes h)) in
+    let fields = ap preambleOf a ∙ b .fields in
+    record {
+      header = ap (λ (p : Preamble). p .header) fields;
+      accepted = ap₂ orElse (ap judgeChecksum a ∙ b .checked) (ap (λ (p : Preamble). judgeFields p n) fields) ∙ fields-fine h n e l;
+    }
+
+shape-fine : (h : Header) → judgeHeader h ≡ fine → shapeFault h ≡ 0
+unfolding judgeHeader
+shape-fine h e = eqb-true (shapeFault h) 0 (passed (eqb (shapeFault h) 0) (refusal.Shape (shapeFault h)) (all-fine (judgeShape h ∷ judgeTag (h .tag) ∷ judgeLimits h ∷ []) e .0))
+
+no-count : (h : Header) → shapeFault h ≡ 0 → leb 1 (h .count) ≡ false → ⊥
+unfolding shapeFault
+no-count h e c = (let w : _≡_ {A = ℕ} 1 0 = rw c at e in omega arith)
+
+count-least : (h : Header) → judgeHeader h ≡ fine → 1 ≤ h .count
+count-least h e = go (leb 1 (h .count)) refl
+  where
+    go : (c : Bool) → leb 1 (h .count) ≡ c → 1 ≤ h .count
+    go true c = leb-true 1 (h .count) c
+    go false c = absurd (no-count h (shape-fine h e) c)
+
+-- an aborted frame of msgr2.1 has more than one segment
+only-whole : (h : Header) (abort : Bool) → judgeHeader h ≡ fine → judgeAbort Msgr21 (h .count) abort ≡ fine → leb (h .count) 1 ≡ true → abort ≡ false
+only-whole h false e a c = refl
+only-whole h true e a c =
+    let k = leb-true (h .count) 1 c in
+    let m = count-least h e in
+    let one : eqb (h .count) 1 ≡ true = eq-eqb (h .count) 1 (omega arith) in
+    absurd (true≢false (sym (passed (not (eqb (h .count) 1)) refusal.AbortOneSegment a) ∙ ap not one))
+
+-- ---- an epilogue's fields
+
+stored20 : (late a b c d : ℕ) → a < 2 ^ 32 → b < 2 ^ 32 → c < 2 ^ 32 → d < 2 ^ 32 → stored Msgr20 (late ∷ words (a ∷ b ∷ c ∷ d ∷ [])) ≡ a ∷ b ∷ c ∷ d ∷ []
+unfolding numberAt
+stored20 late a b c d la lb lc ld = rw (leOf-le 4 a la, leOf-le 4 b lb, leOf-le 4 c lc, leOf-le 4 d ld)
+
+stored21 : (late b c d : ℕ) → b < 2 ^ 32 → c < 2 ^ 32 → d < 2 ^ 32 → stored Msgr21 (late ∷ words (b ∷ c ∷ d ∷ [])) ≡ b ∷ c ∷ d ∷ []
+unfolding numberAt
+stored21 late b c d lb lc ld = rw (leOf-le 4 b lb, leOf-le 4 c lc, leOf-le 4 d ld)
+
+abbrev ends-as : Bool → Ended
+ends-as abort = cond abort dropped whole
+
+module _ (h : Header) (first rest : List ℕ) (e₁ : length first ≡ h .s1 .len) (bf : Bytes first) (br : Bytes rest) where
+  abbrev f1 : ℕ
+  f1 = field (h .count) 1 first
+
+  abbrev f2 : ℕ
+  f2 = field (h .count) 2 (take (h .s2 .len) rest)
+
+  abbrev f3 : ℕ
+  f3 = field (h .count) 3 (take (h .s3 .len) (drop (h .s2 .len) rest))
+
+  abbrev f4 : ℕ
+  f4 = field (h .count) 4 (take (h .s4 .len) (drop (h .s3 .len) (drop (h .s2 .len) rest)))
+
+  -- they are 32-bit numbers
+  lt2 : f2 < 2 ^ 32
+  lt2 = field-lt (h .count) 2 (bytes-take (h .s2 .len) br)
+
+  lt3 : f3 < 2 ^ 32
+  lt3 = field-lt (h .count) 3 (bytes-take (h .s3 .len) (bytes-drop (h .s2 .len) br))
+
+  lt4 : f4 < 2 ^ 32
+  lt4 = field-lt (h .count) 4 (bytes-take (h .s4 .len) (bytes-drop (h .s3 .len) (bytes-drop (h .s2 .len) br)))
+
+  read20 : (late : ℕ) → end.compared Msgr20 h (late ∷ words (f1 ∷ f2 ∷ f3 ∷ f4 ∷ [])) (first ++ rest) ≡ fine
+  read20 late =
+      ap₂ (λ (fs : List ℕ) (ss : List (List ℕ)). compareFrom (h .count) 1 fs ss)
+      (stored20 late f1 f2 f3 f4 (field-lt (h .count) 1 bf) lt2 lt3 lt4)
+      (ap₂ (segments h) (take-at first rest (h .s1 .len) e₁) (drop-at first rest (h .s1 .len) e₁))
+      ∙ same-sums (h .count) 1 (segments h first rest)
+
+  read21 : (late : ℕ) → end.compared Msgr21 h (late ∷ words (f2 ∷ f3 ∷ f4 ∷ [])) (first ++ rest) ≡ fine
+  read21 late =
+      ap₂ (λ (fs : List ℕ) (ss : List (List ℕ)). compareFrom (h .count) 2 fs ss)
+      (stored21 late f2 f3 f4 lt2 lt3 lt4)
+      (ap (cutInto (h .s2 .len ∷ h .s3 .len ∷ h .s4 .len ∷ [])) (drop-at first rest (h .s1 .len) e₁))
+      ∙ same-sums (h .count) 2 (cutInto (h .s2 .len ∷ h .s3 .len ∷ h .s4 .len ∷ []) rest)
+
+  ends20 : (abort : Bool) → ending Msgr20 h (epilogue Msgr20 h (lateByte Msgr20 abort) first rest) (first ++ rest) ≡ ends-as abort
+  unfolding ending
+  ends20 true = refl
+  ends20 false = ap end.endedBy (read20 0)
+
+  -- with an epilogue, and without one, which an aborted frame always has
+  ends21 : (abort : Bool) → leb (h .count) 1 ≡ false → ending Msgr21 h (epilogue Msgr21 h (lateByte Msgr21 abort) first rest) (first ++ rest) ≡ ends-as abort
+  unfolding ending
+  ends21 true c = rw c
+  ends21 false c = rw c (ap end.endedBy (read21 0x0E))
+
+  none21 : leb (h .count) 1 ≡ true → ending Msgr21 h (epilogue Msgr21 h (lateByte Msgr21 false) first rest) (first ++ rest) ≡ whole
+  unfolding ending
+  none21 c = rw c
+
+  ends : (r : Revision) (abort : Bool) → judgeHeader h ≡ fine → judgeAbort r (h .count) abort ≡ fine
+      → ending r h (epilogue r h (lateByte r abort) first rest) (first ++ rest) ≡ ends-as abort
+  ends Msgr20 abort e a = ends20 abort
+  ends Msgr21 abort e a = go (leb (h .count) 1) refl
+    where
+      go : (c : Bool) → leb (h .count) 1 ≡ c → ending Msgr21 h (epilogue Msgr21 h (lateByte Msgr21 abort) first rest) (first ++ rest) ≡ ends-as abort
+      go true c = (let o = only-whole h abort e a c in rw o (none21 c))
+      go false c = ends21 abort c
+
+-- ---- segment 1's own checksum
+
+sum-back : (r : Revision) (h : Header) (first rest last : List ℕ) → length first ≡ h .s1 .len → length rest ≡ restLength h → Bytes first
+    → firstWrong r h (first ++ firstSum r h first ++ rest ++ last) ≡ false
+sum-back r h first rest last e₁ e₃ bf =
+    first-fine r h (first ++ firstSum r h first ++ rest ++ last)
+    (λ u.
+    let c : firstSum r h first ≡ le 4 (segmentSum first) = ap (λ (b : Bool). cond b [] (le 4 (segmentSum first))) u in
+    ap (λ (m : List ℕ). numberAt 4 (h .s1 .len) (first ++ m ++ rest ++ last)) c
+    ∙ number-mid first rest last (segmentSum first) (h .s1 .len) e₁ (sum-lt bf)
+    ∙ ap segmentSum (sym (first-part r h first (firstSum r h first) rest last e₁ (length-first-sum r h first) e₃)))
+
+-- ---- the whole frame
+
+module _ {space queued : ℕ} (r : Revision) (h : Header) (abort : Bool) (source : List ℕ) (a : Accepted r h abort (length source) space queued) (fits : HeaderFits h) (bytes : Bytes source) where
+  abbrev first : List ℕ
+  first = take (h .s1 .len) source
+
+  abbrev rest : List ℕ
+  rest = restSent abort (drop (h .s1 .len) source)
+
+  abbrev mid : List ℕ
+  mid = firstSum r h first
+
+  abbrev last : List ℕ
+  last = epilogue r h (lateByte r abort) first rest
+
+  abbrev X : List ℕ
+  X = frameBytes r h abort source
+
+  abbrev B : List ℕ
+  B = first ++ mid ++ rest ++ last
+
+  length-first : length first ≡ h .s1 .len
+  length-first = (let e = a .whole in length-take-le (h .s1 .len) source (omega arith))
+
+  length-rest : length rest ≡ restLength h
+  length-rest = (let e = a .whole in length-sent abort (drop (h .s1 .len) source) ∙ length-drop (h .s1 .len) source ∙ omega arith)
+
+  rest-bytes : Bytes rest
+  rest-bytes = go abort
+    where
+      go : (b : Bool) → Bytes (restSent b (drop (h .s1 .len) source))
+      go true = bytes-zeros (length (drop (h .s1 .len) source))
+      go false = bytes-drop (h .s1 .len) bytes
+
+  frame-is : X ≡ preambleBytes h ++ B
+  unfolding frameBytes body
+  frame-is = refl
+
+  take-front : take 32 X ≡ preambleBytes h
+  take-front = ap (take 32) frame-is ∙ take-at (preambleBytes h) B 32 (length-preamble h)
+
+  drop-front : drop 32 X ≡ B
+  drop-front = ap (drop 32) frame-is ∙ drop-at (preambleBytes h) B 32 (length-preamble h)
+
+  length-X : length X ≡ 32 + bodyLength r h
+  length-X = length-frame r h abort source (a .whole)
+
+  segments-back : segmentBytes r h (drop 32 X) ≡ first ++ rest
+  segments-back = ap (segmentBytes r h) drop-front ∙ segment-parts r h first mid rest last length-first (length-first-sum r h first) length-rest
+
+  first-back : take (h .s1 .len) (drop 32 X) ≡ first
+  first-back = ap (take (h .s1 .len)) drop-front ∙ first-part r h first mid rest last length-first (length-first-sum r h first) length-rest
+
+  module _ (n : ℕ) (room : total h ≤ n) where
+    header-is : headerOf (take 32 X) ≡ h
+    header-is = ap headerOf take-front ∙ front-back h n fits (a .header) room .header
+
+    ends-so : ending r h (drop (total h + firstSumLength r h) (drop 32 X)) (segmentBytes r h (drop 32 X)) ≡ ends-as abort
+    ends-so =
+        ap₂ (ending r h)
+        (ap (drop (total h + firstSumLength r h)) drop-front ∙ last-part r h first mid rest last length-first (length-first-sum r h first) length-rest)
+        segments-back
+        ∙ ends h first rest length-first (bytes-take (h .s1 .len) bytes) rest-bytes r abort (a .header) (a .late)
+
+    judges : Judges (ends-as abort) r X n
+    judges =
+        let d = length-drop 32 X in
+        let e = length-X in
+        record {
+          front = omega arith;
+          accepted = rw take-front (front-back h n fits (a .header) room .accepted);
+          long = rw header-is (omega arith);
+          first = rw (header-is, drop-front) (sum-back r h first rest last length-first length-rest (bytes-take (h .s1 .len) bytes));
+          end = rw header-is ends-so;
+        }
+
+-- the end, by how the frame was built
+end-as : (h : Header) (abort : Bool) (at : ℕ) (s source : List ℕ) (next : List ℕ → Trace)
+    → atEnd (ends-as abort) h at s (take (h .s1 .len) source ++ restSent abort (drop (h .s1 .len) source)) next
+    ≡ after (cond abort (Dropped h) (Frame h)) at (cond abort (zeroed h s) (over source s)) (next (cond abort (zeroed h s) (over source s)))
+end-as h true at s source next = refl
+end-as h false at s source next = ap (λ (p : List ℕ). after (Frame h) at (over p s) (next (over p s))) (take-append-drop (h .s1 .len) source)
+
+-- the definition reports it, and goes on behind it
+pub built-trace : {space queued : ℕ} (f : ℕ) (r : Revision) (P : ℕ) (h : Header) (abort : Bool) (source Y s : List ℕ)
+    → Accepted r h abort (length source) space queued → HeaderFits h → Bytes source → total h ≤ length s
+    → frames (suc f) r P (frameBytes r h abort source ++ Y) s
+    ≡ reportedFirst (isEarly r h) h (P + 36 + h .s1 .len) (over (take (h .s1 .len) source) s)
+    (after (cond abort (Dropped h) (Frame h)) (P + wireLength r h) (cond abort (zeroed h s) (over source s)) (frames f r (P + wireLength r h) Y (cond abort (zeroed h s) (over source s))))
+built-trace f r P h abort source Y s a fits bytes room =
+    let X : List ℕ = frameBytes r h abort source in
+    let t = frame-trace-more f P X Y s (judges r h abort source a fits bytes (length s) room) in
+    let e = length-X r h abort source a fits bytes in
+    let z : drop (32 + bodyLength r h) X ≡ [] = drop-of-length-le X {i = 32 + bodyLength r h} (omega arith) in
+    rw (header-is r h abort source a fits bytes (length s) room, segments-back r h abort source a fits bytes, first-back r h abort source a fits bytes, z) at t
+    ∙ ap (reportedFirst (isEarly r h) h (P + 36 + h .s1 .len) (over (take (h .s1 .len) source) s)) (end-as h abort (P + wireLength r h) s source (λ t. frames f r (P + wireLength r h) Y t))
