@@ -1,13 +1,204 @@
--- Bytes that are moved to the front of a list, one by one and all of them.
-use mathlib.Core.Path.{_≡_, sym, ap, _∙_}
-use mathlib.Core.List.{List, _++_}
-use Prim.Native.Nat.{ℕ, _+_, _-_, _≤_, _<_}
-use native.Mathlib.Nat.{add-comm}
+-- Laws of records: buffers that count up, steps, calls, and bytes that are moved to the front of a list.
+use mathlib.Core.Path.{_≡_, refl, sym, ap, ap₂, _∙_}
+use mathlib.Core.Bool.{Bool, true, false, _&&_}
+use mathlib.Core.List.{List, [], _∷_, _++_, append-assoc, append-nil}
+use Prim.Native.Nat.{ℕ, zero, suc, _+_, _-_, _%_, _≤_, _<_}
+use native.Mathlib.Nat.{add-comm, not-suc-le-zero}
+use native.Mathlib.Numerals.{add-one}
 use native.Mathlib.Omega.{arith}
-use lib.ListN.{length, take, drop, getD, set, length-drop}
-use lib.Seq.{getD-append-add, getD-drop, length-take-le, take-at}
+use borrow.Author.Tests.{leb-true}
+use lib.Dec.{ltb, leb, eqb}
+use lib.ListN.{length, take, drop, getD, set, length-drop, length-append, drop-of-length-le}
+use lib.Seq.{getD-append-add, getD-drop, length-take-le, take-at, take-all, drop-cons, drop-drop, drop-length, set-at}
 use Rattle.buffer.proofs.Turn.{copy-more}
 use Rattle.buffer.specs.Splice.{back}
+use Rattle.buffer.specs.Le.{numberAt}
+use Rattle.crc32c.specs.Crc.{crcOf}
+use Rattle.builder.specs.declared.Built.{Built}
+use Rattle.builder.specs.Build.{Done, done, answered, bannerDone, frameDone}
+use Rattle.receiver.specs.declared.State.{State}
+use Rattle.receiver.specs.Step.{Answer, answer, started}
+use Rattle.refusal.specs.Refusals.{Judged}
+use Rattle.banner.specs.declared.Features.{Features}
+use Rattle.banner.specs.declared.Revision.{Revision}
+use Rattle.banner.specs.Banner.{judgeOwn}
+use Rattle.preamble.specs.declared.Header.{Header}
+use Rattle.preamble.specs.Judge.{headerOf}
+use Rattle.text.specs.Line.{Piece}
+use Rattle.text.specs.Page.{Page, page}
+use Rattle.cases.specs.declared.Step.{Step}
+use Rattle.cases.specs.declared.calls.Call.{Call}
+use Rattle.cases.specs.declared.calls.Called.{Called}
+use Rattle.cases.specs.Records.{Did, sized, allowed, whole, isWhole, badRecord, print, prints, counted}
+use Rattle.cases.specs.Builds.{answerLine, doneLine, bannerSize, bannerDoneOf, revisionOf, frameSize, frameDoneOf}
+use Rattle.cases.specs.Calls.{CallDid, startLine, callAnswer, callLine, lentAnswer, callLines, ownOf, receiverLines, callAt, callsFrom, callGood, callsGood, callWidth, callsAt, callsOf, streamAt, streamOf, noSwitches, receiverSize}
+
+-- ---- buffers
+
+pub length-counted : (first n : ℕ) → length (counted first n) ≡ n
+unfolding counted
+length-counted first zero = refl
+length-counted first (suc n) = length-append (counted first n) _ ∙ (let e = length-counted first n in omega arith)
+
+-- one more byte that counts up
+pub counted-more : (l : List ℕ) (first i : ℕ) → i < length l → set (counted first i ++ drop i l) i ((first + i) % 256) ≡ counted first (i + 1) ++ drop (i + 1) l
+unfolding counted
+counted-more l first i h =
+    rw (drop-cons l i 0 h, set-at (counted first i) (getD l i 0) (drop (suc i) l) ((first + i) % 256) i (length-counted first i), add-one)
+    (sym (append-assoc (counted first i) ((first + i) % 256 ∷ []) (drop (suc i) l)))
+
+-- ---- steps
+
+second : (a b : Bool) → (a && b) ≡ true → b ≡ true
+second true b e = e
+second false b e = cc
+
+pub whole-within : (n : ℕ) (s : List ℕ) → isWhole n s ≡ true → n ≤ length s
+whole-within n s e = leb-true n (length s) (second (ltb 0 n) (leb n (length s)) e)
+
+module _ (n : ℕ) (lines : List (List Piece)) {s before : List ℕ} {at : ℕ} {after : List ℕ} {r : Step} where
+  -- a bad record
+  pub did-bad : isWhole n s ≡ false → r .taken ≡ 0 → page after (r .filled) ≡ prints (badRecord .lines) (page before at) → Did (whole n s lines) s before at after r
+  unfolding whole
+  did-bad e t p = record { taken = rw e t; printed = rw e p; within = omega arith }
+
+  -- one that is whole
+  pub did-whole : isWhole n s ≡ true → r .taken ≡ n → page after (r .filled) ≡ prints lines (page before at) → Did (whole n s lines) s before at after r
+  unfolding whole
+  did-whole e t p = record { taken = rw e t; printed = rw e p; within = let h = whole-within n s e in omega arith }
+
+-- a size of 0 is no record
+pub sized-good : (good : Bool) (n : ℕ) (s : List ℕ) → isWhole (sized good n) s ≡ true → good ≡ true
+sized-good true n s e = refl
+sized-good false n s e = cc
+
+pub first : (a b : Bool) → (a && b) ≡ true → a ≡ true
+first true b e = refl
+first false b e = e
+
+-- the buffer's length of a build that is whole
+pub banner-buffer : (s : List ℕ) → isWhole (bannerSize s) s ≡ true → numberAt 4 17 s ≤ 65536
+banner-buffer s e = leb-true (numberAt 4 17 s) 65536 (sized-good (allowed (numberAt 4 17 s)) 30 s e)
+
+pub frame-buffer : (s : List ℕ) → isWhole (frameSize s) s ≡ true → numberAt 4 29 s ≤ 65536
+frame-buffer s e =
+    let g = sized-good ((leb (getD s 1 0) 1 && leb (getD s 28 0) 1) && (allowed (numberAt 4 29 s) && allowed (numberAt 4 42 s))) (46 + numberAt 4 42 s) s e in
+    leb-true (numberAt 4 29 s) 65536 (first (allowed (numberAt 4 29 s)) _ (second (leb (getD s 1 0) 1 && leb (getD s 28 0) 1) _ g))
+
+-- and the store's
+pub receiver-store : (lends : Bool) (s : List ℕ) → isWhole (receiverSize lends s) s ≡ true → numberAt 4 17 s ≤ 65536
+unfolding receiverSize
+receiver-store lends s e =
+    let g = sized-good ((noSwitches lends s && leb (callsOf lends s) 4096) && ((allowed (numberAt 4 17 s) && leb (streamOf lends s) 131072) && callsGood (callsFrom lends s (callsOf lends s) (callsAt lends)))) (streamAt lends s + 4 + streamOf lends s) s e in
+    let h = second (noSwitches lends s && leb (callsOf lends s) 4096) _ g in
+    leb-true (numberAt 4 17 s) 65536 (first (allowed (numberAt 4 17 s)) _ (first (allowed (numberAt 4 17 s) && leb (streamOf lends s) 131072) _ h))
+
+pub banner-done : (s before : List ℕ) (supported required queued : ℕ)
+    → supported ≡ numberAt 8 1 s
+    → required ≡ numberAt 8 9 s
+    → before ≡ counted (getD s 21 0) (numberAt 4 17 s)
+    → queued ≡ numberAt 8 22 s
+    → bannerDone supported required before queued ≡ bannerDoneOf s
+unfolding bannerDoneOf
+banner-done s before supported required queued es er eb eq = rw (es, er, eb, eq)
+
+pub frame-done : (s before source : List ℕ) (queued : ℕ) (revision : Revision) (header : Header) (abort : Bool)
+    → revision ≡ revisionOf (getD s 1 0)
+    → header ≡ headerOf (drop 2 s)
+    → abort ≡ eqb (getD s 28 0) 1
+    → source ≡ take (numberAt 4 42 s) (drop 46 s)
+    → before ≡ counted (getD s 33 0) (numberAt 4 29 s)
+    → queued ≡ numberAt 8 34 s
+    → frameDone revision header abort source before queued ≡ frameDoneOf s
+unfolding frameDoneOf
+frame-done s before source queued revision header abort ev eh ea es eb eq = rw (ev, eh, ea, es, eb, eq)
+
+-- the line of a build as code comes to it
+pub built-line : (b : Built) (sum : ℕ) (buf : List ℕ) (d : Done) → done (answered b) buf ≡ d → sum ≡ crcOf 4294967295 buf → answerLine (answered b) sum ≡ doneLine d
+built-line b sum buf d e k = ap (answerLine (answered b)) k ∙ ap doneLine e
+
+-- ---- calls
+
+pub calls-next : (lends : Bool) (s : List ℕ) (n i : ℕ) → 0 < n → callsFrom lends s n i ≡ callAt lends s i ∷ callsFrom lends s (n - 1) (i + callWidth lends)
+unfolding callsFrom
+calls-next lends s zero i h = absurd (not-suc-le-zero h)
+calls-next lends s (suc n) i h = let e : suc n - 1 ≡ n = omega arith in rw e
+
+pub calls-none : (lends : Bool) (s : List ℕ) (n i : ℕ) → n ≡ 0 → callsFrom lends s n i ≡ []
+unfolding callsFrom
+calls-none lends s zero i e = refl
+calls-none lends s (suc n) i e = absurd (omega arith)
+
+module _ (lends : Bool) (s : List ℕ) (n i : ℕ) (h : 0 < n) where
+  pub good-next : callGood (callAt lends s i) ≡ true → callsGood (callsFrom lends s n i) ≡ callsGood (callsFrom lends s (n - 1) (i + callWidth lends))
+  unfolding callsGood
+  good-next e = rw (calls-next lends s n i h, e)
+
+  pub good-stop : callGood (callAt lends s i) ≡ false → callsGood (callsFrom lends s n i) ≡ false
+  unfolding callsGood
+  good-stop e = rw (calls-next lends s n i h, e)
+
+-- a call and its line
+calls-step : (xs : List Call) {st : State} {x : Call} {rest store before : List ℕ} {at : ℕ} {store′ after : List ℕ} {r : Called}
+    → CallDid st x rest store before at store′ after r
+    → prints (callLines xs (drop (r .taken) rest) (r .state) store′) (page after (r .filled)) ≡ prints (callLines (x ∷ xs) rest st store) (page before at)
+unfolding callLines prints
+calls-step xs {st} {x} {rest} {store} {before} {at} {store′} {after} {r} d =
+    let a : Answer = callAnswer st x rest store in
+    ap (λ (p : Page). prints (callLines xs (drop (r .taken) rest) (r .state) store′) p) (d .printed)
+    ∙ ap (λ (m : List ℕ). prints (callLines xs (drop (r .taken) rest) (r .state) m) (print (callLine a) (page before at))) (d .store)
+    ∙ ap (λ (σ : State). prints (callLines xs (drop (r .taken) rest) σ (a .store)) (print (callLine a) (page before at))) (d .state)
+    ∙ ap (λ (t : ℕ). prints (callLines xs (drop t rest) (a .received .state) (a .store)) (print (callLine a) (page before at))) (d .taken)
+
+pub calls-on : (lends : Bool) (s : List ℕ) (n i : ℕ) (stream : List ℕ) (taken taken′ width : ℕ) {st : State} {x : Call} {rest store before : List ℕ} {at : ℕ} {store′ after : List ℕ} {r : Called}
+    → 0 < n
+    → x ≡ callAt lends s i
+    → rest ≡ drop taken stream
+    → CallDid st x rest store before at store′ after r
+    → drop taken′ stream ≡ drop (r .taken) (drop taken stream)
+    → width ≡ callWidth lends
+    → prints (callLines (callsFrom lends s (n - 1) (i + width)) (drop taken′ stream) (r .state) store′) (page after (r .filled))
+    ≡ prints (callLines (callsFrom lends s n i) (drop taken stream) st store) (page before at)
+calls-on lends s n i stream taken taken′ width {st} {x} {rest} {store} {before} {at} {store′} {after} {r} h ex er d et ew =
+    let xs : List Call = callsFrom lends s (n - 1) (i + callWidth lends) in
+    ap (λ (w : ℕ). prints (callLines (callsFrom lends s (n - 1) (i + w)) (drop taken′ stream) (r .state) store′) (page after (r .filled))) ew
+    ∙ ap (λ (l : List ℕ). prints (callLines xs l (r .state) store′) (page after (r .filled))) (et ∙ ap (drop (r .taken)) (sym er))
+    ∙ calls-step xs d
+    ∙ ap (λ (l : List ℕ). prints (callLines (x ∷ xs) l st store) (page before at)) er
+    ∙ ap (λ (ys : List Call). prints (callLines ys (drop taken stream) st store) (page before at)) (ap (λ (y : Call). y ∷ xs) ex ∙ sym (calls-next lends s n i h))
+
+features : ℕ → ℕ → Features
+features a b = record { supported = a; required = b }
+
+pub own-is : (own : Features) (s : List ℕ) → own .supported ≡ numberAt 8 1 s → own .required ≡ numberAt 8 9 s → own ≡ ownOf s
+unfolding features
+own-is own s p q = ap₂ features p q
+
+-- the start and the calls of a record
+pub receiver-printed : (lends : Bool) (s : List ℕ) (p : Page) {n from : ℕ} {stream : List ℕ} {st : State} {store : List ℕ} {v : Judged} {q r : Page}
+    → n ≡ callsOf lends s
+    → from ≡ callsAt lends
+    → stream ≡ take (streamOf lends s) (drop (streamAt lends s + 4) s)
+    → st ≡ started (ownOf s)
+    → store ≡ counted (getD s 21 0) (numberAt 4 17 s)
+    → v ≡ judgeOwn (numberAt 8 1 s) (numberAt 8 9 s)
+    → q ≡ print (startLine v) p
+    → r ≡ prints (callLines (callsFrom lends s n from) stream st store) q
+    → r ≡ prints (receiverLines lends s) p
+unfolding receiverLines prints
+receiver-printed lends s p {n} {from} {stream} {st} {store} en ef es est eb ev eq er =
+    er ∙ ap (λ (x : Page). prints (callLines (callsFrom lends s n from) stream st store) x) eq ∙ rw (en, ef, es, est, eb, ev)
+
+-- a store that is lent whole
+pub lent-whole : (st : State) (s piece : List ℕ) (lent : ℕ) → length s ≤ lent → lentAnswer st s piece lent ≡ answer st s piece
+unfolding lentAnswer
+lent-whole st s piece lent h = rw (take-all lent s h, drop-of-length-le s {i = lent} h, append-nil)
+
+-- behind the end nothing is left
+pub drop-end : (s : List ℕ) (at n : ℕ) → length s ≤ at + n → drop (length s) s ≡ drop n (drop at s)
+drop-end s at n h = drop-length s ∙ sym (drop-drop n at s ∙ drop-of-length-le s {i = at + n} h)
+
+-- ---- moving
 
 -- a byte that is moved still stands where it was
 pub moved-more : (l : List ℕ) (at i : ℕ)

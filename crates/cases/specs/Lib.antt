@@ -1,5 +1,6 @@
 pub mod Between
+pub mod Builds
 pub mod Calls
-pub mod CallText
+pub mod Checksums
+pub mod Kinds
 pub mod Records
-pub mod Text

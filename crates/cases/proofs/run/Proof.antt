@@ -1,14 +1,13 @@
-use mathlib.Core.Path.{_≡_, _∙_, sym, refl}
+use mathlib.Core.Path.{_≡_, _∙_, refl}
 use native.Mathlib.Omega.{arith}
 use borrow.Author.Needs.{needs}
 use lib.ListN.{length}
-use lib.Seq.{length-take-le}
 use Rattle.cases.specs.Between.{Between}
 use Rattle.cases.proofs.run.Statement.{statement}
 use Rattle.cases.proofs.run.Tie as tie
 
 abbrev Inv-loop : tie.InvT-loop
-Inv-loop held₀ space₀ text₀ s₀ held space text s = Between s (length held₀) (length space₀) (length text₀) × (length held ≡ length held₀) × (length space ≡ length space₀) × (length text ≡ length text₀)
+Inv-loop held₀ space₀ text₀ s₀ held space text s = Between s (length held₀) (length space₀) × (length held ≡ length held₀) × (length space ≡ length space₀) × (length text ≡ length text₀)
 
 abbrev μ-loop : tie.MeasureT-loop
 μ-loop held₀ space₀ text₀ s₀ held space text s = s .left
@@ -27,23 +26,20 @@ loop-again c =
     let i = c .before .before .before .before .before .before .before .before .before .before .before .before .loop .inv in
     (omega (arith, c .before .before .before .before .before .before .turn .ensures .0), c .before .before .before .before .before .before .turn .kept .0 ∙ i .1, c .before .before .before .before .before .before .turn .kept .1 .0 ∙ i .2, c .before .before .before .before .before .before .turn .kept .1 .1 .0 ∙ i .3)
 
-slice-reshare-prefix-write-all : tie.Need-slice-reshare-prefix-write-all Inv-loop μ-loop
-slice-reshare-prefix-write-all c = omega arith
-
-slice-aggregate-write-all : tie.Need-slice-aggregate-write-all Inv-loop μ-loop
-slice-aggregate-write-all c = sym (length-take-le (c .before .before .before .loop .s .filled) (c .before .before .before .loop .text) (omega arith))
+part-requires : tie.Need-part-requires Inv-loop μ-loop
+part-requires c κs = search needs
 
 write-all-requires : tie.Need-write-all-requires Inv-loop μ-loop
 write-all-requires c κs = search needs
 
 same-length : tie.Need-same-length Inv-loop μ-loop
-same-length c = c .before .before .before .before .loop .inv .1
+same-length c = c .before .before .before .before .before .loop .inv .1
 
 same-length-2 : tie.Need-same-length-2 Inv-loop μ-loop
-same-length-2 c = c .before .before .before .before .loop .inv .2
+same-length-2 c = c .before .before .before .before .before .loop .inv .2
 
 same-length-3 : tie.Need-same-length-3 Inv-loop μ-loop
-same-length-3 c = c .before .before .before .before .loop .inv .3
+same-length-3 c = c .before .before .before .before .before .loop .inv .3
 
 returns : tie.Need-returns Inv-loop μ-loop
 returns c = search needs
@@ -58,8 +54,7 @@ run-spec =
     turn-requires
     loop-less
     loop-again
-    slice-reshare-prefix-write-all
-    slice-aggregate-write-all
+    part-requires
     write-all-requires
     same-length
     same-length-2

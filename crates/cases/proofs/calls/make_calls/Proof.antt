@@ -1,73 +1,66 @@
-use mathlib.Core.Path.{_≡_, refl, _∙_}
+use mathlib.Core.Path.{_≡_, refl, sym, ap, _∙_}
 use mathlib.Core.List.{List}
-use Prim.Native.Nat.{ℕ, _+_, _-_, _/_, _≤_}
+use Prim.Native.Nat.{_+_, _*_, _≤_}
 use native.Mathlib.Omega.{arith}
 use borrow.Author.Needs.{needs}
-use lib.ListN.{length, take, drop}
-use Rattle.receiver.specs.declared.State.{State}
-use Rattle.receiver.specs.Step.{answer}
-use Rattle.receiver.proofs.Drives.{taken-within}
+use lib.ListN.{length, drop}
+use Rattle.text.specs.Page.{page}
+use Rattle.cases.specs.declared.calls.Call.{Call}
+use Rattle.cases.specs.Records.{prints}
+use Rattle.cases.specs.Calls.{callLines, callsFrom, callWidth}
+use Rattle.cases.proofs.Laws.{calls-none, calls-on}
 use Rattle.cases.proofs.calls.make_calls.Statement.{statement}
 use Rattle.cases.proofs.calls.make_calls.Tie as tie
 
--- a call does not take the stream past its end
-inside : (stream piece store : List ℕ) (st : State) (t n m : ℕ)
-    → t ≤ length stream
-    → piece ≡ take n (drop t stream)
-    → m ≡ answer st store piece .received .taken
-    → t + m ≤ length stream
-inside stream piece store st t n m h e k =
-    rw (k, e)
-    (taken-within stream store st t n (answer st store (take n (drop t stream)) .received) (answer st store (take n (drop t stream)) .store) h
-    (record { received = refl; store = refl }))
-
 abbrev Inv-loop : tie.InvT-loop
-Inv-loop pieces stream store₀ text₀ at state₀ taken₀ end₀ i₀ store text state taken end i = (i ≤ length pieces / 4) × (taken ≤ length stream) × (end ≤ length text₀) × (290 ≤ length text₀) × (length store ≡ length store₀) × (length text ≡ length text₀)
+Inv-loop lends s n from stream store₀ text₀ at width state₀ taken₀ end₀ place₀ left₀ store text state taken end place left =
+    (place + 8 * left ≤ 600000)
+    × (width ≤ 8)
+    × (width ≡ callWidth lends)
+    × (prints (callLines (callsFrom lends s left place) (drop taken stream) state store) (page text end) ≡ prints (callLines (callsFrom lends s n from) stream state₀ store₀) (page text₀ at))
+    × (length store ≡ length store₀)
+    × (length text ≡ length text₀)
 
 abbrev μ-loop : tie.MeasureT-loop
-μ-loop pieces stream store₀ text₀ at state₀ taken₀ end₀ i₀ store text state taken end i = length pieces / 4 - i
+μ-loop lends s n from stream store₀ text₀ at width state₀ taken₀ end₀ place₀ left₀ store text state taken end place left = left
+
+call-width-requires : tie.Need-call-width-requires Inv-loop μ-loop
+call-width-requires c κs = search needs
 
 loop-holds : tie.Need-loop-holds Inv-loop μ-loop
-loop-holds c = (omega arith, omega arith, omega (arith, c .before .before .before .before .pre), omega (arith, c .before .before .before .before .pre), refl, refl)
+loop-holds c = (omega (arith, c .before .before .before .before .before .pre), omega (arith, c .call-width .ensures .1), c .call-width .ensures .0, refl, refl, refl)
 
-mul-word-at : tie.Need-mul-word-at Inv-loop μ-loop
-mul-word-at c = omega arith
+call-at-requires : tie.Need-call-at-requires Inv-loop μ-loop
+call-at-requires c κs = omega (arith, c .before .loop .inv .0)
 
-word-at-requires : tie.Need-word-at-requires Inv-loop μ-loop
-word-at-requires c κs = search needs
+behind-requires : tie.Need-behind-requires Inv-loop μ-loop
+behind-requires c κs = search needs
 
-cast-n : tie.Need-cast-n Inv-loop μ-loop
-cast-n c = search needs
+make-call-requires : tie.Need-make-call-requires Inv-loop μ-loop
+make-call-requires c κs = search needs
 
-part-requires : tie.Need-part-requires Inv-loop μ-loop
-part-requires c κs = search needs
+forward-requires : tie.Need-forward-requires Inv-loop μ-loop
+forward-requires c κs = search needs
 
-room-requires : tie.Need-room-requires Inv-loop μ-loop
-room-requires c κs = (omega (arith, c .before .before .before .before .before .before .loop .inv .2, c .before .before .before .before .before .before .loop .inv .5), omega (arith, c .before .before .before .before .before .before .loop .inv .3, c .before .before .before .before .before .before .loop .inv .5))
+add-place : tie.Need-add-place Inv-loop μ-loop
+add-place c = omega (arith, c .before .before .before .before .before .before .before .before .before .before .before .before .loop .inv .0, c .before .before .before .before .before .before .before .before .before .before .before .before .loop .inv .1)
 
-call-requires : tie.Need-call-requires Inv-loop μ-loop
-call-requires c κs = omega (arith, c .room .ensures)
-
--- so it goes with the call of a turn
-taken-on : (c : tie.After-call Inv-loop μ-loop) → c .before .before .before .before .before .before .before .before .loop .taken + c .call .result .taken ≤ length (c .before .before .before .before .before .before .before .before .before .before .before .before .before .args .stream .now)
-taken-on c =
-    let l = c .before .before .before .before .before .before .before .before .loop in
-    inside (c .before .before .before .before .before .before .before .before .before .before .before .before .before .args .stream .now) (c .before .before .before .before .before .part .result .now) (l .store) (l .state) (l .taken) (c .before .before .before .before .before .before .word-at .result) (c .call .result .taken) (l .inv .1) (c .before .before .before .before .before .part .ensures) (c .call .ensures .taken)
-
-add-taken : tie.Need-add-taken Inv-loop μ-loop
-add-taken c = omega (arith, taken-on (c .before .before .before .before .before .before), c .before .before .before .before .before .before .before .before .before .before .before .before .before .before .before .before .before .before .before .good .1 .1 .0 .0)
-
-add-i : tie.Need-add-i Inv-loop μ-loop
-add-i c = omega (arith, c .before .before .before .before .before .before .before .before .before .before .before .before .before .loop-test .taken, c .before .before .before .before .before .before .before .before .before .before .before .before .before .before .before .before .before .before .before .good .1 .0 .0)
+sub-left : tie.Need-sub-left Inv-loop μ-loop
+sub-left c = omega (arith, c .before .before .before .before .before .before .before .before .before .before .before .loop-test .taken)
 
 loop-less : tie.Need-loop-less Inv-loop μ-loop
-loop-less c = omega (arith, c .before .before .before .before .before .before .before .before .before .before .before .before .before .loop-test .taken)
+loop-less c = omega (arith, c .before .before .before .before .before .before .before .before .before .before .before .loop-test .taken)
 
 loop-again : tie.Need-loop-again Inv-loop μ-loop
 loop-again c =
-    let l = c .before .before .before .before .before .before .before .before .before .before .before .before .before .before .loop in
-    let k = c .before .before .before .before .before .before .call in
-    (omega (arith, c .before .before .before .before .before .before .before .before .before .before .before .before .before .loop-test .taken), taken-on (c .before .before .before .before .before .before), omega (arith, k .ensures .room, l .inv .5), l .inv .3, k .kept .1 .1 .0 ∙ l .inv .4, k .kept .1 .1 .1 .0 ∙ l .inv .5)
+    let l = c .before .before .before .before .before .before .before .before .before .before .before .before .loop in (
+      omega (arith, c .before .before .before .before .before .before .before .before .before .before .before .loop-test .taken, l .inv .0, l .inv .1),
+      l .inv .1,
+      l .inv .2,
+      calls-on (c .before .before .before .before .before .before .before .before .before .before .before .before .before .before .before .before .before .before .args .lends) (c .before .before .before .before .before .before .before .before .before .before .before .before .before .before .before .before .before .before .args .s .now) (l .left) (l .place) (c .before .before .before .before .before .before .before .before .before .before .before .before .before .before .before .before .before .before .args .stream .now) (l .taken) (c .forward .result) (c .before .before .before .before .before .before .before .before .before .before .before .before .before .call-width .result) (omega (arith, c .before .before .before .before .before .before .before .before .before .before .before .loop-test .taken)) (c .before .before .before .before .before .before .before .before .before .before .call-at .ensures) (c .before .before .before .before .before .before .before .before .before .behind .ensures) (c .before .before .before .before .before .before .make-call .ensures) (c .forward .ensures) (l .inv .2) ∙ l .inv .3,
+      c .before .before .before .before .before .before .make-call .kept .1 .1 .1 .0 ∙ l .inv .4,
+      c .before .before .before .before .before .before .make-call .kept .1 .1 .1 .1 .0 ∙ l .inv .5,
+    )
 
 same-length : tie.Need-same-length Inv-loop μ-loop
 same-length c = c .before .loop .inv .4
@@ -76,7 +69,10 @@ same-length-2 : tie.Need-same-length-2 Inv-loop μ-loop
 same-length-2 c = c .before .loop .inv .5
 
 returns : tie.Need-returns Inv-loop μ-loop
-returns c = c .before .loop .inv .2
+unfolding callLines prints
+returns c =
+    let l = c .before .loop in
+    ap (λ (xs : List Call). prints (callLines xs (drop (l .taken) (c .before .before .before .before .before .before .before .args .stream .now)) (l .state) (l .store)) (page (l .text) (l .end))) (sym (calls-none (c .before .before .before .before .before .before .before .args .lends) (c .before .before .before .before .before .before .before .args .s .now) (l .left) (l .place) (omega arith))) ∙ l .inv .3
 
 pub make-calls-spec : {M : Type 1} → statement M
 make-calls-spec =
@@ -84,15 +80,14 @@ make-calls-spec =
     (tie.spec
     Inv-loop
     μ-loop
+    call-width-requires
     loop-holds
-    mul-word-at
-    word-at-requires
-    cast-n
-    part-requires
-    room-requires
-    call-requires
-    add-taken
-    add-i
+    call-at-requires
+    behind-requires
+    make-call-requires
+    forward-requires
+    add-place
+    sub-left
     loop-less
     loop-again
     same-length

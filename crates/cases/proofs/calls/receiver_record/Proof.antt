@@ -1,20 +1,26 @@
-use mathlib.Core.Path.{_≡_, _∙_, sym}
-use mathlib.Core.Bool.{Bool, true, false}
+use mathlib.Core.Path.{_≡_, sym, ap, ap₂, _∙_}
+use mathlib.Core.Bool.{true, false}
 use Prim.Native.Nat.{ℕ}
 use native.Mathlib.Omega.{arith}
-use borrow.Author.Needs.{needs}
 use borrow.Author.Tests.{not-true, not-false}
+use lib.ListN.{length, take}
 use lib.Seq.{length-take-le}
-use Rattle.cases.specs.Calls.{receiverGood, receiver-good}
+use Rattle.buffer.specs.Le.{numberAt}
+use Rattle.banner.specs.Banner.{judgeOwn}
+use Rattle.receiver.specs.Step.{started}
+use Rattle.text.specs.Page.{page}
+use Rattle.cases.specs.Records.{isWhole, counted}
+use Rattle.cases.specs.Calls.{receiverSize, receiverLines, receiverRecord}
+use Rattle.cases.proofs.Laws.{did-bad, did-whole, receiver-store, own-is, receiver-printed}
+use borrow.Author.Needs.{needs}
 use Rattle.cases.proofs.calls.receiver_record.Statement.{statement}
 use Rattle.cases.proofs.calls.receiver_record.Tie as tie
 
--- a test has one answer
-never : {A : Type 0} (b : Bool) → b ≡ true → b ≡ false → A
-never b t f = absurd (let z : _≡_ {A = ℕ} 0 1 = cc in omega arith)
+receiver-size-requires : tie.Need-receiver-size-requires
+receiver-size-requires c κs = search needs
 
-receiver-good-requires : tie.Need-receiver-good-requires
-receiver-good-requires c κs = search needs
+is-whole-requires : tie.Need-is-whole-requires
+is-whole-requires c κs = search needs
 
 bad-record-requires : tie.Need-bad-record-requires
 bad-record-requires c κs = search needs
@@ -23,50 +29,55 @@ same-length : tie.Need-same-length
 same-length c = search needs
 
 returns : tie.Need-returns
+unfolding receiverRecord
 returns c =
-    let b = c .before .before .bad-record .ensures in
-    let g : receiverGood (c .before .before .before .before .before .before .before .before .before .args .s .now) ≡ false = sym (c .before .before .before .before .before .receiver-good .ensures) ∙ not-true _ (c .before .before .before .before .if1 .taken) in
-    record { taken = rw g (b .0 .0); bad = λ _. b .0 .1; within = omega (arith, b .0 .0); room = b .1 }
+    let lends = c .before .before .before .before .before .before .before .before .before .before .args .lends in
+    let s = c .before .before .before .before .before .before .before .before .before .before .args .s .now in
+    let e : isWhole (receiverSize lends s) s ≡ false = ap (λ (k : ℕ). isWhole k s) (sym (c .before .before .before .before .before .before .receiver-size .ensures)) ∙ sym (c .before .before .before .before .before .is-whole .ensures) ∙ not-true (c .before .before .before .before .before .is-whole .result) (c .before .before .before .before .if1 .taken) in
+    did-bad (receiverSize lends s) (receiverLines lends s) e (c .before .before .bad-record .ensures .0) (c .before .before .bad-record .ensures .1)
 
-half-at-requires : tie.Need-half-at-requires
-half-at-requires c κs = search needs
+calls-of-requires : tie.Need-calls-of-requires
+calls-of-requires c κs = search needs
 
-cast-calls : tie.Need-cast-calls
-cast-calls c = search needs
+calls-at-requires : tie.Need-calls-at-requires
+calls-at-requires c κs = search needs
 
-mul-from : tie.Need-mul-from
-mul-from c = search needs
+stream-at-requires : tie.Need-stream-at-requires
+stream-at-requires c κs = search needs
 
-add-from : tie.Need-add-from
-add-from c = search needs
-
-mul-word-at : tie.Need-mul-word-at
-mul-word-at c = search needs
-
-add-word-at : tie.Need-add-word-at
-add-word-at c = search needs
+add-part : tie.Need-add-part
+add-part c = search needs
 
 word-at-requires : tie.Need-word-at-requires
 word-at-requires c κs = search needs
 
-cast-n : tie.Need-cast-n
-cast-n c = search needs
+cast-part : tie.Need-cast-part
+cast-part c = search needs
+
+part-requires : tie.Need-part-requires
+part-requires c κs = search needs
 
 word-at-requires-2 : tie.Need-word-at-requires-2
 word-at-requires-2 c κs = search needs
 
-cast-size : tie.Need-cast-size
-cast-size c = search needs
+cast-n : tie.Need-cast-n
+cast-n c = search needs
 
 slice-relend-prefix-store : tie.Need-slice-relend-prefix-store
 slice-relend-prefix-store c =
-    let g = receiver-good (c .before .before .before .before .before .before .before .before .args .s .now) (sym (c .before .before .before .before .receiver-good .ensures) ∙ not-false _ (c .before .before .before .if1 .left)) in
-    omega (arith, c .word-at2 .ensures, c .before .before .before .before .before .before .before .before .pre)
+    let lends = c .before .before .before .before .before .before .before .before .before .before .before .before .args .lends in
+    let s = c .before .before .before .before .before .before .before .before .before .before .before .before .args .s .now in
+    let e : isWhole (receiverSize lends s) s ≡ true = ap (λ (k : ℕ). isWhole k s) (sym (c .before .before .before .before .before .before .before .before .receiver-size .ensures)) ∙ sym (c .before .before .before .before .before .before .before .is-whole .ensures) ∙ not-false (c .before .before .before .before .before .before .before .is-whole .result) (c .before .before .before .before .before .before .if1 .left) in
+    let h = receiver-store lends s e in
+    omega (arith, c .word-at2 .ensures, c .before .before .before .before .before .before .before .before .before .before .before .before .pre)
 
 slice-aggregate-store : tie.Need-slice-aggregate-store
 slice-aggregate-store c =
-    let g = receiver-good (c .before .before .before .before .before .before .before .before .before .args .s .now) (sym (c .before .before .before .before .before .receiver-good .ensures) ∙ not-false _ (c .before .before .before .before .if1 .left)) in
-    sym (length-take-le (c .before .word-at2 .result) (c .before .before .before .before .before .before .before .before .before .args .space .now) (omega (arith, c .before .word-at2 .ensures, c .before .before .before .before .before .before .before .before .before .pre)))
+    let lends = c .before .before .before .before .before .before .before .before .before .before .before .before .before .args .lends in
+    let s = c .before .before .before .before .before .before .before .before .before .before .before .before .before .args .s .now in
+    let e : isWhole (receiverSize lends s) s ≡ true = ap (λ (k : ℕ). isWhole k s) (sym (c .before .before .before .before .before .before .before .before .before .receiver-size .ensures)) ∙ sym (c .before .before .before .before .before .before .before .before .is-whole .ensures) ∙ not-false (c .before .before .before .before .before .before .before .before .is-whole .result) (c .before .before .before .before .before .before .before .if1 .left) in
+    let h = receiver-store lends s e in
+    sym (length-take-le (c .before .word-at2 .result) (c .before .before .before .before .before .before .before .before .before .before .before .before .before .args .space .now) (omega (arith, c .before .word-at2 .ensures, c .before .before .before .before .before .before .before .before .before .before .before .before .before .pre)))
 
 byte-at-requires : tie.Need-byte-at-requires
 byte-at-requires c κs = search needs
@@ -83,23 +94,11 @@ long-at-requires-2 c κs = search needs
 start-requires : tie.Need-start-requires
 start-requires c κs = search needs
 
-put-start-requires : tie.Need-put-start-requires
-put-start-requires c κs = omega (arith, c .before .before .before .before .before .before .before .before .before .before .before .before .before .before .before .before .before .before .before .pre)
-
-add-t22 : tie.Need-add-t22
-add-t22 c = search needs
-
-mul-part : tie.Need-mul-part
-mul-part c = search needs
-
-part-requires : tie.Need-part-requires
-part-requires c κs = search needs
-
-part-requires-2 : tie.Need-part-requires-2
-part-requires-2 c κs = search needs
+print-start-requires : tie.Need-print-start-requires
+print-start-requires c κs = search needs
 
 make-calls-requires : tie.Need-make-calls-requires
-make-calls-requires c κs = omega (arith, c .before .before .before .before .before .before .before .before .before .before .before .before .before .before .before .before .before .before .before .before .before .before .before .before .before .pre, c .before .before .before .before .before .put-start .ensures .1, c .before .before .before .before .before .put-start .kept .0)
+make-calls-requires c κs = (omega (arith, c .before .before .before .before .before .before .before .before .before .before .before .before .before .before .before .before .before .before .before .before .calls-of .ensures .1), omega (arith, c .before .before .before .before .before .before .before .before .before .before .before .before .before .before .before .before .before .before .before .calls-at .ensures .1))
 
 same-length-2 : tie.Need-same-length-2
 same-length-2 c = search needs
@@ -108,34 +107,41 @@ same-length-3 : tie.Need-same-length-3
 same-length-3 c = search needs
 
 returns-2 : tie.Need-returns-2
+unfolding receiverRecord
 returns-2 c =
-    let g : receiverGood (c .before .before .before .before .before .before .before .before .before .before .before .before .before .before .before .before .before .before .before .before .before .before .before .before .before .before .before .before .before .before .args .s .now) ≡ true = sym (c .before .before .before .before .before .before .before .before .before .before .before .before .before .before .before .before .before .before .before .before .before .before .before .before .before .before .receiver-good .ensures) ∙ not-false _ (c .before .before .before .before .before .before .before .before .before .before .before .before .before .before .before .before .before .before .before .before .before .before .before .before .before .if1 .left) in
-    let k = receiver-good (c .before .before .before .before .before .before .before .before .before .before .before .before .before .before .before .before .before .before .before .before .before .before .before .before .before .before .before .before .before .before .args .s .now) g in
-    record {
-      taken = rw (g, c .before .before .before .before .before .before .before .before .before .before .before .before .before .before .before .before .before .before .before .before .before .before .before .word-at .ensures, c .before .before .before .before .before .before .before .before .before .before .before .before .before .before .before .before .before .before .before .before .before .before .before .before .half-at .ensures);
-      bad = never _ g;
-      within = rw (c .before .before .before .before .before .before .before .before .before .before .before .before .before .before .before .before .before .before .before .before .before .before .before .word-at .ensures, c .before .before .before .before .before .before .before .before .before .before .before .before .before .before .before .before .before .before .before .before .before .before .before .before .half-at .ensures) (k .2);
-      room = omega (arith, c .before .before .before .before .make-calls .ensures, c .before .before .before .before .before .before .before .before .before .before .put-start .kept .0);
-    }
+    let a = c .before .before .before .before .before .before .before .before .before .before .before .before .before .before .before .before .before .before .before .before .before .before .before .before .before .before .before .before .before .before .before .before .args in
+    let lends = a .lends in
+    let s = a .s .now in
+    let e : isWhole (receiverSize lends s) s ≡ true = ap (λ (k : ℕ). isWhole k s) (sym (c .before .before .before .before .before .before .before .before .before .before .before .before .before .before .before .before .before .before .before .before .before .before .before .before .before .before .before .before .receiver-size .ensures)) ∙ sym (c .before .before .before .before .before .before .before .before .before .before .before .before .before .before .before .before .before .before .before .before .before .before .before .before .before .before .before .is-whole .ensures) ∙ not-false (c .before .before .before .before .before .before .before .before .before .before .before .before .before .before .before .before .before .before .before .before .before .before .before .before .before .before .before .is-whole .result) (c .before .before .before .before .before .before .before .before .before .before .before .before .before .before .before .before .before .before .before .before .before .before .before .before .before .before .if1 .left) in
+    let h = receiver-store lends s e in
+    let n : length (take (c .before .before .before .before .before .before .before .before .before .before .before .before .before .before .before .before .before .before .before .before .word-at2 .result) (a .space .now)) ≡ numberAt 4 17 s = length-take-le (c .before .before .before .before .before .before .before .before .before .before .before .before .before .before .before .before .before .before .before .before .word-at2 .result) (a .space .now) (omega (arith, c .before .before .before .before .before .before .before .before .before .before .before .before .before .before .before .before .before .before .before .before .word-at2 .ensures, c .before .before .before .before .before .before .before .before .before .before .before .before .before .before .before .before .before .before .before .before .before .before .before .before .before .before .before .before .before .before .before .before .pre)) ∙ c .before .before .before .before .before .before .before .before .before .before .before .before .before .before .before .before .before .before .before .before .word-at2 .ensures in
+    did-whole (receiverSize lends s) (receiverLines lends s) e (c .before .before .before .before .before .before .before .before .before .before .before .before .before .before .before .before .before .before .before .before .before .before .before .before .before .before .before .before .receiver-size .ensures)
+    (receiver-printed lends s (page (a .text .now) (a .at)) (c .before .before .before .before .before .before .before .before .before .before .before .before .before .before .before .before .before .before .before .before .before .before .before .before .before .calls-of .ensures .0) (c .before .before .before .before .before .before .before .before .before .before .before .before .before .before .before .before .before .before .before .before .before .before .before .before .calls-at .ensures .0)
+    (c .before .before .before .before .before .before .before .before .before .before .before .before .before .before .before .before .before .before .before .before .before .part .ensures ∙ rw (c .before .before .before .before .before .before .before .before .before .before .before .before .before .before .before .before .before .before .before .before .before .before .word-at .ensures, c .before .before .before .before .before .before .before .before .before .before .before .before .before .before .before .before .before .before .before .before .before .before .before .stream-at .ensures .0))
+    (c .before .before .before .before .before .before .before .before .before .before .before .start .ensures .state ∙ ap started (own-is (record { supported = c .before .before .before .before .before .before .before .before .before .before .before .before .before .long-at .result; required = c .before .before .before .before .before .before .before .before .before .before .before .before .long-at2 .result }) s (c .before .before .before .before .before .before .before .before .before .before .before .before .before .long-at .ensures) (c .before .before .before .before .before .before .before .before .before .before .before .before .long-at2 .ensures)))
+    (c .before .before .before .before .before .before .before .before .before .before .before .before .before .before .before .before .count-up .ensures ∙ ap₂ counted (c .before .before .before .before .before .before .before .before .before .before .before .before .before .before .before .before .before .byte-at .ensures) n)
+    (c .before .before .before .before .before .before .before .before .before .before .before .start .ensures .verdict ∙ ap₂ judgeOwn (c .before .before .before .before .before .before .before .before .before .before .before .before .before .long-at .ensures) (c .before .before .before .before .before .before .before .before .before .before .before .before .long-at2 .ensures))
+    (c .before .before .before .before .before .before .before .before .print-start .ensures)
+    (c .before .before .before .before .make-calls .ensures))
 
 pub receiver-record-spec : {M : Type 1} → statement M
 receiver-record-spec =
     tie.close
     (tie.spec
-    receiver-good-requires
+    receiver-size-requires
+    is-whole-requires
     bad-record-requires
     same-length
     returns
-    half-at-requires
-    cast-calls
-    mul-from
-    add-from
-    mul-word-at
-    add-word-at
+    calls-of-requires
+    calls-at-requires
+    stream-at-requires
+    add-part
     word-at-requires
-    cast-n
+    cast-part
+    part-requires
     word-at-requires-2
-    cast-size
+    cast-n
     slice-relend-prefix-store
     slice-aggregate-store
     byte-at-requires
@@ -143,11 +149,7 @@ receiver-record-spec =
     long-at-requires
     long-at-requires-2
     start-requires
-    put-start-requires
-    add-t22
-    mul-part
-    part-requires
-    part-requires-2
+    print-start-requires
     make-calls-requires
     same-length-2
     same-length-3

@@ -1,0 +1,124 @@
+use mathlib.Core.Path.{_≡_, sym, ap, ap₂, _∙_}
+use mathlib.Core.Bool.{true, false}
+use mathlib.Core.List.{List, [], _∷_}
+use Prim.Native.Nat.{ℕ}
+use native.Mathlib.Omega.{arith}
+use borrow.Author.Tests.{not-true, not-false}
+use lib.ListN.{length, take}
+use lib.Seq.{length-take-le}
+use Rattle.buffer.specs.Le.{numberAt}
+use Rattle.builder.specs.Build.{done, answered}
+use Rattle.text.specs.Line.{Piece}
+use Rattle.text.specs.Page.{page}
+use Rattle.cases.specs.Records.{isWhole, print, prints, counted}
+use Rattle.cases.specs.Builds.{doneLine, bannerSize, bannerDoneOf, bannerRecord}
+use Rattle.cases.proofs.Laws.{did-bad, did-whole, banner-buffer, banner-done, built-line}
+use borrow.Author.Needs.{needs}
+use Rattle.cases.proofs.builds.banner_record.Statement.{statement}
+use Rattle.cases.proofs.builds.banner_record.Tie as tie
+
+banner-size-requires : tie.Need-banner-size-requires
+banner-size-requires c κs = search needs
+
+is-whole-requires : tie.Need-is-whole-requires
+is-whole-requires c κs = search needs
+
+bad-record-requires : tie.Need-bad-record-requires
+bad-record-requires c κs = search needs
+
+same-length : tie.Need-same-length
+same-length c = search needs
+
+returns : tie.Need-returns
+unfolding bannerRecord
+returns c =
+    let s = c .before .before .before .before .before .before .before .before .before .before .args .s .now in
+    let e : isWhole (bannerSize s) s ≡ false = ap (λ (k : ℕ). isWhole k s) (sym (c .before .before .before .before .before .before .banner-size .ensures)) ∙ sym (c .before .before .before .before .before .is-whole .ensures) ∙ not-true (c .before .before .before .before .before .is-whole .result) (c .before .before .before .before .if1 .taken) in
+    did-bad (bannerSize s) (doneLine (bannerDoneOf s) ∷ []) e (c .before .before .bad-record .ensures .0) (c .before .before .bad-record .ensures .1)
+
+word-at-requires : tie.Need-word-at-requires
+word-at-requires c κs = search needs
+
+cast-n : tie.Need-cast-n
+cast-n c = search needs
+
+slice-relend-prefix-buf : tie.Need-slice-relend-prefix-buf
+slice-relend-prefix-buf c =
+    let s = c .before .before .before .before .before .before .before .args .s .now in
+    let e : isWhole (bannerSize s) s ≡ true = ap (λ (k : ℕ). isWhole k s) (sym (c .before .before .before .banner-size .ensures)) ∙ sym (c .before .before .is-whole .ensures) ∙ not-false (c .before .before .is-whole .result) (c .before .if1 .left) in
+    let h = banner-buffer s e in
+    omega (arith, c .word-at .ensures, c .before .before .before .before .before .before .before .pre)
+
+slice-aggregate-buf : tie.Need-slice-aggregate-buf
+slice-aggregate-buf c =
+    let s = c .before .before .before .before .before .before .before .before .args .s .now in
+    let e : isWhole (bannerSize s) s ≡ true = ap (λ (k : ℕ). isWhole k s) (sym (c .before .before .before .before .banner-size .ensures)) ∙ sym (c .before .before .before .is-whole .ensures) ∙ not-false (c .before .before .before .is-whole .result) (c .before .before .if1 .left) in
+    let h = banner-buffer s e in
+    sym (length-take-le (c .before .word-at .result) (c .before .before .before .before .before .before .before .before .args .space .now) (omega (arith, c .before .word-at .ensures, c .before .before .before .before .before .before .before .before .pre)))
+
+byte-at-requires : tie.Need-byte-at-requires
+byte-at-requires c κs = search needs
+
+count-up-requires : tie.Need-count-up-requires
+count-up-requires c κs = search needs
+
+long-at-requires : tie.Need-long-at-requires
+long-at-requires c κs = search needs
+
+long-at-requires-2 : tie.Need-long-at-requires-2
+long-at-requires-2 c κs = search needs
+
+long-at-requires-3 : tie.Need-long-at-requires-3
+long-at-requires-3 c κs = search needs
+
+build-banner-requires : tie.Need-build-banner-requires
+build-banner-requires c κs = search needs
+
+checksum-requires : tie.Need-checksum-requires
+checksum-requires c κs = search needs
+
+print-built-requires : tie.Need-print-built-requires
+print-built-requires c κs = search needs
+
+same-length-2 : tie.Need-same-length-2
+same-length-2 c = search needs
+
+same-length-3 : tie.Need-same-length-3
+same-length-3 c = search needs
+
+returns-2 : tie.Need-returns-2
+unfolding bannerRecord prints
+returns-2 c =
+    let a = c .before .before .before .before .before .before .before .before .before .before .before .before .before .before .before .before .before .before .before .before .before .before .before .before .before .before .before .before .args in
+    let s = a .s .now in
+    let e : isWhole (bannerSize s) s ≡ true = ap (λ (k : ℕ). isWhole k s) (sym (c .before .before .before .before .before .before .before .before .before .before .before .before .before .before .before .before .before .before .before .before .before .before .before .before .banner-size .ensures)) ∙ sym (c .before .before .before .before .before .before .before .before .before .before .before .before .before .before .before .before .before .before .before .before .before .before .before .is-whole .ensures) ∙ not-false (c .before .before .before .before .before .before .before .before .before .before .before .before .before .before .before .before .before .before .before .before .before .before .before .is-whole .result) (c .before .before .before .before .before .before .before .before .before .before .before .before .before .before .before .before .before .before .before .before .before .before .if1 .left) in
+    let h = banner-buffer s e in
+    let n : length (take (c .before .before .before .before .before .before .before .before .before .before .before .before .before .before .before .before .before .before .before .before .before .word-at .result) (a .space .now)) ≡ numberAt 4 17 s = length-take-le (c .before .before .before .before .before .before .before .before .before .before .before .before .before .before .before .before .before .before .before .before .before .word-at .result) (a .space .now) (omega (arith, c .before .before .before .before .before .before .before .before .before .before .before .before .before .before .before .before .before .before .before .before .before .word-at .ensures, c .before .before .before .before .before .before .before .before .before .before .before .before .before .before .before .before .before .before .before .before .before .before .before .before .before .before .before .before .pre)) ∙ c .before .before .before .before .before .before .before .before .before .before .before .before .before .before .before .before .before .before .before .before .before .word-at .ensures in
+    let d : done (answered (c .before .before .before .before .before .before .before .before .before .before .build-banner .result)) (c .before .before .before .before .before .before .before .before .before .before .build-banner .last .0) ≡ bannerDoneOf s = c .before .before .before .before .before .before .before .before .before .before .build-banner .ensures .promise ∙ banner-done s (c .before .before .before .before .before .before .before .before .before .before .before .before .before .before .before .before .before .count-up .last .0) (c .before .before .before .before .before .before .before .before .before .before .before .before .long-at2 .result) (c .before .before .before .before .before .before .before .before .before .before .before .long-at3 .result) (c .before .before .before .before .before .before .before .before .before .before .before .before .before .long-at .result) (c .before .before .before .before .before .before .before .before .before .before .before .before .long-at2 .ensures) (c .before .before .before .before .before .before .before .before .before .before .before .long-at3 .ensures) (c .before .before .before .before .before .before .before .before .before .before .before .before .before .before .before .before .before .count-up .ensures ∙ ap₂ counted (c .before .before .before .before .before .before .before .before .before .before .before .before .before .before .before .before .before .before .byte-at .ensures) n) (c .before .before .before .before .before .before .before .before .before .before .before .before .before .long-at .ensures) in
+    let k = built-line (c .before .before .before .before .before .before .before .before .before .before .build-banner .result) (c .before .before .before .before .before .before .checksum .result) (c .before .before .before .before .before .before .before .before .before .before .build-banner .last .0) (bannerDoneOf s) d (c .before .before .before .before .before .before .checksum .ensures) in
+    did-whole (bannerSize s) (doneLine (bannerDoneOf s) ∷ []) e (c .before .before .before .before .before .before .before .before .before .before .before .before .before .before .before .before .before .before .before .before .before .before .before .before .banner-size .ensures) (c .before .before .print-built .ensures ∙ ap (λ (x : List Piece). print x (page (a .text .now) (a .at))) k)
+
+pub banner-record-spec : {M : Type 1} → statement M
+banner-record-spec =
+    tie.close
+    (tie.spec
+    banner-size-requires
+    is-whole-requires
+    bad-record-requires
+    same-length
+    returns
+    word-at-requires
+    cast-n
+    slice-relend-prefix-buf
+    slice-aggregate-buf
+    byte-at-requires
+    count-up-requires
+    long-at-requires
+    long-at-requires-2
+    long-at-requires-3
+    build-banner-requires
+    checksum-requires
+    print-built-requires
+    same-length-2
+    same-length-3
+    returns-2)

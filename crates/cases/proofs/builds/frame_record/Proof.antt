@@ -1,0 +1,150 @@
+use mathlib.Core.Path.{_≡_, sym, ap, ap₂, _∙_}
+use mathlib.Core.Bool.{true, false}
+use mathlib.Core.List.{List, [], _∷_}
+use Prim.Native.Nat.{ℕ}
+use native.Mathlib.Omega.{arith}
+use borrow.Author.Tests.{not-true, not-false}
+use lib.Dec.{eqb}
+use lib.ListN.{length, take, drop}
+use lib.Seq.{length-take-le}
+use Rattle.buffer.specs.Le.{numberAt}
+use Rattle.preamble.specs.Judge.{headerOf}
+use Rattle.builder.specs.Build.{done, answered}
+use Rattle.text.specs.Line.{Piece}
+use Rattle.text.specs.Page.{page}
+use Rattle.cases.specs.Records.{isWhole, print, prints, counted}
+use Rattle.cases.specs.Builds.{doneLine, revisionOf, frameSize, frameDoneOf, frameRecord}
+use Rattle.cases.proofs.Laws.{did-bad, did-whole, frame-buffer, frame-done, built-line}
+use borrow.Author.Needs.{needs}
+use Rattle.cases.proofs.builds.frame_record.Statement.{statement}
+use Rattle.cases.proofs.builds.frame_record.Tie as tie
+
+frame-size-requires : tie.Need-frame-size-requires
+frame-size-requires c κs = search needs
+
+is-whole-requires : tie.Need-is-whole-requires
+is-whole-requires c κs = search needs
+
+bad-record-requires : tie.Need-bad-record-requires
+bad-record-requires c κs = search needs
+
+same-length : tie.Need-same-length
+same-length c = search needs
+
+returns : tie.Need-returns
+unfolding frameRecord
+returns c =
+    let s = c .before .before .before .before .before .before .before .before .before .before .args .s .now in
+    let e : isWhole (frameSize s) s ≡ false = ap (λ (k : ℕ). isWhole k s) (sym (c .before .before .before .before .before .before .frame-size .ensures)) ∙ sym (c .before .before .before .before .before .is-whole .ensures) ∙ not-true (c .before .before .before .before .before .is-whole .result) (c .before .before .before .before .if1 .taken) in
+    did-bad (frameSize s) (doneLine (frameDoneOf s) ∷ []) e (c .before .before .bad-record .ensures .0) (c .before .before .bad-record .ensures .1)
+
+word-at-requires : tie.Need-word-at-requires
+word-at-requires c κs = search needs
+
+cast-n : tie.Need-cast-n
+cast-n c = search needs
+
+slice-relend-prefix-buf : tie.Need-slice-relend-prefix-buf
+slice-relend-prefix-buf c =
+    let s = c .before .before .before .before .before .before .before .args .s .now in
+    let e : isWhole (frameSize s) s ≡ true = ap (λ (k : ℕ). isWhole k s) (sym (c .before .before .before .frame-size .ensures)) ∙ sym (c .before .before .is-whole .ensures) ∙ not-false (c .before .before .is-whole .result) (c .before .if1 .left) in
+    let h = frame-buffer s e in
+    omega (arith, c .word-at .ensures, c .before .before .before .before .before .before .before .pre)
+
+slice-aggregate-buf : tie.Need-slice-aggregate-buf
+slice-aggregate-buf c =
+    let s = c .before .before .before .before .before .before .before .before .args .s .now in
+    let e : isWhole (frameSize s) s ≡ true = ap (λ (k : ℕ). isWhole k s) (sym (c .before .before .before .before .frame-size .ensures)) ∙ sym (c .before .before .before .is-whole .ensures) ∙ not-false (c .before .before .before .is-whole .result) (c .before .before .if1 .left) in
+    let h = frame-buffer s e in
+    sym (length-take-le (c .before .word-at .result) (c .before .before .before .before .before .before .before .before .args .space .now) (omega (arith, c .before .word-at .ensures, c .before .before .before .before .before .before .before .before .pre)))
+
+byte-at-requires : tie.Need-byte-at-requires
+byte-at-requires c κs = search needs
+
+count-up-requires : tie.Need-count-up-requires
+count-up-requires c κs = search needs
+
+long-at-requires : tie.Need-long-at-requires
+long-at-requires c κs = search needs
+
+byte-at-requires-2 : tie.Need-byte-at-requires-2
+byte-at-requires-2 c κs = search needs
+
+revision-of-requires : tie.Need-revision-of-requires
+revision-of-requires c κs = search needs
+
+behind-requires : tie.Need-behind-requires
+behind-requires c κs = search needs
+
+read-header-requires : tie.Need-read-header-requires
+read-header-requires c κs = search needs
+
+word-at-requires-2 : tie.Need-word-at-requires-2
+word-at-requires-2 c κs = search needs
+
+cast-part : tie.Need-cast-part
+cast-part c = search needs
+
+part-requires : tie.Need-part-requires
+part-requires c κs = search needs
+
+byte-at-requires-3 : tie.Need-byte-at-requires-3
+byte-at-requires-3 c κs = search needs
+
+build-frame-requires : tie.Need-build-frame-requires
+build-frame-requires c κs = search needs
+
+checksum-requires : tie.Need-checksum-requires
+checksum-requires c κs = search needs
+
+print-built-requires : tie.Need-print-built-requires
+print-built-requires c κs = search needs
+
+same-length-2 : tie.Need-same-length-2
+same-length-2 c = search needs
+
+same-length-3 : tie.Need-same-length-3
+same-length-3 c = search needs
+
+returns-2 : tie.Need-returns-2
+unfolding frameRecord prints
+returns-2 c =
+    let a = c .before .before .before .before .before .before .before .before .before .before .before .before .before .before .before .before .before .before .before .before .before .before .before .before .before .before .before .before .before .before .before .before .before .args in
+    let s = a .s .now in
+    let e : isWhole (frameSize s) s ≡ true = ap (λ (k : ℕ). isWhole k s) (sym (c .before .before .before .before .before .before .before .before .before .before .before .before .before .before .before .before .before .before .before .before .before .before .before .before .before .before .before .before .before .frame-size .ensures)) ∙ sym (c .before .before .before .before .before .before .before .before .before .before .before .before .before .before .before .before .before .before .before .before .before .before .before .before .before .before .before .before .is-whole .ensures) ∙ not-false (c .before .before .before .before .before .before .before .before .before .before .before .before .before .before .before .before .before .before .before .before .before .before .before .before .before .before .before .before .is-whole .result) (c .before .before .before .before .before .before .before .before .before .before .before .before .before .before .before .before .before .before .before .before .before .before .before .before .before .before .before .if1 .left) in
+    let h = frame-buffer s e in
+    let n : length (take (c .before .before .before .before .before .before .before .before .before .before .before .before .before .before .before .before .before .before .before .before .before .before .before .before .before .before .word-at .result) (a .space .now)) ≡ numberAt 4 29 s = length-take-le (c .before .before .before .before .before .before .before .before .before .before .before .before .before .before .before .before .before .before .before .before .before .before .before .before .before .before .word-at .result) (a .space .now) (omega (arith, c .before .before .before .before .before .before .before .before .before .before .before .before .before .before .before .before .before .before .before .before .before .before .before .before .before .before .word-at .ensures, c .before .before .before .before .before .before .before .before .before .before .before .before .before .before .before .before .before .before .before .before .before .before .before .before .before .before .before .before .before .before .before .before .before .pre)) ∙ c .before .before .before .before .before .before .before .before .before .before .before .before .before .before .before .before .before .before .before .before .before .before .before .before .before .before .word-at .ensures in
+    let d : done (answered (c .before .before .before .before .before .before .before .before .before .before .build-frame .result)) (c .before .before .before .before .before .before .before .before .before .before .build-frame .last .0) ≡ frameDoneOf s = c .before .before .before .before .before .before .before .before .before .before .build-frame .ensures .promise ∙ frame-done s (c .before .before .before .before .before .before .before .before .before .before .before .before .before .before .before .before .before .before .before .before .before .before .count-up .last .0) (c .before .before .before .before .before .before .before .before .before .before .before .before .before .part .result .now) (c .before .before .before .before .before .before .before .before .before .before .before .before .before .before .before .before .before .before .before .long-at .result) (c .before .before .before .before .before .before .before .before .before .before .before .before .before .before .before .before .before .revision-of .result) (c .before .before .before .before .before .before .before .before .before .before .before .before .before .before .before .read-header .result) (eqb (c .before .before .before .before .before .before .before .before .before .before .before .before .byte-at3 .result) 1) (c .before .before .before .before .before .before .before .before .before .before .before .before .before .before .before .before .before .revision-of .ensures ∙ ap revisionOf (c .before .before .before .before .before .before .before .before .before .before .before .before .before .before .before .before .before .before .byte-at2 .ensures)) (c .before .before .before .before .before .before .before .before .before .before .before .before .before .before .before .read-header .ensures ∙ ap headerOf (c .before .before .before .before .before .before .before .before .before .before .before .before .before .before .before .before .behind .ensures)) (ap (λ (b : ℕ). eqb b 1) (c .before .before .before .before .before .before .before .before .before .before .before .before .byte-at3 .ensures)) (c .before .before .before .before .before .before .before .before .before .before .before .before .before .part .ensures ∙ ap (λ (k : ℕ). take k (drop 46 s)) (c .before .before .before .before .before .before .before .before .before .before .before .before .before .before .word-at2 .ensures)) (c .before .before .before .before .before .before .before .before .before .before .before .before .before .before .before .before .before .before .before .before .before .before .count-up .ensures ∙ ap₂ counted (c .before .before .before .before .before .before .before .before .before .before .before .before .before .before .before .before .before .before .before .before .before .before .before .byte-at .ensures) n) (c .before .before .before .before .before .before .before .before .before .before .before .before .before .before .before .before .before .before .before .long-at .ensures) in
+    let k = built-line (c .before .before .before .before .before .before .before .before .before .before .build-frame .result) (c .before .before .before .before .before .before .checksum .result) (c .before .before .before .before .before .before .before .before .before .before .build-frame .last .0) (frameDoneOf s) d (c .before .before .before .before .before .before .checksum .ensures) in
+    did-whole (frameSize s) (doneLine (frameDoneOf s) ∷ []) e (c .before .before .before .before .before .before .before .before .before .before .before .before .before .before .before .before .before .before .before .before .before .before .before .before .before .before .before .before .before .frame-size .ensures) (c .before .before .print-built .ensures ∙ ap (λ (x : List Piece). print x (page (a .text .now) (a .at))) k)
+
+pub frame-record-spec : {M : Type 1} → statement M
+frame-record-spec =
+    tie.close
+    (tie.spec
+    frame-size-requires
+    is-whole-requires
+    bad-record-requires
+    same-length
+    returns
+    word-at-requires
+    cast-n
+    slice-relend-prefix-buf
+    slice-aggregate-buf
+    byte-at-requires
+    count-up-requires
+    long-at-requires
+    byte-at-requires-2
+    revision-of-requires
+    behind-requires
+    read-header-requires
+    word-at-requires-2
+    cast-part
+    part-requires
+    byte-at-requires-3
+    build-frame-requires
+    checksum-requires
+    print-built-requires
+    same-length-2
+    same-length-3
+    returns-2)

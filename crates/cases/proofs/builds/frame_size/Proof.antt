@@ -1,0 +1,56 @@
+use borrow.Author.Needs.{needs}
+use Rattle.cases.proofs.builds.frame_size.Statement.{statement}
+use Rattle.cases.proofs.builds.frame_size.Tie as tie
+
+word-at-requires : tie.Need-word-at-requires
+word-at-requires c κs = search needs
+
+cast-n : tie.Need-cast-n
+cast-n c = search needs
+
+byte-at-requires : tie.Need-byte-at-requires
+byte-at-requires c κs = search needs
+
+byte-at-requires-2 : tie.Need-byte-at-requires-2
+byte-at-requires-2 c κs = search needs
+
+both-requires : tie.Need-both-requires
+both-requires c κs = search needs
+
+word-at-requires-2 : tie.Need-word-at-requires-2
+word-at-requires-2 c κs = search needs
+
+cast-both : tie.Need-cast-both
+cast-both c = search needs
+
+both-requires-2 : tie.Need-both-requires-2
+both-requires-2 c κs = search needs
+
+both-requires-3 : tie.Need-both-requires-3
+both-requires-3 c κs = search needs
+
+add-sized : tie.Need-add-sized
+add-sized c = search needs
+
+sized-requires : tie.Need-sized-requires
+sized-requires c κs = search needs
+
+returns : tie.Need-returns
+returns c = cc
+
+pub frame-size-spec : {M : Type 1} → statement M
+frame-size-spec =
+    tie.close
+    (tie.spec
+    word-at-requires
+    cast-n
+    byte-at-requires
+    byte-at-requires-2
+    both-requires
+    word-at-requires-2
+    cast-both
+    both-requires-2
+    both-requires-3
+    add-sized
+    sized-requires
+    returns)

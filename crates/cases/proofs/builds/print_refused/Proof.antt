@@ -1,0 +1,36 @@
+use borrow.Author.Needs.{needs}
+use Rattle.cases.proofs.builds.print_refused.Statement.{statement}
+use Rattle.cases.proofs.builds.print_refused.Tie as tie
+
+room-requires : tie.Need-room-requires
+room-requires c κs = search needs
+
+slice-aggregate-put-word : tie.Need-slice-aggregate-put-word
+slice-aggregate-put-word c = search needs
+
+put-word-requires : tie.Need-put-word-requires
+put-word-requires c κs = search needs
+
+put-why-requires : tie.Need-put-why-requires
+put-why-requires c κs = search needs
+
+put-sum-requires : tie.Need-put-sum-requires
+put-sum-requires c κs = search needs
+
+same-length : tie.Need-same-length
+same-length c = search needs
+
+returns : tie.Need-returns
+returns c = cc
+
+pub print-refused-spec : {M : Type 1} → statement M
+print-refused-spec =
+    tie.close
+    (tie.spec
+    room-requires
+    slice-aggregate-put-word
+    put-word-requires
+    put-why-requires
+    put-sum-requires
+    same-length
+    returns)

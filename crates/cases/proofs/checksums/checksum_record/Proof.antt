@@ -1,0 +1,80 @@
+use mathlib.Core.Path.{_≡_, sym, ap, ap₂, _∙_}
+use mathlib.Core.Bool.{true, false}
+use mathlib.Core.List.{[], _∷_}
+use Prim.Native.Nat.{ℕ}
+use borrow.Author.Tests.{not-true, not-false}
+use lib.ListN.{take, drop}
+use Rattle.buffer.specs.Le.{numberAt}
+use Rattle.crc32c.specs.Crc.{crcOf}
+use Rattle.text.specs.Page.{page}
+use Rattle.cases.specs.Records.{isWhole, print, prints}
+use Rattle.cases.specs.Checksums.{checksumSize, checksumLine, checksumRecord}
+use Rattle.cases.proofs.Laws.{did-bad, did-whole}
+use borrow.Author.Needs.{needs}
+use Rattle.cases.proofs.checksums.checksum_record.Statement.{statement}
+use Rattle.cases.proofs.checksums.checksum_record.Tie as tie
+
+checksum-size-requires : tie.Need-checksum-size-requires
+checksum-size-requires c κs = search needs
+
+is-whole-requires : tie.Need-is-whole-requires
+is-whole-requires c κs = search needs
+
+bad-record-requires : tie.Need-bad-record-requires
+bad-record-requires c κs = search needs
+
+same-length : tie.Need-same-length
+same-length c = search needs
+
+returns : tie.Need-returns
+unfolding checksumRecord
+returns c =
+    let s = c .before .before .before .before .before .before .before .before .before .args .s .now in
+    let e : isWhole (checksumSize s) s ≡ false = ap (λ (k : ℕ). isWhole k s) (sym (c .before .before .before .before .before .before .checksum-size .ensures)) ∙ sym (c .before .before .before .before .before .is-whole .ensures) ∙ not-true (c .before .before .before .before .before .is-whole .result) (c .before .before .before .before .if1 .taken) in
+    did-bad (checksumSize s) (checksumLine (crcOf (numberAt 4 1 s) (take (numberAt 4 5 s) (drop 9 s))) ∷ []) e (c .before .before .bad-record .ensures .0) (c .before .before .bad-record .ensures .1)
+
+word-at-requires : tie.Need-word-at-requires
+word-at-requires c κs = search needs
+
+cast-n : tie.Need-cast-n
+cast-n c = search needs
+
+word-at-requires-2 : tie.Need-word-at-requires-2
+word-at-requires-2 c κs = search needs
+
+part-requires : tie.Need-part-requires
+part-requires c κs = search needs
+
+checksum-requires : tie.Need-checksum-requires
+checksum-requires c κs = search needs
+
+print-checksum-requires : tie.Need-print-checksum-requires
+print-checksum-requires c κs = search needs
+
+same-length-2 : tie.Need-same-length-2
+same-length-2 c = search needs
+
+returns-2 : tie.Need-returns-2
+unfolding checksumRecord prints
+returns-2 c =
+    let s = c .before .before .before .before .before .before .before .before .before .before .before .before .before .args .s .now in
+    let e : isWhole (checksumSize s) s ≡ true = ap (λ (k : ℕ). isWhole k s) (sym (c .before .before .before .before .before .before .before .before .before .before .checksum-size .ensures)) ∙ sym (c .before .before .before .before .before .before .before .before .before .is-whole .ensures) ∙ not-false (c .before .before .before .before .before .before .before .before .before .is-whole .result) (c .before .before .before .before .before .before .before .before .if1 .left) in
+    did-whole (checksumSize s) (checksumLine (crcOf (numberAt 4 1 s) (take (numberAt 4 5 s) (drop 9 s))) ∷ []) e (c .before .before .before .before .before .before .before .before .before .before .checksum-size .ensures) (c .before .before .print-checksum .ensures ∙ ap (λ (x : ℕ). print (checksumLine x) (page (c .before .before .before .before .before .before .before .before .before .before .before .before .before .args .text .now) (c .before .before .before .before .before .before .before .before .before .before .before .before .before .args .at))) (c .before .before .before .before .checksum .ensures ∙ ap₂ crcOf (c .before .before .before .before .before .before .word-at2 .ensures) (c .before .before .before .before .before .part .ensures ∙ ap (λ (k : ℕ). take k (drop 9 s)) (c .before .before .before .before .before .before .before .word-at .ensures))))
+
+pub checksum-record-spec : {M : Type 1} → statement M
+checksum-record-spec =
+    tie.close
+    (tie.spec
+    checksum-size-requires
+    is-whole-requires
+    bad-record-requires
+    same-length
+    returns
+    word-at-requires
+    cast-n
+    word-at-requires-2
+    part-requires
+    checksum-requires
+    print-checksum-requires
+    same-length-2
+    returns-2)

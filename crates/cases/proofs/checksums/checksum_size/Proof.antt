@@ -1,0 +1,21 @@
+use borrow.Author.Needs.{needs}
+use Rattle.cases.proofs.checksums.checksum_size.Statement.{statement}
+use Rattle.cases.proofs.checksums.checksum_size.Tie as tie
+
+word-at-requires : tie.Need-word-at-requires
+word-at-requires c κs = search needs
+
+cast-n : tie.Need-cast-n
+cast-n c = search needs
+
+add-sized : tie.Need-add-sized
+add-sized c = search needs
+
+sized-requires : tie.Need-sized-requires
+sized-requires c κs = search needs
+
+returns : tie.Need-returns
+returns c = cc
+
+pub checksum-size-spec : {M : Type 1} → statement M
+checksum-size-spec = tie.close (tie.spec word-at-requires cast-n add-sized sized-requires returns)

@@ -1,0 +1,127 @@
+// B and F records: a banner and a frame are built into a buffer that counts up.
+use crate::Step;
+use crate::records::LARGEST;
+use crate::records::bad_record;
+use crate::records::count_up;
+use crate::records::is_whole;
+use crate::records::put_sum;
+use crate::records::put_why;
+use crate::records::room;
+use crate::records::sized;
+use banner::Revision;
+use buffer::behind;
+use buffer::byte_at;
+use buffer::long_at;
+use buffer::part;
+use buffer::word_at;
+use builder::Built;
+use builder::build_banner;
+use builder::build_frame;
+use crc32c::checksum;
+use preamble::read_header;
+use refusal::Numbers;
+use refusal::both;
+use refusal::in_numbers;
+use text::put_field;
+use text::put_word;
+ghost use mathlib.Core.Path.{_≡_};
+ghost use Prim.Native.Nat.{_≤_};
+ghost use lib.ListN.{length};
+ghost use Rattle.builder.specs.Build.{wrote, turnedAway, answered};
+ghost use Rattle.text.specs.Page.{page};
+ghost use Rattle.cases.specs.Records.{Did, print};
+ghost use Rattle.cases.specs.Builds.{answerLine, revisionOf, bannerSize, bannerRecord, frameSize, frameRecord};
+
+fn print_wrote(text: &mut [u8], at: usize, n: usize, sum: u32) -> usize
+    ensures { λ r. ⌜ page (now (text .exit)) r ≡ print (answerLine (wrote n) sum) (page (now (text .entry)) at) ⌝ }
+{
+    let from = room(text, at);
+    let a = put_field(text, from, b"wrote", n as u64);
+    put_sum(text, a, sum)
+}
+
+fn print_refused(text: &mut [u8], at: usize, why: Numbers, sum: u32) -> usize
+    ensures { λ r. ⌜ page (now (text .exit)) r ≡ print (answerLine (turnedAway why) sum) (page (now (text .entry)) at) ⌝ }
+{
+    let from = room(text, at);
+    let a = put_word(text, from, b"refused");
+    let b = put_why(text, a, why);
+    put_sum(text, b, sum)
+}
+
+fn print_built(text: &mut [u8], at: usize, built: Built, sum: u32) -> usize
+    ensures { λ r. ⌜ page (now (text .exit)) r ≡ print (answerLine (answered built) sum) (page (now (text .entry)) at) ⌝ }
+{
+    match built {
+        Built::Wrote(n) => print_wrote(text, at, n, sum),
+        Built::Refused(why) => print_refused(text, at, in_numbers(why), sum),
+    }
+}
+
+fn banner_size(s: &[u8]) -> usize
+    ensures { λ r. ⌜ r ≡ bannerSize (now (s .entry)) ⌝ }
+{
+    sized(word_at(s, 17) as usize <= LARGEST, 30)
+}
+
+pub(crate) fn banner_record(s: &[u8], space: &mut [u8], text: &mut [u8], at: usize) -> Step
+    requires { ⌜ 65536 ≤ length (now space) ⌝ }
+    ensures { λ r. ⌜ Did (bannerRecord (now (s .entry))) (now (s .entry)) (now (text .entry)) at (now (text .exit)) r ⌝ }
+{
+    let size = banner_size(s);
+    if !is_whole(size, s) {
+        return bad_record(text, at);
+    }
+    let n = word_at(s, 17) as usize;
+    let buf = &mut space[..n];
+    count_up(buf, byte_at(s, 21));
+    let built = build_banner(buf, long_at(s, 22) as usize, long_at(s, 1), long_at(s, 9));
+    let sum = checksum(0xFFFFFFFF, buf);
+    Step {
+        taken: size,
+        filled: print_built(text, at, built, sum),
+    }
+}
+
+fn revision_of(b: u8) -> Revision
+    ensures { λ r. ⌜ r ≡ revisionOf b ⌝ }
+{
+    if b == 1 {
+        Revision::Msgr21
+    } else {
+        Revision::Msgr20
+    }
+}
+
+fn frame_size(s: &[u8]) -> usize
+    ensures { λ r. ⌜ r ≡ frameSize (now (s .entry)) ⌝ }
+{
+    let n = word_at(s, 42) as usize;
+    let choices = both(byte_at(s, 1) <= 1, byte_at(s, 28) <= 1);
+    let lengths = both(word_at(s, 29) as usize <= LARGEST, n <= LARGEST);
+    sized(both(choices, lengths), 46 + n)
+}
+
+pub(crate) fn frame_record(s: &[u8], space: &mut [u8], text: &mut [u8], at: usize) -> Step
+    requires { ⌜ 65536 ≤ length (now space) ⌝ }
+    ensures { λ r. ⌜ Did (frameRecord (now (s .entry))) (now (s .entry)) (now (text .entry)) at (now (text .exit)) r ⌝ }
+{
+    let size = frame_size(s);
+    if !is_whole(size, s) {
+        return bad_record(text, at);
+    }
+    let n = word_at(s, 29) as usize;
+    let buf = &mut space[..n];
+    count_up(buf, byte_at(s, 33));
+    let queued = long_at(s, 34) as usize;
+    let revision = revision_of(byte_at(s, 1));
+    let header = read_header(behind(s, 2));
+    let source = part(s, 46, word_at(s, 42) as usize);
+    let abort = byte_at(s, 28) == 1;
+    let built = build_frame(buf, queued, revision, header, abort, source);
+    let sum = checksum(0xFFFFFFFF, buf);
+    Step {
+        taken: size,
+        filled: print_built(text, at, built, sum),
+    }
+}

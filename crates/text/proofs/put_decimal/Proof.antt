@@ -1,0 +1,42 @@
+use mathlib.Core.Path.{_∙_, ap}
+use mathlib.Core.List.{List}
+use Prim.Native.Nat.{ℕ}
+use Rattle.text.specs.Page.{page, write, put}
+use Rattle.text.proofs.Laws.{decimal-of}
+use borrow.Author.Needs.{needs}
+use Rattle.text.proofs.put_decimal.Statement.{statement}
+use Rattle.text.proofs.put_decimal.Tie as tie
+
+decimal-requires : tie.Need-decimal-requires
+decimal-requires c κs = search needs
+
+array-share-prefix-digits : tie.Need-array-share-prefix-digits
+array-share-prefix-digits c = search needs
+
+slice-aggregate-put-word : tie.Need-slice-aggregate-put-word
+slice-aggregate-put-word c = search needs
+
+put-word-requires : tie.Need-put-word-requires
+put-word-requires c κs = search needs
+
+same-length : tie.Need-same-length
+same-length c = search needs
+
+returns : tie.Need-returns
+unfolding put
+returns c =
+    let a = c .before .before .before .before .before .before .before .before in
+    let d = c .before .before .before .before .before .decimal in
+    c .before .before .put-word .ensures
+    ∙ ap (λ (xs : List ℕ). write xs (page (a .args .text .now) (a .args .at))) (d .ensures .1 .1 ∙ decimal-of (a .args .n) (d .result) (a .fits .n .fits) (d .ensures .1 .0))
+
+pub put-decimal-spec : {M : Type 1} → statement M
+put-decimal-spec =
+    tie.close
+    (tie.spec
+    decimal-requires
+    array-share-prefix-digits
+    slice-aggregate-put-word
+    put-word-requires
+    same-length
+    returns)
