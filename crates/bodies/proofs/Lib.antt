@@ -1,0 +1,5 @@
+pub mod Rows
+pub mod Tags
+pub mod Judged
+pub mod Drafted
+pub mod Trips

@@ -1,0 +1,312 @@
+-- Reading what was written gives it back, and writing what was read gives the same bytes.
+use mathlib.Core.Path.{_≡_, refl, sym, ap, ap₂, subst, _∙_}
+use mathlib.Core.Bool.{Bool, true, false, cond}
+use mathlib.Core.List.{List, [], _∷_, _++_}
+use Prim.Native.Nat.{ℕ, zero, suc, _+_, _-_, _*_, _/_, _%_, _≤_, _<_}
+use native.Mathlib.Omega.{arith}
+use lib.Dec.{leb, ltb, eqb}
+use borrow.Author.Tests.{le-leb, leb-true, leb-false, eqb-true}
+use lib.ListN.{length, take, drop, getD, length-take, length-drop, take-append-drop, List·getD-eq-default}
+use lib.Seq.{take-at, take-add, drop-drop, drop-length, length-take-le, getD-take, getD-drop}
+use Rattle.buffer.specs.Le.{le, leOf, numberAt, Bytes}
+use Rattle.buffer.specs.Splice.{over}
+use Rattle.preamble.specs.Judge.{segmentLimit}
+use Rattle.refusal.specs.declared.Numbers.{Numbers}
+use Rattle.refusal.specs.Refusals.{row}
+use Rattle.fields.specs.declared.Cursor.{Cursor}
+use Rattle.fields.specs.Layout.{Kind, num, neg, list, size, rest, plain, good, fault, past, stepOf}
+use Rattle.fields.specs.Field.{Field, kindOf, words, wordsOf, fieldBytes, fieldAt}
+use Rattle.bodies.specs.declared.Body.{Body}
+use Rattle.bodies.specs.declared.Request.{Request}
+use Rattle.bodies.specs.declared.Written.{Written}
+use Rattle.bodies.specs.declared.Written.the-variants as written
+use Rattle.bodies.specs.Table.{Found, listed, unlisted, layoutOf, isListed}
+use Rattle.bodies.specs.Rows.{requested}
+use Rattle.bodies.specs.Read.{run, fieldsOf, Answer, whole, refused, malformed, settled, readOf, readBy, readBody, answerOf}
+use Rattle.bodies.specs.Write.{kindsOf, bytesOf, Outcome, wrote, turnedAway, Done, done, writeAs, writeBody, outcomeOf}
+use Rattle.bodies.specs.Claims.{AllFit, Reads, Writes, RoundTrips}
+use Rattle.bodies.proofs.Tags.{is-listed, listed-is}
+use Rattle.bodies.proofs.Judged.{judge, Closed, closed-request}
+use Rattle.bodies.proofs.Drafted.{read-listed, read-long}
+
+-- ---- what was written
+
+record Written-well (tag n : ℕ) (fs : List Field) (out l : List ℕ) : Type 0 where
+  kinds : isListed (layoutOf tag) (kindsOf fs) ≡ true
+  gs : List Field
+  reads : readBody tag (bytesOf fs) ≡ whole gs
+  len : n ≡ length (bytesOf fs)
+  buffer : l ≡ over (bytesOf fs) out
+
+outcomes : {a b : Outcome} {l m : List ℕ} → done a l ≡ done b m → a ≡ b
+outcomes e = ap (λ (d : Done). d .outcome) e
+
+same-count : {n m : ℕ} → wrote n ≡ wrote m → n ≡ m
+same-count e = cc
+
+not-wrote : {A : Type 0} {n : ℕ} {r : Numbers} → wrote n ≡ turnedAway r → A
+not-wrote e = absurd (let z : _≡_ {A = ℕ} 0 1 = cc in omega arith)
+
+-- only a body that reads, with room, is written
+wrote-well : (tag n : ℕ) (fs : List Field) (out l : List ℕ) → done (wrote n) l ≡ writeBody tag fs out → Written-well tag n fs out l
+unfolding writeBody writeAs
+wrote-well tag n fs out l = go (isListed (layoutOf tag) (kindsOf fs)) (readBody tag (bytesOf fs)) (leb (length (bytesOf fs)) (length out)) refl refl refl
+  where
+    go : (a : Bool) (r : Answer) (b : Bool) → isListed (layoutOf tag) (kindsOf fs) ≡ a → readBody tag (bytesOf fs) ≡ r → leb (length (bytesOf fs)) (length out) ≡ b → done (wrote n) l ≡ cond a (writeAs r (bytesOf fs) out) (writeAs (malformed 0) (bytesOf fs) out) → Written-well tag n fs out l
+    go true (whole gs) true x y z e =
+        let f : done (wrote n) l ≡ done (wrote (length (bytesOf fs))) (over (bytesOf fs) out) = e ∙ rw z in
+        record { kinds = x; gs = gs; reads = y; len = same-count (outcomes f); buffer = ap (λ (d : Done). d .buffer) f }
+    go true (whole gs) false x y z e =
+        let f : done (wrote n) l ≡ done (turnedAway (row 14 (length (bytesOf fs)) 0 0)) out = e ∙ rw z in
+        not-wrote (outcomes f)
+    go true (refused m) b x y z e = let f : done (wrote n) l ≡ done (turnedAway m) out = e in not-wrote (outcomes f)
+    go false r b x y z e = let f : done (wrote n) l ≡ done (turnedAway (row 20 0 0 0)) out = e in not-wrote (outcomes f)
+
+-- where the bytes of filled fields read at all, they read as those fields
+whole-by : (tag : ℕ) (fs gs : List Field) (b : Bool) (n : ℕ) → readBody tag (bytesOf fs) ≡ whole gs → readBody tag (bytesOf fs) ≡ cond b (malformed n) (whole fs) → readBody tag (bytesOf fs) ≡ whole fs
+whole-by tag fs gs true n e h = let x : whole gs ≡ malformed n = sym e ∙ h in absurd (let z : _≡_ {A = ℕ} 0 1 = cc in omega arith)
+whole-by tag fs gs false n e h = h
+
+reads-same : (tag : ℕ) (fs gs : List Field) → isListed (layoutOf tag) (kindsOf fs) ≡ true → AllFit fs → Closed fs → readBody tag (bytesOf fs) ≡ whole gs → readBody tag (bytesOf fs) ≡ whole fs
+reads-same tag fs gs k x y e = go (leb (length (bytesOf fs)) segmentLimit) refl
+  where
+    go : (a : Bool) → leb (length (bytesOf fs)) segmentLimit ≡ a → readBody tag (bytesOf fs) ≡ whole fs
+    go true t = whole-by tag fs gs (judge fs 0 .failed) (judge fs 0 .at) e (read-listed tag fs (is-listed (layoutOf tag) (kindsOf fs) k) x y (leb-true (length (bytesOf fs)) segmentLimit t))
+    go false t =
+        let h : whole gs ≡ malformed 0 = sym e ∙ read-long tag (bytesOf fs) (leb-false (length (bytesOf fs)) segmentLimit t) in
+        absurd (let z : _≡_ {A = ℕ} 0 1 = cc in omega arith)
+
+back : (tag n : ℕ) (r : Request) (ms ns bs out l : List ℕ) (b : Body) → Writes tag (requested r ms ns bs) out (written.Wrote n) l → Reads tag (take n l) b → answerOf (take n l) b ≡ whole (requested r ms ns bs)
+back tag n r ms ns bs out l b w q =
+    let fs : List Field = requested r ms ns bs in
+    let g = wrote-well tag n fs out l (w .outcome) in
+    let a : take n l ≡ bytesOf fs = rw (g .buffer) (take-at (bytesOf fs) (drop (length (bytesOf fs)) out) n (sym (g .len))) in
+    q .answer ∙ ap (readBody tag) a ∙ reads-same tag fs (g .gs) (g .kinds) (w .fits) (closed-request r ms ns bs) (g .reads)
+
+-- ---- bytes of what was read
+
+bytes-drop : (n : ℕ) {l : List ℕ} → Bytes l → Bytes (drop n l)
+bytes-drop n {l} h = record { at = λ i. rw (getD-drop n l i 0) (h .at (n + i)) }
+
+bytes-take : (n : ℕ) {l : List ℕ} → Bytes l → Bytes (take n l)
+bytes-take n {l} h = record { at = λ i. go i (leb n i) refl }
+  where
+    go : (i : ℕ) (b : Bool) → leb n i ≡ b → getD (take n l) i 0 < 256
+    go i true t =
+        let k = leb-true n i t in
+        let e : length (take n l) ≤ i = rw (length-take n l) (omega arith) in
+        rw (List·getD-eq-default (take n l) 0 {n = i} e) (omega arith)
+    go i false t = rw (getD-take n l i 0 (leb-false n i t)) (h .at i)
+
+le-leOf : (bs : List ℕ) → Bytes bs → le (length bs) (leOf bs) ≡ bs
+le-leOf [] h = refl
+le-leOf (b ∷ bs) h =
+    let k : b < 256 = h .at 0 in
+    let x : (leOf bs * 256 + b) % 256 ≡ b = omega arith in
+    let y : (leOf bs * 256 + b) / 256 ≡ leOf bs = omega arith in
+    rw (x, y) (ap (λ (l : List ℕ). b ∷ l) (le-leOf bs (record { at = λ i. h .at (suc i) })))
+
+-- a number at a place, written again
+number-again : (w at : ℕ) (s : List ℕ) → Bytes s → w ≤ length s - at → le w (numberAt w at s) ≡ take w (drop at s)
+unfolding numberAt
+number-again w at s h k =
+    let e : length (take w (drop at s)) ≡ w = length-take-le w (drop at s) (rw (length-drop at s) k) in
+    subst (λ (n : ℕ). le n (leOf (take w (drop at s))) ≡ take w (drop at s)) e (le-leOf (take w (drop at s)) (bytes-take w (bytes-drop at h)))
+
+words-again : (n : ℕ) (t : List ℕ) → Bytes t → 4 * n ≤ length t → words (wordsOf n t) ≡ take (4 * n) t
+unfolding words wordsOf
+words-again zero t h k = refl
+words-again (suc n) t h k =
+    let e : 4 * suc n ≡ 4 + 4 * n = omega arith in
+    let d : length (drop 4 t) ≡ length t - 4 = length-drop 4 t in
+    let a : length (take 4 t) ≡ 4 = length-take-le 4 t (omega arith) in
+    let b : le 4 (leOf (take 4 t)) ≡ take 4 t = subst (λ (m : ℕ). le m (leOf (take 4 t)) ≡ take 4 t) a (le-leOf (take 4 t) (bytes-take 4 h)) in
+    rw (e, take-add 4 (4 * n) t) (ap₂ (λ (x y : List ℕ). x ++ y) b (words-again n (drop 4 t) (bytes-drop 4 h) (omega arith)))
+
+length-wordsOf : (n : ℕ) (t : List ℕ) → length (wordsOf n t) ≡ n
+unfolding wordsOf
+length-wordsOf zero t = refl
+length-wordsOf (suc n) t = ap suc (length-wordsOf n (drop 4 t))
+
+-- a step that did not fail: it went over m bytes, which are the field's
+record Over (k : Kind) (s : List ℕ) (at : ℕ) : Type 0 where
+  m : ℕ
+  next : stepOf k s (good at) ≡ good (at + m)
+  bytes : fieldBytes (fieldAt k s at) ≡ take m (drop at s)
+  within : at + m ≤ length s
+
+clash : {A : Type 0} → true ≡ false → A
+clash h = absurd (let z : _≡_ {A = ℕ} 0 1 = cc in omega arith)
+
+module _ (s : List ℕ) (at : ℕ) (h : Bytes s) (in-s : at ≤ length s) where
+  past-over : (w : ℕ) → past w s at .failed ≡ false → (past w s at ≡ good (at + w)) × (w ≤ length s - at)
+  past-over w f = go (leb w (length s - at)) refl f
+    where
+      go : (b : Bool) → leb w (length s - at) ≡ b → cond b (good (at + w)) (fault at) .failed ≡ false → (past w s at ≡ good (at + w)) × (w ≤ length s - at)
+      go true t f = (rw t, leb-true w (length s - at) t)
+      go false t f = clash f
+
+  -- a count, and what it counts
+  counted-again : (n : ℕ) (xs : List ℕ) → n ≡ numberAt 4 at s → 4 ≤ length s - at → (m : ℕ) → xs ≡ take m (drop (at + 4) s) → le 4 n ++ xs ≡ take (4 + m) (drop at s)
+  counted-again n xs e k m x =
+      rw (take-add 4 m (drop at s), drop-drop 4 at s)
+      (ap₂ (λ (a b : List ℕ). a ++ b) (ap (le 4) e ∙ number-again 4 at s h k) x)
+
+  over-number : (w : ℕ) → stepOf (num w) s (good at) .failed ≡ false → Over (num w) s at
+  unfolding stepOf
+  over-number w f =
+      let p = past-over w f in
+      record { m = w; next = p .0; bytes = number-again w at s h (p .1); within = let k = p .1 in omega arith }
+
+  over-negative : stepOf neg s (good at) .failed ≡ false → Over neg s at
+  unfolding stepOf
+  over-negative = go (ltb (numberAt 4 at s) 2147483648) refl
+    where
+      go : (b : Bool) → ltb (numberAt 4 at s) 2147483648 ≡ b → cond b (fault at) (past 4 s at) .failed ≡ false → Over neg s at
+      go true t f = clash f
+      go false t f =
+          let p = past-over 4 f in
+          record { m = 4; next = rw t (p .0); bytes = number-again 4 at s h (p .1); within = let k = p .1 in omega arith }
+
+  over-list : stepOf list s (good at) .failed ≡ false → Over list s at
+  unfolding stepOf
+  over-list = go (ltb 32 (numberAt 4 at s)) (leb (4 + 4 * numberAt 4 at s) (length s - at)) refl refl
+    where
+      go : (a b : Bool) → ltb 32 (numberAt 4 at s) ≡ a → leb (4 + 4 * numberAt 4 at s) (length s - at) ≡ b → cond a (fault at) (cond b (good (at + (4 + 4 * numberAt 4 at s))) (fault (at + (length s - at) / 4 * 4))) .failed ≡ false → Over list s at
+      go true b t u f = clash f
+      go false false t u f = clash f
+      go false true t u f =
+          let k = leb-true (4 + 4 * numberAt 4 at s) (length s - at) u in
+          let d : length (drop (at + 4) s) ≡ length s - (at + 4) = length-drop (at + 4) s in
+          let w = words-again (numberAt 4 at s) (drop (at + 4) s) (bytes-drop (at + 4) h) (omega arith) in
+          record {
+            m = 4 + 4 * numberAt 4 at s;
+            next = rw (t, u);
+            bytes = counted-again (length (wordsOf (numberAt 4 at s) (drop (at + 4) s))) (words (wordsOf (numberAt 4 at s) (drop (at + 4) s))) (length-wordsOf (numberAt 4 at s) (drop (at + 4) s)) (omega arith) (4 * numberAt 4 at s) w;
+            within = omega arith;
+          }
+
+  over-sized : stepOf size s (good at) .failed ≡ false → Over size s at
+  unfolding stepOf
+  over-sized f =
+      let p = past-over (4 + numberAt 4 at s) f in
+      let k = p .1 in
+      let d : length (drop (at + 4) s) ≡ length s - (at + 4) = length-drop (at + 4) s in
+      let e : length (take (numberAt 4 at s) (drop (at + 4) s)) ≡ numberAt 4 at s = length-take-le (numberAt 4 at s) (drop (at + 4) s) (omega arith) in
+      record {
+        m = 4 + numberAt 4 at s;
+        next = p .0;
+        bytes = counted-again (length (take (numberAt 4 at s) (drop (at + 4) s))) (take (numberAt 4 at s) (drop (at + 4) s)) e (omega arith) (numberAt 4 at s) refl;
+        within = omega arith;
+      }
+
+  over-rest : (k : ℕ) → stepOf (rest k) s (good at) .failed ≡ false → Over (rest k) s at
+  unfolding stepOf
+  over-rest k = go (leb k (length s - at)) refl
+    where
+      go : (b : Bool) → leb k (length s - at) ≡ b → cond b (good (length s - k)) (fault 0) .failed ≡ false → Over (rest k) s at
+      go false t f = clash f
+      go true t f =
+          let j = leb-true k (length s - at) t in
+          let e : length s - k ≡ at + (length s - k - at) = omega arith in
+          record { m = length s - k - at; next = rw (t, ← e); bytes = refl; within = omega arith }
+
+  over-plain : (w : ℕ) → stepOf (plain w) s (good at) .failed ≡ false → Over (plain w) s at
+  unfolding stepOf
+  over-plain w f =
+      let p = past-over w f in
+      record { m = w; next = p .0; bytes = refl; within = let k = p .1 in omega arith }
+
+  over-field : (k : Kind) → stepOf k s (good at) .failed ≡ false → Over k s at
+  over-field (num w) = over-number w
+  over-field neg = over-negative
+  over-field list = over-list
+  over-field size = over-sized
+  over-field (rest k) = over-rest k
+  over-field (plain w) = over-plain w
+
+-- a cursor that failed stays so
+failed-run : (ks : List Kind) (s : List ℕ) (c : Cursor) → c .failed ≡ true → run ks s c .failed ≡ true
+unfolding stepOf
+failed-run [] s c h = h
+failed-run (k ∷ ks) s c h = failed-run ks s (stepOf k s c) (rw h)
+
+fields-again : (ks : List Kind) (s : List ℕ) (at : ℕ) → Bytes s → at ≤ length s → run ks s (good at) .failed ≡ false → run ks s (good at) .at ≡ length s → bytesOf (fieldsOf ks s (good at)) ≡ drop at s
+unfolding bytesOf
+fields-again [] s at h l f e = sym (ap (λ (n : ℕ). drop n s) e ∙ drop-length s)
+fields-again (k ∷ ks) s at h l f e = go (stepOf k s (good at) .failed) refl (λ (n : ℕ). fields-again ks s n h)
+  where
+    go : (b : Bool) → stepOf k s (good at) .failed ≡ b → ((n : ℕ) → n ≤ length s → run ks s (good n) .failed ≡ false → run ks s (good n) .at ≡ length s → bytesOf (fieldsOf ks s (good n)) ≡ drop n s) → fieldBytes (fieldAt k s at) ++ bytesOf (fieldsOf ks s (stepOf k s (good at))) ≡ drop at s
+    go true t ih = clash (sym (failed-run ks s (stepOf k s (good at)) t) ∙ f)
+    go false t ih =
+        let o = over-field s at h l k t in
+        let x : run ks s (good (at + o .m)) .failed ≡ false = subst (λ (c : Cursor). run ks s c .failed ≡ false) (o .next) f in
+        let y : run ks s (good (at + o .m)) .at ≡ length s = subst (λ (c : Cursor). run ks s c .at ≡ length s) (o .next) e in
+        let i = ih (at + o .m) (o .within) x y in
+        rw (o .next, o .bytes, i, ← (drop-drop (o .m) at s)) (take-append-drop (o .m) (drop at s))
+
+kinds-again : (ks : List Kind) (s : List ℕ) (c : Cursor) → kindsOf (fieldsOf ks s c) ≡ ks
+unfolding kindsOf
+kinds-again [] s c = refl
+kinds-again (k ∷ ks) s c = ap₂ (λ (x : Kind) (xs : List Kind). x ∷ xs) (same k) (kinds-again ks s (stepOf k s c))
+  where
+    same : (k : Kind) → kindOf (fieldAt k s (c .at)) ≡ k
+    same (num w) = refl
+    same neg = refl
+    same list = refl
+    same size = refl
+    same (rest k) = refl
+    same (plain w) = refl
+
+record Read-well (ks : List Kind) (s : List ℕ) (fs : List Field) : Type 0 where
+  fine : run ks s (good 0) .failed ≡ false
+  ended : run ks s (good 0) .at ≡ length s
+  same : fieldsOf ks s (good 0) ≡ fs
+
+read-well : (ks : List Kind) (s : List ℕ) (fs : List Field) → readOf ks s ≡ whole fs → Read-well ks s fs
+unfolding settled
+read-well ks s fs = go (run ks s (good 0) .failed) (eqb (run ks s (good 0) .at) (length s)) refl refl
+  where
+    go : (a b : Bool) → run ks s (good 0) .failed ≡ a → eqb (run ks s (good 0) .at) (length s) ≡ b → cond a (malformed (run ks s (good 0) .at)) (cond b (whole (fieldsOf ks s (good 0))) (malformed (run ks s (good 0) .at))) ≡ whole fs → Read-well ks s fs
+    go false true x y e = record { fine = x; ended = eqb-true (run ks s (good 0) .at) (length s) y; same = cc }
+    go false false x y e = absurd (let z : _≡_ {A = ℕ} 0 1 = cc in omega arith)
+    go true b x y e = absurd (let z : _≡_ {A = ℕ} 0 1 = cc in omega arith)
+
+record Same-bytes (tag : ℕ) (s : List ℕ) (fs : List Field) : Type 0 where
+  kinds : isListed (layoutOf tag) (kindsOf fs) ≡ true
+  bytes : bytesOf fs ≡ s
+
+same-bytes : (tag : ℕ) (s : List ℕ) (fs : List Field) → Bytes s → readBody tag s ≡ whole fs → Same-bytes tag s fs
+unfolding readBody
+same-bytes tag s fs h = go (leb (length s) segmentLimit) (layoutOf tag) refl
+  where
+    go : (a : Bool) (f : Found) → layoutOf tag ≡ f → cond a (readBy f s) (malformed 0) ≡ whole fs → Same-bytes tag s fs
+    go true (listed ks) x e =
+        let r = read-well ks s fs e in
+        let k : kindsOf fs ≡ ks = ap kindsOf (sym (r .same)) ∙ kinds-again ks s (good 0) in
+        record {
+          kinds = listed-is (layoutOf tag) (kindsOf fs) (x ∙ ap listed (sym k));
+          bytes = ap bytesOf (sym (r .same)) ∙ fields-again ks s 0 h (omega arith) (r .fine) (r .ended);
+        }
+    go true unlisted x e = absurd (let z : _≡_ {A = ℕ} 0 1 = cc in omega arith)
+    go false f x e = absurd (let z : _≡_ {A = ℕ} 0 1 = cc in omega arith)
+
+-- it is then written whole, where there is room
+written-again : (tag : ℕ) (s : List ℕ) (fs : List Field) (out : List ℕ) → Bytes s → readBody tag s ≡ whole fs → length s ≤ length out → writeBody tag fs out ≡ done (wrote (length s)) (over s out)
+unfolding writeBody writeAs
+written-again tag s fs out h e l =
+    let b = same-bytes tag s fs h e in
+    rw (b .kinds, b .bytes, e, le-leb (length s) (length out) l)
+
+wrote-is : (w : Written) (l m : List ℕ) (n : ℕ) → done (outcomeOf w) l ≡ done (wrote n) m → (w ≡ written.Wrote n) × (l ≡ m)
+wrote-is (written.Wrote k) l m n e = (ap written.Wrote (same-count (outcomes e)), ap (λ (d : Done). d .buffer) e)
+wrote-is (written.Refused r) l m n e = not-wrote (sym (outcomes e))
+
+again : (tag : ℕ) (s : List ℕ) (b : Body) (r : Request) (ms ns bs out l : List ℕ) (w : Written) → Bytes s → Reads tag s b → answerOf s b ≡ whole (requested r ms ns bs) → length s ≤ length out → Writes tag (requested r ms ns bs) out w l → (w ≡ written.Wrote (length s)) × (l ≡ over s out)
+again tag s b r ms ns bs out l w h q e k x =
+    wrote-is w l (over s out) (length s) (x .outcome ∙ written-again tag s (requested r ms ns bs) out h (sym (q .answer) ∙ e) k)
+
+-- THE CLAIM
+pub round-trips : RoundTrips
+unfolding RoundTrips
+round-trips = (back, again)

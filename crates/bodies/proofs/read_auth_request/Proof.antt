@@ -1,0 +1,33 @@
+use Rattle.bodies.proofs.Rows.{row-read, step, end}
+use borrow.Author.Needs.{needs}
+use Rattle.bodies.proofs.read_auth_request.Statement.{statement}
+use Rattle.bodies.proofs.read_auth_request.Tie as tie
+
+start-requires : tie.Need-start-requires
+start-requires c κs = search needs
+
+read-u32-requires : tie.Need-read-u32-requires
+read-u32-requires c κs = search needs
+
+read-list-requires : tie.Need-read-list-requires
+read-list-requires c κs = search needs
+
+read-rest-requires : tie.Need-read-rest-requires
+read-rest-requires c κs = search needs
+
+settle-requires : tie.Need-settle-requires
+settle-requires c κs = search needs
+
+returns : tie.Need-returns
+returns c = row-read (c .before .before .before .before .before .before .start .ensures) (step (c .before .before .before .before .before .read-u32 .ensures) (step (c .before .before .before .before .read-list .ensures) (step (c .before .before .before .read-rest .ensures) end))) (c .settle .ensures)
+
+pub read-auth-request-spec : {M : Type 1} → statement M
+read-auth-request-spec =
+    tie.close
+    (tie.spec
+    start-requires
+    read-u32-requires
+    read-list-requires
+    read-rest-requires
+    settle-requires
+    returns)

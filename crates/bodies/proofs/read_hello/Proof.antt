@@ -1,0 +1,27 @@
+use Rattle.bodies.proofs.Rows.{row-read, step, end}
+use borrow.Author.Needs.{needs}
+use Rattle.bodies.proofs.read_hello.Statement.{statement}
+use Rattle.bodies.proofs.read_hello.Tie as tie
+
+start-requires : tie.Need-start-requires
+start-requires c κs = search needs
+
+read-u8-requires : tie.Need-read-u8-requires
+read-u8-requires c κs = search needs
+
+read-rest-requires : tie.Need-read-rest-requires
+read-rest-requires c κs = search needs
+
+settle-requires : tie.Need-settle-requires
+settle-requires c κs = search needs
+
+returns : tie.Need-returns
+returns c =
+    row-read (c .before .before .before .before .start .ensures)
+    (step (c .before .before .before .read-u8 .ensures) (step (c .before .before .read-rest .ensures) end))
+    (c .settle .ensures)
+
+pub read-hello-spec : {M : Type 1} → statement M
+read-hello-spec =
+    tie.close
+    (tie.spec start-requires read-u8-requires read-rest-requires settle-requires returns)

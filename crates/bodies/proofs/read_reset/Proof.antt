@@ -1,0 +1,22 @@
+use Rattle.bodies.proofs.Rows.{row-read, step, end}
+use borrow.Author.Needs.{needs}
+use Rattle.bodies.proofs.read_reset.Statement.{statement}
+use Rattle.bodies.proofs.read_reset.Tie as tie
+
+start-requires : tie.Need-start-requires
+start-requires c κs = search needs
+
+read-u8-requires : tie.Need-read-u8-requires
+read-u8-requires c κs = search needs
+
+settle-requires : tie.Need-settle-requires
+settle-requires c κs = search needs
+
+returns : tie.Need-returns
+returns c =
+    row-read (c .before .before .start .ensures)
+    (step (c .before .read-u8 .ensures) end)
+    (c .settle .ensures)
+
+pub read-reset-spec : {M : Type 1} → statement M
+read-reset-spec = tie.close (tie.spec start-requires read-u8-requires settle-requires returns)

@@ -1,0 +1,24 @@
+use mathlib.Core.Path.{refl}
+use Rattle.buffer.specs.Le.{numberAt}
+use Rattle.fields.specs.Layout.{stepOf}
+use Rattle.fields.specs.Field.{words, wordsOf}
+use Rattle.bodies.specs.Table.{layoutIn}
+use Rattle.bodies.specs.Read.{settled, readBody}
+use Rattle.bodies.specs.Write.{kindsOf, bytesOf, writeAs, writeBody}
+use Rattle.bodies.specs.Worked.{Worked, readings, writings}
+use Rattle.bodies.proofs.worked_bodies.Statement.{statement}
+use Rattle.bodies.proofs.worked_bodies.Tie as tie
+
+-- each body computes
+table : Worked
+unfolding Worked readings writings layoutIn settled readBody kindsOf bytesOf writeAs writeBody stepOf numberAt words wordsOf
+table = (
+  (refl, (refl, (refl, (refl, (refl, (refl, (refl, (refl, (refl, (refl, (refl, (refl, (refl, (refl, (refl, (refl, (refl, (refl, (refl, (refl, (refl, (refl, (refl, (refl, (refl, (refl, (refl, (refl, (refl, (refl, (refl, (refl, (refl, (refl, (refl, (refl, (refl, (refl, (refl, (refl, (refl, (refl, (refl, (refl, (refl, (refl, (refl, (refl, (refl, tt))))))))))))))))))))))))))))))))))))))))))))))))),
+  (refl, (refl, (refl, (refl, (refl, (refl, (refl, (refl, (refl, (refl, (refl, (refl, tt)))))))))))),
+)
+
+returns : tie.Need-returns
+returns c = table
+
+pub worked-bodies-spec : {M : Type 1} → statement M
+worked-bodies-spec = tie.close (tie.spec returns)

@@ -1,0 +1,565 @@
+// Bodies of control frames: each tag's body is a row of fields, read by the cursor and written by the draft of crate `fields`.
+use fields::Cursor;
+use fields::Draft;
+use fields::NumberList;
+use fields::Span;
+use fields::append_bytes;
+use fields::append_list;
+use fields::append_negative;
+use fields::append_payload;
+use fields::append_rest;
+use fields::append_u8;
+use fields::append_u32;
+use fields::append_u64;
+use fields::read_bytes;
+use fields::read_list;
+use fields::read_negative;
+use fields::read_payload;
+use fields::read_rest;
+use fields::read_u8;
+use fields::read_u32;
+use fields::read_u64;
+use fields::start;
+use fields::start_draft;
+use preamble::SEGMENT_LIMIT;
+use refusal::Refusal;
+use refusal::either;
+ghost use mathlib.Core.Path.{_≡_};
+ghost use Prim.Native.Nat.{_<_};
+ghost use Rattle.preamble.specs.Judge.{segmentLimit};
+ghost use Rattle.fields.specs.Writing.{empty};
+ghost use Rattle.bodies.specs.Table.{layoutOf, hello, authRequest, badMethod, more, authDone, ident, reconnect, oneNumber, reset, stamp};
+ghost use Rattle.bodies.specs.Rows.{helloOf, authRequestOf, badMethodOf, moreOf, authDoneOf, identOf, reconnectOf, oneNumberOf, resetOf, stampOf, requested};
+ghost use Rattle.bodies.specs.Read.{settled, readBy, readOf, answerOf};
+ghost use Rattle.bodies.specs.Write.{writes, AppendedAll, judged, decided, isWrote};
+ghost use Rattle.bodies.specs.Claims.{Reads, Writes, RoundTrips};
+ghost use Rattle.bodies.specs.Worked.{Worked};
+
+pub struct Ident {
+    pub gid: u64,
+    pub global: u64,
+    pub supported: u64,
+    pub required: u64,
+    pub flags: u64,
+    pub cookie: u64,
+}
+
+pub struct Reconnect {
+    pub client: u64,
+    pub server: u64,
+    pub global: u64,
+    pub connect: u64,
+    pub message: u64,
+}
+
+// What a body says. Lists, payloads, blocks and stamps are places in the segment that was read. The error of a bad method is its 32 bits.
+pub enum Body {
+    Hello {
+        entity: u8,
+        address: Span,
+    },
+    AuthRequest {
+        method: u32,
+        modes: NumberList,
+        payload: Span,
+    },
+    BadMethod {
+        method: u32,
+        error: u32,
+        methods: NumberList,
+        modes: NumberList,
+    },
+    More(Span),
+    AuthDone {
+        id: u64,
+        mode: u32,
+        payload: Span,
+    },
+    Identity {
+        addresses: u32,
+        block: Span,
+        ident: Ident,
+    },
+    Resume {
+        addresses: u32,
+        block: Span,
+        reconnect: Reconnect,
+    },
+    Number(u64),
+    Reset(u8),
+    Stamp(Span),
+    Refused(Refusal),
+}
+
+// The body, unless a field failed or a byte is left over.
+fn settle(s: &[u8], c: Cursor, body: Body) -> Body
+    ensures { λ r. ⌜ answerOf (now (s .entry)) r ≡ settled (now (s .entry)) c (answerOf (now (s .entry)) body) ⌝ }
+{
+    let at = c.at;
+    if c.failed {
+        return Body::Refused(Refusal::BodyMalformed(at as u64));
+    }
+    if at != s.len() {
+        return Body::Refused(Refusal::BodyMalformed(at as u64));
+    }
+    body
+}
+
+// ---- the bodies: a row of steps each
+
+fn read_hello(s: &[u8]) -> Body
+    ensures { λ r. ⌜ answerOf (now (s .entry)) r ≡ readOf hello (now (s .entry)) ⌝ }
+{
+    let a = read_u8(s, start());
+    let p = read_rest(s, a.next, 0);
+    let address = p.value;
+    let body = Body::Hello {
+        entity: a.value,
+        address: address,
+    };
+    settle(s, p.next, body)
+}
+
+fn read_auth_request(s: &[u8]) -> Body
+    ensures { λ r. ⌜ answerOf (now (s .entry)) r ≡ readOf authRequest (now (s .entry)) ⌝ }
+{
+    let a = read_u32(s, start());
+    let b = read_list(s, a.next);
+    let p = read_rest(s, b.next, 0);
+    let modes = b.value;
+    let payload = p.value;
+    let body = Body::AuthRequest {
+        method: a.value,
+        modes: modes,
+        payload: payload,
+    };
+    settle(s, p.next, body)
+}
+
+fn read_bad_method(s: &[u8]) -> Body
+    ensures { λ r. ⌜ answerOf (now (s .entry)) r ≡ readOf badMethod (now (s .entry)) ⌝ }
+{
+    let a = read_u32(s, start());
+    let e = read_negative(s, a.next);
+    let f = read_list(s, e.next);
+    let g = read_list(s, f.next);
+    let methods = f.value;
+    let modes = g.value;
+    let body = Body::BadMethod {
+        method: a.value,
+        error: e.value,
+        methods: methods,
+        modes: modes,
+    };
+    settle(s, g.next, body)
+}
+
+fn read_more(s: &[u8]) -> Body
+    ensures { λ r. ⌜ answerOf (now (s .entry)) r ≡ readOf more (now (s .entry)) ⌝ }
+{
+    let p = read_payload(s, start());
+    let payload = p.value;
+    settle(s, p.next, Body::More(payload))
+}
+
+fn read_auth_done(s: &[u8]) -> Body
+    ensures { λ r. ⌜ answerOf (now (s .entry)) r ≡ readOf authDone (now (s .entry)) ⌝ }
+{
+    let a = read_u64(s, start());
+    let b = read_u32(s, a.next);
+    let p = read_rest(s, b.next, 0);
+    let payload = p.value;
+    let body = Body::AuthDone {
+        id: a.value,
+        mode: b.value,
+        payload: payload,
+    };
+    settle(s, p.next, body)
+}
+
+fn read_ident(s: &[u8]) -> Body
+    ensures { λ r. ⌜ answerOf (now (s .entry)) r ≡ readOf ident (now (s .entry)) ⌝ }
+{
+    let n = read_u32(s, start());
+    let p = read_rest(s, n.next, 48);
+    let a = read_u64(s, p.next);
+    let b = read_u64(s, a.next);
+    let d = read_u64(s, b.next);
+    let e = read_u64(s, d.next);
+    let f = read_u64(s, e.next);
+    let g = read_u64(s, f.next);
+    let block = p.value;
+    let i = Ident {
+        gid: a.value,
+        global: b.value,
+        supported: d.value,
+        required: e.value,
+        flags: f.value,
+        cookie: g.value,
+    };
+    let body = Body::Identity {
+        addresses: n.value,
+        block: block,
+        ident: i,
+    };
+    settle(s, g.next, body)
+}
+
+fn read_one_number(s: &[u8]) -> Body
+    ensures { λ r. ⌜ answerOf (now (s .entry)) r ≡ readOf oneNumber (now (s .entry)) ⌝ }
+{
+    let a = read_u64(s, start());
+    settle(s, a.next, Body::Number(a.value))
+}
+
+fn read_reconnect(s: &[u8]) -> Body
+    ensures { λ r. ⌜ answerOf (now (s .entry)) r ≡ readOf reconnect (now (s .entry)) ⌝ }
+{
+    let n = read_u32(s, start());
+    let p = read_rest(s, n.next, 40);
+    let a = read_u64(s, p.next);
+    let b = read_u64(s, a.next);
+    let d = read_u64(s, b.next);
+    let e = read_u64(s, d.next);
+    let f = read_u64(s, e.next);
+    let block = p.value;
+    let k = Reconnect {
+        client: a.value,
+        server: b.value,
+        global: d.value,
+        connect: e.value,
+        message: f.value,
+    };
+    let body = Body::Resume {
+        addresses: n.value,
+        block: block,
+        reconnect: k,
+    };
+    settle(s, f.next, body)
+}
+
+fn read_reset(s: &[u8]) -> Body
+    ensures { λ r. ⌜ answerOf (now (s .entry)) r ≡ readOf reset (now (s .entry)) ⌝ }
+{
+    let a = read_u8(s, start());
+    settle(s, a.next, Body::Reset(a.value))
+}
+
+fn read_stamp(s: &[u8]) -> Body
+    ensures { λ r. ⌜ answerOf (now (s .entry)) r ≡ readOf stamp (now (s .entry)) ⌝ }
+{
+    let p = read_bytes(s, start(), 8);
+    let stamp = p.value;
+    settle(s, p.next, Body::Stamp(stamp))
+}
+
+fn limit() -> usize
+    ensures { λ r. ⌜ r ≡ segmentLimit ⌝ }
+{
+    SEGMENT_LIMIT as usize
+}
+
+// Bodies of the tags 1 to 6, which authenticate.
+fn read_auth(tag: u8, s: &[u8]) -> Body
+    ensures { λ r. ⌜ (tag < 8 → answerOf (now (s .entry)) r ≡ readBy (layoutOf tag) (now (s .entry))) ⌝ }
+{
+    if tag == 1 {
+        return read_hello(s);
+    }
+    if tag == 2 {
+        return read_auth_request(s);
+    }
+    if tag == 3 {
+        return read_bad_method(s);
+    }
+    if tag == 4 {
+        return read_more(s);
+    }
+    if tag == 5 {
+        return read_more(s);
+    }
+    if tag == 6 {
+        return read_auth_done(s);
+    }
+    Body::Refused(Refusal::BodyMalformed(0))
+}
+
+// Bodies of the tags from 8 on.
+fn read_session(tag: u8, s: &[u8]) -> Body
+    ensures { λ r. ⌜ (7 < tag → answerOf (now (s .entry)) r ≡ readBy (layoutOf tag) (now (s .entry))) ⌝ }
+{
+    if tag == 8 {
+        return read_ident(s);
+    }
+    if tag == 9 {
+        return read_ident(s);
+    }
+    if tag == 10 {
+        return read_one_number(s);
+    }
+    if tag == 11 {
+        return read_reconnect(s);
+    }
+    if tag == 12 {
+        return read_reset(s);
+    }
+    if tag == 15 {
+        return read_one_number(s);
+    }
+    if tag == 18 {
+        return read_stamp(s);
+    }
+    if tag == 19 {
+        return read_stamp(s);
+    }
+    if tag == 20 {
+        return read_one_number(s);
+    }
+    Body::Refused(Refusal::BodyMalformed(0))
+}
+
+// A body by its tag; one with an unlisted tag, or above the limit of a segment, is malformed at 0.
+pub fn read(tag: u8, s: &[u8]) -> Body
+    ensures { λ r. ⌜ Reads tag (now (s .entry)) r ⌝ }
+{
+    if limit() < s.len() {
+        return Body::Refused(Refusal::BodyMalformed(0));
+    }
+    if tag < 8 {
+        return read_auth(tag, s);
+    }
+    read_session(tag, s)
+}
+
+// ---- the bodies: a row of fields each
+
+fn row_hello(out: &mut [u8], entity: u8, address: &[u8]) -> Draft
+    ensures { λ q. ⌜ AppendedAll empty (now (out .entry)) (helloOf entity (now (address .entry))) q (now (out .exit)) ⌝ }
+{
+    let a = append_u8(out, start_draft(), entity);
+    append_rest(out, a, address, 0)
+}
+
+fn row_auth_request(out: &mut [u8], method: u32, modes: &[u32], payload: &[u8]) -> Draft
+    ensures { λ q. ⌜ AppendedAll empty (now (out .entry)) (authRequestOf method (now (modes .entry)) (now (payload .entry))) q (now (out .exit)) ⌝ }
+{
+    let a = append_u32(out, start_draft(), method);
+    let b = append_list(out, a, modes);
+    append_rest(out, b, payload, 0)
+}
+
+fn row_bad_method(out: &mut [u8], method: u32, error: u32, methods: &[u32], modes: &[u32]) -> Draft
+    ensures { λ q. ⌜ AppendedAll empty (now (out .entry)) (badMethodOf method error (now (methods .entry)) (now (modes .entry))) q (now (out .exit)) ⌝ }
+{
+    let a = append_u32(out, start_draft(), method);
+    let b = append_negative(out, a, error);
+    let d = append_list(out, b, methods);
+    append_list(out, d, modes)
+}
+
+fn row_more(out: &mut [u8], payload: &[u8]) -> Draft
+    ensures { λ q. ⌜ AppendedAll empty (now (out .entry)) (moreOf (now (payload .entry))) q (now (out .exit)) ⌝ }
+{
+    append_payload(out, start_draft(), payload)
+}
+
+fn row_auth_done(out: &mut [u8], id: u64, mode: u32, payload: &[u8]) -> Draft
+    ensures { λ q. ⌜ AppendedAll empty (now (out .entry)) (authDoneOf id mode (now (payload .entry))) q (now (out .exit)) ⌝ }
+{
+    let a = append_u64(out, start_draft(), id);
+    let b = append_u32(out, a, mode);
+    append_rest(out, b, payload, 0)
+}
+
+fn row_ident(out: &mut [u8], addresses: u32, block: &[u8], i: Ident) -> Draft
+    ensures { λ q. ⌜ AppendedAll empty (now (out .entry)) (identOf addresses (now (block .entry)) i) q (now (out .exit)) ⌝ }
+{
+    let a = append_u32(out, start_draft(), addresses);
+    let b = append_rest(out, a, block, 48);
+    let d = append_u64(out, b, i.gid);
+    let e = append_u64(out, d, i.global);
+    let f = append_u64(out, e, i.supported);
+    let g = append_u64(out, f, i.required);
+    let h = append_u64(out, g, i.flags);
+    append_u64(out, h, i.cookie)
+}
+
+fn row_reconnect(out: &mut [u8], addresses: u32, block: &[u8], k: Reconnect) -> Draft
+    ensures { λ q. ⌜ AppendedAll empty (now (out .entry)) (reconnectOf addresses (now (block .entry)) k) q (now (out .exit)) ⌝ }
+{
+    let a = append_u32(out, start_draft(), addresses);
+    let b = append_rest(out, a, block, 40);
+    let d = append_u64(out, b, k.client);
+    let e = append_u64(out, d, k.server);
+    let f = append_u64(out, e, k.global);
+    let g = append_u64(out, f, k.connect);
+    append_u64(out, g, k.message)
+}
+
+fn row_one_number(out: &mut [u8], n: u64) -> Draft
+    ensures { λ q. ⌜ AppendedAll empty (now (out .entry)) (oneNumberOf n) q (now (out .exit)) ⌝ }
+{
+    append_u64(out, start_draft(), n)
+}
+
+fn row_reset(out: &mut [u8], full: u8) -> Draft
+    ensures { λ q. ⌜ AppendedAll empty (now (out .entry)) (resetOf full) q (now (out .exit)) ⌝ }
+{
+    append_u8(out, start_draft(), full)
+}
+
+fn row_stamp(out: &mut [u8], stamp: &[u8]) -> Draft
+    ensures { λ q. ⌜ AppendedAll empty (now (out .entry)) (stampOf (now (stamp .entry))) q (now (out .exit)) ⌝ }
+{
+    append_bytes(out, start_draft(), stamp, 8)
+}
+
+// ---- by tag
+
+// What is to be written, but for its lists and bytes.
+pub enum Request {
+    Hello(u8),
+    AuthRequest(u32),
+    BadMethod {
+        method: u32,
+        error: u32,
+    },
+    More,
+    AuthDone {
+        id: u64,
+        mode: u32,
+    },
+    Identity {
+        addresses: u32,
+        ident: Ident,
+    },
+    Resume {
+        addresses: u32,
+        reconnect: Reconnect,
+    },
+    Number(u64),
+    Reset(u8),
+    Stamp,
+}
+
+// Whether a tag's body is of that kind.
+fn serves(tag: u8, r: Request) -> bool
+    ensures { λ b. ⌜ b ≡ writes tag r ⌝ }
+{
+    match r {
+        Request::Hello(_) => tag == 1,
+        Request::AuthRequest(_) => tag == 2,
+        Request::BadMethod {
+            method: _,
+            error: _,
+        } => tag == 3,
+        Request::More => either(tag == 4, tag == 5),
+        Request::AuthDone { id: _, mode: _ } => tag == 6,
+        Request::Identity {
+            addresses: _,
+            ident: _,
+        } => either(tag == 8, tag == 9),
+        Request::Resume {
+            addresses: _,
+            reconnect: _,
+        } => tag == 11,
+        Request::Number(_) => either(tag == 10, either(tag == 15, tag == 20)),
+        Request::Reset(_) => tag == 12,
+        Request::Stamp => either(tag == 18, tag == 19),
+    }
+}
+
+// The row of a request.
+fn row(out: &mut [u8], r: Request, first: &[u32], second: &[u32], bytes: &[u8]) -> Draft
+    ensures { λ q. ⌜ AppendedAll empty (now (out .entry)) (requested r (now (first .entry)) (now (second .entry)) (now (bytes .entry))) q (now (out .exit)) ⌝ }
+{
+    match r {
+        Request::Hello(entity) => row_hello(out, entity, bytes),
+        Request::AuthRequest(method) => row_auth_request(out, method, first, bytes),
+        Request::BadMethod { method, error } => row_bad_method(out, method, error, first, second),
+        Request::More => row_more(out, bytes),
+        Request::AuthDone { id, mode } => row_auth_done(out, id, mode, bytes),
+        Request::Identity { addresses, ident } => row_ident(out, addresses, bytes, ident),
+        Request::Resume {
+            addresses,
+            reconnect,
+        } => row_reconnect(out, addresses, bytes, reconnect),
+        Request::Number(n) => row_one_number(out, n),
+        Request::Reset(full) => row_reset(out, full),
+        Request::Stamp => row_stamp(out, bytes),
+    }
+}
+
+pub enum Written {
+    Wrote(usize),
+    Refused(Refusal),
+}
+
+// A body above the limit is malformed at 0; then the first fault, then the room.
+fn judge_draft(q: Draft, room: usize) -> Written
+    ensures { λ r. ⌜ r ≡ judged q room ⌝ }
+{
+    let len = q.len;
+    if limit() < len {
+        return Written::Refused(Refusal::BodyMalformed(0));
+    }
+    if q.failed {
+        return Written::Refused(Refusal::BodyMalformed(q.place as u64));
+    }
+    if len <= room {
+        Written::Wrote(len)
+    } else {
+        Written::Refused(Refusal::NoRoom(len as u64))
+    }
+}
+
+// A request of another tag's body is malformed at 0.
+fn decide(served: bool, q: Draft, room: usize) -> Written
+    ensures { λ r. ⌜ r ≡ decided served q room ⌝ }
+{
+    if served {
+        return judge_draft(q, room);
+    }
+    Written::Refused(Refusal::BodyMalformed(0))
+}
+
+fn is_wrote(w: Written) -> bool
+    ensures { λ r. ⌜ r ≡ isWrote w ⌝ }
+{
+    match w {
+        Written::Wrote(_) => true,
+        Written::Refused(_) => false,
+    }
+}
+
+// A body by its tag, at the buffer's front: the lists in the body's order, and its address, block, payload or stamp as bytes.
+// The row runs twice: into a byte of its own for the length and the first fault, and where all is well into the buffer.
+pub fn write(
+    out: &mut [u8],
+    tag: u8,
+    r: Request,
+    first: &[u32],
+    second: &[u32],
+    bytes: &[u8],
+) -> Written
+    ensures { λ w. ⌜ Writes tag (requested r (now (first .entry)) (now (second .entry)) (now (bytes .entry))) (now (out .entry)) w (now (out .exit)) ⌝ }
+{
+    let mut scratch = [0u8; 1];
+    let q = row(&mut scratch, r, first, second, bytes);
+    let verdict = decide(serves(tag, r), q, out.len());
+    if is_wrote(verdict) {
+        row(out, r, first, second, bytes);
+        return verdict;
+    }
+    verdict
+}
+
+// Reading what was written gives it back, and writing what was read gives the same bytes: a promise and no code.
+pub fn round_trips()
+    ensures { λ _. ⌜ RoundTrips ⌝ }
+{}
+
+// The worked bodies read and are written as the rules say.
+pub fn worked_bodies()
+    ensures { λ _. ⌜ Worked ⌝ }
+{}

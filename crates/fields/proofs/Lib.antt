@@ -1,0 +1,4 @@
+pub mod Skips
+pub mod Puts
+pub mod Drafts
+pub mod Signs

@@ -1,0 +1,22 @@
+use borrow.Author.Needs.{needs}
+use Rattle.fields.proofs.read_payload.Statement.{statement}
+use Rattle.fields.proofs.read_payload.Tie as tie
+
+word-at-requires : tie.Need-word-at-requires
+word-at-requires c κs = search needs
+
+cast-n : tie.Need-cast-n
+cast-n c = search needs
+
+behind-count-requires : tie.Need-behind-count-requires
+behind-count-requires c κs = search needs
+
+skip-payload-requires : tie.Need-skip-payload-requires
+skip-payload-requires c κs = search needs
+
+returns : tie.Need-returns
+returns c = record { next = c .skip-payload .ensures; value = rw (c .before .behind-count .ensures, c .before .before .word-at .ensures) }
+
+pub read-payload-spec : {M : Type 1} → statement M
+read-payload-spec =
+    tie.close (tie.spec word-at-requires cast-n behind-count-requires skip-payload-requires returns)

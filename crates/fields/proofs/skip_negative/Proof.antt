@@ -1,0 +1,25 @@
+use mathlib.Core.Path.{_∙_}
+use native.Mathlib.Omega.{arith}
+use Rattle.fields.proofs.Skips.{stays, not-negative, is-negative}
+use borrow.Author.Needs.{needs}
+use Rattle.fields.proofs.skip_negative.Statement.{statement}
+use Rattle.fields.proofs.skip_negative.Tie as tie
+
+returns : tie.Need-returns
+returns c = stays _ _ _ (c .if1 .taken)
+
+word-at-requires : tie.Need-word-at-requires
+word-at-requires c κs = search needs
+
+skip-requires : tie.Need-skip-requires
+skip-requires c κs = search needs
+
+returns-2 : tie.Need-returns-2
+returns-2 c = not-negative _ _ (c .before .before .if1 .left) (omega arith)
+
+returns-3 : tie.Need-returns-3
+returns-3 c = c .skip .ensures ∙ is-negative _ _ (c .before .before .before .if1 .left) (omega arith)
+
+pub skip-negative-spec : {M : Type 1} → statement M
+skip-negative-spec =
+    tie.close (tie.spec returns word-at-requires skip-requires returns-2 returns-3)

@@ -1,0 +1,71 @@
+-- Filled fields: their bytes, and what a field holds that starts at a place of a segment.
+use mathlib.Core.List.{List, [], _∷_, _++_}
+use Prim.Native.Nat.{ℕ, zero, suc, _+_, _-_, _^_, _<_}
+use lib.IntN.{ℤ, pos, negsuc}
+use lib.ListN.{length, take, drop, getD}
+use Rattle.buffer.specs.Le.{le, leOf, numberAt}
+use Rattle.fields.specs.Layout.{Kind, num, neg, list, size, rest, plain}
+
+pub data Field : Type 0 where
+  -- its width in bytes, and the number
+  number : ℕ → ℕ → Field
+  -- its 32 bits
+  negative : ℕ → Field
+  numbers : List ℕ → Field
+  sized : List ℕ → Field
+  -- how many closing bytes follow, and the bytes
+  opaque : ℕ → List ℕ → Field
+  -- how many bytes there are to be, and the bytes
+  fixed : ℕ → List ℕ → Field
+
+abbrev pub kindOf : Field → Kind
+kindOf (number w n) = num w
+kindOf (negative n) = neg
+kindOf (numbers ns) = list
+kindOf (sized bs) = size
+kindOf (opaque k bs) = rest k
+kindOf (fixed w bs) = plain w
+
+-- the 32 bits of a signed number
+abbrev pub bitsOf : ℤ → ℕ
+bitsOf (pos n) = n
+bitsOf (negsuc n) = 4294967295 - n
+
+-- 32-bit numbers, one behind the other
+unfoldable pub words : List ℕ → List ℕ
+words [] = []
+words (n ∷ ns) = le 4 n ++ words ns
+
+-- so many of them at the front of a list of bytes
+unfoldable pub wordsOf : ℕ → List ℕ → List ℕ
+wordsOf zero t = []
+wordsOf (suc n) t = leOf (take 4 t) ∷ wordsOf n (drop 4 t)
+
+abbrev pub fieldBytes : Field → List ℕ
+fieldBytes (number w n) = le w n
+fieldBytes (negative n) = le 4 n
+fieldBytes (numbers ns) = le 4 (length ns) ++ words ns
+fieldBytes (sized bs) = le 4 (length bs) ++ bs
+fieldBytes (opaque k bs) = bs
+fieldBytes (fixed w bs) = bs
+
+abbrev pub fieldAt : Kind → List ℕ → ℕ → Field
+fieldAt (num w) s at = number w (numberAt w at s)
+fieldAt neg s at = negative (numberAt 4 at s)
+fieldAt list s at = numbers (wordsOf (numberAt 4 at s) (drop (at + 4) s))
+fieldAt size s at = sized (take (numberAt 4 at s) (drop (at + 4) s))
+fieldAt (rest k) s at = opaque k (take (length s - k - at) (drop at s))
+fieldAt (plain w) s at = fixed w (take w (drop at s))
+
+-- each of the numbers is one of 32 bits
+pub record WordsFit (ns : List ℕ) : Type 0 where
+  pub at : (i : ℕ) → i < length ns → getD ns i 0 < 4294967296
+
+-- values of the types that the code has for them
+unfoldable pub Fits : Field → Type 0
+Fits (number w n) = n < 256 ^ w
+Fits (negative n) = n < 4294967296
+Fits (numbers ns) = WordsFit ns
+Fits (sized bs) = Unit {0}
+Fits (opaque k bs) = Unit {0}
+Fits (fixed w bs) = Unit {0}

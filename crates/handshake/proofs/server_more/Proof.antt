@@ -1,0 +1,23 @@
+use mathlib.Core.Path.{_∙_}
+use lib.Dec.{eqb}
+use Rattle.handshake.specs.declared.State.the-variants.{More}
+use Rattle.handshake.specs.Table.{find}
+use Rattle.handshake.proofs.Moves.{auth-rows}
+use borrow.Author.Needs.{needs}
+use Rattle.handshake.proofs.server_more.Statement.{statement}
+use Rattle.handshake.proofs.server_more.Tie as tie
+
+led-requires : tie.Need-led-requires
+led-requires c κs = search needs
+
+when-requires : tie.Need-when-requires
+when-requires c κs = search needs
+
+returns : tie.Need-returns
+unfolding find
+returns c =
+    let g = c .before .before .args in
+    c .when .ensures ∙ rw (c .before .led .ensures) (auth-rows (g .v .auth) (eqb (g .tag) 5) More)
+
+pub server-more-spec : {M : Type 1} → statement M
+server-more-spec = tie.close (tie.spec led-requires when-requires returns)

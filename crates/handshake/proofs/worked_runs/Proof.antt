@@ -1,0 +1,20 @@
+use mathlib.Core.Path.{refl}
+use Rattle.handshake.specs.Table.{find}
+use Rattle.handshake.specs.Pick.{onList, pickOf}
+use Rattle.handshake.specs.Worked.{Worked, examples, choices}
+use Rattle.handshake.proofs.worked_runs.Statement.{statement}
+use Rattle.handshake.proofs.worked_runs.Tie as tie
+
+-- each run and each pick computes
+table : Worked
+unfolding Worked examples choices find onList pickOf
+table = (
+  ((refl, (refl, (refl, (refl, (refl, (refl, (refl, (refl, (refl, (refl, (refl, (refl, tt)))))))))))), ((refl, (refl, (refl, (refl, (refl, (refl, (refl, (refl, tt)))))))), ((refl, (refl, (refl, (refl, (refl, tt))))), ((refl, (refl, (refl, (refl, (refl, tt))))), ((refl, (refl, (refl, tt))), ((refl, (refl, tt)), ((refl, (refl, tt)), ((refl, tt), ((refl, (refl, (refl, (refl, (refl, (refl, (refl, (refl, (refl, (refl, tt)))))))))), ((refl, (refl, (refl, tt))), ((refl, (refl, tt)), ((refl, (refl, (refl, tt))), ((refl, (refl, (refl, (refl, tt)))), ((refl, (refl, (refl, (refl, (refl, tt))))), ((refl, (refl, (refl, (refl, (refl, (refl, tt)))))), ((refl, (refl, tt)), ((refl, (refl, (refl, (refl, tt)))), tt))))))))))))))))),
+  (refl, (refl, (refl, (refl, (refl, (refl, (refl, tt))))))),
+)
+
+returns : tie.Need-returns
+returns c = table
+
+pub worked-runs-spec : {M : Type 1} → statement M
+worked-runs-spec = tie.close (tie.spec returns)

@@ -1,0 +1,19 @@
+use Rattle.held.proofs.Takes.{taken}
+use borrow.Author.Needs.{needs}
+use Rattle.held.proofs.take_stamp.Statement.{statement}
+use Rattle.held.proofs.take_stamp.Tie as tie
+
+at-place-requires : tie.Need-at-place-requires
+at-place-requires c κs = search needs
+
+read-bytes-requires : tie.Need-read-bytes-requires
+read-bytes-requires c κs = search needs
+
+span-taken-requires : tie.Need-span-taken-requires
+span-taken-requires c κs = search needs
+
+returns : tie.Need-returns
+returns c = taken _ _ (c .before .before .before .before .at-place .ensures) (c .before .before .before .read-bytes .ensures) (c .span-taken .ensures _)
+
+pub take-stamp-spec : {M : Type 1} → statement M
+take-stamp-spec = tie.close (tie.spec at-place-requires read-bytes-requires span-taken-requires returns)

@@ -1,0 +1,44 @@
+-- What the reader's calls answer, by the cursor's definitions.
+use mathlib.Core.Bool.{cond}
+use mathlib.Core.List.{List}
+use Prim.Native.Nat.{ℕ}
+use Rattle.fields.specs.declared.Cursor.{Cursor}
+use Rattle.fields.specs.Layout.{Kind, good, stepOf}
+use Rattle.fields.specs.Field.{Field, number, negative, sized, opaque, fixed, fieldAt}
+use Rattle.fields.specs.Field as field
+use Rattle.fields.specs.Reading.{spanIn, numbersIn}
+use Rattle.held.specs.declared.Taken.{Taken}
+use Rattle.held.specs.declared.Taken.the-variants as taken
+
+-- what a field holds
+pub data Content : Type 0 where
+  value : ℕ → Content
+  numbers : List ℕ → Content
+  bytes : List ℕ → Content
+
+abbrev pub contentOf : Field → Content
+contentOf (number w n) = value n
+contentOf (negative n) = value n
+contentOf (field.numbers ns) = numbers ns
+contentOf (sized bs) = bytes bs
+contentOf (opaque k bs) = bytes bs
+contentOf (fixed w bs) = bytes bs
+
+pub data Shown : Type 0 where
+  -- what a field holds, and the place behind it
+  got : Content → ℕ → Shown
+  -- the place of its fault
+  off : ℕ → Shown
+
+abbrev pub shown : List ℕ → Taken → Shown
+shown s (taken.Number n next) = got (value n) next
+shown s (taken.List l next) = got (numbers (numbersIn s l)) next
+shown s (taken.Bytes p next) = got (bytes (spanIn s p)) next
+shown s (taken.Failed at) = off at
+
+abbrev pub answer : Content → Cursor → Shown
+answer c d = cond (d .failed) (off (d .at)) (got c (d .at))
+
+-- the field of a kind at a place, and the place behind it; or the place of its fault
+unfoldable pub takeOf : Kind → List ℕ → ℕ → Shown
+takeOf k s at = answer (contentOf (fieldAt k s at)) (stepOf k s (good at))
