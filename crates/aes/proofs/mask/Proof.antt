@@ -1,0 +1,72 @@
+use mathlib.Core.Path.{_≡_, _∙_}
+use Prim.Native.Nat.{ℕ, _+_, _-_, min}
+use native.Mathlib.Omega.{arith}
+use lib.ListN.{length}
+use Rattle.aes.proofs.Counters.{masked-front}
+use borrow.Author.Needs.{needs}
+use Rattle.aes.proofs.mask.Statement.{statement}
+use Rattle.aes.proofs.mask.Tie as tie
+
+less-requires : tie.Need-less-requires
+less-requires c κs = search needs
+
+sbox-table-requires : tie.Need-sbox-table-requires
+sbox-table-requires c κs = search needs
+
+mask-blocks-requires : tie.Need-mask-blocks-requires
+mask-blocks-requires c κs = search needs
+
+same-length : tie.Need-same-length
+same-length c = search needs
+
+returns : tie.Need-returns
+returns c =
+    let b = c .before .before .before in
+    let less = b .before .before .before .before in
+    let a = less .before .before .args in
+    let i : ℕ = b .mask-blocks .result in
+    let e : i ≡ min (a .n) (length (a .buf .now)) = (let h : i ≡ less .less .result = omega (arith, b .mask-blocks .ensures .0) in h ∙ less .less .ensures) in
+    b .mask-blocks .ensures .3 ∙ masked-front (a .w .now) (a .nonce) (a .buf .now) (a .n) i e
+
+add-stream : tie.Need-add-stream
+add-stream c = search needs
+
+stream-requires : tie.Need-stream-requires
+stream-requires c κs = search needs
+
+sub-mask-block : tie.Need-sub-mask-block
+sub-mask-block c = search needs
+
+mask-block-requires : tie.Need-mask-block-requires
+mask-block-requires c κs = search needs
+
+same-length-2 : tie.Need-same-length-2
+same-length-2 c = search needs
+
+returns-2 : tie.Need-returns-2
+returns-2 c =
+    let stream = c .before .before .before .before in
+    let b = stream .before .before .before .before .before in
+    let less = b .before .before .before .before in
+    let a = less .before .before .args in
+    let i : ℕ = b .mask-blocks .result in
+    let m : ℕ = less .less .result in
+    let e : i + (m - i) ≡ min (a .n) (length (a .buf .now)) = (let h : i + (m - i) ≡ less .less .result = omega (arith, b .mask-blocks .ensures .0) in h ∙ less .less .ensures) in
+    c .before .before .mask-block .ensures (a .w .now) (a .nonce) (a .buf .now) (stream .stream .ensures) (b .mask-blocks .ensures .3)
+    ∙ masked-front (a .w .now) (a .nonce) (a .buf .now) (a .n) (i + (m - i)) e
+
+pub mask-spec : {M : Type 1} → statement M
+mask-spec =
+    tie.close
+    (tie.spec
+    less-requires
+    sbox-table-requires
+    mask-blocks-requires
+    same-length
+    returns
+    add-stream
+    stream-requires
+    sub-mask-block
+    mask-block-requires
+    same-length-2
+    returns-2)

@@ -1,0 +1,31 @@
+use borrow.Author.Needs.{needs}
+use mathlib.Core.Path.{ap, ap₂, _∙_}
+use Prim.Native.Nat.{ℕ}
+use lib.Bits.{bitXor}
+use Rattle.aes.specs.Packed.{turned1}
+use Rattle.aes.proofs.mix_word.Statement.{statement}
+use Rattle.aes.proofs.mix_word.Tie as tie
+
+twice-requires : tie.Need-twice-requires
+twice-requires c κs = search needs
+
+turn1-requires : tie.Need-turn1-requires
+turn1-requires c κs = search needs
+
+turn2-requires : tie.Need-turn2-requires
+turn2-requires c κs = search needs
+
+turn3-requires : tie.Need-turn3-requires
+turn3-requires c κs = search needs
+
+returns : tie.Need-returns
+returns c =
+    let w = c .before .before .before .before .args .w in
+    let d = c .before .before .before .twice .ensures in
+    ap₂ bitXor
+    (ap₂ bitXor (ap₂ bitXor d (c .before .before .turn1 .ensures ∙ ap (λ (x : ℕ). turned1 (bitXor x w)) d)) (c .before .turn2 .ensures))
+    (c .turn3 .ensures)
+
+pub mix-word-spec : {M : Type 1} → statement M
+mix-word-spec =
+    tie.close (tie.spec twice-requires turn1-requires turn2-requires turn3-requires returns)

@@ -1,0 +1,3 @@
+pub mod Aes
+pub mod Counter
+pub mod Packed

@@ -1,0 +1,4 @@
+pub mod Answers
+pub mod Comparison
+pub mod Placing
+pub mod There

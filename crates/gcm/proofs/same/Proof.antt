@@ -1,0 +1,58 @@
+use mathlib.Core.Bool.{_&&_}
+use mathlib.Core.Path.{_≡_, refl, sym, _∙_}
+use Prim.Native.Nat.{_-_, _≤_}
+use native.Mathlib.Omega.{arith}
+use borrow.Author.Needs.{needs}
+use lib.Dec.{eqb}
+use lib.ListN.{length, drop}
+use Rattle.gcm.specs.Gcm.{sameAs}
+use Rattle.gcm.proofs.Comparison.{same-next, same-end}
+use Rattle.gcm.proofs.same.Statement.{statement}
+use Rattle.gcm.proofs.same.Tie as tie
+
+abbrev Inv-loop : tie.InvT-loop
+Inv-loop a b d₀ i₀ d i = (i ≤ length a) × (sameAs a b ≡ (eqb d 0 && sameAs (drop i a) (drop i b)))
+
+abbrev μ-loop : tie.MeasureT-loop
+μ-loop a b d₀ i₀ d i = length a - i
+
+loop-holds : tie.Need-loop-holds Inv-loop μ-loop
+loop-holds c = (search needs, refl)
+
+shared-slice-read-d : tie.Need-shared-slice-read-d Inv-loop μ-loop
+shared-slice-read-d c = search needs
+
+shared-slice-read-d-2 : tie.Need-shared-slice-read-d-2 Inv-loop μ-loop
+shared-slice-read-d-2 c = search needs
+
+add-i : tie.Need-add-i Inv-loop μ-loop
+add-i c = search needs
+
+loop-less : tie.Need-loop-less Inv-loop μ-loop
+loop-less c = search needs
+
+loop-again : tie.Need-loop-again Inv-loop μ-loop
+loop-again c =
+    let l = c .before .before .before .loop in
+    let a = c .before .before .before .before .args in
+    (search needs, l .inv .1 ∙ same-next (a .a .now) (a .b .now) (l .i) (l .d) (omega arith) (omega arith))
+
+returns : tie.Need-returns Inv-loop μ-loop
+returns c =
+    let l = c .before .loop in
+    let a = c .before .before .args in
+    sym (l .inv .1 ∙ same-end (a .a .now) (a .b .now) (l .i) (l .d) (omega arith) (c .before .before .pre))
+
+pub same-spec : {M : Type 1} → statement M
+same-spec =
+    tie.close
+    (tie.spec
+    Inv-loop
+    μ-loop
+    loop-holds
+    shared-slice-read-d
+    shared-slice-read-d-2
+    add-i
+    loop-less
+    loop-again
+    returns)

@@ -1,0 +1,97 @@
+-- The table as it is filled, and the product that it gives.
+use mathlib.Core.Bool.{Bool, true, false}
+use mathlib.Core.List.{List}
+use mathlib.Core.Path.{_≡_, refl, sym, ap, ap₂, _∙_}
+use Prim.Native.Nat.{ℕ, _+_, _-_, _*_, _/_, _%_, _^_, _<_, _≤_}
+use native.Mathlib.Omega.{arith}
+use borrow.Author.Tests.{eqb-true, eqb-false}
+use lib.Bits.{bitXor}
+use lib.Dec.{eqb}
+use lib.ListN.{getD, length, set, length-set}
+use lib.Seq.{getD-set-same, getD-set-other}
+use Rattle.ghash.specs.Ghash.{pair, mulFrom, product}
+use Rattle.ghash.specs.Tables.{steps, entry, Filled}
+use Rattle.ghash.proofs.Linear.{mul-steps, steps-plus, top-four}
+
+-- entry k of the first place
+pub first-entry : (v k : ℕ) → k < 16 → mulFrom 4 k 0 v ≡ entry v k
+unfolding steps
+first-entry v k h =
+    let p : k % 16 ≡ k = omega arith in
+    let q : 4 * (k / 16) ≡ 0 = omega arith in
+    sym (ap₂ (λ (x y : ℕ). mulFrom 4 x 0 (steps y v)) p q)
+
+-- each entry from the one at the place before
+pub next-entry : (v i : ℕ) → 16 ≤ i → steps 4 (entry v (i - 16)) ≡ entry v i
+next-entry v i h =
+    let p : (i - 16) % 16 ≡ i % 16 = omega arith in
+    let q : 4 * ((i - 16) / 16) + 4 ≡ 4 * (i / 16) = omega arith in
+    ap (λ (x : ℕ). steps 4 (mulFrom 4 x 0 (steps (4 * ((i - 16) / 16)) v))) p
+    ∙ sym (mul-steps 4 4 (i % 16) (steps (4 * ((i - 16) / 16)) v))
+    ∙ ap (mulFrom 4 (i % 16) 0) (sym (steps-plus (4 * ((i - 16) / 16)) 4 v) ∙ ap (λ (n : ℕ). steps n v) q)
+
+-- ---- two words more
+
+module _ (v a b k : ℕ) (m : List ℕ) (room : 2 * k + 1 < length m) (e : pair a b ≡ entry v k) (f : Filled v k m) where
+  put : (j : ℕ) → j < k + 1 → (t : Bool) → eqb j k ≡ t
+      → pair (getD (set (set m (2 * k) a) (2 * k + 1) b) (2 * j) 0) (getD (set (set m (2 * k) a) (2 * k + 1) b) (2 * j + 1) 0) ≡ entry v j
+  put j q true d =
+      let s : j ≡ k = eqb-true j k d in
+      let n : (2 * k ≡ 2 * k + 1 → ⊥) = λ z. omega arith in
+      let h : 2 * k < length m = omega arith in
+      let h′ : 2 * k + 1 < length (set m (2 * k) a) = omega (arith, length-set m (2 * k) a) in
+      ap (λ (i : ℕ). pair (getD (set (set m (2 * k) a) (2 * k + 1) b) (2 * i) 0) (getD (set (set m (2 * k) a) (2 * k + 1) b) (2 * i + 1) 0)) s
+      ∙ ap₂ pair (getD-set-other (set m (2 * k) a) (2 * k + 1) (2 * k) b 0 n ∙ getD-set-same m (2 * k) a 0 h) (getD-set-same (set m (2 * k) a) (2 * k + 1) b 0 h′)
+      ∙ e
+      ∙ ap (entry v) (sym s)
+  put j q false d =
+      let s : (j ≡ k → ⊥) = eqb-false j k d in
+      let n₁ : (2 * j ≡ 2 * k + 1 → ⊥) = λ z. omega arith in
+      let n₂ : (2 * j ≡ 2 * k → ⊥) = λ z. s (omega arith) in
+      let n₃ : (2 * j + 1 ≡ 2 * k + 1 → ⊥) = λ z. s (omega arith) in
+      let n₄ : (2 * j + 1 ≡ 2 * k → ⊥) = λ z. omega arith in
+      let l : (j < k + 1 → j < k) = λ z. lesser j k z s in
+      ap₂ pair (getD-set-other (set m (2 * k) a) (2 * k + 1) (2 * j) b 0 n₁ ∙ getD-set-other m (2 * k) (2 * j) a 0 n₂)
+      (getD-set-other (set m (2 * k) a) (2 * k + 1) (2 * j + 1) b 0 n₃ ∙ getD-set-other m (2 * k) (2 * j + 1) a 0 n₄)
+      ∙ f .at j (l q)
+    where
+      lesser : (j k : ℕ) → j < k + 1 → (j ≡ k → ⊥) → j < k
+      lesser j k h n = omega arith
+
+  pub filled-more : Filled v (k + 1) (set (set m (2 * k) a) (2 * k + 1) b)
+  filled-more = record { at = λ j q. put j q (eqb j k) refl }
+
+-- ---- the two words of a block
+
+none-left : (x z v : ℕ) → mulFrom 0 x z v ≡ z
+unfolding mulFrom
+none-left x z v = refl
+
+no-steps : (v : ℕ) → steps 0 v ≡ v
+unfolding steps
+no-steps v = refl
+
+pub both-words : (v y a b : ℕ) → mulFrom 128 y 0 (steps 0 v) ≡ mulFrom 64 y a (steps 64 v) → mulFrom 64 y a (steps 64 v) ≡ mulFrom 0 y b (steps 128 v)
+    → b ≡ product y v
+both-words v y a b p q = sym (ap (mulFrom 128 y 0) (sym (no-steps v)) ∙ p ∙ q ∙ none-left y b (steps 128 v))
+
+-- ---- four bits of a word: x is the word of y whose lowest bit is bit n of y
+
+pub turn-four : (v y n x at j k : ℕ) (m : List ℕ) (z : ℕ) → Filled v 512 m → j < 16 → at ≤ 16 → k < 16
+    → k ≡ y / 2 ^ (n + (60 - 4 * j)) % 16
+    → mulFrom (n + (64 - 4 * j)) y z (steps (4 * (at + j)) v)
+    ≡ mulFrom (n + (64 - 4 * (j + 1))) y (bitXor z (pair (getD m (2 * (16 * (at + j) + k)) 0) (getD m (2 * (16 * (at + j) + k) + 1) 0))) (steps (4 * (at + (j + 1))) v)
+turn-four v y n x at j k m z f hj ha hk e =
+    let i : ℕ = 16 * (at + j) + k in
+    let p : n + (64 - 4 * j) ≡ n + (60 - 4 * j) + 4 = omega arith in
+    let q : n + (60 - 4 * j) ≡ n + (64 - 4 * (j + 1)) = omega arith in
+    let r : 4 * (at + j) + 4 ≡ 4 * (at + (j + 1)) = omega arith in
+    let im : (16 * (at + j) + k) % 16 ≡ k = omega arith in
+    let iq : (16 * (at + j) + k) / 16 ≡ at + j = omega arith in
+    let there : pair (getD m (2 * (16 * (at + j) + k)) 0) (getD m (2 * (16 * (at + j) + k) + 1) 0) ≡ mulFrom 4 k 0 (steps (4 * (at + j)) v) =
+    f .at (16 * (at + j) + k) (omega arith) ∙ ap₂ (λ (x y : ℕ). mulFrom 4 x 0 (steps (4 * y) v)) im iq in
+    ap (λ (l : ℕ). mulFrom l y z (steps (4 * (at + j)) v)) p
+    ∙ top-four (n + (60 - 4 * j)) y z (steps (4 * (at + j)) v)
+    ∙ ap (λ (b : ℕ). mulFrom (n + (60 - 4 * j)) y (bitXor z (mulFrom 4 b 0 (steps (4 * (at + j)) v))) (steps 4 (steps (4 * (at + j)) v))) (sym e)
+    ∙ ap₂ (λ (b s : ℕ). mulFrom (n + (60 - 4 * j)) y (bitXor z b) s) (sym there) (sym (steps-plus (4 * (at + j)) 4 v) ∙ ap (λ (l : ℕ). steps l v) r)
+    ∙ ap (λ (l : ℕ). mulFrom l y (bitXor z (pair (getD m (2 * (16 * (at + j) + k)) 0) (getD m (2 * (16 * (at + j) + k) + 1) 0))) (steps (4 * (at + (j + 1))) v)) q

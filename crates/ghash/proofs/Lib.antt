@@ -1,0 +1,4 @@
+pub mod Blocks
+pub mod Entries
+pub mod Linear
+pub mod Words

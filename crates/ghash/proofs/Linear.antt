@@ -1,0 +1,120 @@
+-- Steps and products are linear, and the product taken four bits of x at a time.
+use mathlib.Core.Path.{_≡_, refl, sym, ap, ap₂, _∙_}
+use Prim.Native.Nat.{ℕ, zero, suc, _+_, _-_, _*_, _/_, _%_, _^_, _≤_}
+use native.Mathlib.Nat.{mod-lt, zero-mul, one-mul, mul-one, add-zero, add-suc, zero-add, suc-add}
+use native.Mathlib.Omega.{arith}
+use lib.Bits.{bitXor, differ, xor-comm, xor-zero-l, xor-zero-r, xor-shr, xor-shifted, shifted-half, shifted-even}
+use lib.Pow.{split, pow-pos, shr-shr, mod-mod-pow}
+use lib.Pow as pow
+use Rattle.bits.proofs.Xor.{digit, xor-assoc, xor-odd}
+use Rattle.ghash.specs.Ghash.{field, step, mulFrom}
+use Rattle.ghash.specs.Tables.{steps}
+
+interchange : (a b c d : ℕ) → bitXor (bitXor a b) (bitXor c d) ≡ bitXor (bitXor a c) (bitXor b d)
+interchange a b c d =
+    xor-assoc a b (bitXor c d)
+    ∙ ap (bitXor a) (sym (xor-assoc b c d) ∙ ap (λ (x : ℕ). bitXor x d) (xor-comm b c) ∙ xor-assoc c b d)
+    ∙ sym (xor-assoc a c (bitXor b d))
+
+-- ---- the steps are linear
+
+reduce : (a b : ℕ) → differ (a % 2) (b % 2) * field ≡ bitXor (a % 2 * field) (b % 2 * field)
+reduce a b =
+    digit (λ (x : ℕ). differ x (b % 2) * field ≡ bitXor (x * field) (b % 2 * field)) (sym (xor-zero-l (b % 2 * field)))
+    (digit (λ (y : ℕ). differ 1 y * field ≡ bitXor (1 * field) (y * field)) refl refl b)
+    a
+
+step-xor : (a b : ℕ) → step (bitXor a b) ≡ bitXor (step a) (step b)
+unfolding step
+step-xor a b =
+    ap₂ bitXor (xor-shr a b 1) (ap (λ (x : ℕ). x * field) (xor-odd a b) ∙ reduce a b)
+    ∙ interchange (a / 2) (b / 2) (a % 2 * field) (b % 2 * field)
+
+pub steps-xor : (n a b : ℕ) → steps n (bitXor a b) ≡ bitXor (steps n a) (steps n b)
+unfolding steps
+steps-xor zero a b = refl
+steps-xor (suc n) a b = ap (steps n) (step-xor a b) ∙ steps-xor n (step a) (step b)
+
+step-shifted : (h n : ℕ) → step (h * 2 ^ suc n) ≡ h * 2 ^ n
+unfolding step
+step-shifted h n =
+    ap₂ (λ (x y : ℕ). bitXor x (y * field)) (shifted-half h n) (shifted-even h n) ∙ xor-zero-r (h * 2 ^ n)
+
+steps-shifted : (n h : ℕ) → steps n (h * 2 ^ n) ≡ h
+unfolding steps
+steps-shifted zero h = mul-one h
+steps-shifted (suc n) h = ap (steps n) (step-shifted h n) ∙ steps-shifted n h
+
+-- n steps, by a table for the n bits that fall out
+pub steps-split : (n x : ℕ) → steps n x ≡ bitXor (x / 2 ^ n) (steps n (x % 2 ^ n))
+steps-split n x =
+    ap (steps n) (sym (split x n) ∙ sym (xor-shifted (x / 2 ^ n) n (x % 2 ^ n) (mod-lt x (pow-pos n))))
+    ∙ steps-xor n (x / 2 ^ n * 2 ^ n) (x % 2 ^ n)
+    ∙ ap (λ (y : ℕ). bitXor y (steps n (x % 2 ^ n))) (steps-shifted n (x / 2 ^ n))
+
+-- ---- the product is linear in v, and what was gathered stands apart
+
+pub gathered : (n x z v : ℕ) → mulFrom n x z v ≡ bitXor z (mulFrom n x 0 v)
+unfolding mulFrom
+gathered zero x z v = sym (xor-zero-r z)
+gathered (suc n) x z v =
+    gathered n x (bitXor z (x / 2 ^ n % 2 * v)) (step v)
+    ∙ xor-assoc z (x / 2 ^ n % 2 * v) (mulFrom n x 0 (step v))
+    ∙ ap (bitXor z) (sym (gathered n x (x / 2 ^ n % 2 * v) (step v)))
+
+picked-step : (d v : ℕ) → d % 2 * step v ≡ step (d % 2 * v)
+unfolding step
+picked-step d v =
+    digit (λ (x : ℕ). x * step v ≡ step (x * v))
+    (zero-mul (step v) ∙ ap step (sym (zero-mul v)))
+    (one-mul (step v) ∙ ap step (sym (one-mul v)))
+    d
+
+mul-step : (n x v : ℕ) → mulFrom n x 0 (step v) ≡ step (mulFrom n x 0 v)
+unfolding mulFrom step
+mul-step zero x v = refl
+mul-step (suc n) x v =
+    gathered n x (x / 2 ^ n % 2 * step v) (step (step v))
+    ∙ ap₂ bitXor (picked-step (x / 2 ^ n) v) (mul-step n x (step v))
+    ∙ sym (step-xor (x / 2 ^ n % 2 * v) (mulFrom n x 0 (step v)))
+    ∙ ap step (sym (gathered n x (x / 2 ^ n % 2 * v) (step v)))
+
+pub mul-steps : (k n x v : ℕ) → mulFrom n x 0 (steps k v) ≡ steps k (mulFrom n x 0 v)
+unfolding steps
+mul-steps zero n x v = refl
+mul-steps (suc k) n x v = mul-steps k n x (step v) ∙ ap (steps k) (mul-step n x v)
+
+-- ---- the m bits above the n lowest
+
+above : (n m x z v : ℕ) → mulFrom (n + m) x z v ≡ mulFrom n x (mulFrom m (x / 2 ^ n) z v) (steps m v)
+unfolding mulFrom steps
+above n zero x z v = ap (λ (k : ℕ). mulFrom k x z v) (add-zero n)
+above n (suc m) x z v =
+    ap (λ (k : ℕ). mulFrom k x z v) (add-suc n m)
+    ∙ ap (λ (y : ℕ). mulFrom (n + m) x (bitXor z (y % 2 * v)) (step v)) (sym (shr-shr x n m))
+    ∙ above n m x (bitXor z (x / 2 ^ n / 2 ^ m % 2 * v)) (step v)
+
+low-bit : (k x n j : ℕ) → (j + 1) + n ≡ k → x / 2 ^ n % 2 ≡ x % 2 ^ k / 2 ^ n % 2
+low-bit k x n j e =
+    sym (mod-mod-pow (x / 2 ^ n) j 1)
+    ∙ ap (λ (y : ℕ). y % 2) (sym (pow.field x (j + 1) n) ∙ ap (λ (i : ℕ). x % 2 ^ i / 2 ^ n) e)
+
+-- only the low bits count
+lowest : (k n x z v : ℕ) → n ≤ k → mulFrom n x z v ≡ mulFrom n (x % 2 ^ k) z v
+unfolding mulFrom
+lowest k zero x z v h = refl
+lowest k (suc n) x z v h =
+    ap (λ (y : ℕ). mulFrom n x (bitXor z (y * v)) (step v)) (low-bit k x n (k - 1 - n) (omega arith))
+    ∙ lowest k n x (bitXor z (x % 2 ^ k / 2 ^ n % 2 * v)) (step v) (omega arith)
+
+-- the four highest of n + 4 bits, and the rest
+pub top-four : (n x z v : ℕ) → mulFrom (n + 4) x z v ≡ mulFrom n x (bitXor z (mulFrom 4 (x / 2 ^ n % 16) 0 v)) (steps 4 v)
+top-four n x z v =
+    above n 4 x z v
+    ∙ ap (λ (y : ℕ). mulFrom n x y (steps 4 v))
+    (gathered 4 (x / 2 ^ n) z v ∙ ap (bitXor z) (lowest 4 4 (x / 2 ^ n) 0 v (omega arith)))
+
+pub steps-plus : (a b v : ℕ) → steps (a + b) v ≡ steps b (steps a v)
+unfolding steps
+steps-plus zero b v = ap (λ (n : ℕ). steps n v) (zero-add b)
+steps-plus (suc a) b v = ap (λ (n : ℕ). steps n v) (suc-add a b) ∙ steps-plus a b (step v)
