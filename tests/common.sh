@@ -139,6 +139,13 @@ compare_made() {
     compare_outputs "$made" "$lines_expected" good
 }
 
+# Compares generated records: $1 is the command that makes them.
+compare_generated() {
+    lines_expected=$("$second" lines "$1" "$seed" "$count") || fail "no number of lines"
+    [ "$lines_expected" -gt "$count" ] || fail "too few lines expected"
+    compare_made "$1 from seed $seed" "$lines_expected" "$1" "$seed" "$count"
+}
+
 finish() {
     echo "$script: $files files, $total lines, all the same"
 }

@@ -8,12 +8,24 @@ use std::path::Path;
 const USAGE: &str = "usage: second run
        second generate SEED COUNT
        second generate-r SEED COUNT
+       second generate-h SEED COUNT
+       second generate-t SEED COUNT
+       second generate-n SEED COUNT
+       second generate-s SEED COUNT
        second recordings FOLDER
+       second handshakes FOLDER
        second fixed list
        second fixed list-r
+       second fixed list-t
+       second fixed list-n
+       second fixed list-s
        second fixed NAME
        second lines generate-r SEED COUNT
+       second lines generate-h SEED COUNT
+       second lines generate-t SEED COUNT
+       second lines generate-n SEED COUNT
        second lines recordings FOLDER
+       second lines handshakes FOLDER
        second lines NAME
        second histories";
 
@@ -33,15 +45,31 @@ fn number(text: &str) -> io::Result<u64> {
         .map_err(|_| io::Error::other(format!("not a number: {text}")))
 }
 
-/// The receiver records that a command names.
-fn receiver_records(words: &[&str]) -> io::Result<Box<dyn Iterator<Item = Record>>> {
+/// The records of receivers, sessions or handshakes that a command names.
+fn named_records(words: &[&str]) -> io::Result<Box<dyn Iterator<Item = Record>>> {
     match words {
         ["generate-r", seed, count] => {
             let records = generate::receiver::records(number(seed)?, number(count)?);
             Ok(Box::new(records.map(Record::Receiver)))
         }
+        ["generate-t", seed, count] => {
+            let records = generate::lending::records(number(seed)?, number(count)?);
+            Ok(Box::new(records.map(Record::Lending)))
+        }
+        ["generate-n", seed, count] => {
+            let records = generate::session::records(number(seed)?, number(count)?);
+            Ok(Box::new(records.map(Record::Session)))
+        }
         ["recordings", folder] => {
             let records = recordings::records(Path::new(folder))?;
+            Ok(Box::new(records.into_iter()))
+        }
+        ["generate-h", seed, count] => Ok(Box::new(generate::handshake::records(
+            number(seed)?,
+            number(count)?,
+        ))),
+        ["handshakes", folder] => {
+            let records = recordings::handshake_records(Path::new(folder))?;
             Ok(Box::new(records.into_iter()))
         }
         _ => Err(io::Error::other(USAGE)),
@@ -66,15 +94,22 @@ pub fn command(words: &[&str], out: &mut impl Write) -> io::Result<()> {
         ["generate", seed, count] => {
             write_records(generate::records(number(seed)?, number(count)?), out)
         }
+        ["generate-s", seed, count] => write_records(
+            generate::sealing::records(number(seed)?, number(count)?),
+            out,
+        ),
         ["fixed", "list"] => print_names(&fixed::names(), out),
         ["fixed", "list-r"] => print_names(&fixed::receiver_names(), out),
+        ["fixed", "list-t"] => print_names(&fixed::lending_names(), out),
+        ["fixed", "list-n"] => print_names(&fixed::session_names(), out),
+        ["fixed", "list-s"] => print_names(&fixed::sealing_names(), out),
         ["fixed", name] => out.write_all(&fixed_file(name)?.bytes),
         ["histories"] => print_names(&session::worked::table(), out),
         ["lines", name] => writeln!(out, "{}", fixed_file(name)?.lines),
         ["lines", of @ ..] => {
-            let lines: usize = receiver_records(of)?.map(|record| record.lines()).sum();
+            let lines: usize = named_records(of)?.map(|record| record.lines()).sum();
             writeln!(out, "{lines}")
         }
-        _ => write_records(receiver_records(words)?, out),
+        _ => write_records(named_records(words)?, out),
     }
 }

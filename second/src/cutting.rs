@@ -73,12 +73,17 @@ impl Course {
     pub fn edges(&self) -> Vec<u32> {
         self.pieces(self.ends.iter().map(|end| end - 1))
     }
+
+    /// Cuts right before every entry's byte, at it and right behind it.
+    pub fn around(&self) -> Vec<u32> {
+        self.pieces(self.ends.iter().flat_map(|end| end - 1..=end + 1))
+    }
 }
 
 #[cfg(test)]
 mod tests {
     use super::*;
-    use crate::vectors::{banner, empty};
+    use crate::vectors::{banner, empty, three_whole};
     use crate::wire::Revision;
 
     const OWN: Features = Features::new(1, 0);
@@ -96,8 +101,21 @@ mod tests {
         assert_eq!(course.whole(), [90, 64, 32]);
         assert_eq!(course.pieces([30, 58]), [30, 4, 28, 32]);
         assert_eq!(course.edges(), [25, 32, 31, 32, 31, 1]);
+        assert_eq!(course.around(), [25, 1, 1, 30, 1, 1, 30, 1]);
         assert_eq!(course.byte_by_byte(), [1; 90]);
         assert_eq!(course.stop(26, 40), 58);
+    }
+
+    #[test]
+    fn an_early_report_is_an_entry() {
+        let stream = [banner(Revision::Msgr21), three_whole(Revision::Msgr21)].concat();
+        let store = FrameStore {
+            length: 41,
+            fill: 0,
+        };
+        let course = Course::of(OWN, store, &stream);
+        assert_eq!(course.whole(), [116, 90, 45]);
+        assert_eq!(course.around(), [25, 1, 1, 43, 1, 1, 43, 1]);
     }
 
     #[test]

@@ -8,7 +8,7 @@ use crate::refusal::Refusal;
 use crate::report::Report;
 use crate::wire::{epilogue_length, wire_length, Revision, CHECKSUM_LENGTH};
 
-/// A banner, frame, drop or refusal.
+/// A banner, early report, frame, drop or refusal.
 #[derive(Clone, Debug, PartialEq, Eq)]
 pub struct Entry {
     pub report: Report,
@@ -68,17 +68,28 @@ fn put_segments(revision: Revision, frame: &Frame, body: &[u8], store: &mut [u8]
     }
 }
 
-/// Judges a body behind a good preamble; `store` has its segment bytes, and
-/// `wire` begins with the preamble.
-fn judge_body(revision: Revision, frame: &Frame, wire: &[u8], store: &[u8]) -> Judged {
+/// Where segment 1's checksum ends, counted from the frame's first byte; nothing
+/// where the frame has none behind it.
+fn first_end(revision: Revision, frame: &Frame) -> Option<usize> {
     let first = frame.segments[0].length as usize;
-    if revision == Revision::Msgr21 && first > 0 {
-        let end = 36 + first;
-        let field = wire.get(32 + first..end)?;
-        if let Err(refusal) = judge_first_checksum(frame, field, store) {
-            return refused(refusal, end);
-        }
+    let has_checksum = revision == Revision::Msgr21 && first > 0;
+    has_checksum.then_some(PREAMBLE_LENGTH + first + CHECKSUM_LENGTH)
+}
+
+/// Judges segment 1 by the checksum behind it; `store` has its bytes. A good
+/// one is reported where more segments follow.
+fn judge_first(revision: Revision, frame: &Frame, wire: &[u8], store: &[u8]) -> Judged {
+    let end = first_end(revision, frame)?;
+    let field = wire.get(end - CHECKSUM_LENGTH..end)?;
+    match judge_first_checksum(frame, field, store) {
+        Err(refusal) => refused(refusal, end),
+        Ok(()) if frame.count > 1 => Some((Report::First(*frame), end)),
+        Ok(()) => None,
     }
+}
+
+/// Judges a whole frame at its end; `store` has its segments.
+fn judge_end(revision: Revision, frame: &Frame, wire: &[u8], store: &[u8]) -> Judged {
     let length = wire_length(revision, frame) as usize;
     let whole = wire.get(..length)?;
     let epilogue = &whole[length - epilogue_length(revision, frame)..];
@@ -94,22 +105,6 @@ fn judge_body(revision: Revision, frame: &Frame, wire: &[u8], store: &[u8]) -> J
     }
 }
 
-/// The entry of the frame that `wire` begins with; changes the store.
-fn judge_frame(revision: Revision, wire: &[u8], store: &mut [u8]) -> Judged {
-    let preamble = wire.first_chunk::<PREAMBLE_LENGTH>()?;
-    let fits = |frame: Frame| frame.judge_store(store.len()).map(|()| frame);
-    let frame = match Frame::read(preamble).and_then(fits) {
-        Ok(frame) => frame,
-        Err(refusal) => return refused(refusal, PREAMBLE_LENGTH),
-    };
-    put_segments(revision, &frame, &wire[PREAMBLE_LENGTH..], store);
-    let judged = judge_body(revision, &frame, wire, store)?;
-    if !matches!(judged.0, Report::Frame(_)) {
-        frame.wipe(store);
-    }
-    Some(judged)
-}
-
 impl List {
     fn push(&mut self, report: Report, byte: usize) {
         let store = self.store.clone();
@@ -118,6 +113,44 @@ impl List {
             byte,
             store,
         });
+    }
+
+    /// An entry of a frame behind its preamble; a drop and a refusal zero what it
+    /// used of the store. Answers the byte, if the list goes on behind it.
+    fn push_of(&mut self, frame: &Frame, report: Report, byte: usize) -> Option<usize> {
+        if matches!(report, Report::Dropped(_) | Report::Refused(_)) {
+            frame.wipe(&mut self.store);
+        }
+        self.push(report, byte);
+        (!matches!(report, Report::Refused(_))).then_some(byte)
+    }
+
+    /// The entries of the frame that `wire` begins with, which is the stream from
+    /// the place on; answers where the next one begins, if the list goes on.
+    fn push_frame(&mut self, revision: Revision, wire: &[u8], place: usize) -> Option<usize> {
+        let preamble = wire.first_chunk::<PREAMBLE_LENGTH>()?;
+        let fits = |frame: Frame| frame.judge_store(self.store.len()).map(|()| frame);
+        let frame = match Frame::read(preamble).and_then(fits) {
+            Ok(frame) => frame,
+            Err(refusal) => {
+                self.push(Report::Refused(refusal), place + PREAMBLE_LENGTH);
+                return None;
+            }
+        };
+        let body = &wire[PREAMBLE_LENGTH..];
+        let first = frame.segments[0].length as usize;
+        put_segments(
+            revision,
+            &frame,
+            &body[..body.len().min(first)],
+            &mut self.store,
+        );
+        if let Some((report, byte)) = judge_first(revision, &frame, wire, &self.store) {
+            self.push_of(&frame, report, place + byte)?;
+        }
+        put_segments(revision, &frame, body, &mut self.store);
+        let (report, length) = judge_end(revision, &frame, wire, &self.store)?;
+        self.push_of(&frame, report, place + length)
     }
 }
 
@@ -138,12 +171,8 @@ pub fn entries(own: Features, stream: &[u8], store: &[u8]) -> List {
     let Report::Banner { revision, .. } = report else {
         return list;
     };
-    while let Some((report, length)) = judge_frame(revision, &stream[place..], &mut list.store) {
-        place += length;
-        list.push(report, place);
-        if let Report::Refused(_) = report {
-            break;
-        }
+    while let Some(next) = list.push_frame(revision, &stream[place..], place) {
+        place = next;
     }
     list
 }

@@ -4,9 +4,12 @@ mod bad;
 mod bench;
 mod boundaries;
 mod examples;
+mod lending;
 mod published;
 mod receiver;
 mod request;
+mod sealing;
+mod session;
 
 use crate::records::Record;
 
@@ -52,9 +55,36 @@ const RECEIVER: Family = Family {
         ("receiver-bench", receiver::bench::bench),
         ("receiver-boundaries", receiver::boundaries::boundaries),
         ("receiver-cuts", receiver::cuts::cuts),
+        ("receiver-first", receiver::first::first),
     ],
     bad_name: "receiver-bad",
     bad: receiver::bad::files,
+};
+
+const LENDING: Family = Family {
+    good: &[("lending-boundaries", lending::boundaries)],
+    bad_name: "lending-bad",
+    bad: lending::bad,
+};
+
+const SESSION: Family = Family {
+    good: &[
+        ("session-shown", session::shown),
+        ("session-boundaries", session::boundaries),
+    ],
+    bad_name: "session-bad",
+    bad: session::bad,
+};
+
+const SEALING: Family = Family {
+    good: &[
+        ("gcm-published", sealing::published),
+        ("gcm-derived", sealing::derived),
+        ("gcm-boundaries", sealing::boundaries),
+        ("gcm-every-bit", sealing::every_bit),
+    ],
+    bad_name: "gcm-bad",
+    bad: sealing::bad_files,
 };
 
 impl Family {
@@ -83,8 +113,20 @@ pub fn receiver_names() -> Vec<String> {
     RECEIVER.names()
 }
 
+pub fn lending_names() -> Vec<String> {
+    LENDING.names()
+}
+
+pub fn session_names() -> Vec<String> {
+    SESSION.names()
+}
+
+pub fn sealing_names() -> Vec<String> {
+    SEALING.names()
+}
+
 pub fn case_file(name: &str) -> Option<CaseFile> {
-    let families = [BUILDER, RECEIVER];
+    let families = [BUILDER, RECEIVER, LENDING, SESSION, SEALING];
     families.iter().find_map(|family| family.case_file(name))
 }
 
@@ -95,7 +137,14 @@ mod tests {
 
     #[test]
     fn each_file_prints_its_lines() {
-        for name in [names(), receiver_names()].concat() {
+        let names = [
+            names(),
+            receiver_names(),
+            lending_names(),
+            session_names(),
+            sealing_names(),
+        ];
+        for name in names.concat() {
             let file = case_file(&name).expect("a listed name");
             let mut printed = Vec::new();
             run(&file.bytes, &mut printed).expect("writing to memory");
@@ -117,6 +166,10 @@ mod tests {
             "bad",
             "receiver-bad",
             "list-r",
+            "lending-bad",
+            "session-bad",
+            "list-s",
+            "gcm-bad",
         ] {
             assert!(case_file(name).is_none());
         }

@@ -8,10 +8,10 @@ use std::ops::RangeInclusive;
 pub const PLACES: usize = 4;
 
 /// Most bytes of a single segment.
-pub const SEGMENT_LIMIT: u32 = 16_384;
+pub const SEGMENT_LIMIT: u32 = 1_048_576;
 
 /// Most bytes of all segments together.
-pub const SUM_LIMIT: u64 = 32_768;
+pub const SUM_LIMIT: u64 = 2_097_152;
 
 const TAGS: RangeInclusive<u8> = 1..=20;
 const COUNT_FIELD: usize = 1;
@@ -166,7 +166,9 @@ impl Frame {
             sum += u64::from(self.segments[*place].length);
             sum > SUM_LIMIT
         };
-        let fault = (0..PLACES).find(is_long).or_else(|| (0..PLACES).find(passes));
+        let fault = (0..PLACES)
+            .find(is_long)
+            .or_else(|| (0..PLACES).find(passes));
         fault.map_or(Ok(()), |place| Err(Refusal::limit(length_field(place))))
     }
 
@@ -244,13 +246,13 @@ mod tests {
         assert_eq!(fault(|f| f.segments[2].alignment = 1), (6, 18));
         assert_eq!(fault(|f| f.segments[3].length = 1), (6, 20));
         assert_eq!(fault(|f| f.segments[3].alignment = 1), (6, 24));
-        assert_eq!(fault(|f| f.segments[0].length = 16_385), (9, 2));
+        assert_eq!(fault(|f| f.segments[0].length = 1_048_577), (9, 2));
         assert_eq!(fault(|f| f.segments[1].length = u32::MAX), (9, 8));
         let sums = |lengths| frame(4, lengths).judge_limits().map_err(|r| r.detail[0]);
-        assert_eq!(sums([16_384, 16_384, 0, 1]), Err(20));
-        assert_eq!(sums([16_384, 16_383, 2, 1]), Err(14));
-        assert_eq!(sums([16_384, 16_384, 1, 16_385]), Err(20));
-        assert_eq!(sums([16_384, 16_383, 0, 1]), Ok(()));
+        assert_eq!(sums([1_048_576, 1_048_576, 0, 1]), Err(20));
+        assert_eq!(sums([1_048_576, 1_048_575, 2, 1]), Err(14));
+        assert_eq!(sums([1_048_576, 1_048_576, 1, 1_048_577]), Err(20));
+        assert_eq!(sums([1_048_576, 1_048_575, 0, 1]), Ok(()));
     }
 
     #[test]
@@ -316,8 +318,8 @@ mod tests {
     #[test]
     fn limits() {
         let good = |lengths| frame(4, lengths).judge_limits().is_ok();
-        assert!(good([16_384, 16_384, 0, 0]) && good([8_192; 4]));
-        assert!(!good([16_385, 0, 0, 1]) && !good([16_384, 16_384, 1, 0]));
+        assert!(good([1_048_576, 1_048_576, 0, 0]) && good([524_288; 4]));
+        assert!(!good([1_048_577, 0, 0, 1]) && !good([1_048_576, 1_048_576, 1, 0]));
         assert!(!good([0x4000_0000; 4]) && !good([0xFFFF_FFFF, 1, 0, 0]));
     }
 }

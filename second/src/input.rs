@@ -7,6 +7,12 @@ pub struct BadRecord;
 /// The largest length a record may give.
 pub const LARGEST_LENGTH: u32 = 65_536;
 
+/// The longest segment and the longest sum of a frame that our case files carry
+/// whole. The frame limits lie far above what a record can hold: they show in
+/// headers alone, by what is judged behind them.
+pub const CARRIED_SEGMENT: u32 = 16_384;
+pub const CARRIED_SUM: u32 = 32_768;
+
 /// The longest stream a record may hold.
 pub const LARGEST_STREAM: u32 = 131_072;
 
@@ -26,7 +32,7 @@ impl<'a> Input<'a> {
         self.left.is_empty()
     }
 
-    fn array<const N: usize>(&mut self) -> Result<[u8; N], BadRecord> {
+    pub fn array<const N: usize>(&mut self) -> Result<[u8; N], BadRecord> {
         let (taken, left) = self.left.split_first_chunk().ok_or(BadRecord)?;
         self.left = left;
         Ok(*taken)
@@ -86,11 +92,17 @@ impl<'a> Input<'a> {
         self.run_up_to(LARGEST_STREAM)
     }
 
-    /// A number of calls and the length of each one's piece.
-    pub fn pieces(&mut self) -> Result<Vec<u32>, BadRecord> {
+    /// A number of calls.
+    pub fn calls(&mut self) -> Result<u16, BadRecord> {
         match self.u16()? {
-            calls if calls <= MOST_CALLS => (0..calls).map(|_| self.length()).collect(),
+            calls if calls <= MOST_CALLS => Ok(calls),
             _ => Err(BadRecord),
         }
+    }
+
+    /// A number of calls and the length of each one's piece.
+    pub fn pieces(&mut self) -> Result<Vec<u32>, BadRecord> {
+        let calls = self.calls()?;
+        (0..calls).map(|_| self.length()).collect()
     }
 }

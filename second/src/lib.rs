@@ -6,6 +6,7 @@
 #![forbid(unsafe_code)]
 
 pub mod banner;
+pub mod body;
 pub mod builder;
 pub mod checksum;
 pub mod command;
@@ -14,7 +15,9 @@ pub mod definition;
 pub mod epilogue;
 pub mod fixed;
 pub mod frame;
+pub mod gcm;
 pub mod generate;
+pub mod handshake;
 pub mod input;
 pub mod random;
 pub mod receiver;

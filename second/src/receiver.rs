@@ -129,16 +129,24 @@ impl Body {
         }
     }
 
-    /// Leaves a complete part; the last one tells how the frame ends.
-    fn finish_part(&mut self, store: &mut [u8]) -> Result<Option<Ending>, Refusal> {
+    /// Leaves a complete part; answers what it reports. Behind segment 1's
+    /// checksum that is an early report, where more segments follow; the last
+    /// part tells how the frame ends.
+    fn finish_part(&mut self, store: &mut [u8]) -> Result<Option<Report>, Refusal> {
         let judged = self.judge_part(store);
         if judged != Ok(Ending::Complete) {
             self.frame.wipe(store);
         }
         let ending = judged?;
-        self.parts.pop_front();
+        let part = self.parts.pop_front();
         self.held.clear();
-        Ok(self.parts.is_empty().then_some(ending))
+        let early = part == Some(Part::FirstChecksum) && self.frame.count > 1;
+        Ok(match ending {
+            _ if early => Some(Report::First(self.frame)),
+            _ if !self.parts.is_empty() => None,
+            Ending::Complete => Some(Report::Frame(self.frame)),
+            Ending::Aborted => Some(Report::Dropped(self.frame)),
+        })
     }
 }
 
@@ -235,15 +243,11 @@ impl Receiver {
                 Ok(None)
             }
             Stage::Body(body) => {
-                let Some(ending) = body.finish_part(store)? else {
-                    return Ok(None);
-                };
-                let report = match ending {
-                    Ending::Complete => Report::Frame(body.frame),
-                    Ending::Aborted => Report::Dropped(body.frame),
-                };
-                self.stage = Stage::preamble(body.revision);
-                Ok(Some(report))
+                let report = body.finish_part(store)?;
+                if body.parts.is_empty() {
+                    self.stage = Stage::preamble(body.revision);
+                }
+                Ok(report)
             }
             Stage::Refused(refusal) => Err(*refusal),
         }

@@ -110,6 +110,10 @@ fn names(folder: &Path) -> io::Result<Vec<String>> {
     Ok(names)
 }
 
+mod frames;
+
+pub use frames::{handshake_records, Frames};
+
 /// For each link: whole, by its recorded cuts, and byte by byte.
 pub fn records(folder: &Path) -> io::Result<Vec<Record>> {
     let mut records = Vec::new();

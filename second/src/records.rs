@@ -6,14 +6,30 @@ use crate::frame::{Frame, Segment, PLACES};
 use crate::input::{BadRecord, Input, LARGEST_LENGTH};
 use crate::wire::Revision;
 
+mod handshake;
+mod lending;
 mod receiver;
+mod sealing;
+mod session;
 
+pub use handshake::{BodyRecord, ModeRecord, StepsRecord, WriteRecord};
+pub use lending::{LendingRecord, LentCall};
 pub use receiver::{FrameStore, ReceiverRecord};
+pub use sealing::SealingRecord;
+pub use session::{SessionCall, SessionRecord};
 
 const CHECKSUM_KIND: u8 = b'C';
 const BANNER_KIND: u8 = b'B';
 const FRAME_KIND: u8 = b'F';
 const RECEIVER_KIND: u8 = b'R';
+const BODY_KIND: u8 = b'H';
+const WRITE_KIND: u8 = b'W';
+const STEPS_KIND: u8 = b'P';
+const MODE_KIND: u8 = b'M';
+const LENDING_KIND: u8 = b'T';
+const SESSION_KIND: u8 = b'N';
+const SEAL_KIND: u8 = b'S';
+const OPEN_KIND: u8 = b'O';
 
 #[derive(Clone, Debug, PartialEq, Eq)]
 pub enum Record {
@@ -21,6 +37,14 @@ pub enum Record {
     Banner(BannerRecord),
     Frame(FrameRecord),
     Receiver(ReceiverRecord),
+    Body(BodyRecord),
+    Write(WriteRecord),
+    Steps(StepsRecord),
+    Mode(ModeRecord),
+    Lending(LendingRecord),
+    Session(SessionRecord),
+    Seal(SealingRecord),
+    Open(SealingRecord),
 }
 
 #[derive(Clone, Debug, PartialEq, Eq)]
@@ -53,7 +77,7 @@ pub struct FrameRecord {
 }
 
 /// The bytes of a buffer or store before the calls: they count up from `fill`.
-fn counting(length: u32, fill: u8) -> Vec<u8> {
+pub(crate) fn counting(length: u32, fill: u8) -> Vec<u8> {
     let counted = (0..length).map(|place| fill.wrapping_add(place as u8));
     counted.collect()
 }
@@ -194,6 +218,14 @@ impl Record {
             BANNER_KIND => BannerRecord::read(input).map(Record::Banner),
             FRAME_KIND => FrameRecord::read(input).map(Record::Frame),
             RECEIVER_KIND => ReceiverRecord::read(input).map(Record::Receiver),
+            BODY_KIND => BodyRecord::read(input).map(Record::Body),
+            WRITE_KIND => WriteRecord::read(input).map(Record::Write),
+            STEPS_KIND => StepsRecord::read(input).map(Record::Steps),
+            MODE_KIND => ModeRecord::read(input).map(Record::Mode),
+            LENDING_KIND => LendingRecord::read(input).map(Record::Lending),
+            SESSION_KIND => SessionRecord::read(input).map(Record::Session),
+            SEAL_KIND => SealingRecord::read(input).map(Record::Seal),
+            OPEN_KIND => SealingRecord::read(input).map(Record::Open),
             _ => Err(BadRecord),
         }
     }
@@ -216,6 +248,38 @@ impl Record {
                 out.push(RECEIVER_KIND);
                 record.write(out);
             }
+            Record::Body(record) => {
+                out.push(BODY_KIND);
+                record.write(out);
+            }
+            Record::Write(record) => {
+                out.push(WRITE_KIND);
+                record.write(out);
+            }
+            Record::Steps(record) => {
+                out.push(STEPS_KIND);
+                record.write(out);
+            }
+            Record::Mode(record) => {
+                out.push(MODE_KIND);
+                record.write(out);
+            }
+            Record::Lending(record) => {
+                out.push(LENDING_KIND);
+                record.write(out);
+            }
+            Record::Session(record) => {
+                out.push(SESSION_KIND);
+                record.write(out);
+            }
+            Record::Seal(record) => {
+                out.push(SEAL_KIND);
+                record.write(out);
+            }
+            Record::Open(record) => {
+                out.push(OPEN_KIND);
+                record.write(out);
+            }
         }
     }
 
@@ -223,8 +287,14 @@ impl Record {
     pub fn lines(&self) -> usize {
         match self {
             Record::Checksum(_) | Record::Banner(_) | Record::Frame(_) => 1,
+            Record::Body(_) | Record::Write(_) | Record::Mode(_) => 1,
+            // A step that cannot be read has a line too.
+            Record::Steps(record) => record.steps.len() + usize::from(record.breaks_off),
+            Record::Seal(_) | Record::Open(_) => 1,
             // The start has a line of its own.
             Record::Receiver(record) => 1 + record.pieces.len(),
+            Record::Lending(record) => 1 + record.calls.len(),
+            Record::Session(record) => record.calls.len(),
         }
     }
 

@@ -108,6 +108,26 @@ impl Refusal {
         Self::new(16, 0)
     }
 
+    /// A text is longer than GCM can seal; no field is at fault.
+    pub const fn text_limit() -> Self {
+        Self::new(9, 0)
+    }
+
+    /// Sealed bytes are not what their key and nonce gave.
+    pub const fn authentication() -> Self {
+        Self::new(17, 0)
+    }
+
+    /// A body is malformed; the first fault is at this byte of it.
+    pub const fn body_malformed(at: usize) -> Self {
+        Self::new(20, at as u64)
+    }
+
+    /// A handshake doesn't take this tag now.
+    pub const fn unexpected_tag(tag: u8) -> Self {
+        Self::new(21, tag as u64)
+    }
+
     /// A session holds as many messages as it can.
     pub const fn table_full() -> Self {
         Self::new(22, 0)

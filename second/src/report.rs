@@ -13,6 +13,9 @@ pub enum Report {
         peer: Features,
         revision: Revision,
     },
+    /// Segment 1's checksum holds, and more segments follow it: it stands at the
+    /// store's front. The frame's own report still comes.
+    First(Frame),
     Frame(Frame),
     Dropped(Frame),
     Refused(Refusal),

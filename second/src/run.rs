@@ -4,13 +4,20 @@ use crate::banner::Features;
 use crate::builder::{build_banner, build_frame};
 use crate::checksum::{checksum, SEGMENT_START};
 use crate::frame::Frame;
+use crate::gcm;
 use crate::input::{BadRecord, Input};
 use crate::receiver::Receiver;
-use crate::records::{BannerRecord, ChecksumRecord, FrameRecord, ReceiverRecord, Record};
+use crate::records::{
+    BannerRecord, ChecksumRecord, FrameRecord, LendingRecord, ReceiverRecord, Record, SealingRecord,
+};
 use crate::refusal::Refusal;
 use crate::report::Report;
 use crate::wire::Revision;
+use session::session_lines;
 use std::io::{self, Write};
+
+mod handshake;
+mod session;
 
 fn checksum_line(record: &ChecksumRecord, out: &mut impl Write) -> io::Result<()> {
     writeln!(out, "crc {:08x}", checksum(record.start, &record.bytes))
@@ -42,6 +49,18 @@ fn banner_line(record: &BannerRecord, out: &mut impl Write) -> io::Result<()> {
 fn frame_line(record: &FrameRecord, out: &mut impl Write) -> io::Result<()> {
     let mut buffer = record.buffer.bytes();
     let answer = build_frame(&record.request(), &mut buffer, record.buffer.queued);
+    built_line(answer, &buffer, out)
+}
+
+fn seal_line(record: &SealingRecord, out: &mut impl Write) -> io::Result<()> {
+    let mut buffer = record.store.bytes();
+    let answer = gcm::seal(&record.key, &record.nonce, &record.bytes, &mut buffer);
+    built_line(answer, &buffer, out)
+}
+
+fn open_line(record: &SealingRecord, out: &mut impl Write) -> io::Result<()> {
+    let mut buffer = record.store.bytes();
+    let answer = gcm::open(&record.key, &record.nonce, &record.bytes, &mut buffer);
     built_line(answer, &buffer, out)
 }
 
@@ -83,6 +102,7 @@ fn report_line(
                 "supported {supported} required {required} revision {revision}"
             )
         }
+        Report::First(frame) => write!(out, "first taken {taken} {}", frame_fields(frame)),
         Report::Frame(frame) => write!(out, "frame taken {taken} {}", frame_fields(frame)),
         Report::Dropped(frame) => write!(out, "dropped taken {taken} {}", frame_fields(frame)),
         Report::Refused(Refusal { number, detail }) => {
@@ -111,6 +131,24 @@ fn receiver_lines(record: &ReceiverRecord, out: &mut impl Write) -> io::Result<(
     Ok(())
 }
 
+/// The same, but each call lends as much of the store as it says.
+fn lending_lines(record: &LendingRecord, out: &mut impl Write) -> io::Result<()> {
+    let (mut receiver, started) = Receiver::start(record.own);
+    start_line(started, out)?;
+    let mut store = record.store.bytes();
+    let mut left = record.stream.as_slice();
+    for call in &record.calls {
+        let piece = &left[..left.len().min(call.piece as usize)];
+        let lent = store.len().min(call.lent as usize);
+        let (taken, report) = receiver.receive(piece, &mut store[..lent]);
+        left = &left[taken..];
+        report_line(taken, &report, &store, out)?;
+    }
+    Ok(())
+}
+
+const BAD_RECORD: &str = "bad record";
+
 pub fn run(bytes: &[u8], out: &mut impl Write) -> io::Result<()> {
     let mut input = Input::new(bytes);
     while !input.has_ended() {
@@ -119,7 +157,25 @@ pub fn run(bytes: &[u8], out: &mut impl Write) -> io::Result<()> {
             Ok(Record::Banner(record)) => banner_line(&record, out)?,
             Ok(Record::Frame(record)) => frame_line(&record, out)?,
             Ok(Record::Receiver(record)) => receiver_lines(&record, out)?,
-            Err(BadRecord) => return writeln!(out, "bad record"),
+            Ok(Record::Body(record)) => handshake::body_line(&record, out)?,
+            Ok(Record::Write(record)) => handshake::write_line(&record, out)?,
+            Ok(Record::Mode(record)) => handshake::mode_line(&record, out)?,
+            Ok(Record::Steps(record)) => {
+                handshake::step_lines(&record, out)?;
+                if record.breaks_off {
+                    return writeln!(out, "{BAD_RECORD}");
+                }
+            }
+            Ok(Record::Seal(record)) => seal_line(&record, out)?,
+            Ok(Record::Open(record)) => open_line(&record, out)?,
+            Ok(Record::Lending(record)) => lending_lines(&record, out)?,
+            Ok(Record::Session(record)) => {
+                session_lines(&record, out)?;
+                if record.spoilt {
+                    return writeln!(out, "{BAD_RECORD}");
+                }
+            }
+            Err(BadRecord) => return writeln!(out, "{BAD_RECORD}"),
         }
     }
     Ok(())
@@ -129,7 +185,7 @@ pub fn run(bytes: &[u8], out: &mut impl Write) -> io::Result<()> {
 mod receiver_tests;
 
 #[cfg(test)]
-mod tests {
+pub(crate) mod tests {
     use super::*;
 
     pub fn printed(bytes: &[u8]) -> String {

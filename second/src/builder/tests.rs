@@ -1,7 +1,7 @@
 use super::*;
-use crate::frame::Segment;
+use crate::frame::{Segment, SEGMENT_LIMIT};
 
-const LONG: usize = 16_385;
+const LONG: usize = SEGMENT_LIMIT as usize + 1;
 
 /// The rules a request can break, in the order of judgement.
 const RULES: [u8; 6] = [6, 8, 9, 13, 15, 14];
@@ -101,11 +101,7 @@ fn own_features_are_judged_before_the_room() {
 fn details() {
     assert_eq!(Refusal::tag(255).detail, [255, 0, 0]);
     assert_eq!(Refusal::room(489).detail, [489, 0, 0]);
-    for bare in [
-        Refusal::source(),
-        Refusal::abort(),
-        Refusal::features(),
-    ] {
+    for bare in [Refusal::source(), Refusal::abort(), Refusal::features()] {
         assert_eq!(bare.detail, [0, 0, 0]);
     }
 }

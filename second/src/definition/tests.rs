@@ -5,7 +5,8 @@ use crate::generate::receiver::records;
 use crate::random::Random;
 use crate::receiver::Receiver;
 use crate::records::ReceiverRecord;
-use crate::vectors::{banner, empty, three_aborted, three_frame, three_source, three_whole};
+use crate::vectors::{banner, empty, single_of_msgr21};
+use crate::vectors::{three_aborted, three_frame, three_source, three_whole};
 
 #[test]
 fn entries_of_a_stream() {
@@ -21,23 +22,54 @@ fn entries_of_a_stream() {
     ];
     let list = entries(Features::new(1, 0), &stream.concat(), &[9; 43]);
     let bytes: Vec<usize> = list.entries.iter().map(|entry| entry.byte).collect();
-    assert_eq!(bytes, [26, 116, 206, 238, 283]);
-    let frame = &list.entries[1];
-    assert_eq!(frame.report, Report::Frame(three_frame()));
-    assert_eq!(frame.store, [three_source().as_slice(), &[9, 9]].concat());
+    assert_eq!(bytes, [26, 71, 116, 161, 206, 238, 283]);
+    let first = Report::First(three_frame());
+    assert_eq!(list.entries[1].report, first);
+    let only_first = [b"123456789".as_slice(), &[9; 34]].concat();
+    assert_eq!(list.entries[1].store, only_first);
+    let whole = [three_source().as_slice(), &[9, 9]].concat();
+    assert_eq!(list.entries[2].report, Report::Frame(three_frame()));
+    assert_eq!(list.entries[2].store, whole);
     let zeroed = [[0; 41].as_slice(), &[9, 9]].concat();
-    assert_eq!(list.entries[2].report, Report::Dropped(three_frame()));
-    assert_eq!(list.entries[2].store, zeroed);
+    assert_eq!(list.entries[3].report, first);
+    assert_eq!(list.entries[3].store, whole);
+    assert_eq!(list.entries[4].report, Report::Dropped(three_frame()));
+    assert_eq!(list.entries[4].store, zeroed);
     let refusal = Report::Refused(Refusal::segment_checksum(0));
-    assert_eq!(list.entries[4].report, refusal);
+    assert_eq!(list.entries[6].report, refusal);
     assert_eq!(list.store, zeroed);
+}
+
+#[test]
+fn no_early_report_without_a_checksum_and_more_segments() {
+    let reports = |revision, frame: Vec<u8>| {
+        let stream = [banner(revision), frame].concat();
+        entries(Features::new(1, 0), &stream, &[9; 43])
+            .entries
+            .len()
+    };
+    assert_eq!(reports(Revision::Msgr20, three_whole(Revision::Msgr20)), 2);
+    assert_eq!(reports(Revision::Msgr21, single_of_msgr21()), 2);
+    assert_eq!(reports(Revision::Msgr21, empty(Revision::Msgr21)), 2);
+    assert_eq!(reports(Revision::Msgr21, three_whole(Revision::Msgr21)), 3);
 }
 
 #[test]
 fn judgements_past_the_end_are_not_made() {
     for revision in [Revision::Msgr20, Revision::Msgr21] {
         let stream = [banner(revision), three_whole(revision)].concat();
-        for (length, count) in [(7, 0), (25, 0), (26, 1), (57, 1), (115, 1), (116, 2)] {
+        let early = usize::from(revision == Revision::Msgr21);
+        let counts = [
+            (7, 0),
+            (25, 0),
+            (26, 1),
+            (57, 1),
+            (70, 1),
+            (71, 1 + early),
+            (115, 1 + early),
+            (116, 2 + early),
+        ];
+        for (length, count) in counts {
             let list = entries(Features::new(1, 0), &stream[..length], &[9; 43]);
             assert_eq!(list.entries.len(), count, "{length} bytes");
         }

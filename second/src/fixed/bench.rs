@@ -40,13 +40,14 @@ fn shapes(revision: Revision) -> Vec<Record> {
     vec![refused(revision, &[5, 0]), accepted(revision, &[0])]
 }
 
-/// Case 8.
+/// Case 8, without a source: at the limits that is refused, above them a
+/// length.
 fn limits(revision: Revision) -> Vec<Record> {
     vec![
-        accepted(revision, &[16_384]),
-        refused(revision, &[16_385]),
-        accepted(revision, &[16_384, 16_384]),
-        refused(revision, &[16_384, 16_384, 1]),
+        refused(revision, &[1_048_576]),
+        refused(revision, &[1_048_577]),
+        refused(revision, &[1_048_576, 1_048_576]),
+        refused(revision, &[1_048_576, 1_048_576, 1]),
     ]
 }
 

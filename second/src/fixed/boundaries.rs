@@ -4,7 +4,7 @@
 use crate::banner::{Features, BANNER_LENGTH};
 use crate::fixed::request::{between_others, source, REVISIONS};
 use crate::frame::{PLACES, SEGMENT_LIMIT, SUM_LIMIT};
-use crate::input::LARGEST_LENGTH;
+use crate::input::{CARRIED_SEGMENT, LARGEST_LENGTH};
 use crate::records::{BannerRecord, FrameRecord, Record, SendBuffer};
 use crate::wire::{wire_length, Revision};
 
@@ -70,6 +70,33 @@ fn unused_segments(revision: Revision) -> Vec<FrameRecord> {
     records
 }
 
+/// Two fields of a shape wrong at once, each two that follow one another: the
+/// first is named.
+fn two_fields(revision: Revision) -> Vec<FrameRecord> {
+    let good = barely_good(revision, 1);
+    let mut records = Vec::new();
+    for place in 1..PLACES {
+        records.push(changed(good.clone(), |r| {
+            r.frame.segments[place].length = 1;
+            r.frame.segments[place].alignment = 1;
+        }));
+        records.push(changed(good.clone(), |r| {
+            r.frame.segments[place].alignment = 1;
+            let behind = r.frame.segments.get_mut(place + 1);
+            behind.into_iter().for_each(|segment| segment.length = 1);
+        }));
+        let mut empty_last = barely_good(revision, place + 1);
+        empty_last.frame.segments[place].length = 0;
+        empty_last.frame.segments[PLACES - 1].alignment = 1;
+        records.push(changed(empty_last, |_| {}));
+    }
+    for count in [0, 5] {
+        let wrong = changed(good.clone(), |r| r.frame.count = count);
+        records.push(changed(wrong, |r| r.frame.segments[3].alignment = 1));
+    }
+    records
+}
+
 fn tags(revision: Revision) -> Vec<FrameRecord> {
     let good = between_others(revision, &[4, 2]);
     (0..=255)
@@ -77,7 +104,8 @@ fn tags(revision: Revision) -> Vec<FrameRecord> {
         .collect()
 }
 
-/// Each place alone at the segment limit and one above it.
+/// Each place alone at the segment limit and one above it. The source is empty:
+/// it is refused where the limit is kept.
 fn long_segments(revision: Revision) -> Vec<FrameRecord> {
     let mut records = Vec::new();
     for place in 0..PLACES {
@@ -90,14 +118,24 @@ fn long_segments(revision: Revision) -> Vec<FrameRecord> {
     records
 }
 
-/// The sum at its limit and one above it, and sums that wrap in 32 bits.
+/// The sum at its limit and one above it, sums that pass it before the last
+/// length, with and without a long segment behind, and sums that wrap in 32
+/// bits; the longest frames that our case files carry whole.
 fn long_sums(revision: Revision) -> Vec<FrameRecord> {
     let quarter = SUM_LIMIT as u32 / 4;
-    let all: [&[u32]; 12] = [
+    let all: [&[u32]; 20] = [
+        &[CARRIED_SEGMENT],
+        &[CARRIED_SEGMENT, CARRIED_SEGMENT],
+        &[0, CARRIED_SEGMENT, 0, CARRIED_SEGMENT],
         &[SEGMENT_LIMIT, SEGMENT_LIMIT],
         &[SEGMENT_LIMIT, SEGMENT_LIMIT, 1],
         &[SEGMENT_LIMIT, SEGMENT_LIMIT, 0, 1],
         &[SEGMENT_LIMIT, SEGMENT_LIMIT - 1, 1],
+        &[SEGMENT_LIMIT, SEGMENT_LIMIT, 1, 1],
+        &[SEGMENT_LIMIT, SEGMENT_LIMIT - 1, 2, 5],
+        &[SEGMENT_LIMIT, SEGMENT_LIMIT, 1, SEGMENT_LIMIT + 1],
+        &[SEGMENT_LIMIT, SEGMENT_LIMIT + 1, 0, SEGMENT_LIMIT + 1],
+        &[1, 0, SEGMENT_LIMIT, SEGMENT_LIMIT],
         &[0, SEGMENT_LIMIT, 0, SEGMENT_LIMIT],
         &[1, SEGMENT_LIMIT, 0, SEGMENT_LIMIT],
         &[quarter; 4],
@@ -134,7 +172,7 @@ fn aborts(revision: Revision) -> Vec<FrameRecord> {
         &[5, 3],
         &[0, 0, 7],
         &[6, 0, 0, 40],
-        &[SEGMENT_LIMIT, 0, SEGMENT_LIMIT],
+        &[CARRIED_SEGMENT, 0, CARRIED_SEGMENT],
     ];
     let aborted = |lengths: &&[u32]| {
         let good = between_others(revision, lengths);
@@ -246,6 +284,7 @@ pub fn boundaries() -> Vec<Record> {
         counts,
         last_segments,
         unused_segments,
+        two_fields,
         tags,
         long_segments,
         long_sums,

@@ -3,5 +3,6 @@
 pub mod bad;
 pub mod bench;
 pub mod boundaries;
-mod case;
+pub mod case;
 pub mod cuts;
+pub mod first;

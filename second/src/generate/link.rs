@@ -1,8 +1,9 @@
 //! Generated streams: a banner and frames, as they should be or with a fault.
 
-use super::{alignment, feature_bits, payload};
+use super::{alignment, feature_bits, payload, sum_passed};
 use crate::banner::Features;
-use crate::frame::{Frame, Segment, PLACES, PREAMBLE_LENGTH, SEGMENT_LIMIT};
+use crate::frame::{Frame, Segment, PLACES, PREAMBLE_LENGTH};
+use crate::input::CARRIED_SEGMENT;
 use crate::random::Random;
 use crate::spoil::WireFrame;
 use crate::wire::{can_abort, Revision};
@@ -12,7 +13,7 @@ use crate::wire::{can_abort, Revision};
 pub enum Size {
     /// A few bytes, for streams that are cut at every byte.
     Small,
-    /// Mostly a few bytes, now and then up to the limit.
+    /// Mostly a few bytes, now and then some thousand.
     Any,
 }
 
@@ -59,7 +60,12 @@ fn banner(random: &mut Random, peer: Features, size: Size) -> Vec<u8> {
         3 if size == Size::Any => 1_008,
         _ => 0,
     };
-    let more = random.between(0, most);
+    // 17 and 1,024 bytes more often than others.
+    let more = match random.between(1, 40) {
+        1 => 1,
+        2 if size == Size::Any => 1_008,
+        _ => random.between(0, most),
+    };
     banner.extend(random.bytes(more));
     let length = 16 + more as u16;
     banner[8..10].copy_from_slice(&length.to_le_bytes());
@@ -74,7 +80,7 @@ fn segment_length(random: &mut Random, size: Size) -> u32 {
         701..=950 => random.between(1, 40),
         951..=985 => random.between(1, 300),
         986..=997 => random.between(1, 2_048),
-        _ => random.between(1, SEGMENT_LIMIT / 2),
+        _ => random.between(1, CARRIED_SEGMENT / 2),
     }
 }
 
@@ -129,7 +135,14 @@ pub fn spoil_frame(random: &mut Random, link: &mut Link) {
     let frame = &mut link.frames[place];
     match random.between(1, 40) {
         1 => frame.bytes[..PREAMBLE_LENGTH].fill(0),
-        2..=16 => {
+        2 => put_lengths(frame, sum_passed(random)),
+        3..=5 => {
+            // The checksum's own rule last: the others put it right again.
+            let later = random.between(1, 4);
+            break_rule(random, frame, later);
+            break_rule(random, frame, later - 1);
+        }
+        6..=16 => {
             let count = random.pick(&[1, 1, 1, 2, 3]);
             let tag = frame.frame.tag;
             let changes = (0..count).map(|_| preamble_change(random, tag)).collect();
@@ -164,6 +177,34 @@ fn preamble_change(random: &mut Random, tag: u8) -> Change {
         10 | 11 => (random.pick(&[26, 27]), bit),
         _ => (random.between(0, PREAMBLE_LENGTH as u32 - 5) as usize, any),
     }
+}
+
+/// Breaks the rule at that place of the order 5, 6, 7, 8, 9; a length above its
+/// limit is mostly above the store's length too.
+fn break_rule(random: &mut Random, frame: &mut WireFrame, rule: u32) {
+    let bit = 1 << random.between(0, 7);
+    if rule == 0 {
+        frame.bytes[31] ^= bit;
+        return;
+    }
+    let (place, byte) = match rule {
+        1 => (1, random.pick(&[0, 5])),
+        2 => (random.pick(&[26, 27]), bit),
+        3 => (0, random.pick(&[0, 21])),
+        _ => (5, bit),
+    };
+    frame.change_preamble(|preamble| preamble[place] = byte);
+}
+
+/// Four segments of these lengths in the preamble; the body stays.
+fn put_lengths(frame: &mut WireFrame, lengths: [u32; PLACES]) {
+    frame.change_preamble(|preamble| {
+        preamble[1] = PLACES as u8;
+        for (place, length) in lengths.into_iter().enumerate() {
+            let field = 2 + 6 * place;
+            preamble[field..field + 4].copy_from_slice(&length.to_le_bytes());
+        }
+    });
 }
 
 fn change_preamble(frame: &mut WireFrame, changes: Vec<Change>) {
@@ -203,7 +244,8 @@ fn fill_unused_fields(random: &mut Random, frame: &mut WireFrame) {
     }
 }
 
-/// Another payload length, mostly near those we take, or another fixed byte.
+/// Another payload length, mostly near those we take, or another fixed byte, or
+/// both; at times with a feature required that we don't have.
 pub fn spoil_banner(random: &mut Random, link: &mut Link) {
     let any = random.u16();
     let near_least = random.between(12, 20) as u16;
@@ -213,7 +255,12 @@ pub fn spoil_banner(random: &mut Random, link: &mut Link) {
     let length = random.pick(&lengths);
     if random.once_in(4) {
         flip_a_bit(random, &mut link.banner[..8]);
-        return;
+        if random.once_in(2) {
+            return;
+        }
+    }
+    if random.once_in(8) {
+        link.banner[18] |= 2;
     }
     link.banner[8..10].copy_from_slice(&length.to_le_bytes());
     if random.once_in(2) {

@@ -3,7 +3,7 @@
 
 use super::link::{flip_a_bit, link, spoil_banner, spoil_frame, Link, Size};
 use crate::cutting::Course;
-use crate::input::LARGEST_LENGTH;
+use crate::input::{CARRIED_SEGMENT, LARGEST_LENGTH};
 use crate::random::Random;
 use crate::records::{FrameStore, ReceiverRecord};
 
@@ -52,7 +52,8 @@ fn single(random: &mut Random) -> ReceiverRecord {
     let by_bytes = record.stream.len() <= LONGEST_BY_BYTES;
     record.pieces = match random.between(1, 100) {
         1..=25 => course.whole(),
-        26..=40 => course.edges(),
+        26..=35 => course.edges(),
+        36..=40 => course.around(),
         41..=45 if by_bytes => course.byte_by_byte(),
         _ => random_pieces(random, &course),
     };
@@ -116,7 +117,7 @@ fn store_length(random: &mut Random, link: &Link) -> u32 {
         16 => random.pick(&sums),
         17 => random.between(0, 40),
         18 => most + 300,
-        _ => most + 16_384,
+        _ => most + CARRIED_SEGMENT,
     }
 }
 

@@ -1,8 +1,9 @@
 //! Streams written out by hand, and the store's bytes after each call.
 
 use super::*;
-use crate::vectors::{banner, empty, empty_frame, three_aborted, three_frame};
+use crate::vectors::{banner, empty, empty_frame, frame, three_aborted, three_frame};
 use crate::vectors::{single_frame, single_of_msgr21, three_source, three_whole, DIGITS};
+use crate::wire::frame_bytes;
 
 const REVISIONS: [Revision; 2] = [Revision::Msgr20, Revision::Msgr21];
 const OWN: Features = Features::new(1, 0);
@@ -40,12 +41,92 @@ fn filled(front: &[u8]) -> Vec<u8> {
     store
 }
 
-/// Receives a stream in one piece; answers the bytes taken, the report and
-/// the store.
+/// Receives a frame in one piece, past its early report where it has one;
+/// answers the bytes taken, the report and the store.
 fn received(revision: Revision, frame: &[u8]) -> (usize, Report, Vec<u8>) {
     let mut store = filled(&[]);
-    let (taken, report) = past_banner(revision).receive(frame, &mut store);
+    let (taken, report) = finished(&mut past_banner(revision), frame, &mut store);
     (taken, report, store)
+}
+
+/// The receiver's next report that is no early one.
+fn finished(receiver: &mut Receiver, piece: &[u8], store: &mut [u8]) -> (usize, Report) {
+    let (taken, report) = receiver.receive(piece, store);
+    if !matches!(report, Report::First(_)) {
+        return (taken, report);
+    }
+    let (more, report) = receiver.receive(&piece[taken..], store);
+    (taken + more, report)
+}
+
+#[test]
+fn segment_1_is_reported_at_its_checksums_last_byte() {
+    let frame = three_whole(Revision::Msgr21);
+    let first = Report::First(three_frame());
+    for offered in [45, 46, 90] {
+        let mut receiver = past_banner(Revision::Msgr21);
+        let mut store = filled(&[]);
+        let got = receiver.receive(&frame[..offered], &mut store);
+        assert_eq!((got, &store), ((45, first), &filled(DIGITS)));
+        assert_eq!(receiver.receive(&[], &mut store), (0, Report::More));
+        let got = receiver.receive(&frame[45..], &mut store);
+        let whole = Report::Frame(three_frame());
+        assert_eq!((got, store), ((45, whole), filled(&three_source())));
+    }
+    let mut receiver = past_banner(Revision::Msgr21);
+    let mut store = filled(&[]);
+    let got = receiver.receive(&frame[..44], &mut store);
+    assert_eq!((got, &store), ((44, Report::More), &filled(DIGITS)));
+    assert_eq!(receiver.receive(&frame[44..], &mut store), (1, first));
+}
+
+#[test]
+fn no_early_report() {
+    // msgr2.0, a single segment, an empty segment 1, a wrong checksum.
+    let mut store = filled(&[]);
+    let mut first = |revision, frame: &[u8]| {
+        let (_, report) = past_banner(revision).receive(frame, &mut store);
+        report
+    };
+    let whole = Report::Frame(three_frame());
+    assert_eq!(
+        first(Revision::Msgr20, &three_whole(Revision::Msgr20)),
+        whole
+    );
+    let single = Report::Frame(single_frame());
+    assert_eq!(first(Revision::Msgr21, &single_of_msgr21()), single);
+    let fields = [(0, 0), (9, 0), (0, 0), (0, 0)];
+    let empty_first = frame(20, 2, fields);
+    let wire = frame_bytes(Revision::Msgr21, &empty_first, false, DIGITS);
+    assert_eq!(first(Revision::Msgr21, &wire), Report::Frame(empty_first));
+    let mut wrong = three_whole(Revision::Msgr21);
+    wrong[44] ^= 1;
+    assert_eq!(first(Revision::Msgr21, &wrong), refused(11, 1));
+}
+
+#[test]
+fn drops_and_refusals_behind_an_early_report_zero_segment_1_too() {
+    let mut late = three_whole(Revision::Msgr21);
+    late[77] = 0x0F;
+    let mut wrong = three_whole(Revision::Msgr21);
+    wrong[60] ^= 1;
+    let cases = [
+        (
+            three_aborted(Revision::Msgr21),
+            Report::Dropped(three_frame()),
+        ),
+        (late, refused(12, 0x0F)),
+        (wrong, refused(11, 3)),
+    ];
+    for (frame, report) in cases {
+        let mut receiver = past_banner(Revision::Msgr21);
+        let mut store = filled(&[]);
+        let early = receiver.receive(&frame, &mut store);
+        assert_eq!(early, (45, Report::First(three_frame())));
+        assert_eq!(store, filled(DIGITS));
+        assert_eq!(receiver.receive(&frame[45..], &mut store), (45, report));
+        assert_eq!(store, filled(&[0; T]));
+    }
 }
 
 #[test]
@@ -208,8 +289,15 @@ fn segment_bytes_stand_at_their_places_while_more_is_wanted() {
         for length in 0..90 {
             let came = wire_places(revision).partition_point(|place| *place < length);
             let store = filled(&three_source()[..came]);
-            let got = received(revision, &frame[..length]);
-            assert_eq!(got, (length, Report::More, store));
+            let mut kept = filled(&[]);
+            let mut receiver = past_banner(revision);
+            let (taken, report) = receiver.receive(&frame[..length], &mut kept);
+            // The rest of a piece behind an early report.
+            let (more, report) = match report {
+                Report::First(_) => receiver.receive(&frame[taken..length], &mut kept),
+                report => (0, report),
+            };
+            assert_eq!((taken + more, report, kept), (length, Report::More, store));
         }
     }
 }
@@ -229,7 +317,7 @@ fn a_call_stops_at_a_report_and_the_next_frame_starts_afresh() {
         let mut left = stream.as_slice();
         let mut expect = |report: Report, length: usize, front: &[u8]| {
             assert_eq!(receiver.receive(&[], &mut store), (0, Report::More));
-            assert_eq!(receiver.receive(left, &mut store), (length, report));
+            assert_eq!(finished(&mut receiver, left, &mut store), (length, report));
             assert_eq!(store, filled(front));
             left = &left[length..];
         };
@@ -265,7 +353,7 @@ fn a_short_store_is_refused_with_what_is_needed() {
         let got = past_banner(revision).receive(&frame, &mut store);
         assert_eq!((got, store), ((32, refused(10, 41)), [FILL; T - 1]));
         let mut store = [FILL; T];
-        let got = past_banner(revision).receive(&frame, &mut store);
+        let got = finished(&mut past_banner(revision), &frame, &mut store);
         assert_eq!(got, (90, Report::Frame(three_frame())));
     }
 }
@@ -299,7 +387,7 @@ fn a_short_store_between_frames_does_no_harm() {
     let frame = three_whole(Revision::Msgr21);
     assert_eq!(receiver.receive(&frame[..31], &mut []), (31, Report::More));
     let mut store = filled(&[]);
-    let got = receiver.receive(&frame[31..], &mut store);
+    let got = finished(&mut receiver, &frame[31..], &mut store);
     assert_eq!(got, (59, Report::Frame(three_frame())));
 }
 
@@ -309,7 +397,7 @@ fn checksums_are_of_the_stores_own_bytes() {
         let frame = three_whole(revision);
         let mut receiver = past_banner(revision);
         let mut store = filled(&[]);
-        receiver.receive(&frame[..89], &mut store);
+        finished(&mut receiver, &frame[..89], &mut store);
         store[T - 1] ^= 1;
         let got = receiver.receive(&frame[89..], &mut store);
         assert_eq!((got, store), ((1, refused(11, 3)), filled(&[0; T])));

@@ -1,6 +1,7 @@
 //! The links of this repository end as the table beside them says.
 
 use super::*;
+use crate::frame::SUM_LIMIT;
 use crate::receiver::Receiver;
 use crate::report::Report;
 use crate::wire::Revision;
@@ -46,7 +47,7 @@ fn told(record: &ReceiverRecord) -> (String, String) {
         let (taken, report) = receiver.receive(piece, &mut store);
         place += taken;
         match report {
-            Report::More => continue,
+            Report::More | Report::First(_) => continue,
             Report::Banner { revision: told, .. } => revision = Some(told),
             Report::Refused(refusal) => {
                 let refused = format!("refused {} at {place}", refusal.number);
@@ -89,6 +90,26 @@ fn links_end_as_the_table_says() {
             assert_eq!((&revision, &end), (&row.revision, &row.end), "{}", row.name);
         }
     }
+}
+
+/// With a store that no frame is too long for, the rest of those links is read.
+#[test]
+fn links_that_need_a_longer_store() {
+    let mut longer = 0;
+    for record in records(&folder()).expect("links") {
+        let Record::Receiver(mut record) = record else {
+            panic!("not a receiver record");
+        };
+        if !told(&record).1.starts_with("refused 10 ") {
+            continue;
+        }
+        longer += 1;
+        record.store.length = SUM_LIMIT as u32;
+        // The calls of a record stop at what its own store refuses.
+        record.pieces = vec![LARGEST_LENGTH; 64];
+        assert_eq!(told(&record), ("1".to_string(), "ok".to_string()));
+    }
+    assert_eq!(longer, 3);
 }
 
 /// A folder of its own for one test.

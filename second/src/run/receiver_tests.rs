@@ -59,11 +59,37 @@ fn both_revisions_of_the_same_length() {
             three_aborted(revision),
             three_whole(revision),
         ];
-        let printed = lines([1, 0], 41, &[200; 3], &stream.concat());
+        let printed = lines([1, 0], 41, &[200; 5], &stream.concat());
         assert!(printed[1].contains(&format!("supported {number} required 0 revision {number}")));
-        assert!(printed[2].starts_with(&format!("dropped taken 90 {fields} crc ")));
-        assert!(printed[3].starts_with(&format!("frame taken 90 {fields} crc ")));
+        let expected: &[&str] = match revision {
+            Revision::Msgr20 => &["dropped taken 90", "frame taken 90", "more taken 0"],
+            Revision::Msgr21 => &[
+                "first taken 45",
+                "dropped taken 45",
+                "first taken 45",
+                "frame taken 45",
+            ],
+        };
+        for (line, begun) in printed[2..].iter().zip(expected) {
+            let fields = if begun.starts_with("more") {
+                "crc "
+            } else {
+                fields
+            };
+            assert!(line.starts_with(&format!("{begun} {fields}")), "{line}");
+        }
     }
+}
+
+#[test]
+fn an_early_report_has_the_frames_fields() {
+    let stream = [banner(Revision::Msgr21), three_whole(Revision::Msgr21)].concat();
+    let fields = "tag 17 segments 3 lengths 9 0 32 0 alignments 8 0 4098 0";
+    let printed = lines([1, 0], 41, &[26, 44, 1, 0, 99], &stream);
+    assert!(printed[2].starts_with("more taken 44 crc "));
+    assert!(printed[3].starts_with(&format!("first taken 1 {fields} crc ")));
+    assert!(printed[4].starts_with("more taken 0 crc "));
+    assert!(printed[5].starts_with(&format!("frame taken 45 {fields} crc ")));
 }
 
 #[test]

@@ -5,7 +5,7 @@ use crate::banner::Features;
 use crate::fixed::examples::EXAMPLES;
 use crate::fixed::receiver::case::{peer, Case};
 use crate::fixed::request::{frame, source, REVISIONS};
-use crate::frame::{PREAMBLE_LENGTH, SUM_LIMIT};
+use crate::frame::PREAMBLE_LENGTH;
 use crate::input::LARGEST_LENGTH;
 use crate::records::{FrameStore, Record};
 use crate::spoil::WireFrame;
@@ -52,20 +52,20 @@ fn zero_preamble(revision: Revision) -> Vec<Record> {
     vec![sent(&frame, 32)]
 }
 
-/// Cases 7, 8 and 12: a preamble alone where it is refused.
+/// Cases 7, 8 and 12: a preamble alone. At the limits of case 8 it is refused
+/// for the store, above them for a length.
 fn preambles(revision: Revision) -> Vec<Record> {
     let refused = |lengths: &[u32]| {
         let frame = WireFrame::preamble_only(revision, frame(lengths));
         sent(&frame, 32)
     };
-    let accepted = |lengths: &[u32]| sent(&whole(revision, lengths), SUM_LIMIT as u32);
     vec![
         refused(&[5, 0]),
         sent(&whole(revision, &[0]), 32),
-        accepted(&[16_384]),
-        refused(&[16_385]),
-        accepted(&[16_384, 16_384]),
-        refused(&[16_384, 16_384, 1]),
+        refused(&[1_048_576]),
+        refused(&[1_048_577]),
+        refused(&[1_048_576, 1_048_576]),
+        refused(&[1_048_576, 1_048_576, 1]),
         refused(&[0x4000_0000; 4]),
     ]
 }

@@ -7,13 +7,13 @@ mod preambles;
 
 use crate::fixed::receiver::case::{aborted, peer, whole, Case};
 use crate::fixed::request::REVISIONS;
-use crate::input::{LARGEST_LENGTH, LARGEST_STREAM, MOST_CALLS};
+use crate::input::{CARRIED_SEGMENT, LARGEST_LENGTH, LARGEST_STREAM, MOST_CALLS};
 use crate::records::Record;
 use crate::wire::Revision;
 
 /// Records at the largest numbers that a record may have.
 fn largest() -> Vec<Record> {
-    let frame = whole(Revision::Msgr21, &[16_384, 0, 16_384]);
+    let frame = whole(Revision::Msgr21, &[CARRIED_SEGMENT, 0, CARRIED_SEGMENT]);
     let mut stream = peer(Revision::Msgr21).banner();
     while stream.len() < LARGEST_STREAM as usize {
         stream.extend(&frame.bytes);

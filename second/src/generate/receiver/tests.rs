@@ -46,7 +46,7 @@ fn every_kind_of_answer_comes_up_often() {
     let lines = answers(1, 5_000);
     let refusals = [1, 2, 3, 4, 5, 6, 7, 8, 9, 10, 11, 12, 16];
     let mut kinds: Vec<String> = refusals.map(|n| format!("refused {n}")).to_vec();
-    let others = ["more", "frame", "dropped", "banner 0", "banner 1"];
+    let others = ["more", "first", "frame", "dropped", "banner 0", "banner 1"];
     kinds.extend(others.map(String::from));
     kinds.extend(["start ok", "start refused"].map(String::from));
     for wanted in kinds {

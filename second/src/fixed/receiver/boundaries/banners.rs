@@ -101,6 +101,24 @@ fn refused_long_payloads() -> Vec<Record> {
     records
 }
 
+/// Every choice of faults among 1, 2, 3 and 4, so that each pair, and so the
+/// order, shows.
+fn orders() -> Vec<Record> {
+    let mut records = Vec::new();
+    for faults in 0..16u32 {
+        let has = |bit: u32| faults >> bit & 1 == 1;
+        let own = Features::new(1, u64::from(has(3)));
+        let peer = Features::new(u64::from(!has(3)), if has(2) { 2 } else { 0 });
+        let mut case = link(own, peer);
+        case.stream[0] ^= u8::from(has(0));
+        for length in if has(1) { [15, 1_025] } else { [16, 16] } {
+            case.stream[8..10].copy_from_slice(&u16::to_le_bytes(length));
+            records.push(case.edges());
+        }
+    }
+    records
+}
+
 /// All pairs of bits that either side may have.
 fn features() -> Vec<Record> {
     let own = [(0, 0), (1, 0), (1, 1)];
@@ -124,6 +142,7 @@ pub fn banners() -> Vec<Record> {
         magics,
         payload_lengths,
         refused_long_payloads,
+        orders,
         features,
     ];
     makers.into_iter().flat_map(|make| make()).collect()

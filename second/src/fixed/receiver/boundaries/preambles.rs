@@ -2,6 +2,7 @@
 
 use crate::fixed::receiver::case::{preamble, whole, Case};
 use crate::frame::{PLACES, PREAMBLE_LENGTH, SEGMENT_LIMIT, SUM_LIMIT};
+use crate::input::CARRIED_SEGMENT;
 use crate::records::Record;
 use crate::spoil::WireFrame;
 use crate::wire::Revision;
@@ -77,6 +78,23 @@ fn shapes(revision: Revision) -> Vec<Record> {
     records
 }
 
+/// Two bytes of a preamble wrong at once, each two of those that a shape or the
+/// flags judge: the first field is named.
+fn two_fields(revision: Revision) -> Vec<Record> {
+    let empty = whole(revision, &[0]);
+    let fields = [1, 8, 12, 14, 18, 20, 24, 26, 27];
+    let mut records = Vec::new();
+    for (at, &first) in fields.iter().enumerate() {
+        for &second in &fields[at + 1..] {
+            records.push(changed(&empty, |bytes| {
+                bytes[first] = 5;
+                bytes[second] = 5;
+            }));
+        }
+    }
+    records
+}
+
 fn flags(revision: Revision) -> Vec<Record> {
     let good = whole(revision, &[4, 2]);
     let fields = [26, 27];
@@ -96,16 +114,27 @@ fn tags(revision: Revision) -> Vec<Record> {
 
 fn limits(revision: Revision) -> Vec<Record> {
     let quarter = SUM_LIMIT as u32 / 4;
-    let accepted: [&[u32]; 4] = [
+    let carried: [&[u32]; 3] = [
+        &[CARRIED_SEGMENT],
+        &[CARRIED_SEGMENT, CARRIED_SEGMENT],
+        &[0, CARRIED_SEGMENT, 0, CARRIED_SEGMENT],
+    ];
+    // No store of a record is long enough for the first five.
+    let alone: [&[u32]; 18] = [
         &[SEGMENT_LIMIT],
         &[SEGMENT_LIMIT, SEGMENT_LIMIT],
+        &[SEGMENT_LIMIT, SEGMENT_LIMIT - 1, 1],
         &[0, SEGMENT_LIMIT, 0, SEGMENT_LIMIT],
         &[quarter; PLACES],
-    ];
-    let refused: [&[u32]; 9] = [
         &[SEGMENT_LIMIT + 1],
         &[0, 0, 0, SEGMENT_LIMIT + 1],
         &[SEGMENT_LIMIT, SEGMENT_LIMIT, 1],
+        // The sum passes its limit before the last length.
+        &[SEGMENT_LIMIT, SEGMENT_LIMIT, 1, 1],
+        &[SEGMENT_LIMIT, SEGMENT_LIMIT - 1, 2, 5],
+        // And a long segment stands behind that.
+        &[SEGMENT_LIMIT, SEGMENT_LIMIT, 1, SEGMENT_LIMIT + 1],
+        &[SEGMENT_LIMIT + 1, 0, 0, SEGMENT_LIMIT + 1],
         &[1, SEGMENT_LIMIT, 0, SEGMENT_LIMIT],
         &[quarter, quarter, quarter, quarter + 1],
         &[0x4000_0000; PLACES],
@@ -113,9 +142,9 @@ fn limits(revision: Revision) -> Vec<Record> {
         &[u32::MAX, 1],
         &[5, u32::MAX],
     ];
-    let good = accepted.map(|lengths| Case::frame(&whole(revision, lengths)).edges());
-    let bad = refused.map(|lengths| Case::frame(&preamble(revision, lengths)).edges());
-    good.into_iter().chain(bad).collect()
+    let whole = carried.map(|lengths| Case::frame(&whole(revision, lengths)).edges());
+    let alone = alone.map(|lengths| Case::frame(&preamble(revision, lengths)).edges());
+    whole.into_iter().chain(alone).collect()
 }
 
 /// Stores with one byte less than T, exactly T, one more, and hardly any.
@@ -126,7 +155,7 @@ fn stores(revision: Revision) -> Vec<Record> {
         &[5, 3],
         &[0, 0, 0, 8],
         &[2, 0, 300],
-        &[SEGMENT_LIMIT, 0, SEGMENT_LIMIT],
+        &[CARRIED_SEGMENT, 0, CARRIED_SEGMENT],
     ];
     let mut records = Vec::new();
     for lengths in all {
@@ -141,7 +170,7 @@ fn stores(revision: Revision) -> Vec<Record> {
 }
 
 /// Every choice of faults among 5, 6, 7, 8, 9 and 10, so that each pair, and
-/// so the order, shows.
+/// so the order, shows. For a segment above its limit the store is always short.
 fn orders(revision: Revision) -> Vec<Record> {
     (0..64u32)
         .map(|faults| {
@@ -154,7 +183,7 @@ fn orders(revision: Revision) -> Vec<Record> {
                 bytes[27] = u8::from(has(2));
             });
             frame.bytes[31] ^= u8::from(has(0));
-            let lent = if has(5) { length - 1 } else { length };
+            let lent = if has(5) { 4 } else { 5 };
             Case::frame(&frame).with_store(lent).edges()
         })
         .collect()
@@ -166,6 +195,7 @@ pub fn preambles(revision: Revision) -> Vec<Record> {
         false_checksums,
         counts,
         shapes,
+        two_fields,
         flags,
         tags,
         limits,
