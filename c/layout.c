@@ -59,6 +59,7 @@ static void state(void)
     FIELD(state, payload);
     FIELD(state, stage);
     FIELD(state, revision);
+    FIELD(state, first);
     FIELD(state, block);
 }
 

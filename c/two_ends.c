@@ -1,8 +1,9 @@
 /*
  * Two ends of a link over TCP on this machine. One end sends a banner and a
  * list of frames, one of them aborted and the last one damaged on its way; the
- * other end prints what its receiver reports. Writes and reads are cut at
- * random. The exit status is 0 only if every report came as planned.
+ * other end prints what its receiver reports, which in msgr2.1 is segment 1 of
+ * a longer frame before the rest of it. Writes and reads are cut at random. The
+ * exit status is 0 only if every report came as planned.
  *
  *     two_ends [SEED]
  */
@@ -33,7 +34,7 @@ static const planned frames[] = {
     {{MAHUIXEN_TAG_MESSAGE, 4, {{20, 8}, {70, 8}, {0, 8}, {350, 4096}}}, 0, 0},
     {{MAHUIXEN_TAG_MESSAGE, 3, {{41, 8}, {16, 8}, {5000, 4096}}}, 1, 0},
     {{MAHUIXEN_TAG_KEEPALIVE2, 1, {{16, 8}}}, 0, 0},
-    {{MAHUIXEN_TAG_MESSAGE, 2, {{16384, 8}, {16384, 4096}}}, 0, 0},
+    {{MAHUIXEN_TAG_MESSAGE, 2, {{MAHUIXEN_SEGMENT_LIMIT, 8}, {MAHUIXEN_SEGMENT_LIMIT, 4096}}}, 0, 0},
     {{MAHUIXEN_TAG_WAIT, 1, {{0, 8}}}, 0, 0},
     {{MAHUIXEN_TAG_ACK, 1, {{8, 8}}}, 0, 0},
     {{MAHUIXEN_TAG_MESSAGE, 2, {{64, 8}, {900, 8}}}, 0, 1},
@@ -87,6 +88,7 @@ static void stop(const char *what)
 
 /* ---- an end of the link */
 
+/* Too large for a stack; every one is static. */
 typedef struct end {
     int fd;
     mahuixen_state state;
@@ -233,6 +235,9 @@ static void print_report(const mahuixen_report *r)
     case MAHUIXEN_DROPPED:
         print_header("dropped", &r->header);
         break;
+    case MAHUIXEN_FIRST:
+        print_header("segment 1 of a frame", &r->header);
+        break;
     case MAHUIXEN_REFUSED:
         print_refusal(&r->refusal);
         break;
@@ -250,15 +255,28 @@ static int same_header(const mahuixen_header *a, const mahuixen_header *b)
     return same;
 }
 
-/* The store's front holds the frame's segments, or zeros for one that was dropped. */
-static int stored(const end *e, size_t number)
+/* So many bytes at the store's front are the frame's, or zeros. */
+static int stored(const end *e, size_t number, size_t length, int zeros)
 {
     int same = 1;
-    size_t length = total(&frames[number].header);
     for (size_t i = 0; i < length; i++) {
-        same = same && e->store[i] == (frames[number].aborted ? 0 : content(number, i));
+        same = same && e->store[i] == (zeros ? 0 : content(number, i));
     }
     return same;
+}
+
+/* In msgr2.1 segment 1 is reported by itself, where it is not empty and others follow. */
+static void expect_first(end *e, size_t number, uint8_t revision)
+{
+    const mahuixen_header *h = &frames[number].header;
+    if (revision == MAHUIXEN_MSGR20 || h->segments[0].len == 0 || h->count == 1) {
+        return;
+    }
+    mahuixen_report r = next_report(e);
+    print_report(&r);
+    check(r.kind == MAHUIXEN_FIRST, "a report of segment 1");
+    check(same_header(&r.header, h), "the header with segment 1");
+    check(stored(e, number, h->segments[0].len, 0), "segment 1 in the store");
 }
 
 static void expect_frame(end *e, size_t number)
@@ -268,7 +286,7 @@ static void expect_frame(end *e, size_t number)
     print_report(&r);
     check(r.kind == (p->aborted ? MAHUIXEN_DROPPED : MAHUIXEN_FRAME), "the kind of the report");
     check(same_header(&r.header, &p->header), "the header");
-    check(stored(e, number), "the segments in the store");
+    check(stored(e, number, total(&p->header), p->aborted), "the segments in the store");
 }
 
 static void expect_refusal(end *e, uint8_t number, uint64_t detail)
@@ -279,6 +297,8 @@ static void expect_refusal(end *e, uint8_t number, uint64_t detail)
     /* From now on every call repeats it and takes nothing. */
     mahuixen_received again = mahuixen_receive(e->state, e->held, sizeof e->held, e->store, sizeof e->store);
     check(again.taken == 0 && again.report.refusal.number == number, "the refusal, once more");
+    again = mahuixen_receive(again.state, NULL, 0, NULL, 0);
+    check(again.taken == 0 && again.report.refusal.number == number, "the refusal, with nothing lent");
 }
 
 static void receive_frames(end *e, uint64_t supported, uint64_t peer, uint8_t revision)
@@ -288,6 +308,7 @@ static void receive_frames(end *e, uint64_t supported, uint64_t peer, uint8_t re
     check(banner.kind == MAHUIXEN_BANNER && banner.revision == revision, "the banner");
     check(banner.peer.supported == peer && banner.peer.required == 0, "the peer's features");
     for (size_t i = 0; i < FRAMES; i++) {
+        expect_first(e, i, revision);
         if (frames[i].damaged) {
             expect_refusal(e, MAHUIXEN_REFUSAL_SEGMENT_CHECKSUM, frames[i].header.count);
         } else {
@@ -382,6 +403,10 @@ static void make_up_a_state(void)
     mahuixen_received r = mahuixen_receive(made_up, piece, sizeof piece, NULL, 0);
     check(r.report.kind == MAHUIXEN_REFUSED && r.report.refusal.number == MAHUIXEN_REFUSAL_STATE, "26");
     check(r.taken == 0 && r.state.stage == 10 && r.state.got == 7 && r.state.block[31] == 9, "the state as it was");
+    made_up = mahuixen_start((mahuixen_features){0, 0}).state;
+    made_up.first = 1;
+    r = mahuixen_receive(made_up, piece, sizeof piece, NULL, 0);
+    check(r.report.refusal.number == MAHUIXEN_REFUSAL_STATE && r.state.first == 1, "a mark without its segment");
 }
 
 int main(int argc, char **argv)

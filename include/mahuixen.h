@@ -39,12 +39,17 @@ enum {
 /* The one feature bit that is known: its holder speaks msgr2.1. */
 enum { MAHUIXEN_FEATURE_REVISION_1 = 1 };
 
-/* Limits and lengths, in bytes. */
+/*
+ * Limits and lengths, in bytes. A store of MAHUIXEN_FRAME_LIMIT bytes, 2 MiB, is
+ * never too short; where the peer's frames are known to be shorter, lend what
+ * the longest of them needs, and a longer one is refused with 10. Neither is
+ * for a stack: keep a store in static or allocated memory.
+ */
 enum {
-    MAHUIXEN_SEGMENT_LIMIT = 16384, /* a segment */
-    MAHUIXEN_FRAME_LIMIT = 32768,   /* all segments of a frame; a store of this length is never too short */
-    MAHUIXEN_BANNER_LENGTH = 26,    /* the banner that is built */
-    MAHUIXEN_FRAME_OVERHEAD = 49    /* at most so many bytes of a frame are not its segments' */
+    MAHUIXEN_SEGMENT_LIMIT = 1048576, /* a segment */
+    MAHUIXEN_FRAME_LIMIT = 2097152,   /* all segments of a frame */
+    MAHUIXEN_BANNER_LENGTH = 26,      /* the banner that is built */
+    MAHUIXEN_FRAME_OVERHEAD = 49      /* at most so many bytes of a frame are not its segments' */
 };
 
 /* Start values of the checksum. */
@@ -57,7 +62,10 @@ enum {
     MAHUIXEN_BANNER = 1,  /* the peer's banner came: peer and revision are set */
     MAHUIXEN_FRAME = 2,   /* a frame came: header is set, its segments stand at the front of the store */
     MAHUIXEN_DROPPED = 3, /* the peer aborted a frame: header is set, the store's first bytes are zeros */
-    MAHUIXEN_REFUSED = 4  /* the stream was turned away: refusal is set, and every later call repeats it */
+    MAHUIXEN_REFUSED = 4, /* the stream was turned away: refusal is set, and every later call repeats it */
+    MAHUIXEN_FIRST = 5    /* segment 1 of a frame came and its checksum holds, and more segments follow (msgr2.1 alone):
+                             header is set, segment 1 stands at the front of the store. The same frame is still
+                             reported at its end, as a frame or dropped, or refused */
 };
 
 /* The tag of a frame. */
@@ -143,7 +151,8 @@ typedef struct mahuixen_refusal {
 /*
  * A receiver between two calls. Keep it, hand it to the next call and look at
  * nothing in it: reports say what there is to know. A copy is a receiver of its
- * own. Any bytes may be handed in; fields that contradict each other give 26.
+ * own. Any bytes may be handed in; fields that contradict each other give 26
+ * (docs/STATE.md has the rules).
  */
 typedef struct mahuixen_state {
     size_t got;               /* bytes of the stage that came */
@@ -155,7 +164,8 @@ typedef struct mahuixen_state {
     uint8_t stage;            /* 0 magic, 1 length, 2 payload, 3 skip, 4 preamble, 5 first segment,
                                  6 its checksum, 7 the other segments, 8 epilogue, 9 refused */
     uint8_t revision;
-    uint8_t block[32];        /* bytes that are judged together, as far as they came */
+    uint8_t first;            /* 1 behind segment 1's checksum, to the frame's end; else 0 */
+    uint8_t block[32];        /* bytes that are judged together, as far as they came, and zeros behind them */
 } mahuixen_state;
 
 /* What a call reports: a kind, and the fields that the kind uses; the others are 0. */
@@ -196,7 +206,9 @@ mahuixen_started mahuixen_start(mahuixen_features own);
  * or the whole piece. Offer the bytes that were not taken again, with the state
  * that came back. Lend the same store, with its bytes as the last call left
  * them, until the frame is reported. A frame's segments stand one behind the
- * other at the front of the store, and the next call may write over them.
+ * other at the front of the store, and the next call may write over them. Of a
+ * frame whose segment 1 is reported early, segment 1 may be read from there on
+ * and must not be written to before the frame's own report.
  */
 mahuixen_received mahuixen_receive(mahuixen_state state, const uint8_t *piece, size_t piece_len, uint8_t *store,
                                    size_t store_len);

@@ -1,6 +1,10 @@
-//! Measures the library beside the independent second program, on the same
-//! bytes and into buffers of the same length, and prints Markdown tables.
+//! Measures the library beside the independent second program, beside a floor
+//! (the bytes copied and their checksums worked out, and nothing else) and beside
+//! other ways to work out a checksum, on the same bytes and into buffers of the
+//! same length, and prints Markdown tables.
 //! `cargo run --release --example figures`
+
+mod sums;
 
 use mahuixen::sys;
 use mahuixen::{Features, Header, Receiver, Report, Segment, State};
@@ -13,11 +17,17 @@ use std::time::{Duration, Instant};
 /// Segment lengths that are measured.
 const LENGTHS: [u32; 3] = [64, 1_024, 16_384];
 
-/// About so many bytes in each run.
-const BYTES: usize = 16 << 20;
+/// Lengths whose checksums are measured; the first is a preamble's.
+const SUMMED: [usize; 6] = [28, 64, 256, 1_024, 16_384, 1 << 20];
 
-/// Runs of each, of which the median counts.
-const RUNS: usize = 9;
+/// About so many bytes in each run, and where they are offered one by one.
+const BYTES: usize = 1 << 20;
+const SINGLE_BYTES: usize = 1 << 15;
+
+/// Runs of each, by turns, of which the tenth fastest counts: other work on the
+/// machine only ever makes a run longer.
+const RUNS: usize = 100;
+const COUNTED: usize = 9;
 
 /// What a network packet usually carries.
 const PACKET: usize = 1_460;
@@ -78,34 +88,38 @@ fn timed(work: impl FnOnce() -> usize, expected: usize) -> Duration {
     taken
 }
 
-fn median(mut times: Vec<Duration>) -> f64 {
+fn counted(mut times: Vec<Duration>) -> f64 {
     times.sort();
-    times[times.len() / 2].as_secs_f64()
+    times[COUNTED].as_secs_f64()
 }
 
-/// Megabytes in a second, of the library and of the other, by turns.
-fn measure(
+/// Megabytes in a second of each work, by turns.
+fn measure<const N: usize>(
     bytes: usize,
-    (library, other): (impl Fn() -> usize, impl Fn() -> usize),
+    works: [&dyn Fn() -> usize; N],
     expected: usize,
-) -> (f64, f64) {
-    let (mut times, mut others) = (Vec::new(), Vec::new());
+) -> [f64; N] {
+    let mut times = works.map(|_| Vec::new());
     for _ in 0..RUNS {
-        times.push(timed(&library, expected));
-        others.push(timed(&other, expected));
+        for (times, work) in times.iter_mut().zip(works) {
+            times.push(timed(work, expected));
+        }
     }
-    let speed = |times| bytes as f64 / 1e6 / median(times);
-    (speed(times), speed(others))
+    times.map(|times| bytes as f64 / 1e6 / counted(times))
 }
 
-fn print_row(what: &str, (library, other): (f64, f64)) {
-    let ratio = library / other;
-    println!("| {what} | {library:.0} | {other:.0} | {ratio:.2} |");
+/// The library's speed, and that of each other one with the library's ratio to it.
+fn print_row(what: &str, [library, others @ ..]: [f64; 3]) {
+    print!("| {what} | {library:.0} |");
+    for other in others {
+        print!(" {other:.0} | {:.2} |", library / other);
+    }
+    println!();
 }
 
-fn print_head(title: &str, other: &str) {
-    println!("\n| {title} | Library, MB/s | {other}, MB/s | Ratio |");
-    println!("|---|---|---|---|");
+fn print_head(title: &str) {
+    println!("\n| {title} | Library, MB/s | Floor, MB/s | Ratio | Second program, MB/s | Ratio |");
+    println!("|---|---|---|---|---|---|");
 }
 
 /// Frames that the library reports of the stream, in pieces of this length.
@@ -141,15 +155,60 @@ fn second_receive(stream: &[u8], piece: usize) -> usize {
     frames
 }
 
+/// The least that can be done with frames of two segments of this length: each
+/// piece is copied behind the one before it, and a frame that is whole has its
+/// checksums compared. Answers how many are good.
+fn floor_receive(stream: &[u8], length: usize, piece: usize) -> usize {
+    let mut store = vec![0; wire_length(length)];
+    let (mut at, mut frames) = (0, 0);
+    for mut piece in stream.chunks(piece) {
+        while !piece.is_empty() {
+            let taken = piece.len().min(store.len() - at);
+            store[at..at + taken].copy_from_slice(&piece[..taken]);
+            piece = &piece[taken..];
+            at += taken;
+            if at == store.len() {
+                frames += usize::from(floor_compare(&store, length));
+                at = 0;
+            }
+        }
+    }
+    black_box(&store);
+    frames
+}
+
+/// A preamble, a segment with its checksum, another one and an epilogue.
+fn wire_length(length: usize) -> usize {
+    32 + length + 4 + length + 13
+}
+
+fn floor_compare(frame: &[u8], length: usize) -> bool {
+    let second = 32 + length + 4;
+    let sum_at = |at: usize| u32::from_le_bytes(frame[at..at + 4].try_into().expect("four bytes"));
+    let segment_sum = |at: usize| sums::by_16(mahuixen::SEGMENT_START, &frame[at..at + length]);
+    sums::by_16(mahuixen::PREAMBLE_START, &frame[..28]) == sum_at(28)
+        && segment_sum(32) == sum_at(32 + length)
+        && segment_sum(second) == sum_at(second + length + 1)
+}
+
 fn receivers() {
-    print_head("Receiver", "Second program");
+    print_head("Receiver");
     for length in LENGTHS {
-        let stream = stream(length);
-        for (piece, of) in [(stream.len(), "whole"), (PACKET, "1,460-byte pieces")] {
-            let frames = second_receive(&stream, piece);
-            let library = || receive(&stream, piece);
-            let other = || second_receive(&stream, piece);
-            let speeds = measure(stream.len(), (library, other), frames);
+        let whole = stream(length);
+        let banner = mahuixen::BANNER_LENGTH;
+        let pieces = [
+            (whole.len(), whole.len(), "whole"),
+            (whole.len(), PACKET, "pieces of 1,460"),
+            (SINGLE_BYTES, 1, "pieces of 1"),
+        ];
+        for (bytes, piece, of) in pieces {
+            let stream = &whole[..bytes];
+            let works: [&dyn Fn() -> usize; 3] = [
+                &|| receive(stream, piece),
+                &|| floor_receive(&stream[banner..], length as usize, piece),
+                &|| second_receive(stream, piece),
+            ];
+            let speeds = measure(bytes, works, second_receive(stream, piece));
             print_row(&format!("segments of {length}, {of}"), speeds);
         }
     }
@@ -173,10 +232,37 @@ fn build(frames: usize, mut frame: impl FnMut(&mut [u8], usize) -> Option<usize>
     all
 }
 
+/// The least that can be done for a frame of these lengths: the segments are
+/// copied, those of an aborted frame but the first are filled with zeros, and the
+/// checksums are worked out.
+fn floor_build(buffer: &mut [u8], lengths: [u32; 2], abort: bool, source: &[u8]) -> usize {
+    let [one, two] = lengths.map(|length| length as usize);
+    let first_sum = if one == 0 { 0 } else { 4 };
+    let (second, written) = (32 + one + first_sum, 32 + one + first_sum + two + 13);
+    let sum = sums::by_16(mahuixen::PREAMBLE_START, &buffer[..28]);
+    buffer[28..32].copy_from_slice(&sum.to_le_bytes());
+    buffer[32..32 + one].copy_from_slice(&source[..one]);
+    if abort {
+        buffer[second..second + two].fill(0);
+    } else {
+        buffer[second..second + two].copy_from_slice(&source[one..]);
+    }
+    for (from, length) in [(32, one), (second, two)] {
+        let sum = sums::by_16(mahuixen::SEGMENT_START, &buffer[from..from + length]);
+        let at = if from == second {
+            second + two + 1
+        } else {
+            32 + one
+        };
+        buffer[at..at + 4].copy_from_slice(&sum.to_le_bytes());
+    }
+    written
+}
+
 /// Whole frames of two segments of the same length; or aborted ones, whose first
 /// segment is empty, so that all the rest is zeros.
 fn builders(title: &str, abort: bool) {
-    print_head(title, "Second program");
+    print_head(title);
     let build_one = if abort {
         mahuixen::abort_frame
     } else {
@@ -188,79 +274,103 @@ fn builders(title: &str, abort: bool) {
         let (header, request) = (header(lengths), request(lengths, abort, &source));
         let revision = mahuixen::Revision::Msgr21;
         let frames = BYTES / source.len();
-        let library = || {
-            build(frames, |buffer, queued| {
-                build_one(buffer, queued, revision, &header, &source).ok()
-            })
+        let library =
+            |buffer: &mut [u8], queued| build_one(buffer, queued, revision, &header, &source).ok();
+        let longest = wire_length(length as usize);
+        let floor = |buffer: &mut [u8], queued| {
+            let room = buffer.get_mut(queued..queued + longest)?;
+            Some(floor_build(room, lengths, abort, &source))
         };
-        let other = || {
-            build(frames, |buffer, queued| {
-                let built = second::builder::build_frame(&request, buffer, queued as u64);
-                built.ok().map(|written| written as usize)
-            })
+        let other = |buffer: &mut [u8], queued| {
+            let built = second::builder::build_frame(&request, buffer, queued as u64);
+            built.ok().map(|written| written as usize)
         };
-        let bytes = other();
-        let speeds = measure(bytes, (library, other), bytes);
-        print_row(&format!("segments of {length}"), speeds);
+        let works: [&dyn Fn() -> usize; 3] = [
+            &|| build(frames, library),
+            &|| build(frames, floor),
+            &|| build(frames, other),
+        ];
+        let bytes = build(frames, other);
+        print_row(
+            &format!("segments of {length}"),
+            measure(bytes, works, bytes),
+        );
     }
 }
 
-/// The 256 words of a plain table.
-const TABLE: [u32; 256] = {
-    let mut table = [0; 256];
-    let mut byte = 0;
-    while byte < 256 {
-        let mut word = byte as u32;
-        let mut bit = 0;
-        while bit < 8 {
-            word = (word >> 1) ^ (0x82F6_3B78 * (word & 1));
-            bit += 1;
-        }
-        table[byte] = word;
-        byte += 1;
-    }
-    table
-};
+type Checksum = fn(u32, &[u8]) -> u32;
 
-/// One byte at a time, by the table.
-fn bytewise(start: u32, bytes: &[u8]) -> u32 {
-    bytes.iter().fold(start, |sum, &byte| {
-        (sum >> 8) ^ TABLE[usize::from(sum as u8 ^ byte)]
-    })
+/// Checksums of so many of the bytes, as often as it takes; each starts from the
+/// one before, so that no two are worked out at the same time.
+fn run_checksum(sum: Checksum, bytes: &[u8], times: usize) -> usize {
+    (0..times).fold(0xFFFF_FFFF, |start, _| sum(start, black_box(bytes))) as usize
+}
+
+/// Megabytes in a second of each way to work out checksums of these lengths.
+fn checksum_speeds<const N: usize>(ways: [Checksum; N], lengths: &[usize]) -> [f64; N] {
+    let bytes = source([*lengths.last().expect("a length") as u32, 0]);
+    let (mut all, mut seconds) = (0, [0.0; N]);
+    for &length in lengths {
+        let times = BYTES / lengths.len() / length.max(28) + 1;
+        let expected = run_checksum(sums::bytewise, &bytes[..length], times);
+        let mut measured = ways.map(|_| Vec::new());
+        for _ in 0..RUNS {
+            for (way, measured) in ways.iter().zip(&mut measured) {
+                let work = || run_checksum(*way, &bytes[..length], times);
+                measured.push(timed(work, expected));
+            }
+        }
+        all += length * times;
+        for (seconds, measured) in seconds.iter_mut().zip(measured) {
+            *seconds += counted(measured);
+        }
+    }
+    seconds.map(|seconds| all as f64 / 1e6 / seconds)
 }
 
 fn checksums() {
-    print_head("Checksum", "Plain table loop in Rust");
-    for length in LENGTHS {
-        let bytes = source([length, 0]);
-        let times = BYTES / bytes.len();
-        let run = |sum: fn(u32, &[u8]) -> u32| {
-            let sums = (0..times).fold(0xFFFF_FFFF, |start, _| sum(start, black_box(&bytes)));
-            sums as usize
-        };
-        let library = || run(mahuixen::checksum);
-        let other = || run(bytewise);
-        let speeds = measure(times * bytes.len(), (library, other), other());
-        print_row(&format!("{length} bytes"), speeds);
+    println!(
+        "\n| Checksum, MB/s | Library | Bytewise | By 8 | By 16 | Instruction | Library to by 16 |"
+    );
+    println!("|---|---|---|---|---|---|---|");
+    let instruction = sums::instruction().unwrap_or(sums::by_16);
+    let ways = [
+        mahuixen::checksum,
+        sums::bytewise,
+        sums::by_8,
+        sums::by_16,
+        instruction,
+    ];
+    let print_speeds = |what: &str, lengths: &[usize]| {
+        let speeds = checksum_speeds(ways, lengths);
+        print!("| {what} |");
+        speeds.iter().for_each(|speed| print!(" {speed:.0} |"));
+        println!(" {:.2} |", speeds[0] / speeds[3]);
+    };
+    print_speeds("all of 0 to 64 bytes", &(0..=64).collect::<Vec<_>>());
+    for length in SUMMED {
+        print_speeds(&format!("{length} bytes"), &[length]);
     }
 }
 
 /// What a call costs that is offered a single byte, in nanoseconds.
 fn single_bytes() {
-    let stream = &stream(64)[..1 << 16];
+    let stream = &stream(64)[..SINGLE_BYTES];
     let run = || receive(stream, 1);
     let frames = run();
     let times = (0..RUNS).map(|_| timed(run, frames)).collect();
-    let each = median(times) * 1e9 / stream.len() as f64;
+    let each = counted(times) * 1e9 / stream.len() as f64;
     println!("\nA call that is offered one byte took {each:.0} ns.");
 }
 
 fn main() {
-    let megabytes = BYTES / 1_000_000;
-    println!("MB/s are 10^6 bytes a second, the median of {RUNS} runs over about {megabytes} MB. Frames are");
-    println!("those of msgr2.1 with two segments. The second program is written to be read and");
-    println!("not to be fast: it gathers preambles, epilogues and whole frames in vectors, and");
-    println!("works a checksum out byte by byte from a table of 256 words.");
+    println!(
+        "MB/s are 10^6 bytes a second, the tenth fastest of {RUNS} runs, all by turns. Frames are"
+    );
+    println!("those of msgr2.1 with two segments. The floor copies the bytes and works their");
+    println!("checksums out by 16 in Rust, and does nothing else. The second program is written");
+    println!("to be read and not to be fast: it gathers preambles, epilogues and whole frames in");
+    println!("vectors, and works a checksum out byte by byte from a table of 256 words.");
     receivers();
     builders("Builder", false);
     builders("Builder of aborted frames", true);

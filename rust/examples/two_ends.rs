@@ -1,7 +1,8 @@
 //! Two ends of a link over a socket on loopback. Both send their banner, which
 //! chooses the revision; then one sends frames, and the other acknowledges
 //! each message. Everything is cut at random on its way, one frame is aborted
-//! by its sender, and the last one is damaged.
+//! by its sender, and the last one is damaged. Segment 1 of a longer frame is
+//! reported before the rest of it came.
 //!
 //! The exit status says whether everything came as it should.
 
@@ -156,6 +157,12 @@ impl Parcel {
         end.send(length)
     }
 
+    /// Whether segment 1 is reported by itself, as msgr2.1 does where it is not
+    /// empty and others follow.
+    fn is_reported_early(&self) -> bool {
+        self.header.segments[0].len > 0 && self.header.count > 1
+    }
+
     /// What the other end must report, and have in its store.
     fn due(&self) -> (Report, Vec<u8>) {
         let zeros = vec![0; self.source().len()];
@@ -203,6 +210,11 @@ fn receiver(mut end: End) -> Outcome<(bool, Vec<String>)> {
     let ack = parcel(tag::ACK, Fate::Whole, &[8]);
     let mut good = true;
     for parcel in parcels() {
+        if parcel.is_reported_early() {
+            good &= end.next()? == Some(Report::First(parcel.header));
+            let first = parcel.header.first_part(&end.store);
+            good &= first == parcel.header.first_part(&parcel.source());
+        }
         let (due, segments) = parcel.due();
         good &= end.next()? == Some(due) && end.store.starts_with(&segments);
         if parcel.fate == Fate::Whole && parcel.header.tag == tag::MESSAGE {

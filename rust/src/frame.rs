@@ -67,7 +67,21 @@ impl Header {
         &self.segments[..count]
     }
 
-    /// The four segments of a frame that was just reported, out of the store
+    /// Segment 1 of a frame that was just reported, early or whole, out of the
+    /// store's front. None where the store is too short.
+    ///
+    /// ```
+    /// use mahuixen::{Header, Segment};
+    ///
+    /// let header = Header::new(1, &[Segment::new(2, 0), Segment::new(3, 0)]);
+    /// assert_eq!(header.first_part(b"12345678"), Some(b"12".as_slice()));
+    /// assert_eq!(header.first_part(b"1"), None);
+    /// ```
+    pub fn first_part<'a>(&self, store: &'a [u8]) -> Option<&'a [u8]> {
+        store.get(..usize::try_from(self.segments[0].len).ok()?)
+    }
+
+    /// The four segments of a frame that was just reported whole, out of the store
     /// in which they stand one behind the other. None where the store is too
     /// short, and so not the one that the frame was received into.
     ///

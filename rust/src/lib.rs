@@ -20,7 +20,8 @@
 //!
 //! // The receiver, which gets those bytes seven at a time.
 //! let mut receiver = Receiver::start(own)?;
-//! let mut store = [0; mahuixen::LONGEST_STORE];
+//! // Its store is allocated, since a longest one is 2 MiB.
+//! let mut store = vec![0; mahuixen::LONGEST_STORE];
 //! let mut reports = Vec::new();
 //! for mut piece in send[..queued].chunks(7) {
 //!     while !piece.is_empty() {
@@ -31,8 +32,11 @@
 //!         }
 //!     }
 //! }
-//! let revision = Revision::Msgr21;
-//! assert_eq!(reports, [Report::Banner { peer: own, revision }, Report::Frame(header)]);
+//!
+//! // The banner, segment 1 as soon as it is there, and then the whole frame.
+//! let banner = Report::Banner { peer: own, revision: Revision::Msgr21 };
+//! assert_eq!(reports, [banner, Report::First(header), Report::Frame(header)]);
+//! assert_eq!(header.first_part(&store), Some(b"hello".as_slice()));
 //! assert_eq!(header.parts(&store), Some([b"hello".as_slice(), b"you", b"", b""]));
 //! # Ok::<(), mahuixen::Refusal>(())
 //! ```
@@ -59,8 +63,11 @@ pub use tag::tag_name;
 /// Bytes of a banner that we build.
 pub const BANNER_LENGTH: usize = 26;
 
-/// A store of this many bytes is long enough for every frame.
-pub const LONGEST_STORE: usize = 32_768;
+/// A store of this many bytes, 2 MiB, is long enough for every frame. Allocate
+/// it, as with `vec![0; LONGEST_STORE]`: it is too long for most stacks. Where the
+/// peer's frames are known to be shorter, the length of the longest one will do,
+/// and a longer one is refused with [`Refusal::Store`].
+pub const LONGEST_STORE: usize = 2_097_152;
 
 /// Bytes of the longest frame on the wire, which is a msgr2.0 one or a msgr2.1
 /// one of several segments.

@@ -25,6 +25,11 @@ pub enum Report {
         /// The revision that the rest of the stream speaks.
         revision: Revision,
     },
+    /// Segment 1 of a msgr2.1 frame came and its checksum holds, and more
+    /// segments follow; it stands at the store's front ([`Header::first_part`])
+    /// and may be read there from now on. The same frame is still reported at
+    /// its end, as a frame or dropped, or refused.
+    First(Header),
     /// A frame is complete and all its checks hold; its segments stand one
     /// behind the other at the store's front ([`Header::parts`]).
     Frame(Header),
@@ -67,8 +72,8 @@ pub struct Received {
 /// assert_eq!(refused.taken, 31);
 /// assert_eq!(refused.report, Report::Refused(Refusal::PreambleChecksum { at: 28 }));
 ///
-/// // A refused stream stays refused.
-/// let again = receiver.receive(&[0; 500], &mut store);
+/// // A refused stream stays refused, whatever is offered and lent.
+/// let again = receiver.receive(&[0; 500], &mut []);
 /// assert_eq!((again.taken, again.report), (0, refused.report));
 /// # Ok::<(), Refusal>(())
 /// ```
@@ -103,7 +108,7 @@ impl Receiver {
     ///
     /// Lend the same store at every call, as the last call left it: between
     /// two calls it holds the frame that is under way. [`LONGEST_STORE`] bytes
-    /// are always enough.
+    /// are always enough; less will do where the peer's longest frame is known.
     ///
     /// [`LONGEST_STORE`]: crate::LONGEST_STORE
     ///
@@ -176,7 +181,8 @@ impl From<RawReport> for Report {
             },
             2 => Self::Frame(report.header),
             3 => Self::Dropped(report.header),
-            // The library has no kind above 4.
+            5 => Self::First(report.header),
+            // 4; the library has no kind above 5.
             _ => Self::Refused(Refusal::from(report.refusal)),
         }
     }
@@ -187,6 +193,7 @@ impl fmt::Display for Report {
         match self {
             Self::More => write!(f, "more"),
             Self::Banner { peer, revision } => write!(f, "banner, {peer}: {revision}"),
+            Self::First(header) => write!(f, "segment 1 of a frame, {header}"),
             Self::Frame(header) => write!(f, "frame, {header}"),
             Self::Dropped(header) => write!(f, "dropped, {header}"),
             Self::Refused(refusal) => write!(f, "refused, {refusal}"),

@@ -64,8 +64,8 @@ pub enum Refusal {
         /// The tag.
         tag: u64,
     },
-    /// 9: a segment is longer than 16,384 bytes, or all together are longer
-    /// than 32,768.
+    /// 9: a segment is longer than 1,048,576 bytes, or all together are longer
+    /// than 2,097,152.
     Limit {
         /// The byte of the preamble at which the first length that is too long
         /// stands, or, where none is, the one at which the sum becomes too
@@ -252,7 +252,7 @@ impl fmt::Display for Refusal {
             Self::Tag { tag } => write!(f, "the tag is {tag}, not 1 to 20"),
             Self::Limit { at } => write!(
                 f,
-                "a segment is longer than 16384 bytes, or all together than 32768, at byte {at} of the preamble"
+                "a segment is longer than 1048576 bytes, or all together than 2097152, at byte {at} of the preamble"
             ),
             Self::Store { needed } => {
                 write!(f, "the store is shorter than the frame's {needed} bytes")

@@ -18,7 +18,7 @@ pub struct Features {
 #[repr(C)]
 #[derive(Clone, Copy, Debug, Default, PartialEq, Eq)]
 pub struct Segment {
-    /// Bytes of the segment, at most 16,384.
+    /// Bytes of the segment, at most 1,048,576.
     pub len: u32,
     /// The alignment that its sender asks for; any number, and only handed on.
     pub align: u16,
@@ -54,9 +54,9 @@ pub struct Numbers {
 /// What a receiver is between two calls: plain numbers, which may be kept
 /// anywhere and handed back.
 ///
-/// Any state is answered. One whose fields contradict each other gets refusal
-/// 26, by rules that look only at what the stage uses; a state from a start or
-/// from a call never does.
+/// Any state is answered. One whose fields contradict each other, or in which
+/// something is set that its stage does not use, gets refusal 26; a state from
+/// a start or from a call that was not handed such a one never does.
 #[repr(C)]
 #[derive(Clone, Copy, Debug, Default, PartialEq, Eq)]
 pub struct State {
@@ -67,9 +67,10 @@ pub struct State {
     pub own: Features,
     /// The peer's features, once its banner told them.
     pub peer: Features,
-    /// The refusal that every later call repeats, once there is one.
+    /// The refusal that every later call repeats, once there is one; then only
+    /// it and our own features are kept.
     pub refusal: Numbers,
-    /// The frame whose body is coming.
+    /// The frame whose body is coming, all 0 where none is.
     pub header: Header,
     /// The payload length that the peer's banner gave.
     pub payload: u16,
@@ -77,24 +78,27 @@ pub struct State {
     /// 2 the peer's features, 3 payload to skip, 4 a preamble, 5 segment 1,
     /// 6 its checksum, 7 the other segments, 8 the epilogue; 9 refused.
     pub stage: u8,
-    /// 0 for msgr2.0, 1 for msgr2.1.
+    /// 0 for msgr2.0, 1 for msgr2.1; 0 inside of the banner.
     pub revision: u8,
-    /// Bytes that are judged together, as far as they came.
+    /// 1 behind segment 1's checksum, up to the frame's end, else 0.
+    pub first: u8,
+    /// Bytes that are judged together, as far as they came, and zeros behind
+    /// them.
     pub block: [u8; 32],
 }
 
-/// A report: 0 more, 1 banner, 2 frame, 3 dropped, 4 refused. Fields that a
-/// kind does not use are 0.
+/// A report: 0 more, 1 banner, 2 frame, 3 dropped, 4 refused, 5 segment 1 of a
+/// frame. Fields that a kind does not use are 0.
 #[repr(C)]
 #[derive(Clone, Copy, Debug, Default, PartialEq, Eq)]
 pub struct RawReport {
-    /// Which of the five it is.
+    /// Which of the six it is.
     pub kind: u8,
     /// The revision that a banner chose.
     pub revision: u8,
     /// The features that a banner told.
     pub peer: Features,
-    /// The frame, or the dropped frame.
+    /// The frame, the dropped frame, or the frame whose segment 1 came.
     pub header: Header,
     /// The refusal.
     pub refusal: Numbers,

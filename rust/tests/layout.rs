@@ -39,7 +39,7 @@ fn of_the_crate() -> Vec<String> {
         segment = Segment { len align }
         header = Header { tag count segments }
         refusal = Numbers { number first second third }
-        state = State { got own peer refusal header payload stage revision block }
+        state = State { got own peer refusal header payload stage revision first block }
         report = RawReport { kind revision peer header refusal }
         received = RawReceived { state taken report }
         started = RawStarted { state refusal }

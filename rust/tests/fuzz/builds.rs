@@ -159,26 +159,60 @@ fn receiver_of(revision: Revision) -> Receiver {
     receiver
 }
 
-/// Offers the frame in pieces; nothing but its last byte completes a report.
-fn received(random: &mut Random, revision: Revision, wire: &[u8], store: &mut [u8]) -> Report {
-    let mut receiver = receiver_of(revision);
-    let mut left = wire;
+/// A frame as it is built, and what it was built from.
+struct Sent<'a> {
+    revision: Revision,
+    header: Header,
+    wire: &'a [u8],
+    source: &'a [u8],
+}
+
+impl Sent<'_> {
+    /// The last byte of segment 1's checksum, where msgr2.1 reports segment 1
+    /// early.
+    fn early(&self) -> Option<usize> {
+        let first = self.header.segments[0].len as usize;
+        let reported = self.revision == Revision::Msgr21 && first > 0 && self.header.count > 1;
+        reported.then_some(36 + first)
+    }
+}
+
+/// Offers the frame in pieces; answers the report that its last byte completes.
+/// No other byte completes one, but for the early report of segment 1.
+fn received(random: &mut Random, sent: &Sent, store: &mut [u8]) -> Report {
+    let mut receiver = receiver_of(sent.revision);
+    let (mut taken, length) = (0, sent.wire.len());
     loop {
-        let most = random.pick(&[1, 40, 1_460, wire.len() as u32]);
-        let offered = random.between(0, most.min(left.len() as u32)) as usize;
-        let received = receiver.receive(&left[..offered], store);
-        assert_eq!(received.taken, offered);
-        left = &left[offered..];
-        if left.is_empty() {
+        let most = random.pick(&[1, 40, 1_460, length as u32]);
+        let offered = random.between(0, most.min((length - taken) as u32)) as usize;
+        let received = receiver.receive(&sent.wire[taken..taken + offered], store);
+        match sent.early() {
+            Some(byte) if taken < byte && byte <= taken + offered => {
+                assert_eq!(received.report, Report::First(sent.header));
+                assert_eq!(received.taken, byte - taken);
+                let first = sent.header.first_part(store);
+                assert_eq!(first, sent.header.first_part(sent.source));
+            }
+            _ => assert_eq!(received.taken, offered),
+        }
+        taken += received.taken;
+        if taken == length {
             return received.report;
         }
-        assert_eq!(received.report, Report::More);
+        assert!(matches!(received.report, Report::More | Report::First(_)));
+        let early = matches!(received.report, Report::First(_));
+        assert_eq!(early, received.taken > 0 && sent.early() == Some(taken));
     }
 }
 
 fn read_back(random: &mut Random, record: &FrameRecord, wire: &[u8]) {
     let header: Header = same::header(&record.frame);
-    let revision = same::revision(record.revision);
+    let sent = Sent {
+        revision: same::revision(record.revision),
+        header,
+        wire,
+        source: &record.source,
+    };
     let behind = random.between(0, 20);
     let behind = random.bytes(behind);
     let mut expected = record.source.clone();
@@ -188,7 +222,7 @@ fn read_back(random: &mut Random, record: &FrameRecord, wire: &[u8]) {
     expected.extend(&behind);
     let before = [vec![0xA7; record.source.len()], behind].concat();
     let mut store = Guarded::new(random, &before);
-    let report = received(random, revision, wire, store.lend());
+    let report = received(random, &sent, store.lend());
     let told = if record.abort {
         Report::Dropped(header)
     } else {
@@ -207,6 +241,6 @@ pub fn run(random: &mut Random, record: &Record, tally: &mut Tally) {
         }
         Record::Banner(record) => banner(random, record, tally),
         Record::Frame(record) => frame(random, record, tally),
-        Record::Receiver(_) => unreachable!("not among the records of builds"),
+        _ => unreachable!("not among the records of builds"),
     }
 }

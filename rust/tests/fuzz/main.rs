@@ -7,6 +7,7 @@
 
 mod builds;
 mod guarded;
+mod longest;
 mod probes;
 mod rebuilt;
 mod same;
@@ -77,6 +78,22 @@ fn recordings() {
     }
     let calls = &seen.calls;
     calls.expect("calls on recordings", links, &streams::KINDS);
+}
+
+#[test]
+fn longest_frames() {
+    let mut random = Random::new(seed());
+    let mut tally = Tally::default();
+    for record in longest::builds(&mut random) {
+        builds::run(&mut random, &record, &mut tally);
+    }
+    tally.expect("builds at the limits", 0, &builds::KINDS);
+    let mut seen = Seen::default();
+    for record in longest::streams(&mut random) {
+        streams::run(&mut random, &record, Store::Kept, &mut seen);
+    }
+    let calls = &seen.calls;
+    calls.expect("calls at the limits", 0, &streams::KINDS);
 }
 
 #[test]

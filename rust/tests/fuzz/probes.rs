@@ -2,7 +2,8 @@
 //! together from nothing.
 
 use crate::guarded::Guarded;
-use crate::rebuilt::{agrees, needed, rebuilt, REFUSED};
+use crate::rebuilt::{agrees, has_first_sum, in_block, in_body, least, needed, rebuilt, size};
+use crate::rebuilt::{PAYLOAD, PREAMBLE, REFUSED, REST, SKIP};
 use crate::same;
 use crate::tally::Tally;
 use mahuixen::sys::{self, RawReceived, RawReport};
@@ -13,9 +14,8 @@ const CONTRADICTION: &str = "contradictions, refused with 26";
 const REPEATED: &str = "refusals repeated";
 const NO_ROOM: &str = "stores too short for the state's frame";
 const COMPARED: &str = "compared with a second receiver in the same place";
-const NO_WAY: &str = "states to which no stream leads";
 
-pub const KINDS: [&str; 5] = [CONTRADICTION, REPEATED, NO_ROOM, COMPARED, NO_WAY];
+pub const KINDS: [&str; 4] = [CONTRADICTION, REPEATED, NO_ROOM, COMPARED];
 
 /// A field of a state, whatever its width.
 enum Field<'a> {
@@ -62,6 +62,7 @@ fn fields(state: &mut State) -> Vec<Field<'_>> {
         Field::U16(&mut state.payload),
         Field::U8(&mut state.stage),
         Field::U8(&mut state.revision),
+        Field::U8(&mut state.first),
     ];
     fields.extend(header_fields(&mut state.header));
     // Together the block's bytes have as much chance as three other fields.
@@ -71,12 +72,13 @@ fn fields(state: &mut State) -> Vec<Field<'_>> {
 
 fn change(random: &mut Random, state: &mut State) {
     let (any, small) = (random.u8(), random.between(0, 40) as usize);
-    match random.between(1, 8) {
+    match random.between(1, 9) {
         1 => state.stage = random.between(0, 10) as u8,
         2 => state.stage = random.pick(&[10, 255, any]),
         3 => state.revision = random.pick(&[0, 1, 2, any]),
         4 => state.got = random.pick(&[0, 1, 3, small, small, usize::MAX]),
-        5 => {
+        5 => state.first = random.pick(&[0, 1, 2, any]),
+        6 => {
             let place = random.between(0, 31) as usize;
             state.block[place] ^= 1 << random.between(0, 7);
         }
@@ -102,13 +104,16 @@ pub fn changed(
     probe(random, state, piece, store, tally);
 }
 
-fn feature_bits(random: &mut Random) -> u64 {
+/// Our features, and those of a peer that goes with them.
+fn any_features(random: &mut Random) -> [Features; 2] {
     let any = random.u64();
-    random.pick(&[0, 0, 1, 1, 1, any])
-}
-
-fn any_features(random: &mut Random) -> Features {
-    Features::new(feature_bits(random), feature_bits(random))
+    let (supported, required) = random.pick(&[(0, 0), (1, 0), (1, 0), (1, 0), (1, 1)]);
+    let bits = random.pick(&[1, 1, 1, 0, any]) | required;
+    let needs = random.pick(&[0, 0, 1]) & supported;
+    [
+        Features::new(supported, required),
+        Features::new(bits, needs),
+    ]
 }
 
 fn any_header(random: &mut Random) -> Header {
@@ -132,35 +137,70 @@ fn any_header(random: &mut Random) -> Header {
 
 fn any_refusal(random: &mut Random) -> Numbers {
     let any = random.u8();
+    let number = random.pick(&[1 + any % 12, 1 + any % 12, 3, 4, 16, 24, 26, any]);
+    let more = if matches!(number, 3 | 4) || random.once_in(12) {
+        [random.u64(), random.u64()]
+    } else {
+        [0; 2]
+    };
     Numbers {
-        number: random.pick(&[any % 17, any % 17, any % 17, 26, any]),
+        number,
         first: random.u64(),
-        second: random.u64(),
-        third: random.u64(),
+        second: more[0],
+        third: more[1],
     }
 }
 
-/// Every field by itself, mostly within its rule.
-fn any_state(random: &mut Random) -> State {
-    let (stage, any) = (random.between(0, 9) as u8, random.u8());
-    let (got, payload) = (random.between(0, 40), random.between(12, 40) as u16);
-    let most = random.pick(&[1, 4, 8, 16, 40]);
-    State {
-        got: (got % most) as usize,
-        own: any_features(random),
-        peer: any_features(random),
-        refusal: any_refusal(random),
-        header: any_header(random),
-        payload: random.pick(&[16, payload, payload, 1_024, 1_025]),
-        stage: random.pick(&[stage, stage, stage, stage, stage, any]),
-        revision: random.pick(&[0, 0, 1, 1, 1, any % 4]),
-        block: std::array::from_fn(|_| random.u8()),
+/// How many bytes of its stage came to a state, and those of them that are in
+/// its block.
+fn fill(random: &mut Random, state: &mut State) {
+    let (least, size) = (least(state), size(state));
+    if state.stage == REFUSED || least >= size {
+        return;
     }
+    let most = (size - 1).min(u64::from(u32::MAX)) as u32;
+    state.got = random.between(least as u32, most) as usize;
+    if in_block(state) {
+        state.block[..state.got].fill_with(|| random.u8());
+    }
+}
+
+/// A state in any stage, with what the stage uses: it mostly agrees with itself.
+fn any_state(random: &mut Random) -> State {
+    let [own, peer] = any_features(random);
+    let payload = random.between(17, 40) as u16;
+    let mut state = State {
+        own,
+        stage: random.between(0, u32::from(REFUSED)) as u8,
+        ..State::default()
+    };
+    if state.stage == REFUSED {
+        state.refusal = any_refusal(random);
+        return state;
+    }
+    if state.stage >= PAYLOAD {
+        state.payload = random.pick(&[16, payload, payload, 1_024]);
+    }
+    if state.stage >= SKIP {
+        state.peer = peer;
+    }
+    if state.stage >= PREAMBLE {
+        state.revision = (own.supported & peer.supported & 1) as u8;
+    }
+    if in_body(&state) {
+        state.header = any_header(random);
+        state.first = u8::from(state.stage >= REST && has_first_sum(&state));
+    }
+    fill(random, &mut state);
+    state
 }
 
 /// Makes a call on a state put together from nothing.
 pub fn put_together(random: &mut Random, tally: &mut Tally) {
-    let state = any_state(random);
+    let mut state = any_state(random);
+    for _ in 0..random.pick(&[0, 0, 0, 1, 2]) {
+        change(random, &mut state);
+    }
     let (offered, length) = (random.between(0, 80), random.between(0, 90));
     let piece = random.bytes(offered);
     let store = random.bytes(length);
@@ -224,12 +264,9 @@ fn probe(random: &mut Random, state: State, piece: &[u8], store: &[u8], tally: &
         tally.count(NO_ROOM);
         stays(plain(10, needed(&state)));
         again(random, &received, piece, &after);
-    } else if let Some(second) = rebuilt(&state, store) {
-        tally.count(COMPARED);
-        follow(random, state, second, piece, store);
     } else {
-        tally.count(NO_WAY);
-        defined(&state, &received, piece, (store, &after));
+        tally.count(COMPARED);
+        follow(random, state, rebuilt(&state, store), piece, store);
     }
 }
 
@@ -262,16 +299,4 @@ fn follow(
             return;
         }
     }
-}
-
-/// What holds of any call, also where no stream leads to its state.
-fn defined(state: &State, received: &RawReceived, piece: &[u8], store: (&[u8], &[u8])) {
-    let RawReceived { taken, report, .. } = *received;
-    assert!(taken <= piece.len() && (taken > 0 || piece.is_empty()));
-    assert!(report.kind != 0 || taken == piece.len());
-    assert!(report.kind <= 4, "no such kind: {}", report.kind);
-    assert_eq!(report.kind == 4, report.refusal != Numbers::default());
-    assert!(report.refusal.number <= 12);
-    let used = needed(state) as usize;
-    assert!(store.0[used..] == store.1[used..], "bytes behind the frame");
 }

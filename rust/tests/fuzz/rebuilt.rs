@@ -1,7 +1,7 @@
 //! What a state of the library means, by docs/STATE.md: whether it contradicts
 //! itself, and which second receiver is in the same place.
 
-use mahuixen::{Features, Header, State};
+use mahuixen::{Features, Header, Numbers, State};
 use second::banner::{judge_payload_length, Features as SecondFeatures};
 use second::checksum::{checksum, SEGMENT_START};
 use second::frame::{Frame, Segment};
@@ -10,6 +10,7 @@ use second::report::Report;
 use second::wire::{epilogue_length, Revision};
 
 pub const MAGIC: u8 = 0;
+pub const PAYLOAD: u8 = 2;
 pub const SKIP: u8 = 3;
 pub const PREAMBLE: u8 = 4;
 pub const FIRST: u8 = 5;
@@ -46,38 +47,74 @@ pub fn in_body(state: &State) -> bool {
     (FIRST..=EPILOGUE).contains(&state.stage)
 }
 
+/// Whether the stage is this one or a later one, and nothing is refused.
+fn live_from(stage: u8, state: &State) -> bool {
+    (stage..REFUSED).contains(&state.stage)
+}
+
+/// Whether segment 1 has its checksum behind it.
+pub fn has_first_sum(state: &State) -> bool {
+    state.revision == 1 && state.header.segments[0].len > 0
+}
+
 fn good_own(state: &State) -> bool {
-    features(state.own).judge_own().is_ok()
+    let start_refused = state.stage == REFUSED && state.refusal.number == 16;
+    start_refused || features(state.own).judge_own().is_ok()
 }
 
 fn good_payload(state: &State) -> bool {
-    good_own(state) && judge_payload_length(state.payload).is_ok()
+    match live_from(PAYLOAD, state) {
+        true => judge_payload_length(state.payload).is_ok(),
+        false => state.payload == 0,
+    }
+}
+
+fn good_peer(state: &State) -> bool {
+    live_from(SKIP, state) || state.peer == Features::default()
+}
+
+fn good_revision(state: &State) -> bool {
+    match live_from(PREAMBLE, state) {
+        true => features(state.own).judge_peer(&features(state.peer)) == Ok(revision(state)),
+        false => state.revision == 0,
+    }
 }
 
 fn good_header(state: &State) -> bool {
+    if !in_body(state) {
+        return state.header == Header::default();
+    }
     let frame = frame(&state.header);
     let judged = [frame.judge_shape(), frame.judge_tag(), frame.judge_limits()];
     judged.iter().all(Result::is_ok)
 }
 
-/// The rule of the state's stage.
-fn meets_its_rule(state: &State) -> bool {
-    match state.stage {
-        0 | 1 => good_own(state),
-        2 | SKIP => good_payload(state),
-        PREAMBLE => true,
-        FIRST | FIRST_SUM => good_header(state) && state.revision == 1,
-        REST | EPILOGUE => good_header(state),
-        _ => matches!(state.refusal.number, 1..=12 | 16),
+fn good_first(state: &State) -> bool {
+    let about_first = matches!(state.stage, FIRST | FIRST_SUM);
+    let behind_first = matches!(state.stage, REST | EPILOGUE) && has_first_sum(state);
+    (!about_first || has_first_sum(state)) && (state.first == 1) == behind_first
+}
+
+fn good_refusal(state: &State) -> bool {
+    let Numbers {
+        number,
+        second,
+        third,
+        ..
+    } = state.refusal;
+    if state.stage != REFUSED {
+        return state.refusal == Numbers::default();
     }
+    let alone = second == 0 && third == 0;
+    matches!(number, 3 | 4) || (alone && matches!(number, 1..=12 | 16))
 }
 
 /// Bytes of the state's stage.
-fn size(state: &State) -> u64 {
+pub fn size(state: &State) -> u64 {
     match state.stage {
         0 => 8,
         1 => 2,
-        2 => 16,
+        PAYLOAD => 16,
         SKIP => u64::from(state.payload).saturating_sub(16),
         PREAMBLE => 32,
         FIRST => u64::from(state.header.segments[0].len),
@@ -87,10 +124,47 @@ fn size(state: &State) -> u64 {
     }
 }
 
+/// So many bytes of the stage came at least.
+pub fn least(state: &State) -> u64 {
+    match state.stage {
+        REST if has_first_sum(state) => u64::from(state.header.segments[0].len),
+        _ => 0,
+    }
+}
+
+fn good_count(state: &State) -> bool {
+    let got = state.got as u64;
+    match state.stage {
+        REFUSED => got == 0,
+        _ => (least(state)..size(state)).contains(&got),
+    }
+}
+
+/// Whether the stage's bytes go into the block.
+pub fn in_block(state: &State) -> bool {
+    !matches!(state.stage, SKIP | FIRST | REST | REFUSED)
+}
+
+fn good_block(state: &State) -> bool {
+    let came = if in_block(state) { state.got } else { 0 };
+    state.block.iter().skip(came).all(|byte| *byte == 0)
+}
+
+/// Whether the state agrees with itself.
 pub fn agrees(state: &State) -> bool {
-    let known = state.stage <= REFUSED && state.revision <= 1;
-    let waits = |state: &State| state.stage == REFUSED || (state.got as u64) < size(state);
-    known && meets_its_rule(state) && waits(state)
+    let rules = [
+        good_own,
+        good_payload,
+        good_peer,
+        good_revision,
+        good_header,
+        good_first,
+        good_refusal,
+        good_count,
+        good_block,
+    ];
+    let known = state.stage <= REFUSED && state.revision <= 1 && state.first <= 1;
+    known && rules.iter().all(|rule| rule(state))
 }
 
 /// The bytes of a banner up to where the state is.
@@ -113,60 +187,66 @@ fn banner_so_far(state: &State) -> Vec<u8> {
 }
 
 /// The segment bytes so far, out of the store, with segment 1's checksum where
-/// msgr2.1 has one. None where no stream leads to the stage.
-fn segments_so_far(state: &State, store: &[u8]) -> Option<Vec<u8>> {
+/// msgr2.1 has one.
+fn segments_so_far(state: &State, store: &[u8]) -> Vec<u8> {
     let first = state.header.segments[0].len as usize;
     let stored = match state.stage {
         FIRST | REST => &store[..state.got],
-        FIRST_SUM if first == 0 => return None,
         FIRST_SUM => &store[..first],
         _ => &store[..state.header.total() as usize],
     };
-    let is_behind_first = matches!(state.stage, REST | EPILOGUE);
-    if state.revision == 0 || first == 0 || !is_behind_first {
-        return Some(stored.to_vec());
+    if state.first == 0 {
+        return stored.to_vec();
     }
-    let (segment, others) = stored.split_at_checked(first)?;
+    let (segment, others) = stored.split_at(first);
     let sum = checksum(SEGMENT_START, segment).to_le_bytes();
-    Some([segment, &sum, others].concat())
+    [segment, &sum, others].concat()
 }
 
 /// The bytes of a frame up to where the state is.
-fn frame_so_far(state: &State, store: &[u8]) -> Option<Vec<u8>> {
+fn frame_so_far(state: &State, store: &[u8]) -> Vec<u8> {
     let mut bytes = Vec::new();
     if in_body(state) {
         bytes.extend(frame(&state.header).preamble());
-        bytes.extend(segments_so_far(state, store)?);
+        bytes.extend(segments_so_far(state, store));
     }
-    if matches!(state.stage, PREAMBLE | FIRST_SUM | EPILOGUE) {
+    if in_block(state) {
         bytes.extend(&state.block[..state.got]);
     }
-    Some(bytes)
+    bytes
+}
+
+/// The whole banner of the state's peer.
+fn banner(state: &State) -> Vec<u8> {
+    let mut bytes = features(state.peer).banner();
+    bytes[8..10].copy_from_slice(&state.payload.to_le_bytes());
+    bytes.resize(10 + usize::from(state.payload), 0xB5);
+    bytes
 }
 
 /// A second receiver that was given a stream which leads to this state, with
 /// the store as it is. The state agrees with itself, is not refused, and has
-/// the room it needs. None where no stream leads there.
-pub fn rebuilt(state: &State, store: &[u8]) -> Option<Receiver> {
-    let (own, stream) = if state.stage < PREAMBLE {
-        (features(state.own), banner_so_far(state))
-    } else {
-        let bit = u64::from(state.revision);
-        let own = SecondFeatures::new(bit, 0);
-        let frame = frame_so_far(state, store)?;
-        (own, [own.banner(), frame].concat())
+/// the room it needs: to each such state a stream leads.
+pub fn rebuilt(state: &State, store: &[u8]) -> Receiver {
+    let stream = match state.stage {
+        0..PREAMBLE => banner_so_far(state),
+        _ => [banner(state), frame_so_far(state, store)].concat(),
     };
-    let mut receiver = Receiver::start(own).0;
+    let (mut receiver, started) = Receiver::start(features(state.own));
+    assert_eq!(started, Ok(()), "{state:?}");
     let mut kept = store.to_vec();
     let mut left = stream.as_slice();
     while !left.is_empty() {
         let (taken, report) = receiver.receive(left, &mut kept);
-        let fine = matches!(report, Report::More | Report::Banner { .. });
+        let fine = matches!(
+            report,
+            Report::More | Report::Banner { .. } | Report::First(_)
+        );
         assert!(fine, "{state:?}: no way there, {report:?}");
         left = &left[taken..];
     }
     assert!(kept == store, "the store's own bytes were put back");
-    Some(receiver)
+    receiver
 }
 
 /// What a live receiver that has a body under way needs of the store.

@@ -61,6 +61,11 @@ pub fn raw(report: &second::report::Report) -> RawReport {
             refusal: numbers(*refusal),
             ..none
         },
+        Report::First(frame) => RawReport {
+            kind: 5,
+            header: header(frame),
+            ..none
+        },
     }
 }
 
@@ -76,8 +81,9 @@ pub fn tells(report: &Report, expected: &second::report::Report) -> bool {
                 revision: r,
             },
         ) => (*peer, *revision) == (features(*p), self::revision(*r)),
-        (Report::Frame(header), Second::Frame(frame)) => *header == self::header(frame),
-        (Report::Dropped(header), Second::Dropped(frame)) => *header == self::header(frame),
+        (Report::First(header), Second::First(frame))
+        | (Report::Frame(header), Second::Frame(frame))
+        | (Report::Dropped(header), Second::Dropped(frame)) => *header == self::header(frame),
         (Report::Refused(refusal), Second::Refused(expected)) => {
             (refusal.number(), refusal.details()) == (expected.number, expected.detail)
         }
@@ -86,12 +92,13 @@ pub fn tells(report: &Report, expected: &second::report::Report) -> bool {
 }
 
 /// The kinds that [`kind`] tells apart.
-pub const KINDS: [&str; 18] = [
+pub const KINDS: [&str; 19] = [
     "more",
     "banner msgr2.0",
     "banner msgr2.1",
     "frame",
     "dropped",
+    "segment 1 early",
     "refused 1",
     "refused 2",
     "refused 3",
@@ -109,10 +116,11 @@ pub const KINDS: [&str; 18] = [
 
 pub fn kind(report: &RawReport) -> &'static str {
     match (report.kind, report.refusal.number) {
-        (1, _) => KINDS[1 + usize::from(report.revision)],
         (0, _) => KINDS[0],
+        (1, _) => KINDS[1 + usize::from(report.revision)],
         (2 | 3, _) => KINDS[1 + usize::from(report.kind)],
-        (_, 16) => KINDS[17],
-        (_, number) => KINDS[4 + usize::from(number)],
+        (5, _) => KINDS[5],
+        (_, 16) => KINDS[18],
+        (_, number) => KINDS[5 + usize::from(number)],
     }
 }
