@@ -1,6 +1,6 @@
 // AES-128 (FIPS 197): the state is four columns of four bytes, by value. And its counter mode (SP 800-38D, 6.5).
-use buffer::less;
-use buffer::word_bytes;
+use buffer::min;
+use buffer::u32_bytes;
 use sbox::sbox_table;
 ghost use mathlib.Core.Path.{_≡_};
 ghost use mathlib.Core.List.{List, _++_};
@@ -116,7 +116,7 @@ fn shift_rows(s: [[u8; 4]; 4]) -> [[u8; 4]; 4]
 fn mix_column(c: [u8; 4]) -> [u8; 4]
     ensures { λ r. ⌜ r ≡ mixColumn c ⌝ }
 {
-    word_bytes(mix_word(pack(c)))
+    u32_bytes(mix_word(pack(c)))
 }
 
 fn mix_columns(s: [[u8; 4]; 4]) -> [[u8; 4]; 4]
@@ -133,7 +133,7 @@ fn mix_columns(s: [[u8; 4]; 4]) -> [[u8; 4]; 4]
 fn add_column(a: [u8; 4], b: [u8; 4]) -> [u8; 4]
     ensures { λ r. ⌜ r ≡ addColumn a b ⌝ }
 {
-    word_bytes(pack(a) ^ pack(b))
+    u32_bytes(pack(a) ^ pack(b))
 }
 
 fn add_round_key(s: [[u8; 4]; 4], k: [[u8; 4]; 4]) -> [[u8; 4]; 4]
@@ -321,7 +321,7 @@ fn mask_blocks(
 pub fn mask(w: &[[[u8; 4]; 4]; 11], nonce: [u8; 12], buf: &mut [u8], n: usize)
     ensures { λ _. ⌜ now (buf .exit) ≡ gctr (now (w .entry)) nonce (take n (now (buf .entry))) ++ drop n (now (buf .entry)) ⌝ }
 {
-    let m = less(n, buf.len());
+    let m = min(n, buf.len());
     let t = sbox_table();
     let i = mask_blocks(&t, w, nonce, buf, m);
     if m <= i {

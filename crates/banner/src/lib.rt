@@ -1,6 +1,6 @@
 // The banner: its bytes, its judgements, the features in it and the revision that two banners choose.
 use buffer::byte_at;
-use buffer::long_at;
+use buffer::u64_at;
 use refusal::Missing;
 use refusal::Refusal;
 use refusal::Verdict;
@@ -116,8 +116,8 @@ pub fn read_features(payload: &[u8]) -> Features
     ensures { λ r. ⌜ r ≡ featuresOf (now (payload .entry)) ⌝ }
 {
     Features {
-        supported: long_at(payload, 0),
-        required: long_at(payload, 8),
+        supported: u64_at(payload, 0),
+        required: u64_at(payload, 8),
     }
 }
 

@@ -7,7 +7,7 @@ use native.Mathlib.Omega.{arith}
 use lib.Dec.{leb, ltb}
 use borrow.Author.Tests.{le-leb, lt-leb, leb-true, leb-false, ltb-true}
 use lib.ListN.{length, length-append}
-use Rattle.buffer.specs.Splice.{over}
+use Rattle.buffer.specs.Splice.{replaceFront}
 use Rattle.preamble.specs.Judge.{segmentLimit}
 use Rattle.refusal.specs.declared.Refusal.the-variants.{BodyMalformed, NoRoom}
 use Rattle.fields.specs.declared.Cursor.{Cursor}
@@ -124,13 +124,13 @@ appended-judge {p} {q} at (w.step {f = f} {fs = fs} {q = r} t s) b e h =
 
 -- the buffer after an answer
 after : Written → List ℕ → List ℕ → List ℕ
-after v bs out = cond (isWrote v) (over bs out) out
+after v bs out = cond (isWrote v) (replaceFront bs out) out
 
 kept : (v : Written) (bs out : List ℕ) → isWrote v ≡ false → after v bs out ≡ out
 unfolding after
 kept v bs out h = rw h
 
-changed : (v : Written) (bs out : List ℕ) → isWrote v ≡ true → after v bs out ≡ over bs out
+changed : (v : Written) (bs out : List ℕ) → isWrote v ≡ true → after v bs out ≡ replaceFront bs out
 unfolding after
 changed v bs out h = rw h
 

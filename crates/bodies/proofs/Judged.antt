@@ -10,7 +10,8 @@ use lib.Dec.{ltb, eqb}
 use borrow.Author.Tests.{le-leb, lt-leb, lt-ltb, le-ltb, eq-eqb, ne-eqb, leb-true, leb-false, ltb-true, ltb-false, eqb-true, eqb-false}
 use lib.ListN.{length, getD, length-append}
 use lib.Seq.{take-at, drop-append-seam, drop-append-add}
-use Rattle.buffer.specs.Le.{le, leOf-le, length-le, numberAt}
+use Rattle.buffer.specs.Le.{le, numberAt}
+use Rattle.buffer.proofs.Numbers.{leOf-le, length-le}
 use Rattle.preamble.specs.Judge.{segmentLimit}
 use Rattle.fields.specs.declared.Cursor.{Cursor}
 use Rattle.fields.specs.Layout.{Kind, num, neg, list, size, rest, plain, good, fault, past, stepOf}

@@ -6,10 +6,11 @@ use Prim.Native.Nat.{ℕ, zero, suc, _+_, _-_, _*_, _/_, _%_, _≤_, _<_}
 use native.Mathlib.Omega.{arith}
 use lib.Dec.{leb, ltb, eqb}
 use borrow.Author.Tests.{le-leb, leb-true, leb-false, eqb-true}
-use lib.ListN.{length, take, drop, getD, length-take, length-drop, take-append-drop, List·getD-eq-default}
-use lib.Seq.{take-at, take-add, drop-drop, drop-length, length-take-le, getD-take, getD-drop}
+use lib.ListN.{length, take, drop, length-drop, take-append-drop}
+use lib.Seq.{take-at, take-add, drop-drop, drop-length, length-take-le}
 use Rattle.buffer.specs.Le.{le, leOf, numberAt, Bytes}
-use Rattle.buffer.specs.Splice.{over}
+use Rattle.buffer.proofs.Numbers.{bytes-take, bytes-drop}
+use Rattle.buffer.specs.Splice.{replaceFront}
 use Rattle.preamble.specs.Judge.{segmentLimit}
 use Rattle.refusal.specs.declared.Numbers.{Numbers}
 use Rattle.refusal.specs.Refusals.{row}
@@ -36,7 +37,7 @@ record Written-well (tag n : ℕ) (fs : List Field) (out l : List ℕ) : Type 0 
   gs : List Field
   reads : readBody tag (bytesOf fs) ≡ whole gs
   len : n ≡ length (bytesOf fs)
-  buffer : l ≡ over (bytesOf fs) out
+  buffer : l ≡ replaceFront (bytesOf fs) out
 
 outcomes : {a b : Outcome} {l m : List ℕ} → done a l ≡ done b m → a ≡ b
 outcomes e = ap (λ (d : Done). d .outcome) e
@@ -54,7 +55,7 @@ wrote-well tag n fs out l = go (isListed (layoutOf tag) (kindsOf fs)) (readBody 
   where
     go : (a : Bool) (r : Answer) (b : Bool) → isListed (layoutOf tag) (kindsOf fs) ≡ a → readBody tag (bytesOf fs) ≡ r → leb (length (bytesOf fs)) (length out) ≡ b → done (wrote n) l ≡ cond a (writeAs r (bytesOf fs) out) (writeAs (malformed 0) (bytesOf fs) out) → Written-well tag n fs out l
     go true (whole gs) true x y z e =
-        let f : done (wrote n) l ≡ done (wrote (length (bytesOf fs))) (over (bytesOf fs) out) = e ∙ rw z in
+        let f : done (wrote n) l ≡ done (wrote (length (bytesOf fs))) (replaceFront (bytesOf fs) out) = e ∙ rw z in
         record { kinds = x; gs = gs; reads = y; len = same-count (outcomes f); buffer = ap (λ (d : Done). d .buffer) f }
     go true (whole gs) false x y z e =
         let f : done (wrote n) l ≡ done (turnedAway (row 14 (length (bytesOf fs)) 0 0)) out = e ∙ rw z in
@@ -84,19 +85,6 @@ back tag n r ms ns bs out l b w q =
     q .answer ∙ ap (readBody tag) a ∙ reads-same tag fs (g .gs) (g .kinds) (w .fits) (closed-request r ms ns bs) (g .reads)
 
 -- ---- bytes of what was read
-
-bytes-drop : (n : ℕ) {l : List ℕ} → Bytes l → Bytes (drop n l)
-bytes-drop n {l} h = record { at = λ i. rw (getD-drop n l i 0) (h .at (n + i)) }
-
-bytes-take : (n : ℕ) {l : List ℕ} → Bytes l → Bytes (take n l)
-bytes-take n {l} h = record { at = λ i. go i (leb n i) refl }
-  where
-    go : (i : ℕ) (b : Bool) → leb n i ≡ b → getD (take n l) i 0 < 256
-    go i true t =
-        let k = leb-true n i t in
-        let e : length (take n l) ≤ i = rw (length-take n l) (omega arith) in
-        rw (List·getD-eq-default (take n l) 0 {n = i} e) (omega arith)
-    go i false t = rw (getD-take n l i 0 (leb-false n i t)) (h .at i)
 
 le-leOf : (bs : List ℕ) → Bytes bs → le (length bs) (leOf bs) ≡ bs
 le-leOf [] h = refl
@@ -292,7 +280,7 @@ same-bytes tag s fs h = go (leb (length s) segmentLimit) (layoutOf tag) refl
     go false f x e = absurd (let z : _≡_ {A = ℕ} 0 1 = cc in omega arith)
 
 -- it is then written whole, where there is room
-written-again : (tag : ℕ) (s : List ℕ) (fs : List Field) (out : List ℕ) → Bytes s → readBody tag s ≡ whole fs → length s ≤ length out → writeBody tag fs out ≡ done (wrote (length s)) (over s out)
+written-again : (tag : ℕ) (s : List ℕ) (fs : List Field) (out : List ℕ) → Bytes s → readBody tag s ≡ whole fs → length s ≤ length out → writeBody tag fs out ≡ done (wrote (length s)) (replaceFront s out)
 unfolding writeBody writeAs
 written-again tag s fs out h e l =
     let b = same-bytes tag s fs h e in
@@ -302,9 +290,9 @@ wrote-is : (w : Written) (l m : List ℕ) (n : ℕ) → done (outcomeOf w) l ≡
 wrote-is (written.Wrote k) l m n e = (ap written.Wrote (same-count (outcomes e)), ap (λ (d : Done). d .buffer) e)
 wrote-is (written.Refused r) l m n e = not-wrote (sym (outcomes e))
 
-again : (tag : ℕ) (s : List ℕ) (b : Body) (r : Request) (ms ns bs out l : List ℕ) (w : Written) → Bytes s → Reads tag s b → answerOf s b ≡ whole (requested r ms ns bs) → length s ≤ length out → Writes tag (requested r ms ns bs) out w l → (w ≡ written.Wrote (length s)) × (l ≡ over s out)
+again : (tag : ℕ) (s : List ℕ) (b : Body) (r : Request) (ms ns bs out l : List ℕ) (w : Written) → Bytes s → Reads tag s b → answerOf s b ≡ whole (requested r ms ns bs) → length s ≤ length out → Writes tag (requested r ms ns bs) out w l → (w ≡ written.Wrote (length s)) × (l ≡ replaceFront s out)
 again tag s b r ms ns bs out l w h q e k x =
-    wrote-is w l (over s out) (length s) (x .outcome ∙ written-again tag s (requested r ms ns bs) out h (sym (q .answer) ∙ e) k)
+    wrote-is w l (replaceFront s out) (length s) (x .outcome ∙ written-again tag s (requested r ms ns bs) out h (sym (q .answer) ∙ e) k)
 
 -- THE CLAIM
 pub round-trips : RoundTrips

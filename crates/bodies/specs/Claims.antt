@@ -4,7 +4,7 @@ use mathlib.Core.List.{List, [], _∷_}
 use Prim.Native.Nat.{ℕ, _≤_}
 use lib.ListN.{length, take}
 use Rattle.buffer.specs.Le.{Bytes}
-use Rattle.buffer.specs.Splice.{over}
+use Rattle.buffer.specs.Splice.{replaceFront}
 use Rattle.fields.specs.Field.{Field, Fits}
 use Rattle.bodies.specs.declared.Body.{Body}
 use Rattle.bodies.specs.declared.Request.{Request}
@@ -37,4 +37,4 @@ RoundTrips =
     -- what is read and written again is the same bytes: for every body that is not refused, and a buffer that has room for it
     × ((tag : ℕ) (s : List ℕ) (b : Body) (r : Request) (ms ns bs out l : List ℕ) (w : Written)
     → Bytes s → Reads tag s b → answerOf s b ≡ whole (requested r ms ns bs) → length s ≤ length out → Writes tag (requested r ms ns bs) out w l
-    → (w ≡ written.Wrote (length s)) × (l ≡ over s out))
+    → (w ≡ written.Wrote (length s)) × (l ≡ replaceFront s out))

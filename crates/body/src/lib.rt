@@ -3,7 +3,7 @@ use banner::Revision;
 use buffer::behind;
 use buffer::byte_at;
 use buffer::part;
-use buffer::word_at;
+use buffer::u32_at;
 use crc32c::checksum;
 use crc32c::checksum_zeros;
 use preamble::Header;
@@ -228,7 +228,7 @@ pub fn read_late(revision: Revision, b: u8) -> Late
 fn compare(count: u8, k: u8, e: &[u8], i: usize, bytes: &[u8]) -> Verdict
     ensures { λ r. ⌜ judgedBy r ≡ unless (ltb count k || eqb (numberAt 4 i (now (e .entry))) (segmentSum (now (bytes .entry)))) (refusal.SegmentChecksum k) ⌝ }
 {
-    let stored = word_at(e, i);
+    let stored = u32_at(e, i);
     unless_ok(
         either(count < k, stored == segment_sum(bytes)),
         Refusal::SegmentChecksum(k),

@@ -3,7 +3,8 @@ use mathlib.Core.Path.{_≡_, ap, _∙_}
 use mathlib.Core.List.{List}
 use Prim.Native.Nat.{ℕ, _≤_}
 use lib.ListN.{length}
-use Rattle.buffer.specs.Splice.{over, laid, laid-over}
+use Rattle.buffer.specs.Splice.{replaceFront, overwrite}
+use Rattle.buffer.proofs.Parts.{overwrite-fits}
 
-pub laid-as : (xs ys l after : List ℕ) → after ≡ laid xs l → xs ≡ ys → length ys ≤ length l → after ≡ over ys l
-laid-as xs ys l after e same room = e ∙ ap (λ (x : List ℕ). laid x l) same ∙ laid-over ys l room
+pub laid-as : (xs ys l after : List ℕ) → after ≡ overwrite xs l → xs ≡ ys → length ys ≤ length l → after ≡ replaceFront ys l
+laid-as xs ys l after e same room = e ∙ ap (λ (x : List ℕ). overwrite x l) same ∙ overwrite-fits ys l room

@@ -16,7 +16,7 @@ use buffer::behind;
 use buffer::part;
 use buffer::put;
 use buffer::put_zeros;
-use buffer::word_bytes;
+use buffer::u32_bytes;
 use crc32c::checksum;
 use preamble::Header;
 use preamble::judge_header;
@@ -32,7 +32,7 @@ ghost use mathlib.Core.List.{_++_};
 ghost use Prim.Native.Nat.{_+_, _≤_};
 ghost use lib.ListN.{length};
 ghost use lib.Dec.{leb};
-ghost use Rattle.buffer.specs.Splice.{over};
+ghost use Rattle.buffer.specs.Splice.{replaceFront};
 ghost use Rattle.refusal.specs.Refusals.{judgedBy};
 ghost use Rattle.preamble.specs.Layout.{total, preambleBytes};
 ghost use Rattle.body.specs.Body.{restLength, firstSumLength, epilogueLength, bodyLength, wireLength, firstSum, lateByte, epilogue, body, restSent, frameBytes};
@@ -94,18 +94,18 @@ fn judge_banner(supported: u64, required: u64, space: usize, queued: usize) -> V
 
 fn put_preamble(out: &mut [u8], h: Header)
     requires { ⌜ 32 ≤ length (now out) ⌝ }
-    ensures { λ _. ⌜ now (out .exit) ≡ over (preambleBytes h) (now (out .entry)) ⌝ }
+    ensures { λ _. ⌜ now (out .exit) ≡ replaceFront (preambleBytes h) (now (out .entry)) ⌝ }
 {
     let front = preamble_front(h);
     put(out, &front);
-    let sum = word_bytes(checksum(0, &front));
+    let sum = u32_bytes(checksum(0, &front));
     put(&mut out[28..], &sum);
 }
 
 // Segment 1 and the checksum behind it.
 fn put_first(out: &mut [u8], revision: Revision, h: Header, first: &[u8])
     requires { ⌜ length (now first) + firstSumLength revision h ≤ length (now out) ⌝ }
-    ensures { λ _. ⌜ now (out .exit) ≡ over (now (first .entry) ++ firstSum revision h (now (first .entry))) (now (out .entry)) ⌝ }
+    ensures { λ _. ⌜ now (out .exit) ≡ replaceFront (now (first .entry) ++ firstSum revision h (now (first .entry))) (now (out .entry)) ⌝ }
 {
     let n = first.len();
     put(out, first);
@@ -114,19 +114,19 @@ fn put_first(out: &mut [u8], revision: Revision, h: Header, first: &[u8])
 
 fn put_first_sum(out: &mut [u8], revision: Revision, h: Header, first: &[u8])
     requires { ⌜ firstSumLength revision h ≤ length (now out) ⌝ }
-    ensures { λ _. ⌜ now (out .exit) ≡ over (firstSum revision h (now (first .entry))) (now (out .entry)) ⌝ }
+    ensures { λ _. ⌜ now (out .exit) ≡ replaceFront (firstSum revision h (now (first .entry))) (now (out .entry)) ⌝ }
 {
     if no_first_sum(revision, h) {
         return;
     }
-    let sum = word_bytes(segment_sum(first));
+    let sum = u32_bytes(segment_sum(first));
     put(out, &sum);
 }
 
 // The segments behind segment 1: as given, or zeros in an aborted frame.
 fn put_rest(out: &mut [u8], abort: bool, rest: &[u8])
     requires { ⌜ length (now rest) ≤ length (now out) ⌝ }
-    ensures { λ _. ⌜ now (out .exit) ≡ over (restSent abort (now (rest .entry))) (now (out .entry)) ⌝ }
+    ensures { λ _. ⌜ now (out .exit) ≡ replaceFront (restSent abort (now (rest .entry))) (now (out .entry)) ⌝ }
 {
     if abort {
         put_zeros(out, rest.len());
@@ -145,7 +145,7 @@ fn put_epilogue(
     rest: &[u8],
 )
     requires { ⌜ epilogueLength revision h ≤ length (now out) ⌝ }
-    ensures { λ _. ⌜ now (out .exit) ≡ over (epilogue revision h (lateByte revision abort) (now (first .entry)) (restSent abort (now (rest .entry)))) (now (out .entry)) ⌝ }
+    ensures { λ _. ⌜ now (out .exit) ≡ replaceFront (epilogue revision h (lateByte revision abort) (now (first .entry)) (restSent abort (now (rest .entry)))) (now (out .entry)) ⌝ }
 {
     if no_epilogue(revision, h) {
         return;
@@ -167,7 +167,7 @@ fn put_epilogue(
 // The body, from segment 1 and the others.
 fn put_body(out: &mut [u8], revision: Revision, h: Header, abort: bool, first: &[u8], rest: &[u8])
     requires { ⌜ (length (now first) ≡ h .s1 .len) × (length (now rest) ≡ restLength h) × (bodyLength revision h ≤ length (now out)) ⌝ }
-    ensures { λ _. ⌜ now (out .exit) ≡ over (body revision h (lateByte revision abort) (now (first .entry)) (restSent abort (now (rest .entry)))) (now (out .entry)) ⌝ }
+    ensures { λ _. ⌜ now (out .exit) ≡ replaceFront (body revision h (lateByte revision abort) (now (first .entry)) (restSent abort (now (rest .entry)))) (now (out .entry)) ⌝ }
 {
     let a = first.len() + first_sum_length(revision, h);
     let end = a + rest.len();
@@ -179,7 +179,7 @@ fn put_body(out: &mut [u8], revision: Revision, h: Header, abort: bool, first: &
 // A whole frame.
 fn put_frame(out: &mut [u8], revision: Revision, h: Header, abort: bool, source: &[u8])
     requires { ⌜ (length (now source) ≡ total h) × (wireLength revision h ≤ length (now out)) ⌝ }
-    ensures { λ _. ⌜ now (out .exit) ≡ over (frameBytes revision h abort (now (source .entry))) (now (out .entry)) ⌝ }
+    ensures { λ _. ⌜ now (out .exit) ≡ replaceFront (frameBytes revision h abort (now (source .entry))) (now (out .entry)) ⌝ }
 {
     put_preamble(out, h);
     let n = h.s1.len as usize;

@@ -11,7 +11,7 @@ use lib.Dec.{ltb, leb, eqb}
 use lib.ListN.{length, take, drop, getD, set, length-drop, length-append, drop-of-length-le}
 use lib.Seq.{getD-append-add, getD-drop, length-take-le, take-at, take-all, drop-cons, drop-drop, drop-length, set-at}
 use Rattle.buffer.proofs.Turn.{copy-more}
-use Rattle.buffer.specs.Splice.{back}
+use Rattle.buffer.proofs.Parts.{back}
 use Rattle.buffer.specs.Le.{numberAt}
 use Rattle.crc32c.specs.Crc.{crcOf}
 use Rattle.builder.specs.declared.Built.{Built}

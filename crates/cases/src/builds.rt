@@ -11,9 +11,9 @@ use crate::records::sized;
 use banner::Revision;
 use buffer::behind;
 use buffer::byte_at;
-use buffer::long_at;
+use buffer::u64_at;
 use buffer::part;
-use buffer::word_at;
+use buffer::u32_at;
 use builder::Built;
 use builder::build_banner;
 use builder::build_frame;
@@ -61,7 +61,7 @@ fn print_built(text: &mut [u8], at: usize, built: Built, sum: u32) -> usize
 fn banner_size(s: &[u8]) -> usize
     ensures { λ r. ⌜ r ≡ bannerSize (now (s .entry)) ⌝ }
 {
-    sized(word_at(s, 17) as usize <= LARGEST, 30)
+    sized(u32_at(s, 17) as usize <= LARGEST, 30)
 }
 
 pub(crate) fn banner_record(s: &[u8], space: &mut [u8], text: &mut [u8], at: usize) -> Step
@@ -72,10 +72,10 @@ pub(crate) fn banner_record(s: &[u8], space: &mut [u8], text: &mut [u8], at: usi
     if !is_whole(size, s) {
         return bad_record(text, at);
     }
-    let n = word_at(s, 17) as usize;
+    let n = u32_at(s, 17) as usize;
     let buf = &mut space[..n];
     count_up(buf, byte_at(s, 21));
-    let built = build_banner(buf, long_at(s, 22) as usize, long_at(s, 1), long_at(s, 9));
+    let built = build_banner(buf, u64_at(s, 22) as usize, u64_at(s, 1), u64_at(s, 9));
     let sum = checksum(0xFFFFFFFF, buf);
     Step {
         taken: size,
@@ -96,9 +96,9 @@ fn revision_of(b: u8) -> Revision
 fn frame_size(s: &[u8]) -> usize
     ensures { λ r. ⌜ r ≡ frameSize (now (s .entry)) ⌝ }
 {
-    let n = word_at(s, 42) as usize;
+    let n = u32_at(s, 42) as usize;
     let choices = both(byte_at(s, 1) <= 1, byte_at(s, 28) <= 1);
-    let lengths = both(word_at(s, 29) as usize <= LARGEST, n <= LARGEST);
+    let lengths = both(u32_at(s, 29) as usize <= LARGEST, n <= LARGEST);
     sized(both(choices, lengths), 46 + n)
 }
 
@@ -110,13 +110,13 @@ pub(crate) fn frame_record(s: &[u8], space: &mut [u8], text: &mut [u8], at: usiz
     if !is_whole(size, s) {
         return bad_record(text, at);
     }
-    let n = word_at(s, 29) as usize;
+    let n = u32_at(s, 29) as usize;
     let buf = &mut space[..n];
     count_up(buf, byte_at(s, 33));
-    let queued = long_at(s, 34) as usize;
+    let queued = u64_at(s, 34) as usize;
     let revision = revision_of(byte_at(s, 1));
     let header = read_header(behind(s, 2));
-    let source = part(s, 46, word_at(s, 42) as usize);
+    let source = part(s, 46, u32_at(s, 42) as usize);
     let abort = byte_at(s, 28) == 1;
     let built = build_frame(buf, queued, revision, header, abort, source);
     let sum = checksum(0xFFFFFFFF, buf);

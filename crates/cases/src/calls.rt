@@ -12,10 +12,10 @@ use banner::Features;
 use banner::Revision;
 use buffer::behind;
 use buffer::byte_at;
-use buffer::half_at;
-use buffer::long_at;
+use buffer::u16_at;
+use buffer::u64_at;
 use buffer::part;
-use buffer::word_at;
+use buffer::u32_at;
 use crc32c::checksum;
 use preamble::Header;
 use receiver::Received;
@@ -295,7 +295,7 @@ fn lent_at(lends: bool, s: &[u8], at: usize) -> usize
     ensures { λ r. ⌜ r ≡ lentAt lends (now (s .entry)) at ⌝ }
 {
     if lends {
-        return word_at(s, at + 4) as usize;
+        return u32_at(s, at + 4) as usize;
     }
     LARGEST
 }
@@ -305,7 +305,7 @@ fn call_at(lends: bool, s: &[u8], at: usize) -> Call
     ensures { λ r. ⌜ r ≡ callAt lends (now (s .entry)) at ⌝ }
 {
     Call {
-        piece: word_at(s, at) as usize,
+        piece: u32_at(s, at) as usize,
         lent: lent_at(lends, s, at),
     }
 }
@@ -379,9 +379,9 @@ fn calls_of(lends: bool, s: &[u8]) -> usize
     ensures { λ r. ⌜ (r ≡ callsOf lends (now (s .entry))) × (r ≤ 65535) ⌝ }
 {
     if lends {
-        return half_at(s, 23) as usize;
+        return u16_at(s, 23) as usize;
     }
-    half_at(s, 22) as usize
+    u16_at(s, 22) as usize
 }
 
 fn calls_at(lends: bool) -> usize
@@ -414,9 +414,9 @@ fn receiver_size(lends: bool, s: &[u8]) -> usize
 {
     let calls = calls_of(lends, s);
     let end = stream_at(lends, s);
-    let n = word_at(s, end) as usize;
+    let n = u32_at(s, end) as usize;
     let counts = both(no_switches(lends, s), calls <= CALLS);
-    let lengths = both(word_at(s, 17) as usize <= LARGEST, n <= STREAM);
+    let lengths = both(u32_at(s, 17) as usize <= LARGEST, n <= STREAM);
     let each = calls_good(lends, s, calls, calls_at(lends));
     sized(both(counts, both(lengths, each)), end + 4 + n)
 }
@@ -439,13 +439,13 @@ pub(crate) fn receiver_record(
     let calls = calls_of(lends, s);
     let from = calls_at(lends);
     let end = stream_at(lends, s);
-    let stream = part(s, end + 4, word_at(s, end) as usize);
-    let n = word_at(s, 17) as usize;
+    let stream = part(s, end + 4, u32_at(s, end) as usize);
+    let n = u32_at(s, 17) as usize;
     let store = &mut space[..n];
     count_up(store, byte_at(s, 21));
     let own = Features {
-        supported: long_at(s, 1),
-        required: long_at(s, 9),
+        supported: u64_at(s, 1),
+        required: u64_at(s, 9),
     };
     let started = start(own);
     let state = started.state;

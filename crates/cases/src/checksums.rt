@@ -6,7 +6,7 @@ use crate::records::is_whole;
 use crate::records::room;
 use crate::records::sized;
 use buffer::part;
-use buffer::word_at;
+use buffer::u32_at;
 use crc32c::checksum;
 use text::put_end;
 use text::put_hex;
@@ -19,7 +19,7 @@ ghost use Rattle.cases.specs.Checksums.{checksumSize, checksumLine, chec
 fn checksum_size(s: &[u8]) -> usize
     ensures { λ r. ⌜ r ≡ checksumSize (now (s .entry)) ⌝ }
 {
-    let n = word_at(s, 5) as usize;
+    let n = u32_at(s, 5) as usize;
     sized(n <= LARGEST, 9 + n)
 }
 
@@ -39,8 +39,8 @@ pub(crate) fn checksum_record(s: &[u8], text: &mut [u8], at: usize) -> Step
     if !is_whole(size, s) {
         return bad_record(text, at);
     }
-    let n = word_at(s, 5) as usize;
-    let sum = checksum(word_at(s, 1), part(s, 9, n));
+    let n = u32_at(s, 5) as usize;
+    let sum = checksum(u32_at(s, 1), part(s, 9, n));
     Step {
         taken: size,
         filled: print_checksum(text, at, sum),

@@ -10,7 +10,7 @@ use Rattle.crc_halves.specs.Square.{square}
 use Rattle.crc_halves.proofs.Squares.{square-steps}
 use Rattle.crc_steps.proofs.Linear.{steps-add, steps-none}
 use Rattle.crc32c.specs.Crc.{steps, crcByte, crcOf}
-use Rattle.crc32c.specs.Laws.{crc-append}
+use Rattle.crc32c.proofs.Laws.{crc-append}
 
 crc-zeros : (n c : ℕ) → crcOf c (replicate n 0) ≡ steps (8 * n) c
 unfolding crcOf

@@ -9,12 +9,12 @@ use lib.ListN.{length, take, drop, take-append-drop, length-drop}
 use lib.Pow.{low, mod-pow-add, pow-pos, shl-shr}
 use lib.Seq.{drop-drop, length-take-le, take-all}
 use Rattle.buffer.specs.Le.{Bytes, leOf, numberAt}
-use Rattle.buffer.specs.Splice.{rest, rest-is}
+use Rattle.buffer.proofs.Parts.{rest, rest-is}
 use Rattle.crc_steps.specs.Steps.{steps}
 use Rattle.crc_steps.proofs.Linear.{at-zero, interchange, steps-add, steps-none, steps-shifted, steps-split, steps-xor, xor-assoc}
 use Rattle.crc32c.specs.Crc.{crcByte, crcOf}
 use Rattle.crc32c.specs.Left.{Left, lanes, whole}
-use Rattle.crc32c.specs.Laws.{crc-append}
+use Rattle.crc32c.proofs.Laws.{crc-append}
 
 -- ---- the checksum is linear
 
@@ -91,10 +91,10 @@ begins start bs = record {
 }
 
 -- the bytes that the code lends for a word, and at the end
-abbrev pub word-at : ℕ → List ℕ → List ℕ
-word-at i bs = take (i + 4 - i) (drop i bs)
+abbrev pub u32-at : ℕ → List ℕ → List ℕ
+u32-at i bs = take (i + 4 - i) (drop i bs)
 
-pub word-length : (i : ℕ) (bs : List ℕ) → i + 4 ≤ length bs → length (word-at i bs) ≡ 4
+pub word-length : (i : ℕ) (bs : List ℕ) → i + 4 ≤ length bs → length (u32-at i bs) ≡ 4
 word-length i bs h = length-take-le (i + 4 - i) (drop i bs) (omega (arith, length-drop i bs)) ∙ omega arith
 
 pub rest-length : (i : ℕ) (bs : List ℕ) → length (rest bs i) ≡ length bs - i
@@ -102,7 +102,7 @@ rest-length i bs = ap length (rest-is bs i) ∙ length-drop i bs
 
 -- a word, mixed in as m
 module _ (start : ℕ) (bs : List ℕ) (a b c d i m : ℕ) (l : Left start bs a b c d i) (word : i + 4 ≤ length bs)
-    (mixed : steps (8 * length (word-at i bs)) m ≡ crcOf a (word-at i bs)) where
+    (mixed : steps (8 * length (u32-at i bs)) m ≡ crcOf a (u32-at i bs)) where
   abbrev r : List ℕ
   r = drop (i + 4) bs
 
@@ -176,10 +176,10 @@ module _ (start : ℕ) (bs : List ℕ) (a b c d i m : ℕ) (l : Left start bs a 
 
 -- two words, mixed in as m and o
 module _ (start : ℕ) (bs : List ℕ) (a b c d i m o : ℕ) (l : Left start bs a b c d i) (words : i + 8 ≤ length bs)
-    (first : steps (8 * length (word-at i bs)) m ≡ crcOf a (word-at i bs)) (second : steps (8 * length (word-at (i + 4) bs)) o ≡ crcOf b (word-at (i + 4) bs)) where
+    (first : steps (8 * length (u32-at i bs)) m ≡ crcOf a (u32-at i bs)) (second : steps (8 * length (u32-at (i + 4) bs)) o ≡ crcOf b (u32-at (i + 4) bs)) where
   pub pair : (x y : ℕ) → x ≡ steps 64 m → y ≡ steps 32 o → Left start bs (bitXor x (bitXor y c)) d 0 0 (i + 4 + 4)
   pair x y e f =
-      let w : List ℕ = word-at (i + 4) bs in
+      let w : List ℕ = u32-at (i + 4) bs in
       let z : ℕ = steps 32 m in
       let one : Left start bs (bitXor z b) c d 0 (i + 4) = near start bs a b c d i m l (omega arith) first z refl in
       let both : steps (8 * length w) (bitXor z o) ≡ crcOf (bitXor z b) w =

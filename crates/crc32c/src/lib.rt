@@ -1,5 +1,5 @@
 // CRC32-C by tables, from any start value and with no complement at the end: four words at a time, and a run of zeros by halving its length.
-use buffer::word_at;
+use buffer::u32_at;
 use crc_halves::root_of;
 use crc_halves::square_of;
 use crc_steps_32::steps_32;
@@ -24,7 +24,7 @@ fn mixed(c: u32, group: &[u8]) -> u32
     requires { ⌜ length (now group) ≤ 4 ⌝ }
     ensures { λ r. ⌜ steps (8 * length (now (group .entry))) r ≡ crcOf c (now (group .entry)) ⌝ }
 {
-    c ^ word_at(group, 0)
+    c ^ u32_at(group, 0)
 }
 
 // The last bytes, fewer than four.

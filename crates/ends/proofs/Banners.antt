@@ -16,7 +16,7 @@ use Rattle.stream.specs.declared.Event.the-variants.{Banner}
 use Rattle.stream.specs.Stream.{Trace, after, frames, payloadOf, peerOf, streamTrace, traceOf}
 use Rattle.receiver.proofs.Streams.{long-enough}
 use Rattle.ends.specs.Handed.{UpTo}
-use Rattle.ends.proofs.Locality.{number-append}
+use Rattle.buffer.proofs.Numbers.{number-append}
 use Rattle.ends.proofs.Concatenation.{joined, frames-go}
 
 -- the banner at the front of a stream is there and fits our features

@@ -7,7 +7,8 @@ use native.Mathlib.Omega.{arith}
 use native.Mathlib.Nat.{add-zero}
 use lib.ListN.{length, take, drop, length-append, take-append-drop}
 use lib.Seq.{take-at, drop-at, drop-append-le, length-take-le}
-use Rattle.buffer.specs.Splice.{splice, length-splice, splice-next}
+use Rattle.buffer.specs.Splice.{splice}
+use Rattle.buffer.proofs.Parts.{length-splice, splice-next}
 use Rattle.refusal.specs.Refusals.{Judged, fine, refused}
 use Rattle.refusal.proofs.Judgements.{all-fine}
 use Rattle.banner.specs.declared.Revision.{Revision}

@@ -26,7 +26,7 @@ use Rattle.body.specs.End as end
 use Rattle.body.specs.End.{Ended, whole, dropped, byLate, lateOf, segmentBytes, stored, ending}
 use Rattle.stream.specs.Stream.{firstWrong}
 use Rattle.receiver.proofs.Booleans.{both-left}
-use Rattle.receiver.proofs.Placed.{number-take, number-drop}
+use Rattle.buffer.proofs.Numbers.{number-take, number-drop}
 use Rattle.ends.specs.Handed.{headerIn, segmentOf, latePlace, sumPlace, lateIn, compared, CheckedPreamble, Checked, CheckedFirst}
 use Rattle.ends.proofs.Locality.{Judges, JudgesFirst}
 use Rattle.ends.proofs.Sums.{every-sum, all-sums}

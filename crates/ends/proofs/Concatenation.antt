@@ -6,7 +6,8 @@ use mathlib.Core.Bool.{Bool, true, false}
 use native.Mathlib.Omega.{arith}
 use native.Mathlib.Nat.{add-zero}
 use lib.ListN.{length, take, drop, replicate, length-append, length-drop, length-replicate}
-use Rattle.buffer.specs.Splice.{over, length-over}
+use Rattle.buffer.specs.Splice.{replaceFront}
+use Rattle.buffer.proofs.Parts.{length-replaceFront}
 use Rattle.banner.specs.declared.Revision.{Revision}
 use Rattle.preamble.specs.declared.Header.{Header}
 use Rattle.preamble.specs.Layout.{total}
@@ -28,7 +29,7 @@ none (suc f) r P s = refl
 
 -- the end of a frame, by its continuation
 at-end : (x : Ended) (h : Header) (at : ℕ) (s p : List ℕ) (next next′ : List ℕ → Trace) → ((t : List ℕ) → next t ≡ next′ t) → atEnd x h at s p next ≡ atEnd x h at s p next′
-at-end whole h at s p next next′ e = ap (after _ at (over p s)) (e (over p s))
+at-end whole h at s p next next′ e = ap (after _ at (replaceFront p s)) (e (replaceFront p s))
 at-end dropped h at s p next next′ e = ap (after _ at (zeroed h s)) (e (zeroed h s))
 at-end (turnedAway n) h at s p next next′ e = refl
 
@@ -146,9 +147,9 @@ module _ (f : ℕ) (ih : Lower f) (r : Revision) (P : ℕ) (X Y s : List ℕ) (e
       let t = total h in
       let c : length (segmentBytes r h (drop 32 X)) ≡ t = length-segments r h (drop 32 X) [] (j .long) in
       let e = frame-trace f P X s j in
-      goes-step f ih r P X Y s (isEarly r h) (Frame h) (P + wireLength r h) X′ (over (segmentBytes r h (drop 32 X)) s) e (λ g. frame-trace-more g P X Y s j)
+      goes-step f ih r P X Y s (isEarly r h) (Frame h) (P + wireLength r h) X′ (replaceFront (segmentBytes r h (drop 32 X)) s) e (λ g. frame-trace-more g P X Y s j)
       (frame-place (j .front) (j .long)) (frame-less (j .front) (j .long)) enough
-      (length-over (segmentBytes r h (drop 32 X)) s (let a : total h ≤ length s = store-fits (accepted-preamble (take 32 X) (length s) (j .accepted) .store) in omega arith))
+      (length-replaceFront (segmentBytes r h (drop 32 X)) s (let a : total h ≤ length s = store-fits (accepted-preamble (take 32 X) (length s) (j .accepted) .store) in omega arith))
       (early-up (isEarly r h) (P + length X) P X s _ (rw e at up))
 
   goes-dropped : Judges dropped r X (length s) → FramesUpTo (P + length X) P (frames (suc f) r P X s .entries) → Goes (suc f) r P X Y s
@@ -157,7 +158,7 @@ module _ (f : ℕ) (ih : Lower f) (r : Revision) (P : ℕ) (X Y s : List ℕ) (e
       let e = frame-trace f P X s j in
       goes-step f ih r P X Y s (isEarly r h) (Dropped h) (P + wireLength r h) X′ (zeroed h s) e (λ g. frame-trace-more g P X Y s j)
       (frame-place (j .front) (j .long)) (frame-less (j .front) (j .long)) enough
-      (length-over (replicate (total h) 0) s (let a : total h ≤ length s = store-fits (accepted-preamble (take 32 X) (length s) (j .accepted) .store) in omega arith))
+      (length-replaceFront (replicate (total h) 0) s (let a : total h ≤ length s = store-fits (accepted-preamble (take 32 X) (length s) (j .accepted) .store) in omega arith))
       (early-up (isEarly r h) (P + length X) P X s _ (rw e at up))
 
   goes-seen : Seen r P X s → FramesUpTo (P + length X) P (frames (suc f) r P X s .entries) → Goes (suc f) r P X Y s

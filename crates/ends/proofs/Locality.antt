@@ -8,8 +8,8 @@ use lib.ListN.{length, take, drop, length-append, length-drop, List·getD-append
 use lib.Seq.{take-append-le, drop-append-le, length-take-le}
 use lib.Dec.{leb, ltb}
 use borrow.Author.Tests.{le-ltb, ltb-false, le-leb, leb-true}
-use Rattle.buffer.specs.Le.{leOf, numberAt}
-use Rattle.buffer.specs.Splice.{over}
+use Rattle.buffer.proofs.Numbers.{number-append}
+use Rattle.buffer.specs.Splice.{replaceFront}
 use Rattle.refusal.specs.declared.Numbers.{Numbers}
 use Rattle.refusal.specs.declared.Refusal.the-variants as refusal
 use Rattle.refusal.specs.Refusals.{Judged, fine, refused, numbersOf}
@@ -24,12 +24,6 @@ use Rattle.stream.specs.Stream.{Trace, ended, refusedAt, zeroed, firstWrong, fi
 use Rattle.receiver.proofs.Booleans.{wrong}
 use Rattle.receiver.proofs.Frames.{ending-none}
 use Rattle.ends.specs.Handed.{headerIn, isEarly}
-
-pub number-append : (w i : ℕ) (xs ys : List ℕ) → i + w ≤ length xs → numberAt w i (xs ++ ys) ≡ numberAt w i xs
-unfolding numberAt
-number-append w i xs ys h =
-    let l = length-drop i xs in
-    ap (λ (t : List ℕ). leOf (take w t)) (drop-append-le i xs ys (omega arith)) ∙ ap leOf (take-append-le w (drop i xs) ys (omega arith))
 
 -- ---- a body's bytes b, and y behind them
 
@@ -186,7 +180,7 @@ module _ (r : Revision) (X Y : List ℕ) (l₁ : 32 ≤ length X) (l₂ : bodyLe
 
 -- behind segment 1's early report, where c says that there is one
 abbrev pub behindEarly : Bool → ℕ → List ℕ → List ℕ → Trace → Trace
-behindEarly c P X s t = reportedFirst c (headerIn X) (P + 36 + headerIn X .s1 .len) (over (take (headerIn X .s1 .len) (drop 32 X)) s) t
+behindEarly c P X s t = reportedFirst c (headerIn X) (P + 36 + headerIn X .s1 .len) (replaceFront (take (headerIn X .s1 .len) (drop 32 X)) s) t
 
 -- a whole frame
 pub frame-trace : {x : Ended} {r : Revision} (f P : ℕ) (X s : List ℕ) → Judges x r X (length s)
@@ -215,7 +209,7 @@ frame-trace-more {x} {r} f P X Y s j =
 -- an early report
 abbrev pub restTrace : ℕ → Revision → ℕ → List ℕ → List ℕ → Trace
 restTrace f r P X s =
-    cond (ltb (length (drop 32 X)) (bodyLength r (headerIn X))) (ended (over (segmentBytes r (headerIn X) (drop 32 X)) s))
+    cond (ltb (length (drop 32 X)) (bodyLength r (headerIn X))) (ended (replaceFront (segmentBytes r (headerIn X) (drop 32 X)) s))
     (atEnd (ending r (headerIn X) (drop (total (headerIn X) + firstSumLength r (headerIn X)) (drop 32 X)) (segmentBytes r (headerIn X) (drop 32 X))) (headerIn X)
     (P + wireLength r (headerIn X)) s (segmentBytes r (headerIn X) (drop 32 X)) (λ t. frames f r (P + wireLength r (headerIn X)) (drop (32 + bodyLength r (headerIn X)) X) t))
 
@@ -251,7 +245,7 @@ module _ (r : Revision) (P : ℕ) (X s : List ℕ) where
   by-length : 32 ≤ length X → judgePreamble (take 32 X) (length s) ≡ fine → firstWrong r h b ≡ false → (c : Bool) → ltb (length b) (bodyLength r h) ≡ c → Seen r P X s
   unfolding frames
   by-length l a w true e =
-      nothing (firstReported r h b) (over (segmentBytes r h b) s)
+      nothing (firstReported r h b) (replaceFront (segmentBytes r h b) s)
       (λ q. let p = reported-parts r h b q in record { front = l; accepted = a; first = w; early = p .0; long = p .1 })
       (λ f. rw (le-ltb (length X) 32 l, a, w, e))
   by-length l a w false e = by-end l a w (ltb-false (length b) (bodyLength r h) e) ends refl

@@ -4,13 +4,14 @@ use mathlib.Core.List.{List, [], _∷_, _++_, append-nil}
 use mathlib.Core.Path.{_≡_, refl, sym, ap, ap₂, _∙_}
 use mathlib.Core.Bool.{Bool, true, false, not, cond, true≢false}
 use native.Mathlib.Omega.{arith}
-use lib.ListN.{length, take, drop, getD, replicate, length-append, length-drop, length-take, length-replicate, take-append-drop, drop-of-length-le, getD-replicate, List·getD-eq-default}
-use lib.Seq.{take-at, drop-at, take-append-le, drop-append-le, getD-take, getD-drop, length-take-le}
-use lib.Dec.{lit<, leb, ltb, eqb}
-use borrow.Author.Tests.{ltb-true, ltb-false, le-leb, leb-true, eq-eqb, eqb-true}
-use Rattle.buffer.specs.Splice.{over}
-use Rattle.buffer.specs.Le.{le, leOf, numberAt, leOf-le, Bytes}
-use Rattle.crc32c.specs.Laws.{crc-lt}
+use lib.ListN.{length, take, drop, length-append, length-drop, take-append-drop, drop-of-length-le}
+use lib.Seq.{take-at, drop-at, take-append-le, drop-append-le, length-take-le}
+use lib.Dec.{lit<, leb, eqb}
+use borrow.Author.Tests.{le-leb, leb-true, eq-eqb, eqb-true}
+use Rattle.buffer.specs.Splice.{replaceFront}
+use Rattle.buffer.specs.Le.{le, leOf, numberAt, Bytes}
+use Rattle.buffer.proofs.Numbers.{leOf-le, number-append, bytes-take, bytes-drop, bytes-zeros}
+use Rattle.crc32c.proofs.Laws.{crc-lt}
 use Rattle.refusal.specs.declared.Refusal.the-variants as refusal
 use Rattle.refusal.specs.Refusals.{fine, orElse}
 use Rattle.refusal.proofs.Judgements.{all-fine, passed}
@@ -32,34 +33,10 @@ use Rattle.builder.proofs.Accepted.{Accepted}
 use Rattle.stream.specs.declared.Event.the-variants.{Frame, Dropped}
 use Rattle.stream.specs.Stream.{Trace, after, reportedFirst, zeroed, firstWrong, atEnd, frames}
 use Rattle.ends.specs.Handed.{isEarly}
-use Rattle.ends.proofs.Locality.{number-append, Judges, frame-trace-more}
+use Rattle.ends.proofs.Locality.{Judges, frame-trace-more}
 use Rattle.ends.proofs.Sums.{same-sums}
 use Rattle.ends.proofs.Checks.{first-fine}
 
--- ---- bytes
-
-bytes-take : (n : ℕ) {l : List ℕ} → Bytes l → Bytes (take n l)
-bytes-take n {l} h = record { at = λ i. go i (ltb i n) refl }
-  where
-    go : (i : ℕ) (c : Bool) → ltb i n ≡ c → getD (take n l) i 0 < 256
-    go i true c = rw (getD-take n l i 0 (ltb-true i n c)) (h .at i)
-    go i false c =
-        let k = ltb-false i n c in
-        let m = length-take n l in
-        rw (List·getD-eq-default (take n l) 0 {n = i} (omega arith)) (lit< tt)
-
-bytes-drop : (n : ℕ) {l : List ℕ} → Bytes l → Bytes (drop n l)
-bytes-drop n {l} h = record { at = λ i. rw (getD-drop n l i 0) (h .at (n + i)) }
-
-bytes-zeros : (n : ℕ) → Bytes (replicate n 0)
-bytes-zeros n = record { at = λ i. go i (ltb i n) refl }
-  where
-    go : (i : ℕ) (c : Bool) → ltb i n ≡ c → getD (replicate n 0) i 0 < 256
-    go i true c = rw (getD-replicate {A = ℕ} n i 0 0 (ltb-true i n c)) (lit< tt)
-    go i false c =
-        let k = ltb-false i n c in
-        let m = length-replicate {A = ℕ} n 0 in
-        rw (List·getD-eq-default {A = ℕ} (replicate n 0) 0 {n = i} (omega arith)) (lit< tt)
 
 sum-lt : {l : List ℕ} → Bytes l → segmentSum l < 2 ^ 32
 sum-lt {l} h = crc-lt 0xFFFFFFFF l (lit< tt) (h .at)
@@ -319,20 +296,20 @@ module _ {space queued : ℕ} (r : Revision) (h : Header) (abort : Bool) (source
 -- the end, by how the frame was built
 end-as : (h : Header) (abort : Bool) (at : ℕ) (s source : List ℕ) (next : List ℕ → Trace)
     → atEnd (ends-as abort) h at s (take (h .s1 .len) source ++ restSent abort (drop (h .s1 .len) source)) next
-    ≡ after (cond abort (Dropped h) (Frame h)) at (cond abort (zeroed h s) (over source s)) (next (cond abort (zeroed h s) (over source s)))
+    ≡ after (cond abort (Dropped h) (Frame h)) at (cond abort (zeroed h s) (replaceFront source s)) (next (cond abort (zeroed h s) (replaceFront source s)))
 end-as h true at s source next = refl
-end-as h false at s source next = ap (λ (p : List ℕ). after (Frame h) at (over p s) (next (over p s))) (take-append-drop (h .s1 .len) source)
+end-as h false at s source next = ap (λ (p : List ℕ). after (Frame h) at (replaceFront p s) (next (replaceFront p s))) (take-append-drop (h .s1 .len) source)
 
 -- the definition reports it, and goes on behind it
 pub built-trace : {space queued : ℕ} (f : ℕ) (r : Revision) (P : ℕ) (h : Header) (abort : Bool) (source Y s : List ℕ)
     → Accepted r h abort (length source) space queued → HeaderFits h → Bytes source → total h ≤ length s
     → frames (suc f) r P (frameBytes r h abort source ++ Y) s
-    ≡ reportedFirst (isEarly r h) h (P + 36 + h .s1 .len) (over (take (h .s1 .len) source) s)
-    (after (cond abort (Dropped h) (Frame h)) (P + wireLength r h) (cond abort (zeroed h s) (over source s)) (frames f r (P + wireLength r h) Y (cond abort (zeroed h s) (over source s))))
+    ≡ reportedFirst (isEarly r h) h (P + 36 + h .s1 .len) (replaceFront (take (h .s1 .len) source) s)
+    (after (cond abort (Dropped h) (Frame h)) (P + wireLength r h) (cond abort (zeroed h s) (replaceFront source s)) (frames f r (P + wireLength r h) Y (cond abort (zeroed h s) (replaceFront source s))))
 built-trace f r P h abort source Y s a fits bytes room =
     let X : List ℕ = frameBytes r h abort source in
     let t = frame-trace-more f P X Y s (judges r h abort source a fits bytes (length s) room) in
     let e = length-X r h abort source a fits bytes in
     let z : drop (32 + bodyLength r h) X ≡ [] = drop-of-length-le X {i = 32 + bodyLength r h} (omega arith) in
     rw (header-is r h abort source a fits bytes (length s) room, segments-back r h abort source a fits bytes, first-back r h abort source a fits bytes, z) at t
-    ∙ ap (reportedFirst (isEarly r h) h (P + 36 + h .s1 .len) (over (take (h .s1 .len) source) s)) (end-as h abort (P + wireLength r h) s source (λ t. frames f r (P + wireLength r h) Y t))
+    ∙ ap (reportedFirst (isEarly r h) h (P + 36 + h .s1 .len) (replaceFront (take (h .s1 .len) source) s)) (end-as h abort (P + wireLength r h) s source (λ t. frames f r (P + wireLength r h) Y t))

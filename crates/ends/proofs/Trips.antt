@@ -8,8 +8,10 @@ use native.Mathlib.Nat.{add-zero}
 use lib.ListN.{length, take, drop, replicate, length-append, length-replicate}
 use lib.Dec.{lit≤, ltb, eqb}
 use borrow.Author.Tests.{ltb-true}
-use Rattle.buffer.specs.Le.{numberAt, leOf-le}
-use Rattle.buffer.specs.Splice.{over, splice, length-over, length-splice, splice-next}
+use Rattle.buffer.specs.Le.{numberAt}
+use Rattle.buffer.proofs.Numbers.{leOf-le}
+use Rattle.buffer.specs.Splice.{replaceFront, splice}
+use Rattle.buffer.proofs.Parts.{length-replaceFront, length-splice, splice-next}
 use Rattle.refusal.specs.declared.Refusal.the-variants as refusal
 use Rattle.refusal.specs.Refusals.{fine}
 use Rattle.refusal.proofs.Judgements.{passed}
@@ -43,8 +45,8 @@ build-entries f k r P buf queued b Y s p room hf hk =
     let Q = P + wireLength r h in
     ap (λ (t : Trace). t .entries)
     (built-trace f r P h (b .abort) (b .source) Y s (appended r buf queued b p .request) (p .header) (p .source) room
-    ∙ ap (λ (t : Trace). reportedFirst (isEarly r h) h (P + 36 + h .s1 .len) (over (take (h .s1 .len) (b .source)) s) (after (eventOf b) Q (storeAfter b s) t)) (fuel f k r Q Y (storeAfter b s) hf hk))
-    ∙ early (isEarly r h) (over (take (h .s1 .len) (b .source)) s) (frames k r Q Y (storeAfter b s))
+    ∙ ap (λ (t : Trace). reportedFirst (isEarly r h) h (P + 36 + h .s1 .len) (replaceFront (take (h .s1 .len) (b .source)) s) (after (eventOf b) Q (storeAfter b s) t)) (fuel f k r Q Y (storeAfter b s) hf hk))
+    ∙ early (isEarly r h) (replaceFront (take (h .s1 .len) (b .source)) s) (frames k r Q Y (storeAfter b s))
   where
     early : (c : Bool) (s₁ : List ℕ) (t : Trace)
         → reportedFirst c (b .header) (P + 36 + b .header .s1 .len) s₁ (after (eventOf b) (P + wireLength r (b .header)) (storeAfter b s) t) .entries
@@ -80,9 +82,9 @@ round-trip own front store r up buf queued b p room behind cs ch t =
 kept-length : (b : Build) (s : List ℕ) → length (b .source) ≡ total (b .header) → total (b .header) ≤ length s → length (storeAfter b s) ≡ length s
 kept-length b s e h = go (b .abort)
   where
-    go : (c : Bool) → length (cond c (zeroed (b .header) s) (over (b .source) s)) ≡ length s
-    go true = (let z = length-replicate {A = ℕ} (total (b .header)) 0 in length-over (replicate (total (b .header)) 0) s (omega arith))
-    go false = length-over (b .source) s (omega arith)
+    go : (c : Bool) → length (cond c (zeroed (b .header) s) (replaceFront (b .source) s)) ≡ length s
+    go true = (let z = length-replicate {A = ℕ} (total (b .header)) 0 in length-replaceFront (replicate (total (b .header)) 0) s (omega arith))
+    go false = length-replaceFront (b .source) s (omega arith)
 
 builds-entries : (f k : ℕ) (r : Revision) (P : ℕ) (buf : List ℕ) (queued : ℕ) (bs : List Build) (Y s : List ℕ) → Queued r buf queued bs → Fitting (length s) bs
     → length (allBytes r bs ++ Y) ≤ f → length Y ≤ k

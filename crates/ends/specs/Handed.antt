@@ -8,7 +8,7 @@ use Prim.Native.Nat.{ℕ, zero, suc, _+_, _-_, _*_, _≤_, _<_}
 use lib.ListN.{length, take, drop, getD}
 use lib.Dec.{ltb, eqb}
 use Rattle.buffer.specs.Le.{numberAt}
-use Rattle.buffer.specs.Splice.{over}
+use Rattle.buffer.specs.Splice.{replaceFront}
 use Rattle.crc32c.specs.Crc.{crcOf}
 use Rattle.refusal.specs.Refusals.{fine}
 use Rattle.banner.specs.declared.Features.{Features}
@@ -157,11 +157,11 @@ pub record Exactly (revision : Revision) (P : ℕ) (X s : List ℕ) (es : List E
   -- segment 1 is reported early if and only if its checks hold: with the frame's fields, at its checksum's last byte, its bytes at the store's front
   pub first : firstIs isFirst es ≡ true ↔ CheckedFirst revision X (length s)
   pub firsts : firstIs isFirst es ≡ true
-      → (later : List Entry) × (es ≡ entry (First (headerIn X)) (P + 36 + headerIn X .s1 .len) (over (take (headerIn X .s1 .len) (drop 32 X)) s) ∷ later)
+      → (later : List Entry) × (es ≡ entry (First (headerIn X)) (P + 36 + headerIn X .s1 .len) (replaceFront (take (headerIn X .s1 .len) (drop 32 X)) s) ∷ later)
   -- behind that, a frame is reported if and only if the checks hold: with its fields, at its last byte, its segments at the store's front
   pub handed : firstIs isFrame (behindFirst es) ≡ true ↔ Checked late.Complete revision X (length s)
   pub frames : firstIs isFrame (behindFirst es) ≡ true
-      → (later : List Entry) × (behindFirst es ≡ entry (Frame (headerIn X)) (P + wireLength revision (headerIn X)) (over (segmentBytes revision (headerIn X) (drop 32 X)) s) ∷ later)
+      → (later : List Entry) × (behindFirst es ≡ entry (Frame (headerIn X)) (P + wireLength revision (headerIn X)) (replaceFront (segmentBytes revision (headerIn X) (drop 32 X)) s) ∷ later)
   -- and a drop, with zeros in the store's first T bytes
   pub dropped : firstIs isDrop (behindFirst es) ≡ true ↔ Checked late.Aborted revision X (length s)
   pub drops : firstIs isDrop (behindFirst es) ≡ true

@@ -5,7 +5,7 @@ use mathlib.Core.Bool.{Bool, cond}
 use Prim.Native.Nat.{ℕ, _+_, _-_, _≤_}
 use lib.ListN.{length, take, drop}
 use Rattle.buffer.specs.Le.{Bytes}
-use Rattle.buffer.specs.Splice.{over}
+use Rattle.buffer.specs.Splice.{replaceFront}
 use Rattle.banner.specs.declared.Features.{Features}
 use Rattle.banner.specs.declared.Revision.{Revision}
 use Rattle.banner.specs.Banner.{judgeOwn}
@@ -45,12 +45,12 @@ abbrev pub eventOf : Build → Event
 eventOf b = cond (b .abort) (Dropped (b .header)) (Frame (b .header))
 
 abbrev pub storeAfter : Build → List ℕ → List ℕ
-storeAfter b s = cond (b .abort) (zeroed (b .header) s) (over (b .source) s)
+storeAfter b s = cond (b .abort) (zeroed (b .header) s) (replaceFront (b .source) s)
 
 -- before it, segment 1 early, from byte P on
 abbrev pub earlyEntry : Revision → ℕ → List ℕ → Build → List Entry
 earlyEntry revision P s b =
-    cond (isEarly revision (b .header)) (entry (First (b .header)) (P + 36 + b .header .s1 .len) (over (take (b .header .s1 .len) (b .source)) s) ∷ []) []
+    cond (isEarly revision (b .header)) (entry (First (b .header)) (P + 36 + b .header .s1 .len) (replaceFront (take (b .header .s1 .len) (b .source)) s) ∷ []) []
 
 -- all entries of the build
 abbrev pub entriesOf : Revision → ℕ → List ℕ → Build → List Entry

@@ -10,7 +10,7 @@ use lib.Dec.{leb}
 use borrow.Author.Tests.{leb-true, leb-false}
 use lib.ListN.{length, take, set, getD}
 use lib.Seq.{take-suc, take-all, length-take-le}
-use Rattle.buffer.specs.Splice.{over}
+use Rattle.buffer.specs.Splice.{replaceFront}
 use Rattle.fields.specs.Writing.{putAt}
 
 pub put-none : (at : ℕ) (l : List ℕ) → putAt at [] l ≡ l
@@ -60,7 +60,7 @@ put-cut zero (suc n) (x ∷ xs) (y ∷ l) h = ap (λ (t : List ℕ). x ∷ t) (p
 put-cut (suc at) n xs (y ∷ l) h = ap (λ (t : List ℕ). y ∷ t) (put-cut at n xs l (omega arith))
 
 -- with room, all of it is at the front
-pub put-over : (xs l : List ℕ) → length xs ≤ length l → putAt 0 xs l ≡ over xs l
+pub put-over : (xs l : List ℕ) → length xs ≤ length l → putAt 0 xs l ≡ replaceFront xs l
 unfolding putAt
 put-over [] [] h = refl
 put-over [] (y ∷ l) h = refl

@@ -1,9 +1,9 @@
 // Fields of control frames' bodies: a cursor by value that reads them one by one, and a draft by value that appends them to a buffer.
 use buffer::byte_at;
-use buffer::less;
-use buffer::long_at;
-use buffer::word_at;
-use buffer::word_bytes;
+use buffer::min;
+use buffer::u64_at;
+use buffer::u32_at;
+use buffer::u32_bytes;
 use preamble::SEGMENT_LIMIT;
 ghost use mathlib.Core.Path.{_≡_};
 ghost use mathlib.Core.Bool.{true, cond};
@@ -66,7 +66,7 @@ pub struct SpanStep {
 fn remaining(s: &[u8], at: usize) -> usize
     ensures { λ r. ⌜ r ≡ length (now (s .entry)) - at ⌝ }
 {
-    s.len() - less(at, s.len())
+    s.len() - min(at, s.len())
 }
 
 // Past w bytes.
@@ -97,7 +97,7 @@ fn skip_negative(s: &[u8], c: Cursor) -> Cursor
         return c;
     }
     let at = c.at;
-    if word_at(s, at) < 2147483648 {
+    if u32_at(s, at) < 2147483648 {
         Cursor {
             at: at,
             failed: true,
@@ -114,7 +114,7 @@ fn skip_list(s: &[u8], c: Cursor) -> Cursor
         return c;
     }
     let at = c.at;
-    let n = word_at(s, at) as usize;
+    let n = u32_at(s, at) as usize;
     if 32 < n {
         return Cursor {
             at: at,
@@ -139,7 +139,7 @@ fn skip_payload(s: &[u8], c: Cursor) -> Cursor
     ensures { λ r. ⌜ r ≡ stepOf size (now (s .entry)) c ⌝ }
 {
     let at = c.at;
-    skip(s, c, 4 + word_at(s, at) as usize)
+    skip(s, c, 4 + u32_at(s, at) as usize)
 }
 
 fn skip_rest(s: &[u8], c: Cursor, closing: usize) -> Cursor
@@ -188,7 +188,7 @@ pub fn read_u32(s: &[u8], c: Cursor) -> U32Step
 {
     let at = c.at;
     U32Step {
-        value: word_at(s, at),
+        value: u32_at(s, at),
         next: skip(s, c, 4),
     }
 }
@@ -198,7 +198,7 @@ pub fn read_u64(s: &[u8], c: Cursor) -> U64Step
 {
     let at = c.at;
     U64Step {
-        value: long_at(s, at),
+        value: u64_at(s, at),
         next: skip(s, c, 8),
     }
 }
@@ -209,7 +209,7 @@ pub fn read_negative(s: &[u8], c: Cursor) -> U32Step
 {
     let at = c.at;
     U32Step {
-        value: word_at(s, at),
+        value: u32_at(s, at),
         next: skip_negative(s, c),
     }
 }
@@ -218,7 +218,7 @@ pub fn read_negative(s: &[u8], c: Cursor) -> U32Step
 fn behind_count(s: &[u8], at: usize) -> usize
     ensures { λ r. ⌜ drop r (now (s .entry)) ≡ drop (at + 4) (now (s .entry)) ⌝ }
 {
-    less(at, s.len()) + 4
+    min(at, s.len()) + 4
 }
 
 // A 32-bit count, at most 32, and that many 32-bit numbers.
@@ -229,7 +229,7 @@ pub fn read_list(s: &[u8], c: Cursor) -> ListStep
     ListStep {
         value: NumberList {
             at: behind_count(s, at),
-            count: word_at(s, at),
+            count: u32_at(s, at),
         },
         next: skip_list(s, c),
     }
@@ -240,7 +240,7 @@ pub fn read_payload(s: &[u8], c: Cursor) -> SpanStep
     ensures { λ r. ⌜ Took size (now (s .entry)) c (sized (spanIn (now (s .entry)) (r .value))) (r .next) ⌝ }
 {
     let at = c.at;
-    let n = word_at(s, at) as usize;
+    let n = u32_at(s, at) as usize;
     SpanStep {
         value: Span {
             at: behind_count(s, at),
@@ -255,11 +255,11 @@ pub fn read_rest(s: &[u8], c: Cursor, closing: usize) -> SpanStep
     ensures { λ r. ⌜ Took (rest closing) (now (s .entry)) c (opaque closing (spanIn (now (s .entry)) (r .value))) (r .next) ⌝ }
 {
     let at = c.at;
-    let end = s.len() - less(closing, s.len());
+    let end = s.len() - min(closing, s.len());
     SpanStep {
         value: Span {
             at: at,
-            len: end - less(at, end),
+            len: end - min(at, end),
         },
         next: skip_rest(s, c, closing),
     }
@@ -282,7 +282,7 @@ pub fn number_in(s: &[u8], l: NumberList, i: u32) -> u32
 {
     if i < l.count {
         let at = l.at;
-        return word_at(s, less(at, s.len()) + 4 * (i as usize));
+        return u32_at(s, min(at, s.len()) + 4 * (i as usize));
     }
     0
 }
@@ -346,8 +346,8 @@ fn count(p: Draft, sound: bool, into: usize, n: usize) -> Draft
 fn put_at(out: &mut [u8], at: usize, src: &[u8])
     ensures { λ _. ⌜ now (out .exit) ≡ putAt at (now (src .entry)) (now (out .entry)) ⌝ }
 {
-    let room = out.len() - less(at, out.len());
-    let n = less(src.len(), room);
+    let room = out.len() - min(at, out.len());
+    let n = min(src.len(), room);
     let mut i = 0;
     while i < n {
         out[at + i] = src[i];
@@ -412,7 +412,7 @@ pub fn append_u8(out: &mut [u8], p: Draft, n: u8) -> Draft
 pub fn append_u32(out: &mut [u8], p: Draft, n: u32) -> Draft
     ensures { λ q. ⌜ Appended (number 4 n) p (now (out .entry)) q (now (out .exit)) ⌝ }
 {
-    let b = word_bytes(n);
+    let b = u32_bytes(n);
     put(out, p, true, 0, &b)
 }
 
@@ -427,7 +427,7 @@ pub fn append_u64(out: &mut [u8], p: Draft, n: u64) -> Draft
 pub fn append_negative(out: &mut [u8], p: Draft, n: u32) -> Draft
     ensures { λ q. ⌜ Appended (negative n) p (now (out .entry)) q (now (out .exit)) ⌝ }
 {
-    let b = word_bytes(n);
+    let b = u32_bytes(n);
     put(out, p, 2147483648 <= n, 0, &b)
 }
 

@@ -7,7 +7,7 @@ use native.Mathlib.Omega.{arith}
 use borrow.Author.Tests.{le-leb, lt-leb}
 use lib.ListN.{length, take, replicate}
 use lib.Seq.{length-take-le}
-use Rattle.buffer.specs.Splice.{over}
+use Rattle.buffer.specs.Splice.{replaceFront}
 use Rattle.refusal.specs.Refusals.{fine, row}
 use Rattle.aes.specs.Aes.{State}
 use Rattle.aes.specs.Counter.{gctr}
@@ -25,7 +25,7 @@ module _ (w : List State) (nonce text buf : List ℕ) where
   seal-short h k = simp (le-leb (length text) limit h, lt-leb (length text + 16) (length buf) k)
 
   pub seal-fits : length text ≤ limit → length text + 16 ≤ length buf
-      → sealDone w nonce text buf ≡ done (wrote (length text + 16)) (over (sealedBy w nonce text) buf)
+      → sealDone w nonce text buf ≡ done (wrote (length text + 16)) (replaceFront (sealedBy w nonce text) buf)
   unfolding sealDone
   seal-fits h k = simp (le-leb (length text) limit h, le-leb (length text + 16) (length buf) k)
 
@@ -45,11 +45,11 @@ module _ (w : List State) (nonce buf : List ℕ) where
   in-place-long h = seal-long w nonce (take (length buf - 16) buf) buf (omega (arith, text-length))
 
   pub in-place-fits : 16 ≤ length buf → length buf - 16 ≤ limit
-      → sealDone w nonce (take (length buf - 16) buf) buf ≡ done (wrote (length buf)) (over (sealedBy w nonce (take (length buf - 16) buf)) buf)
+      → sealDone w nonce (take (length buf - 16) buf) buf ≡ done (wrote (length buf)) (replaceFront (sealedBy w nonce (take (length buf - 16) buf)) buf)
   in-place-fits h k =
       let e : length (take (length buf - 16) buf) + 16 ≡ length buf = omega (arith, text-length) in
       seal-fits w nonce (take (length buf - 16) buf) buf (omega (arith, text-length)) (omega (arith, text-length))
-      ∙ ap (λ (n : ℕ). done (wrote n) (over (sealedBy w nonce (take (length buf - 16) buf)) buf)) e
+      ∙ ap (λ (n : ℕ). done (wrote n) (replaceFront (sealedBy w nonce (take (length buf - 16) buf)) buf)) e
 
 module _ (w : List State) (nonce s buf : List ℕ) where
   pub open-none : length s < 16 → openDone w nonce s buf ≡ done (refusedWith (row 17 0 0 0)) buf
@@ -76,11 +76,11 @@ module _ (w : List State) (nonce s buf : List ℕ) where
         ap₂ (λ (x y : Bool). cond (x && y) (plain (gctr w nonce (take (length s - 16) s))) fail) (le-leb 16 (length s) h) e
 
     pub open-right : tagFits w nonce (length s - 16) s ≡ true
-        → openDone w nonce s buf ≡ done (wrote (length s - 16)) (over (gctr w nonce (take (length s - 16) s)) buf)
+        → openDone w nonce s buf ≡ done (wrote (length s - 16)) (replaceFront (gctr w nonce (take (length s - 16) s)) buf)
     unfolding openDone
     open-right e = ap₂ (λ j o. byBoth j o (length s - 16) buf) judged (opened-if true e)
 
     pub open-wrong : tagFits w nonce (length s - 16) s ≡ false
-        → openDone w nonce s buf ≡ done (refusedWith (row 17 0 0 0)) (over (replicate (length s - 16) 0) buf)
+        → openDone w nonce s buf ≡ done (refusedWith (row 17 0 0 0)) (replaceFront (replicate (length s - 16) 0) buf)
     unfolding openDone
     open-wrong e = ap₂ (λ j o. byBoth j o (length s - 16) buf) judged (opened-if false e)

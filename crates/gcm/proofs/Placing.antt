@@ -6,7 +6,8 @@ use native.Mathlib.Omega.{arith}
 use lib.ListN.{length, take, drop, length-append}
 use lib.Pow.{high, low}
 use lib.Seq.{take-at, drop-append-add, drop-drop, length-take-le}
-use Rattle.buffer.specs.Splice.{over, laid, laid-over}
+use Rattle.buffer.specs.Splice.{replaceFront, overwrite}
+use Rattle.buffer.proofs.Parts.{overwrite-fits}
 use Rattle.aes.specs.Aes.{State}
 use Rattle.aes.specs.Counter.{gctr}
 use Rattle.aes.proofs.Counters.{gctr-length}
@@ -18,17 +19,17 @@ unfolding blockBytes
 bytes-split h l k = sym (ap₂ (λ (x y : ℕ). be8 x ++ be8 y) (high h 64 k) (low h 64 k))
 
 -- n bytes laid at the front, and something longer over them
-pub laid-under : (xs ys buf under : List ℕ) → length xs ≤ length ys → length xs ≤ length buf → under ≡ laid xs buf → over ys under ≡ over ys buf
+pub laid-under : (xs ys buf under : List ℕ) → length xs ≤ length ys → length xs ≤ length buf → under ≡ overwrite xs buf → replaceFront ys under ≡ replaceFront ys buf
 laid-under xs ys buf under h k e =
     let l : length xs + (length ys - length xs) ≡ length ys = omega arith in
-    ap (over ys) (e ∙ laid-over xs buf k)
+    ap (replaceFront ys) (e ∙ overwrite-fits xs buf k)
     ∙ ap (λ (n : ℕ). ys ++ drop n (xs ++ drop (length xs) buf)) (sym l)
     ∙ ap (λ (t : List ℕ). ys ++ t) (drop-append-add xs (drop (length xs) buf) (length ys - length xs) ∙ drop-drop (length ys - length xs) (length xs) buf)
     ∙ ap (λ (n : ℕ). ys ++ drop n buf) l
 
 -- the front of what was laid is what was laid
-pub laid-front : (xs buf under : List ℕ) → length xs ≤ length buf → under ≡ laid xs buf → take (length xs) under ≡ xs
-laid-front xs buf under k e = ap (take (length xs)) (e ∙ laid-over xs buf k) ∙ take-at xs (drop (length xs) buf) (length xs) refl
+pub laid-front : (xs buf under : List ℕ) → length xs ≤ length buf → under ≡ overwrite xs buf → take (length xs) under ≡ xs
+laid-front xs buf under k e = ap (take (length xs)) (e ∙ overwrite-fits xs buf k) ∙ take-at xs (drop (length xs) buf) (length xs) refl
 
 module _ (w : List State) (nonce : List ℕ) where
   pub tag-length : (c : List ℕ) → length (tagOf w nonce c) ≡ 16
@@ -43,22 +44,22 @@ module _ (w : List State) (nonce : List ℕ) where
 
   -- masked in place, as a front that is replaced
   pub masked-over : (buf : List ℕ) (n : ℕ) → n ≤ length buf
-      → gctr w nonce (take n buf) ++ drop n buf ≡ over (gctr w nonce (take n buf)) buf
+      → gctr w nonce (take n buf) ++ drop n buf ≡ replaceFront (gctr w nonce (take n buf)) buf
   masked-over buf n h =
       ap (λ (m : ℕ). gctr w nonce (take n buf) ++ drop m buf) (sym (gctr-length w nonce 0 (take n buf) ∙ length-take-le n buf h))
 
   -- sealing what was laid
-  pub sealed-over : (text buf under : List ℕ) → length text + 16 ≤ length buf → under ≡ laid text buf
-      → over (sealedBy w nonce (take (length text) under)) under ≡ over (sealedBy w nonce text) buf
+  pub sealed-over : (text buf under : List ℕ) → length text + 16 ≤ length buf → under ≡ overwrite text buf
+      → replaceFront (sealedBy w nonce (take (length text) under)) under ≡ replaceFront (sealedBy w nonce text) buf
   sealed-over text buf under h e =
       let k : length text ≤ length buf = omega arith in
       let l : length text ≤ length (sealedBy w nonce text) = omega (arith, sealed-length text) in
-      ap (λ (t : List ℕ). over (sealedBy w nonce t) under) (laid-front text buf under k e)
+      ap (λ (t : List ℕ). replaceFront (sealedBy w nonce t) under) (laid-front text buf under k e)
       ∙ laid-under text (sealedBy w nonce text) buf under l k e
 
   -- masking what was laid
-  pub opened-over : (xs buf under : List ℕ) (n : ℕ) → length xs ≡ n → n ≤ length buf → under ≡ laid xs buf
-      → gctr w nonce (take n under) ++ drop n under ≡ over (gctr w nonce xs) buf
+  pub opened-over : (xs buf under : List ℕ) (n : ℕ) → length xs ≡ n → n ≤ length buf → under ≡ overwrite xs buf
+      → gctr w nonce (take n under) ++ drop n under ≡ replaceFront (gctr w nonce xs) buf
   opened-over xs buf under n en h e =
       let k : length xs ≤ length buf = omega arith in
       let g : length (gctr w nonce xs) ≡ length xs = gctr-length w nonce 0 xs in

@@ -8,7 +8,7 @@ use borrow.Author.Tests.{le-leb, leb-true, leb-false}
 use lib.Dec.{leb}
 use lib.ListN.{length, take, drop}
 use lib.Seq.{take-at, drop-at}
-use Rattle.buffer.specs.Splice.{over}
+use Rattle.buffer.specs.Splice.{replaceFront}
 use Rattle.aes.specs.Aes.{State}
 use Rattle.aes.specs.Counter.{gctr}
 use Rattle.aes.proofs.Counters.{gctr-length, gctr-twice}
@@ -64,7 +64,7 @@ module _ (w : List State) (nonce text : List ℕ) where
   -- ---- the calls
 
   opened-back : (back : List ℕ) → length text ≤ limit → length text ≤ length back
-      → openDone w nonce (sealedBy w nonce text) back ≡ done (wrote (length text)) (over text back)
+      → openDone w nonce (sealedBy w nonce text) back ≡ done (wrote (length text)) (replaceFront text back)
   unfolding s n
   opened-back to h k =
       let e : length s ≡ n + 16 = sealed-length w nonce text in
@@ -72,15 +72,15 @@ module _ (w : List State) (nonce text : List ℕ) where
       let b : length s - 16 ≤ limit = omega (arith, len) in
       let d : length s - 16 ≤ length to = omega (arith, len) in
       open-right w nonce s to a b d (ap (λ (i : ℕ). tagFits w nonce i s) len ∙ fits)
-      ∙ ap₂ (λ (i : ℕ) (x : List ℕ). done (wrote i) (over x to)) len (ap (λ (i : ℕ). gctr w nonce (take i s)) len ∙ back)
+      ∙ ap₂ (λ (i : ℕ) (x : List ℕ). done (wrote i) (replaceFront x to)) len (ap (λ (i : ℕ). gctr w nonce (take i s)) len ∙ back)
 
   -- a call that wrote has left the sealed bytes
   module _ (buf after : List ℕ) (r : Outcome) (sealing : Sealing w nonce text buf r after) (wrote-it : answered r ≡ wrote (length text + 16)) where
-    pub sealed-after : (length text ≤ limit) × (after ≡ over (sealedBy w nonce text) buf)
+    pub sealed-after : (length text ≤ limit) × (after ≡ replaceFront (sealedBy w nonce text) buf)
     sealed-after = go (leb (length text) limit) refl (leb (length text + 16) (length buf)) refl
       where
         go : (x : Bool) → leb (length text) limit ≡ x → (y : Bool) → leb (length text + 16) (length buf) ≡ y
-            → (length text ≤ limit) × (after ≡ over (sealedBy w nonce text) buf)
+            → (length text ≤ limit) × (after ≡ replaceFront (sealedBy w nonce text) buf)
         go true e true f =
             let h : length text ≤ limit = leb-true (length text) limit e in
             (h, ap (λ (d : Done). d .buffer) (sealing .is ∙ seal-fits w nonce text buf h (leb-true (length text + 16) (length buf) f)))
@@ -94,10 +94,10 @@ module _ (w : List State) (nonce text : List ℕ) where
             let z : _≡_ {A = ℕ} 0 1 = cc in absurd (omega arith)
 
     pub calls : (back again : List ℕ) (q : Outcome) → length text ≤ length back → Opening w nonce (take (length text + 16) after) back q again
-        → (answered q ≡ wrote (length text)) × (again ≡ over text back)
+        → (answered q ≡ wrote (length text)) × (again ≡ replaceFront text back)
     calls to again q h opening =
         let there : take (length text + 16) after ≡ sealedBy w nonce text =
         ap (take (length text + 16)) (sealed-after .1) ∙ take-at (sealedBy w nonce text) (drop (length (sealedBy w nonce text)) buf) (length text + 16) (sealed-length w nonce text) in
-        let e : done (answered q) again ≡ done (wrote (length text)) (over text to) =
+        let e : done (answered q) again ≡ done (wrote (length text)) (replaceFront text to) =
         opening .is ∙ ap (λ (x : List ℕ). openDone w nonce x to) there ∙ opened-back to (sealed-after .0) h in
         (ap (λ (d : Done). d .answer) e, ap (λ (d : Done). d .buffer) e)

@@ -4,7 +4,7 @@ use mathlib.Core.List.{List, [], _∷_}
 use Prim.Native.Nat.{ℕ, _+_, _-_, _^_}
 use lib.Dec.{leb}
 use lib.ListN.{length, replicate}
-use Rattle.buffer.specs.Splice.{over}
+use Rattle.buffer.specs.Splice.{replaceFront}
 use Rattle.refusal.specs.declared.Numbers.{Numbers}
 use Rattle.refusal.specs.declared.Refusal.the-variants as refusal
 use Rattle.refusal.specs.Refusals.{Judged, fine, refused, numbersOf, firstOf, unless}
@@ -39,7 +39,7 @@ abbrev pub judgeSeal : ℕ → ℕ → Judged
 judgeSeal n space = firstOf (unless (leb n limit) (refusal.Limit 0) ∷ unless (leb (n + 16) space) (refusal.NoRoom (n + 16)) ∷ [])
 
 abbrev pub byJudge : Judged → ℕ → List ℕ → List ℕ → Done
-byJudge fine n bytes buf = done (wrote n) (over bytes buf)
+byJudge fine n bytes buf = done (wrote n) (replaceFront bytes buf)
 byJudge (refused r) n bytes buf = done (refusedWith r) buf
 
 -- WHAT SEALING A TEXT INTO THE FRONT OF A BUFFER COMES TO
@@ -52,8 +52,8 @@ abbrev pub judgeOpen : ℕ → ℕ → Judged
 judgeOpen n space = firstOf (unless (leb 16 n) refusal.AuthTag ∷ unless (leb (n - 16) limit) (refusal.Limit 0) ∷ unless (leb (n - 16) space) (refusal.NoRoom (n - 16)) ∷ [])
 
 abbrev pub byTag : Opened → ℕ → List ℕ → Done
-byTag (plain text) n buf = done (wrote n) (over text buf)
-byTag fail n buf = done (refusedWith (numbersOf refusal.AuthTag)) (over (replicate n 0) buf)
+byTag (plain text) n buf = done (wrote n) (replaceFront text buf)
+byTag fail n buf = done (refusedWith (numbersOf refusal.AuthTag)) (replaceFront (replicate n 0) buf)
 
 abbrev pub byBoth : Judged → Opened → ℕ → List ℕ → Done
 byBoth fine o n buf = byTag o n buf

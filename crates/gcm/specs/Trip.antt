@@ -3,7 +3,7 @@ use mathlib.Core.Path.{_≡_}
 use mathlib.Core.List.{List}
 use Prim.Native.Nat.{ℕ, _+_, _≤_}
 use lib.ListN.{length, take}
-use Rattle.buffer.specs.Splice.{over}
+use Rattle.buffer.specs.Splice.{replaceFront}
 use Rattle.aes.specs.Aes.{State}
 use Rattle.gcm.specs.Gcm.{plain, sealedBy, openedBy}
 use Rattle.gcm.specs.Calls.{wrote, answered, Sealing, Opening}
@@ -14,4 +14,4 @@ pub record RoundTrip : Type 0 where
   pub lists : (w : List State) (nonce text : List ℕ) → openedBy w nonce (sealedBy w nonce text) ≡ plain text
   pub calls : (w : List State) (nonce text buf after back again : List ℕ) (r q : Outcome) → Sealing w nonce text buf r after
       → answered r ≡ wrote (length text + 16) → length text ≤ length back → Opening w nonce (take (length text + 16) after) back q again
-      → (answered q ≡ wrote (length text)) × (again ≡ over text back)
+      → (answered q ≡ wrote (length text)) × (again ≡ replaceFront text back)

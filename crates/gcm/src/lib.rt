@@ -13,7 +13,7 @@ ghost use mathlib.Core.List.{_++_};
 ghost use Prim.Native.Nat.{_+_, _-_, _*_, _^_, _<_, _≤_};
 ghost use lib.Bits.{bitXor};
 ghost use lib.ListN.{length, take, drop};
-ghost use Rattle.buffer.specs.Splice.{over};
+ghost use Rattle.buffer.specs.Splice.{replaceFront};
 ghost use Rattle.aes.specs.Aes.{keyExpansion};
 ghost use Rattle.ghash.specs.Ghash.{pair, quadOf};
 ghost use Rattle.gcm.specs.Gcm.{columnNumber, blockNumber, blockBytes, hashKey, tagOf, sealedBy, sameAs, tagFits};
@@ -138,7 +138,7 @@ fn tag_fits(w: &[[[u8; 4]; 4]; 11], nonce: [u8; 12], s: &[u8], n: usize) -> bool
 // Masks the n first bytes, and puts their tag behind them.
 fn seal_front(w: &[[[u8; 4]; 4]; 11], nonce: [u8; 12], buf: &mut [u8], n: usize)
     requires { ⌜ n + 16 ≤ length (now buf) ⌝ }
-    ensures { λ _. ⌜ now (buf .exit) ≡ over (sealedBy (now (w .entry)) nonce (take n (now (buf .entry)))) (now (buf .entry)) ⌝ }
+    ensures { λ _. ⌜ now (buf .exit) ≡ replaceFront (sealedBy (now (w .entry)) nonce (take n (now (buf .entry)))) (now (buf .entry)) ⌝ }
 {
     mask(w, nonce, buf, n);
     let t = tag(w, nonce, &buf[..n]);

@@ -8,7 +8,8 @@ use lib.Bits.{bitXor}
 use lib.Dec.{ltb}
 use borrow.Author.Tests.{ltb-true, ltb-false}
 use mathlib.Core.Bool.{Bool, true, false}
-use Rattle.buffer.specs.Splice.{laid, rest, rest-is}
+use Rattle.buffer.specs.Splice.{overwrite}
+use Rattle.buffer.proofs.Parts.{rest, rest-is}
 use lib.ListN.{length, getD, take, drop, replicate, length-drop, List·getD-eq-default, List·getD-append}
 use lib.Seq.{getD-append-add, getD-drop, getD-take}
 use Rattle.ghash.specs.Ghash.{pair, product, quadAt, blockAt, ghashFrom}
@@ -50,8 +51,8 @@ zeros-at zero j = refl
 zeros-at (suc n) zero = refl
 zeros-at (suc n) (suc j) = zeros-at n j
 
-padded : (s : List ℕ) (i k : ℕ) → k < 16 → getD (laid (rest s i) (replicate 16 0)) k 0 ≡ getD s (i + k) 0
-unfolding laid
+padded : (s : List ℕ) (i k : ℕ) → k < 16 → getD (overwrite (rest s i) (replicate 16 0)) k 0 ≡ getD s (i + k) 0
+unfolding overwrite
 padded s i k h =
     ap (λ (l : List ℕ). getD (take 16 (l ++ drop (length l) (replicate 16 0))) k 0) (rest-is s i)
     ∙ getD-take 16 (drop i s ++ drop (length (drop i s)) (replicate 16 0)) k 0 h
@@ -71,8 +72,8 @@ padded s i k h =
         ∙ zeros-at 16 (length (drop i s) + (k - length (drop i s)))
         ∙ sym (List·getD-eq-default s 0 {n = i + k} z)
 
-pub last-is : (s b : List ℕ) (i : ℕ) → b ≡ laid (rest s i) (replicate 16 0) → blockAt b 0 ≡ blockAt s i
-last-is s b i e = ap (λ (l : List ℕ). blockAt l 0) e ∙ same-block (laid (rest s i) (replicate 16 0)) s i (padded s i)
+pub last-is : (s b : List ℕ) (i : ℕ) → b ≡ overwrite (rest s i) (replicate 16 0) → blockAt b 0 ≡ blockAt s i
+last-is s b i e = ap (λ (l : List ℕ). blockAt l 0) e ∙ same-block (overwrite (rest s i) (replicate 16 0)) s i (padded s i)
 
 -- ---- the length in bits
 pub bits-of : (n : ℕ) → n % 2305843009213693952 * 8 ≡ n * 8 % 2 ^ 64

@@ -4,7 +4,8 @@ use mathlib.Core.List.{List, _++_, append-assoc}
 use Prim.Native.Nat.{ℕ}
 use borrow.Author.Tests.{eq-eqb}
 use lib.ListN.{take, drop, getD}
-use Rattle.buffer.specs.Le.{le, numberAt, leOf-le}
+use Rattle.buffer.specs.Le.{le, numberAt}
+use Rattle.buffer.proofs.Numbers.{leOf-le}
 use Rattle.crc32c.specs.Crc.{crcOf}
 use Rattle.refusal.specs.Refusals.{fine}
 use Rattle.preamble.specs.declared.Header.{Header}

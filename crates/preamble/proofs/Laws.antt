@@ -5,9 +5,10 @@ use Prim.Native.Nat.{ℕ, _+_, _^_, _<_, _≤_}
 use borrow.Author.Tests.{leb-true}
 use lib.Dec.{lit<, leb}
 use lib.ListN.{length, getD, length-append}
-use Rattle.buffer.specs.Le.{le, numberAt, leOf-le, Bytes, bytes-nil, bytes-cons, bytes-append, le-bytes}
+use Rattle.buffer.specs.Le.{le, numberAt, Bytes}
+use Rattle.buffer.proofs.Numbers.{leOf-le, bytes-nil, bytes-cons, bytes-append, le-bytes}
 use Rattle.crc32c.specs.Crc.{crcOf}
-use Rattle.crc32c.specs.Laws.{crc-lt}
+use Rattle.crc32c.proofs.Laws.{crc-lt}
 use Rattle.refusal.specs.declared.Refusal.the-variants as refusal
 use Rattle.refusal.specs.Refusals.{fine}
 use Rattle.refusal.proofs.Judgements.{all-fine, fine-all, passed}

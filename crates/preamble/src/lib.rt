@@ -1,8 +1,8 @@
 // The preamble: its bytes, its fields and the judgements on them, each a small function that needs nothing of its caller.
 use buffer::byte_at;
-use buffer::half_at;
+use buffer::u16_at;
 use buffer::part;
-use buffer::word_at;
+use buffer::u32_at;
 use crc32c::checksum;
 use refusal::Refusal;
 use refusal::Verdict;
@@ -175,8 +175,8 @@ fn segment_at(b: &[u8], i: usize) -> Segment
     ensures { λ r. ⌜ r ≡ segmentAt i (now (b .entry)) ⌝ }
 {
     Segment {
-        len: word_at(b, i),
-        align: half_at(b, i + 4),
+        len: u32_at(b, i),
+        align: u16_at(b, i + 4),
     }
 }
 
@@ -202,7 +202,7 @@ fn read_preamble(b: &[u8]) -> Preamble
         header: read_header(b),
         flags: byte_at(b, 26),
         reserved: byte_at(b, 27),
-        checksum: word_at(b, 28),
+        checksum: u32_at(b, 28),
     }
 }
 

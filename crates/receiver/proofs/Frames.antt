@@ -10,7 +10,7 @@ use lib.Seq.{sets, take-all, take-nil, take-add, drop-drop, getD-take, length-ta
 use lib.Dec.{lit<, lit≤, ltb, eqb}
 use borrow.Author.Tests.{lt-ltb, le-ltb, ltb-true, ltb-false, le-leb, lt-leb, eqb-false}
 use Rattle.buffer.specs.Le.{numberAt}
-use Rattle.buffer.specs.Splice.{over}
+use Rattle.buffer.specs.Splice.{replaceFront}
 use Rattle.refusal.specs.Refusals.{row}
 use Rattle.banner.specs.declared.Revision.{Revision}
 use Rattle.banner.specs.declared.Revision.the-variants.{Msgr20, Msgr21}
@@ -28,7 +28,8 @@ use Rattle.receiver.specs.declared.Report.the-variants as report
 use Rattle.receiver.specs.State.{blank, hasFirstSum}
 use Rattle.receiver.specs.Step.{at, nextFrame, refusedState, silent, refuse, endFrame, beginEpilogue, beginRest, beginBody, reportFirst, behindFirstSum, withFirst, finish}
 use Rattle.receiver.proofs.Scan.{scan}
-use Rattle.receiver.proofs.Placed.{sets-front, sets-behind, take-sets, take-over, over-over, over-longer, number-take, number-drop}
+use Rattle.receiver.proofs.Placed.{sets-front, sets-behind, take-sets, take-over, over-over, over-longer}
+use Rattle.buffer.proofs.Numbers.{number-take, number-drop}
 use Rattle.receiver.proofs.Stages.{traceBy, noteTrace, run, short, full, gone}
 
 -- ---- lengths
@@ -193,7 +194,7 @@ module _ (y : Known) (got : ℕ) (s : List ℕ) (Q : ℕ) (b : List ℕ) (next :
 -- ---- the definition's own words
 
 -- the end of a body, by the store that its bytes are placed in
-end-same : (x : Ended) (h : Header) (at : ℕ) (s p : List ℕ) (next : List ℕ → Trace) → length p ≡ total h → closeTrace x h at (over p s) next ≡ atEnd x h at s p next
+end-same : (x : Ended) (h : Header) (at : ℕ) (s p : List ℕ) (next : List ℕ → Trace) → length p ≡ total h → closeTrace x h at (replaceFront p s) next ≡ atEnd x h at s p next
 end-same whole h at s p next e = refl
 end-same dropped h at s p next e = rw (over-over p (replicate (total h) 0) s (e ∙ sym (length-replicate (total h) 0)))
 end-same (turnedAway n) h at s p next e = rw (over-over p (replicate (total h) 0) s (e ∙ sym (length-replicate (total h) 0)))
@@ -201,7 +202,7 @@ end-same (turnedAway n) h at s p next e = rw (over-over p (replicate (total h) 0
 -- a body behind segment 1's checksum
 abbrev restTrace : Revision → Header → ℕ → List ℕ → List ℕ → (List ℕ → Trace) → Trace
 restTrace revision h P b s next =
-    cond (ltb (length b) (bodyLength revision h)) (ended (over (segmentBytes revision h b) s))
+    cond (ltb (length b) (bodyLength revision h)) (ended (replaceFront (segmentBytes revision h b) s))
     (atEnd (ending revision h (drop (total h + firstSumLength revision h) b) (segmentBytes revision h b)) h (P + wireLength revision h) s (segmentBytes revision h b) next)
 
 module _ (revision : Revision) (h : Header) (P : ℕ) (b s : List ℕ) (next : List ℕ → Trace) (got k : ℕ) (q : List ℕ)
@@ -220,7 +221,7 @@ module _ (revision : Revision) (h : Header) (P : ℕ) (b s : List ℕ) (next : L
   ld : length d ≡ length b - k
   ld = length-drop k b
 
-  rest-short : length d < l → fillTrace revision h (P + 32 + k) got d (over q s) next ≡ restTrace revision h P b s next
+  rest-short : length d < l → fillTrace revision h (P + 32 + k) got d (replaceFront q s) next ≡ restTrace revision h P b s next
   rest-short t =
       let all : take l d ≡ d = take-all l d (omega arith) in
       let r : length b < bodyLength revision h = omega (arith, ld) in
@@ -234,8 +235,8 @@ module _ (revision : Revision) (h : Header) (P : ℕ) (b s : List ℕ) (next : L
     lp : length p ≡ total h
     lp = ap length hc ∙ length-append q (take l d) ∙ ap₂ _+_ hq (length-take-le l d t) ∙ omega arith
 
-    placed : sets (over q s) got (take l d) ≡ over p s
-    placed = (let lt : length (take l d) ≡ l = length-take-le l d t in sets-behind s q (take l d) got hq (omega arith)) ∙ ap (λ (x : List ℕ). over x s) (sym hc)
+    placed : sets (replaceFront q s) got (take l d) ≡ replaceFront p s
+    placed = (let lt : length (take l d) ≡ l = length-take-le l d t in sets-behind s q (take l d) got hq (omega arith)) ∙ ap (λ (x : List ℕ). replaceFront x s) (sym hc)
 
     behind : drop l d ≡ drop (total h + firstSumLength revision h) b
     behind = (let e : k + l ≡ total h + firstSumLength revision h = omega arith in drop-drop l k b ∙ ap (λ (n : ℕ). drop n b) e)
@@ -243,18 +244,18 @@ module _ (revision : Revision) (h : Header) (P : ℕ) (b s : List ℕ) (next : L
     place : P + 32 + k + l + epilogueLength revision h ≡ P + wireLength revision h
     place = omega arith
 
-    same : fillTrace revision h (P + 32 + k) got d (over q s) next
-        ≡ cond (ltb (length (drop (total h + firstSumLength revision h) b)) (epilogueLength revision h)) (ended (over p s))
+    same : fillTrace revision h (P + 32 + k) got d (replaceFront q s) next
+        ≡ cond (ltb (length (drop (total h + firstSumLength revision h) b)) (epilogueLength revision h)) (ended (replaceFront p s))
         (atEnd (ending revision h (drop (total h + firstSumLength revision h) b) p) h (P + wireLength revision h) s p next)
     same =
         let x = ending revision h (drop (total h + firstSumLength revision h) b) p in
         rw (le-ltb (length d) l t, placed, behind, place, take-over p s (total h) lp) (rw (end-same x h (P + wireLength revision h) s p next lp))
 
-    rest-full : fillTrace revision h (P + 32 + k) got d (over q s) next ≡ restTrace revision h P b s next
+    rest-full : fillTrace revision h (P + 32 + k) got d (replaceFront q s) next ≡ restTrace revision h P b s next
     rest-full = same ∙ go (ltb (length b) (bodyLength revision h)) refl
       where
         go : (c : Bool) → ltb (length b) (bodyLength revision h) ≡ c
-            → cond (ltb (length (drop (total h + firstSumLength revision h) b)) (epilogueLength revision h)) (ended (over p s))
+            → cond (ltb (length (drop (total h + firstSumLength revision h) b)) (epilogueLength revision h)) (ended (replaceFront p s))
             (atEnd (ending revision h (drop (total h + firstSumLength revision h) b) p) h (P + wireLength revision h) s p next)
             ≡ restTrace revision h P b s next
         go true c =
@@ -266,10 +267,10 @@ module _ (revision : Revision) (h : Header) (P : ℕ) (b s : List ℕ) (next : L
             let u = ltb-false (length b) (bodyLength revision h) c in
             rw (c, le-ltb (length (drop (total h + firstSumLength revision h) b)) (epilogueLength revision h) (omega (arith, ld)))
 
-  rest-trace : fillTrace revision h (P + 32 + k) got d (over q s) next ≡ restTrace revision h P b s next
+  rest-trace : fillTrace revision h (P + 32 + k) got d (replaceFront q s) next ≡ restTrace revision h P b s next
   rest-trace = go (ltb (length d) l) refl
     where
-      go : (c : Bool) → ltb (length d) l ≡ c → fillTrace revision h (P + 32 + k) got d (over q s) next ≡ restTrace revision h P b s next
+      go : (c : Bool) → ltb (length d) l ≡ c → fillTrace revision h (P + 32 + k) got d (replaceFront q s) next ≡ restTrace revision h P b s next
       go true c = rest-short (ltb-true (length d) l c)
       go false c = rest-full (ltb-false (length d) l c)
 
@@ -330,7 +331,7 @@ module _ (y : Known) (P : ℕ) (b s : List ℕ) (next : List ℕ → Trace)
     early-none : length b < n₁ + 4 → firstReported (y .revision) h b ≡ false
     early-none l = rw (nf, lt-leb (n₁ + 4) (length b) l)
 
-    early-rest : length b < n₁ + 4 → segmentBytes (y .revision) h b ≡ f → restTrace (y .revision) h P b s next ≡ ended (over f s)
+    early-rest : length b < n₁ + 4 → segmentBytes (y .revision) h b ≡ f → restTrace (y .revision) h P b s next ≡ ended (replaceFront f s)
     early-rest l c =
         rw (lt-ltb (length b) (bodyLength (y .revision) h) (omega (arith, fsl)), c)
 
@@ -344,14 +345,14 @@ module _ (y : Known) (P : ℕ) (b s : List ℕ) (next : List ℕ → Trace)
     first-short l =
         let all : f ≡ b = take-all n₁ b (omega arith) in
         rw (early (omega arith), early-none (omega arith))
-        (short F s (P + 32) b (omega arith) ∙ ap ended (sets-front s b (omega arith) ∙ ap (λ (x : List ℕ). over x s) (sym all)) ∙ sym (early-rest (omega arith) (early-bytes (omega arith))))
+        (short F s (P + 32) b (omega arith) ∙ ap ended (sets-front s b (omega arith) ∙ ap (λ (x : List ℕ). replaceFront x s) (sym all)) ∙ sym (early-rest (omega arith) (early-bytes (omega arith))))
 
     module _ (l : n₁ ≤ length b) where
       abbrev d₁ : List ℕ
       d₁ = drop n₁ b
 
       abbrev s₁ : List ℕ
-      s₁ = over f s
+      s₁ = replaceFront f s
 
       lf : length f ≡ n₁
       lf = length-take-le n₁ b l

@@ -29,7 +29,8 @@ use Rattle.receiver.specs.State.{blank, noHeader, noRefusal}
 use Rattle.receiver.specs.Step.{Stepped, at, onlyOwn, refusedState, withPayload, withPeer, withRevision, withHeader, silent, unlessRefused, endBanner, beginBody, finish}
 use Rattle.receiver.proofs.Booleans.{both-left}
 use Rattle.receiver.proofs.Scan.{scan, scan-none}
-use Rattle.receiver.proofs.Placed.{sets-whole, take-sets, number-take, number-drop}
+use Rattle.receiver.proofs.Placed.{sets-whole, take-sets}
+use Rattle.buffer.proofs.Numbers.{number-take, number-drop}
 use Rattle.receiver.proofs.Stages.{traceBy, run, short, full, gone}
 use Rattle.receiver.proofs.Frames.{After, body-run}
 

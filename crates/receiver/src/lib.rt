@@ -6,7 +6,7 @@ mod transitions;
 use banner::Features;
 use banner::Revision;
 use banner::judge_own;
-use buffer::less;
+use buffer::min;
 use pieces::feed;
 use preamble::Header;
 use refusal::Numbers;
@@ -174,7 +174,7 @@ pub fn receive_all(own: Features, stream: &[u8], cuts: &[usize], store: &mut [u8
     let mut t: usize = 0;
     let mut i: usize = 0;
     while i < cuts.len() {
-        let k = less(cuts[i], stream.len() - t);
+        let k = min(cuts[i], stream.len() - t);
         let end = t + k;
         let o = receive(state, &stream[t..end], store);
         state = o.state;

@@ -7,7 +7,7 @@ use crate::State;
 use crate::states::place_of;
 use crate::states::size_of;
 use crate::transitions::end_stage;
-use buffer::less;
+use buffer::min;
 use buffer::part;
 use buffer::put;
 ghost use mathlib.Core.Path.{_≡_};
@@ -55,7 +55,7 @@ fn step(st: State, piece: &[u8], store: &mut [u8]) -> Received
     let old = position.block;
     let known = st.known;
     let n = size_of(stage, known);
-    let m = less(n - got, piece.len());
+    let m = min(n - got, piece.len());
     let bytes = part(piece, 0, m);
     let place = place_of(stage);
     let block = fill_block(place, old, got, bytes);

@@ -22,10 +22,10 @@ use body::Ending;
 use body::end_of;
 use body::no_epilogue;
 use body::segment_sum;
-use buffer::half_at;
+use buffer::u16_at;
 use buffer::part;
 use buffer::put_zeros;
-use buffer::word_at;
+use buffer::u32_at;
 use preamble::Header;
 use preamble::judge_preamble;
 use preamble::read_header;
@@ -143,7 +143,7 @@ fn end_magic(block: &[u8], v: Known) -> Transition
 fn end_length(block: &[u8], v: Known) -> Transition
     ensures { λ r. ⌜ ((s : List ℕ) → stepped (r .state) s (r .report) ≡ finish stage.Length (now (block .entry)) v s) ⌝ }
 {
-    let n = half_at(block, 0);
+    let n = u16_at(block, 0);
     let next = state_at(Stage::Payload, 0, with_payload(v, n));
     unless_refused(judge_length(n), v, more(next))
 }
@@ -217,7 +217,7 @@ fn end_first_sum(block: &[u8], v: Known, store: &mut [u8]) -> Transition
     ensures { λ r. ⌜ stepped (r .state) (now (store .exit)) (r .report) ≡ finish stage.FirstSum (now (block .entry)) v (now (store .entry)) ⌝ }
 {
     let n = v.header.s1.len as usize;
-    let stored = word_at(block, 0);
+    let stored = u32_at(block, 0);
     let sum = segment_sum(part(store, 0, n));
     if stored == sum {
         return behind_first_sum(v, n);

@@ -6,7 +6,7 @@ use mathlib.Core.Bool.{Bool, true, false, cond}
 use native.Mathlib.Omega.{arith}
 use lib.ListN.{length, take, drop}
 use lib.Dec.{ltb}
-use Rattle.buffer.specs.Splice.{over}
+use Rattle.buffer.specs.Splice.{replaceFront}
 use Rattle.refusal.specs.Refusals.{Judged, fine, refused, row}
 use Rattle.banner.specs.declared.Features.{Features}
 use Rattle.banner.specs.declared.Revision.{Revision}
@@ -44,11 +44,11 @@ module _ (revision : Revision) (h : Header) (P : ℕ) (b s : List ℕ) (next : L
     where
       go : (w c : Bool) → AddsTrace revision P
           (cond w (refusedAt (row 11 1 0 0) (P + 36 + h .s1 .len) (zeroed h s))
-          (reportedFirst (firstReported revision h b) h (P + 36 + h .s1 .len) (over (take (h .s1 .len) b) s)
-          (cond c (ended (over (segmentBytes revision h b) s)) (atEnd (ending revision h (drop (total h + firstSumLength revision h) b) (segmentBytes revision h b)) h (P + wireLength revision h) s (segmentBytes revision h b) next))))
+          (reportedFirst (firstReported revision h b) h (P + 36 + h .s1 .len) (replaceFront (take (h .s1 .len) b) s)
+          (cond c (ended (replaceFront (segmentBytes revision h b) s)) (atEnd (ending revision h (drop (total h + firstSumLength revision h) b) (segmentBytes revision h b)) h (P + wireLength revision h) s (segmentBytes revision h b) next))))
       go true c = omega arith
-      go false true = first-adds (firstReported revision h b) (P + 36 + h .s1 .len) (over (take (h .s1 .len) b) s) _ refl tt
-      go false false = first-adds (firstReported revision h b) (P + 36 + h .s1 .len) (over (take (h .s1 .len) b) s) _ refl (end-adds (ending revision h (drop (total h + firstSumLength revision h) b) (segmentBytes revision h b)) (segmentBytes revision h b))
+      go false true = first-adds (firstReported revision h b) (P + 36 + h .s1 .len) (replaceFront (take (h .s1 .len) b) s) _ refl tt
+      go false false = first-adds (firstReported revision h b) (P + 36 + h .s1 .len) (replaceFront (take (h .s1 .len) b) s) _ refl (end-adds (ending revision h (drop (total h + firstSumLength revision h) b) (segmentBytes revision h b)) (segmentBytes revision h b))
 
 frames-add : (f : ℕ) (revision : Revision) (P : ℕ) (rest s : List ℕ) → AddsTrace revision P (frames f revision P rest s)
 unfolding frames

@@ -6,7 +6,7 @@ use Prim.Native.Nat.{ℕ, zero, suc, _+_}
 use lib.ListN.{length, take, drop, replicate}
 use lib.Dec.{leb, ltb, eqb}
 use Rattle.buffer.specs.Le.{numberAt}
-use Rattle.buffer.specs.Splice.{over}
+use Rattle.buffer.specs.Splice.{replaceFront}
 use Rattle.refusal.specs.declared.Numbers.{Numbers}
 use Rattle.refusal.specs.declared.Refusal.the-variants as refusal
 use Rattle.refusal.specs.Refusals.{Judged, fine, refused, numbersOf}
@@ -57,7 +57,7 @@ unlessRefused (refused n) at store t = refusedAt n at store
 
 -- zeros in the store's first T bytes
 abbrev pub zeroed : Header → List ℕ → List ℕ
-zeroed h store = over (replicate (total h) 0) store
+zeroed h store = replaceFront (replicate (total h) 0) store
 
 -- segment 1's checksum, which msgr2.1 has behind a segment 1 that is not empty, is there and differs; b are the bytes behind the preamble
 abbrev pub firstWrong : Revision → Header → List ℕ → Bool
@@ -70,7 +70,7 @@ firstReported revision h b = not (noFirstSum revision h) && (leb (h .s1 .len + 4
 
 -- the end of a body: a frame or a drop, with what follows, or a refusal
 abbrev pub atEnd : Ended → Header → ℕ → List ℕ → List ℕ → (List ℕ → Trace) → Trace
-atEnd whole h at store payload next = after (Frame h) at (over payload store) (next (over payload store))
+atEnd whole h at store payload next = after (Frame h) at (replaceFront payload store) (next (replaceFront payload store))
 atEnd dropped h at store payload next = after (Dropped h) at (zeroed h store) (next (zeroed h store))
 atEnd (turnedAway n) h at store payload next = refusedAt n at (zeroed h store)
 
@@ -81,8 +81,8 @@ reportedFirst b h at store t = cond b (after (First h) at store t) t
 abbrev pub bodyTrace : Revision → Header → ℕ → List ℕ → List ℕ → (List ℕ → Trace) → Trace
 bodyTrace revision h P b store next =
     cond (firstWrong revision h b) (refusedAt (numbersOf (refusal.SegmentChecksum 1)) (P + 36 + h .s1 .len) (zeroed h store))
-    (reportedFirst (firstReported revision h b) h (P + 36 + h .s1 .len) (over (take (h .s1 .len) b) store)
-    (cond (ltb (length b) (bodyLength revision h)) (ended (over (segmentBytes revision h b) store))
+    (reportedFirst (firstReported revision h b) h (P + 36 + h .s1 .len) (replaceFront (take (h .s1 .len) b) store)
+    (cond (ltb (length b) (bodyLength revision h)) (ended (replaceFront (segmentBytes revision h b) store))
     (atEnd (ending revision h (drop (total h + firstSumLength revision h) b) (segmentBytes revision h b)) h (P + wireLength revision h) store (segmentBytes revision h b) next)))
 
 -- the frames from P on, of which rest is left. A frame has at least 32 bytes, so what is left bounds how many there are: the first argument is only that bound

@@ -8,7 +8,7 @@ use native.Mathlib.Numerals.{add-one}
 use native.Mathlib.Omega.{arith}
 use borrow.Author.Tests.{lt-ltb, le-ltb, leb-true, leb-false}
 use lib.Dec.{ltb, leb, lit<, lit≤}
-use lib.ListN.{length, take, drop, set, getD, length-append, length-set, take-append-drop}
+use lib.ListN.{length, take, drop, set, getD, length-append, take-append-drop}
 use lib.Seq.{sets, sets-eq, length-sets, set-out, take-length, take-suc, length-take-le}
 use Rattle.io.specs.Digits.{digits, glyph, Fewest}
 use Rattle.text.specs.Line.{Piece, raw, decimal, number, hex, decimalBy, bytesOf, textOf, widthOf, width}

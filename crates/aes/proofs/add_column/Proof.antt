@@ -10,14 +10,14 @@ pack-requires c κs = search needs
 pack-requires-2 : tie.Need-pack-requires-2
 pack-requires-2 c κs = search needs
 
-word-bytes-requires : tie.Need-word-bytes-requires
-word-bytes-requires c κs = search needs
+u32-bytes-requires : tie.Need-u32-bytes-requires
+u32-bytes-requires c κs = search needs
 
 returns : tie.Need-returns
 returns c =
     let a = c .before .before .before .args in
-    c .word-bytes .ensures
+    c .u32-bytes .ensures
     ∙ add-packed (a .a) (a .b) (c .before .before .pack .result) (c .before .pack2 .result) (c .before .before .pack .ensures) (c .before .pack2 .ensures)
 
 pub add-column-spec : {M : Type 1} → statement M
-add-column-spec = tie.close (tie.spec pack-requires pack-requires-2 word-bytes-requires returns)
+add-column-spec = tie.close (tie.spec pack-requires pack-requires-2 u32-bytes-requires returns)

@@ -7,8 +7,8 @@ use borrow.Author.Needs.{needs}
 use Rattle.aes.proofs.mask.Statement.{statement}
 use Rattle.aes.proofs.mask.Tie as tie
 
-less-requires : tie.Need-less-requires
-less-requires c κs = search needs
+min-requires : tie.Need-min-requires
+min-requires c κs = search needs
 
 sbox-table-requires : tie.Need-sbox-table-requires
 sbox-table-requires c κs = search needs
@@ -25,7 +25,7 @@ returns c =
     let less = b .before .before .before .before in
     let a = less .before .before .args in
     let i : ℕ = b .mask-blocks .result in
-    let e : i ≡ min (a .n) (length (a .buf .now)) = (let h : i ≡ less .less .result = omega (arith, b .mask-blocks .ensures .0) in h ∙ less .less .ensures) in
+    let e : i ≡ min (a .n) (length (a .buf .now)) = (let h : i ≡ less .min .result = omega (arith, b .mask-blocks .ensures .0) in h ∙ less .min .ensures) in
     b .mask-blocks .ensures .3 ∙ masked-front (a .w .now) (a .nonce) (a .buf .now) (a .n) i e
 
 add-stream : tie.Need-add-stream
@@ -50,8 +50,8 @@ returns-2 c =
     let less = b .before .before .before .before in
     let a = less .before .before .args in
     let i : ℕ = b .mask-blocks .result in
-    let m : ℕ = less .less .result in
-    let e : i + (m - i) ≡ min (a .n) (length (a .buf .now)) = (let h : i + (m - i) ≡ less .less .result = omega (arith, b .mask-blocks .ensures .0) in h ∙ less .less .ensures) in
+    let m : ℕ = less .min .result in
+    let e : i + (m - i) ≡ min (a .n) (length (a .buf .now)) = (let h : i + (m - i) ≡ less .min .result = omega (arith, b .mask-blocks .ensures .0) in h ∙ less .min .ensures) in
     c .before .before .mask-block .ensures (a .w .now) (a .nonce) (a .buf .now) (stream .stream .ensures) (b .mask-blocks .ensures .3)
     ∙ masked-front (a .w .now) (a .nonce) (a .buf .now) (a .n) (i + (m - i)) e
 
@@ -59,7 +59,7 @@ pub mask-spec : {M : Type 1} → statement M
 mask-spec =
     tie.close
     (tie.spec
-    less-requires
+    min-requires
     sbox-table-requires
     mask-blocks-requires
     same-length

@@ -3,7 +3,7 @@ use mathlib.Core.List.{List}
 use Prim.Native.Nat.{ℕ, _-_}
 use native.Mathlib.Omega.{arith}
 use lib.ListN.{length}
-use Rattle.buffer.specs.Splice.{rest, length-rest, placed, laid-over}
+use Rattle.buffer.proofs.Parts.{rest, length-rest, placed, overwrite-fits}
 use Rattle.refusal.specs.Refusals.{judgedBy}
 use Rattle.banner.specs.Banner.{bannerBytes}
 use Rattle.builder.specs.Build.{bannerDone, done, wrote}
@@ -62,7 +62,7 @@ returns-2 c =
     record {
       promise =
           rw (sym (c .before .before .before .before .before .before .before .before .judge-banner .ensures) ∙ ap judgedBy (c .before .before .before .before .before .before .enum-told .given .1))
-          (ap (done (wrote 26)) (placed (g .buf .now) bytes (c .before .before .put .last .0) (g .queued) (rw (c .before .before .before .before .before .banner-bytes .ensures) at (c .before .before .put .ensures) ∙ laid-over bytes (rest (g .buf .now) (g .queued)) (omega arith))));
+          (ap (done (wrote 26)) (placed (g .buf .now) bytes (c .before .before .put .last .0) (g .queued) (rw (c .before .before .before .before .before .banner-bytes .ensures) at (c .before .before .put .ensures) ∙ overwrite-fits bytes (rest (g .buf .now) (g .queued)) (omega arith))));
     }
 
 pub build-banner-spec : {M : Type 1} → statement M

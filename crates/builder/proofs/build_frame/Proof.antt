@@ -3,7 +3,7 @@ use mathlib.Core.List.{List}
 use Prim.Native.Nat.{ℕ, _-_}
 use native.Mathlib.Omega.{arith}
 use lib.ListN.{length}
-use Rattle.buffer.specs.Splice.{rest, length-rest, placed}
+use Rattle.buffer.proofs.Parts.{rest, length-rest, placed}
 use Rattle.refusal.specs.Refusals.{judgedBy}
 use Rattle.body.specs.Body.{frameBytes}
 use Rattle.builder.specs.Build.{frameDone, done, wrote}

@@ -2,7 +2,8 @@ use mathlib.Core.Path.{_≡_, sym, ap, ap₂, _∙_}
 use mathlib.Core.List.{List, _++_}
 use Prim.Native.Nat.{ℕ, _+_}
 use lib.ListN.{length, length-append}
-use Rattle.buffer.specs.Splice.{over, back, next}
+use Rattle.buffer.specs.Splice.{replaceFront}
+use Rattle.buffer.proofs.Parts.{back, next}
 use Rattle.body.specs.Body.{firstSum, lateByte, epilogue, body, restSent}
 use Rattle.body.proofs.Laws.{length-first-sum, length-sent}
 use borrow.Author.Needs.{needs}
@@ -60,7 +61,7 @@ returns c =
     let l₁ = c .before .before .before .before .before .before .before .before .before .before .put-first .last .0 in
     let l₂ : List ℕ = back l₁ a (c .before .before .before .before .before .before .put-rest .last .0) in
     let k : length head ≡ a = length-append first (firstSum (g .revision) (g .h) first) ∙ ap (λ (n : ℕ). length first + n) (length-first-sum (g .revision) (g .h) first ∙ sym (c .before .before .before .before .before .before .before .before .before .before .before .before .first-sum-length .ensures .0)) in
-    let e : l₂ ≡ over (head ++ q) out = next out l₁ head q (c .before .before .before .before .before .before .put-rest .last .0) a k (c .before .before .before .before .before .before .before .before .before .before .put-first .ensures) (c .before .before .before .before .before .before .put-rest .ensures) in
+    let e : l₂ ≡ replaceFront (head ++ q) out = next out l₁ head q (c .before .before .before .before .before .before .put-rest .last .0) a k (c .before .before .before .before .before .before .before .before .before .before .put-first .ensures) (c .before .before .before .before .before .before .put-rest .ensures) in
     next out l₂ (head ++ q) (epilogue (g .revision) (g .h) (lateByte (g .revision) (g .abort)) first q) (c .before .before .put-epilogue .last .0) (a + length (g .rest .now))
     (length-append head q ∙ ap₂ _+_ k (length-sent (g .abort) (g .rest .now)))
     e

@@ -1,7 +1,7 @@
 use mathlib.Core.Path.{refl, _∙_}
 use native.Mathlib.Omega.{arith}
 use lib.ListN.{length}
-use Rattle.buffer.specs.Splice.{laid-over, next}
+use Rattle.buffer.proofs.Parts.{overwrite-fits, next}
 use Rattle.body.specs.Body.{firstSum}
 use borrow.Author.Needs.{needs}
 use Rattle.builder.proofs.put_first.Statement.{statement}
@@ -31,7 +31,7 @@ returns c =
     let first = g .first .now in
     let l₁ = c .before .before .before .before .before .before .put .last .0 in
     next (g .out .now) l₁ first (firstSum (g .revision) (g .h) first) (c .before .before .put-first-sum .last .0) (length first) refl
-    (c .before .before .before .before .before .before .put .ensures ∙ laid-over first (g .out .now) (omega (arith, c .before .before .before .before .before .before .before .before .before .before .pre)))
+    (c .before .before .before .before .before .before .put .ensures ∙ overwrite-fits first (g .out .now) (omega (arith, c .before .before .before .before .before .before .before .before .before .before .pre)))
     (c .before .before .put-first-sum .ensures)
 
 pub put-first-spec : {M : Type 1} → statement M

@@ -20,8 +20,8 @@ returns c = simp (sym (c .before .no-first-sum .ensures) ∙ c .if1 .taken)
 segment-sum-requires : tie.Need-segment-sum-requires
 segment-sum-requires c κs = search needs
 
-word-bytes-requires : tie.Need-word-bytes-requires
-word-bytes-requires c κs = search needs
+u32-bytes-requires : tie.Need-u32-bytes-requires
+u32-bytes-requires c κs = search needs
 
 slice-aggregate-put : tie.Need-slice-aggregate-put
 slice-aggregate-put c = search needs
@@ -38,7 +38,7 @@ returns-2 c =
     let sum : List ℕ = le 4 (segmentSum (g .first .now)) in
     let there = sym (c .before .before .before .before .before .before .before .before .no-first-sum .ensures) ∙ c .before .before .before .before .before .before .before .if1 .left in
     laid-as _ (firstSum (g .revision) (g .h) (g .first .now)) (g .out .now) _ (c .before .before .put .ensures)
-    (c .before .before .before .before .before .word-bytes .ensures ∙ ap (le 4) (c .before .before .before .before .before .before .segment-sum .ensures) ∙ sym (ap (λ (x : Bool). cond x [] sum) there))
+    (c .before .before .before .before .before .u32-bytes .ensures ∙ ap (le 4) (c .before .before .before .before .before .before .segment-sum .ensures) ∙ sym (ap (λ (x : Bool). cond x [] sum) there))
     (omega (arith, c .before .before .before .before .before .before .before .before .before .before .before .pre, length-first-sum (g .revision) (g .h) (g .first .now)))
 
 pub put-first-sum-spec : {M : Type 1} → statement M
@@ -48,7 +48,7 @@ put-first-sum-spec =
     no-first-sum-requires
     returns
     segment-sum-requires
-    word-bytes-requires
+    u32-bytes-requires
     slice-aggregate-put
     put-requires
     same-length

@@ -5,7 +5,8 @@ use native.Mathlib.Omega.{arith}
 use denote.Ref.{now}
 use lib.ListN.{length, take, drop, length-drop}
 use lib.Seq.{length-take-le}
-use Rattle.buffer.specs.Splice.{over, rest, next, length-rest}
+use Rattle.buffer.specs.Splice.{replaceFront}
+use Rattle.buffer.proofs.Parts.{rest, next, length-rest}
 use Rattle.preamble.specs.Layout.{preambleBytes}
 use Rattle.preamble.proofs.Laws.{length-preamble}
 use Rattle.body.specs.Body.{lateByte, body, restSent, frameBytes}
@@ -62,7 +63,7 @@ returns c =
     next (g .out .now) l₁ (preambleBytes (g .h)) (of (take n s) (drop n s)) (c .before .before .put-body .last .0) 32
     (length-preamble (g .h))
     (c .before .before .before .before .before .before .before .before .before .put-preamble .ensures)
-    (c .before .before .put-body .ensures ∙ ap₂ (λ (x y : List ℕ). over (of x y) (rest l₁ 32)) (c .before .before .before .before .before .part .ensures) (c .before .before .before .before .behind .ensures))
+    (c .before .before .put-body .ensures ∙ ap₂ (λ (x y : List ℕ). replaceFront (of x y) (rest l₁ 32)) (c .before .before .before .before .before .part .ensures) (c .before .before .before .before .behind .ensures))
 
 pub put-frame-spec : {M : Type 1} → statement M
 put-frame-spec =

@@ -3,7 +3,8 @@ use mathlib.Core.List.{List}
 use Prim.Native.Nat.{ℕ}
 use native.Mathlib.Omega.{arith}
 use Rattle.buffer.specs.Le.{le}
-use Rattle.buffer.specs.Splice.{over, laid-over, next-laid}
+use Rattle.buffer.specs.Splice.{replaceFront}
+use Rattle.buffer.proofs.Parts.{overwrite-fits, next-overwrite}
 use Rattle.crc32c.specs.Crc.{crcOf}
 use Rattle.preamble.specs.Layout.{preambleFront, preambleBytes}
 use Rattle.preamble.proofs.Laws.{front-is, length-front}
@@ -26,8 +27,8 @@ slice-aggregate-checksum c = search needs
 checksum-requires : tie.Need-checksum-requires
 checksum-requires c κs = search needs
 
-word-bytes-requires : tie.Need-word-bytes-requires
-word-bytes-requires c κs = search needs
+u32-bytes-requires : tie.Need-u32-bytes-requires
+u32-bytes-requires c κs = search needs
 
 sub-put : tie.Need-sub-put
 sub-put c = search needs
@@ -55,9 +56,9 @@ returns c =
     let front : List ℕ = preambleFront h in
     let f = c .before .before .before .before .before .before .before .before .before .before .before .before .before .preamble-front .ensures ∙ front-is h in
     let n = length-front h in
-    let e : c .before .before .before .before .before .before .before .before .before .before .put .last .0 ≡ over front out = rw f at (c .before .before .before .before .before .before .before .before .before .before .put .ensures) ∙ laid-over front out (omega arith) in
-    let s = c .before .before .before .before .before .word-bytes .ensures ∙ ap (le 4) (c .before .before .before .before .before .before .checksum .ensures ∙ ap (crcOf 0) f) in
-    next-laid out (c .before .before .before .before .before .before .before .before .before .before .put .last .0) front (le 4 (crcOf 0 front)) (c .before .before .put2 .last .0) 28 n (omega arith) e (rw s at (c .before .before .put2 .ensures))
+    let e : c .before .before .before .before .before .before .before .before .before .before .put .last .0 ≡ replaceFront front out = rw f at (c .before .before .before .before .before .before .before .before .before .before .put .ensures) ∙ overwrite-fits front out (omega arith) in
+    let s = c .before .before .before .before .before .u32-bytes .ensures ∙ ap (le 4) (c .before .before .before .before .before .before .checksum .ensures ∙ ap (crcOf 0) f) in
+    next-overwrite out (c .before .before .before .before .before .before .before .before .before .before .put .last .0) front (le 4 (crcOf 0 front)) (c .before .before .put2 .last .0) 28 n (omega arith) e (rw s at (c .before .before .put2 .ensures))
 
 pub put-preamble-spec : {M : Type 1} → statement M
 put-preamble-spec =
@@ -68,7 +69,7 @@ put-preamble-spec =
     put-requires
     slice-aggregate-checksum
     checksum-requires
-    word-bytes-requires
+    u32-bytes-requires
     sub-put
     part-put-start
     part-put-end

@@ -10,15 +10,15 @@ use Rattle.crc32c.proofs.Words.{mixed-in}
 use Rattle.crc32c.proofs.mixed.Statement.{statement}
 use Rattle.crc32c.proofs.mixed.Tie as tie
 
-word-at-requires : tie.Need-word-at-requires
-word-at-requires c κs = search needs
+u32-at-requires : tie.Need-u32-at-requires
+u32-at-requires c κs = search needs
 
 returns : tie.Need-returns
 returns c =
     let z = c .before .before in
     let g = z .args .group .now in
     let bytes : Bytes g = record { at = λ i. omega (arith, c .before .shared-slice-known .given i) } in
-    ap (λ (x : ℕ). steps (8 * length g) (bitXor (z .args .c) x)) (c .word-at .ensures) ∙ mixed-in (z .args .c) g (z .pre) bytes
+    ap (λ (x : ℕ). steps (8 * length g) (bitXor (z .args .c) x)) (c .u32-at .ensures) ∙ mixed-in (z .args .c) g (z .pre) bytes
 
 pub mixed-spec : {M : Type 1} → statement M
-mixed-spec = tie.close (tie.spec word-at-requires returns)
+mixed-spec = tie.close (tie.spec u32-at-requires returns)

@@ -4,8 +4,8 @@ use borrow.Author.Needs.{needs}
 use Rattle.fields.proofs.append_negative.Statement.{statement}
 use Rattle.fields.proofs.append_negative.Tie as tie
 
-word-bytes-requires : tie.Need-word-bytes-requires
-word-bytes-requires c κs = search needs
+u32-bytes-requires : tie.Need-u32-bytes-requires
+u32-bytes-requires c κs = search needs
 
 slice-aggregate-put : tie.Need-slice-aggregate-put
 slice-aggregate-put c = search needs
@@ -18,8 +18,8 @@ same-length c = search needs
 
 returns : tie.Need-returns
 returns c = let g = c .before .before .before .before .before .before .before .fits in
-    appended (negative _) (fits-negative _ (g .n .fits)) (c .before .before .before .before .before .word-bytes .ensures) (c .before .before .put .ensures)
+    appended (negative _) (fits-negative _ (g .n .fits)) (c .before .before .before .before .before .u32-bytes .ensures) (c .before .before .put .ensures)
 
 pub append-negative-spec : {M : Type 1} → statement M
 append-negative-spec =
-    tie.close (tie.spec word-bytes-requires slice-aggregate-put put-requires same-length returns)
+    tie.close (tie.spec u32-bytes-requires slice-aggregate-put put-requires same-length returns)

@@ -4,8 +4,8 @@ use borrow.Author.Needs.{needs}
 use Rattle.fields.proofs.append_u32.Statement.{statement}
 use Rattle.fields.proofs.append_u32.Tie as tie
 
-word-bytes-requires : tie.Need-word-bytes-requires
-word-bytes-requires c κs = search needs
+u32-bytes-requires : tie.Need-u32-bytes-requires
+u32-bytes-requires c κs = search needs
 
 slice-aggregate-put : tie.Need-slice-aggregate-put
 slice-aggregate-put c = search needs
@@ -18,8 +18,8 @@ same-length c = search needs
 
 returns : tie.Need-returns
 returns c = let g = c .before .before .before .before .before .before .before .fits in
-    appended (number 4 _) (fits-number 4 _ (g .n .fits)) (c .before .before .before .before .before .word-bytes .ensures) (c .before .before .put .ensures)
+    appended (number 4 _) (fits-number 4 _ (g .n .fits)) (c .before .before .before .before .before .u32-bytes .ensures) (c .before .before .put .ensures)
 
 pub append-u32-spec : {M : Type 1} → statement M
 append-u32-spec =
-    tie.close (tie.spec word-bytes-requires slice-aggregate-put put-requires same-length returns)
+    tie.close (tie.spec u32-bytes-requires slice-aggregate-put put-requires same-length returns)

@@ -14,14 +14,14 @@ Inv-loop out₀ at src room n i₀ out i = (i ≤ n) × (out ≡ putAt at (take 
 abbrev μ-loop : tie.MeasureT-loop
 μ-loop out₀ at src room n i₀ out i = n - i
 
-less-requires : tie.Need-less-requires Inv-loop μ-loop
-less-requires c κs = search needs
+min-requires : tie.Need-min-requires Inv-loop μ-loop
+min-requires c κs = search needs
 
 sub-room : tie.Need-sub-room Inv-loop μ-loop
 sub-room c = omega arith
 
-less-requires-2 : tie.Need-less-requires-2 Inv-loop μ-loop
-less-requires-2 c κs = search needs
+min-requires-2 : tie.Need-min-requires-2 Inv-loop μ-loop
+min-requires-2 c κs = search needs
 
 loop-holds : tie.Need-loop-holds Inv-loop μ-loop
 loop-holds c = (zero-le, sym (put-none _ _), refl)
@@ -54,8 +54,8 @@ returns : tie.Need-returns Inv-loop μ-loop
 returns c =
     let l = c .before .loop in
     let g = c .before .before .before .before .before .before .args in
-    let e : l .i ≡ c .before .before .less2 .result = omega arith in
-    l .inv .1 ∙ ap (λ (n : ℕ). putAt (g .at) (take n (g .src .now)) (g .out .now)) e ∙ put-all (g .at) (c .before .before .less2 .result) (c .before .before .before .less .result) _ (g .src .now) (g .out .now) (c .before .before .before .less .ensures) refl (c .before .before .less2 .ensures)
+    let e : l .i ≡ c .before .before .min2 .result = omega arith in
+    l .inv .1 ∙ ap (λ (n : ℕ). putAt (g .at) (take n (g .src .now)) (g .out .now)) e ∙ put-all (g .at) (c .before .before .min2 .result) (c .before .before .before .min .result) _ (g .src .now) (g .out .now) (c .before .before .before .min .ensures) refl (c .before .before .min2 .ensures)
 
 pub put-at-spec : {M : Type 1} → statement M
 put-at-spec =
@@ -63,9 +63,9 @@ put-at-spec =
     (tie.spec
     Inv-loop
     μ-loop
-    less-requires
+    min-requires
     sub-room
-    less-requires-2
+    min-requires-2
     loop-holds
     shared-slice-read-out
     add-out

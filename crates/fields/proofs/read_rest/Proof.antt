@@ -3,14 +3,14 @@ use borrow.Author.Needs.{needs}
 use Rattle.fields.proofs.read_rest.Statement.{statement}
 use Rattle.fields.proofs.read_rest.Tie as tie
 
-less-requires : tie.Need-less-requires
-less-requires c κs = search needs
+min-requires : tie.Need-min-requires
+min-requires c κs = search needs
 
 sub-end : tie.Need-sub-end
 sub-end c = search needs
 
-less-requires-2 : tie.Need-less-requires-2
-less-requires-2 c κs = search needs
+min-requires-2 : tie.Need-min-requires-2
+min-requires-2 c κs = search needs
 
 sub-t8 : tie.Need-sub-t8
 sub-t8 c = search needs
@@ -21,8 +21,8 @@ skip-rest-requires c κs = search needs
 returns : tie.Need-returns
 returns c =
     let g = c .before .before .before .before .args in
-    record { next = c .skip-rest .ensures; value = up-to (g .s .now) (g .c .at) (g .closing) _ _ (c .before .before .less .ensures) (c .before .less2 .ensures) }
+    record { next = c .skip-rest .ensures; value = up-to (g .s .now) (g .c .at) (g .closing) _ _ (c .before .before .min .ensures) (c .before .min2 .ensures) }
 
 pub read-rest-spec : {M : Type 1} → statement M
 read-rest-spec =
-    tie.close (tie.spec less-requires sub-end less-requires-2 sub-t8 skip-rest-requires returns)
+    tie.close (tie.spec min-requires sub-end min-requires-2 sub-t8 skip-rest-requires returns)

@@ -7,8 +7,8 @@ use Rattle.fields.proofs.skip_list.Tie as tie
 returns : tie.Need-returns
 returns c = stays _ _ _ (c .if1 .taken)
 
-word-at-requires : tie.Need-word-at-requires
-word-at-requires c κs = search needs
+u32-at-requires : tie.Need-u32-at-requires
+u32-at-requires c κs = search needs
 
 cast-n : tie.Need-cast-n
 cast-n c = search needs
@@ -41,17 +41,17 @@ add-t16 : tie.Need-add-t16
 add-t16 c = search needs
 
 returns-3 : tie.Need-returns-3
-returns-3 c = listed _ _ (c .before .before .before .before .if1 .left) _ (c .before .before .before .word-at .ensures) (c .before .before .if2 .left) (omega arith)
+returns-3 c = listed _ _ (c .before .before .before .before .if1 .left) _ (c .before .before .before .u32-at .ensures) (c .before .before .if2 .left) (omega arith)
 
 returns-4 : tie.Need-returns-4
-returns-4 c = cut-off _ _ (c .before .before .before .before .if1 .left) _ _ (c .before .before .before .word-at .ensures) (c .before .remaining .ensures) (c .before .before .if2 .left) (omega arith)
+returns-4 c = cut-off _ _ (c .before .before .before .before .if1 .left) _ _ (c .before .before .before .u32-at .ensures) (c .before .remaining .ensures) (c .before .before .if2 .left) (omega arith)
 
 pub skip-list-spec : {M : Type 1} → statement M
 skip-list-spec =
     tie.close
     (tie.spec
     returns
-    word-at-requires
+    u32-at-requires
     cast-n
     returns-2
     remaining-requires

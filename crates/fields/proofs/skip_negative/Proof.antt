@@ -8,8 +8,8 @@ use Rattle.fields.proofs.skip_negative.Tie as tie
 returns : tie.Need-returns
 returns c = stays _ _ _ (c .if1 .taken)
 
-word-at-requires : tie.Need-word-at-requires
-word-at-requires c κs = search needs
+u32-at-requires : tie.Need-u32-at-requires
+u32-at-requires c κs = search needs
 
 skip-requires : tie.Need-skip-requires
 skip-requires c κs = search needs
@@ -22,4 +22,4 @@ returns-3 c = c .skip .ensures ∙ is-negative _ _ (c .before .before .before .i
 
 pub skip-negative-spec : {M : Type 1} → statement M
 skip-negative-spec =
-    tie.close (tie.spec returns word-at-requires skip-requires returns-2 returns-3)
+    tie.close (tie.spec returns u32-at-requires skip-requires returns-2 returns-3)

@@ -4,8 +4,8 @@ use borrow.Author.Needs.{needs}
 use Rattle.fields.proofs.skip_payload.Statement.{statement}
 use Rattle.fields.proofs.skip_payload.Tie as tie
 
-word-at-requires : tie.Need-word-at-requires
-word-at-requires c κs = search needs
+u32-at-requires : tie.Need-u32-at-requires
+u32-at-requires c κs = search needs
 
 cast-skip : tie.Need-cast-skip
 cast-skip c = search needs
@@ -17,7 +17,7 @@ skip-requires : tie.Need-skip-requires
 skip-requires c κs = search needs
 
 returns : tie.Need-returns
-returns c = c .skip .ensures ∙ rw (c .before .word-at .ensures) (sized-passed _ _)
+returns c = c .skip .ensures ∙ rw (c .before .u32-at .ensures) (sized-passed _ _)
 
 pub skip-payload-spec : {M : Type 1} → statement M
-skip-payload-spec = tie.close (tie.spec word-at-requires cast-skip add-skip skip-requires returns)
+skip-payload-spec = tie.close (tie.spec u32-at-requires cast-skip add-skip skip-requires returns)

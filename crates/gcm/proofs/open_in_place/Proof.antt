@@ -4,7 +4,7 @@ use native.Mathlib.Omega.{arith}
 use lib.ListN.{length, replicate, length-replicate}
 use Rattle.gcm.specs.Calls.{limit, done, wrote, refusedWith}
 use mathlib.Core.Bool.{true, false}
-use Rattle.buffer.specs.Splice.{laid-over}
+use Rattle.buffer.proofs.Parts.{overwrite-fits}
 use Rattle.refusal.specs.Refusals.{row}
 use Rattle.gcm.specs.Gcm.{tagFits}
 use Rattle.gcm.proofs.Answers.{open-none, open-long, open-right, open-wrong}
@@ -68,7 +68,7 @@ returns-4 c =
     let g : tagFits (a .w .now) (a .nonce) (length s - 16) s ≡ false = cc in
     let r : length (replicate {A = ℕ} (length s - 16) 0) ≤ length s = rw (length-replicate {A = ℕ} (length s - 16) 0) l in
     record {
-      is = ap (done (refusedWith (row 17 0 0 0))) (z .put-zeros .ensures ∙ laid-over (replicate (length s - 16) 0) s r)
+      is = ap (done (refusedWith (row 17 0 0 0))) (z .put-zeros .ensures ∙ overwrite-fits (replicate (length s - 16) 0) s r)
           ∙ sym (open-wrong (a .w .now) (a .nonce) s s h k l g);
     }
 

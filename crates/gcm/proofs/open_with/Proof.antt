@@ -6,7 +6,7 @@ use lib.ListN.{length, take, replicate, length-replicate}
 use lib.Seq.{length-take-le}
 use Rattle.gcm.specs.Calls.{limit, done, wrote, refusedWith}
 use mathlib.Core.Bool.{true, false}
-use Rattle.buffer.specs.Splice.{laid-over}
+use Rattle.buffer.proofs.Parts.{overwrite-fits}
 use Rattle.refusal.specs.Refusals.{row}
 use Rattle.gcm.specs.Gcm.{tagFits}
 use Rattle.gcm.proofs.Answers.{open-none, open-long, open-short, open-right, open-wrong}
@@ -93,7 +93,7 @@ returns-5 c =
     let g : tagFits (a .w .now) (a .nonce) (length s - 16) s ≡ false = cc in
     let r : length (replicate {A = ℕ} (length s - 16) 0) ≤ length (a .out .now) = rw (length-replicate {A = ℕ} (length s - 16) 0) l in
     record {
-      is = ap (done (refusedWith (row 17 0 0 0))) (z .put-zeros .ensures ∙ laid-over (replicate (length s - 16) 0) (a .out .now) r)
+      is = ap (done (refusedWith (row 17 0 0 0))) (z .put-zeros .ensures ∙ overwrite-fits (replicate (length s - 16) 0) (a .out .now) r)
           ∙ sym (open-wrong (a .w .now) (a .nonce) s (a .out .now) h k l g);
     }
 

@@ -4,7 +4,8 @@ use native.Mathlib.Omega.{arith}
 use mathlib.Core.List.{List}
 use lib.ListN.{length, take, drop}
 use lib.Seq.{length-take-le, take-at}
-use Rattle.buffer.specs.Splice.{over, laid, rest, next-laid}
+use Rattle.buffer.specs.Splice.{replaceFront, overwrite}
+use Rattle.buffer.proofs.Parts.{rest, next-overwrite}
 use Rattle.aes.specs.Counter.{gctr}
 use Rattle.aes.proofs.Counters.{gctr-length}
 use Rattle.gcm.specs.Gcm.{tagOf, sealedBy}
@@ -60,12 +61,12 @@ returns c =
     let h : a .n ≤ length l₀ = omega arith in
     let m : List ℕ = gctr w (a .nonce) (take (a .n) l₀) in
     let en : length m ≡ a .n = gctr-length w (a .nonce) 0 (take (a .n) l₀) ∙ length-take-le (a .n) l₀ h in
-    let e₁ : l ≡ over m l₀ = mask .mask .ensures ∙ masked-over w (a .nonce) l₀ (a .n) h in
+    let e₁ : l ≡ replaceFront m l₀ = mask .mask .ensures ∙ masked-over w (a .nonce) l₀ (a .n) h in
     let et : take (a .n) l ≡ m = ap (take (a .n)) e₁ ∙ take-at m (drop (length m) l₀) (a .n) en in
     let t : tag .tag .result ≡ tagOf w (a .nonce) m = tag .tag .ensures ∙ ap (tagOf w (a .nonce)) et in
-    let e₂ : c .before .before .put .last .0 ≡ laid (tagOf w (a .nonce) m) (rest l (a .n)) = c .before .before .put .ensures ∙ ap (λ (x : List ℕ). laid x (rest l (a .n))) t in
+    let e₂ : c .before .before .put .last .0 ≡ overwrite (tagOf w (a .nonce) m) (rest l (a .n)) = c .before .before .put .ensures ∙ ap (λ (x : List ℕ). overwrite x (rest l (a .n))) t in
     let room : a .n + length (tagOf w (a .nonce) m) ≤ length l₀ = omega (arith, tag-length w (a .nonce) m) in
-    next-laid l₀ l m (tagOf w (a .nonce) m) (c .before .before .put .last .0) (a .n) en room e₁ e₂
+    next-overwrite l₀ l m (tagOf w (a .nonce) m) (c .before .before .put .last .0) (a .n) en room e₁ e₂
 
 pub seal-front-spec : {M : Type 1} → statement M
 seal-front-spec =

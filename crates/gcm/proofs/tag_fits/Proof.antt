@@ -2,7 +2,7 @@ use mathlib.Core.Path.{sym, ap₂, _∙_}
 use Prim.Native.Nat.{_-_, _≤_}
 use lib.ListN.{length}
 use lib.Seq.{length-take-le}
-use Rattle.buffer.specs.Splice.{rest-is}
+use Rattle.buffer.proofs.Parts.{rest-is}
 use Rattle.gcm.specs.Gcm.{sameAs, tagFits}
 use borrow.Author.Needs.{needs}
 use Rattle.gcm.proofs.tag_fits.Statement.{statement}

@@ -23,20 +23,20 @@ start-requires c κs = search needs
 loop-holds : tie.Need-loop-holds Inv-loop μ-loop
 loop-holds c = called-none (c .before .before .before .before .before .args .stream .now) (c .before .before .before .before .before .args .cuts .now) (c .before .before .before .before .before .args .store .now) (c .before .start .result .state)
 
-mul-less : tie.Need-mul-less Inv-loop μ-loop
-mul-less c = search needs
+mul-min : tie.Need-mul-min Inv-loop μ-loop
+mul-min c = search needs
 
-shared-slice-read-less : tie.Need-shared-slice-read-less Inv-loop μ-loop
-shared-slice-read-less c = search needs
+shared-slice-read-min : tie.Need-shared-slice-read-min Inv-loop μ-loop
+shared-slice-read-min c = search needs
 
-sub-less : tie.Need-sub-less Inv-loop μ-loop
-sub-less c = c .before .before .loop .inv .within
+sub-min : tie.Need-sub-min Inv-loop μ-loop
+sub-min c = c .before .before .loop .inv .within
 
-less-requires : tie.Need-less-requires Inv-loop μ-loop
-less-requires c κs = search needs
+min-requires : tie.Need-min-requires Inv-loop μ-loop
+min-requires c κs = search needs
 
 add-end : tie.Need-add-end Inv-loop μ-loop
-add-end c = omega (arith, c .less .ensures, c .before .before .before .loop .inv .within)
+add-end c = omega (arith, c .min .ensures, c .before .before .before .loop .inv .within)
 
 sub-receive : tie.Need-sub-receive Inv-loop μ-loop
 sub-receive c = omega arith
@@ -45,7 +45,7 @@ part-receive-start : tie.Need-part-receive-start Inv-loop μ-loop
 part-receive-start c = omega arith
 
 part-receive-end : tie.Need-part-receive-end Inv-loop μ-loop
-part-receive-end c = omega (arith, c .less .ensures, c .before .before .before .loop .inv .within)
+part-receive-end c = omega (arith, c .min .ensures, c .before .before .before .loop .inv .within)
 
 receive-requires : tie.Need-receive-requires Inv-loop μ-loop
 receive-requires c κs = search needs
@@ -54,7 +54,7 @@ add-t : tie.Need-add-t Inv-loop μ-loop
 add-t c =
     let p = c .before .before .before .before .before .before .before .before .before .before .before .before .before .before .before .before .args .stream .now in
     let n = getD (c .before .before .before .before .before .before .before .before .before .before .before .before .before .before .before .before .args .cuts .now) (c .before .before .before .before .before .before .before .before .before .before .loop .i) 0 in
-    let e = clipped p (c .before .before .before .before .before .before .before .before .before .before .loop .t) n (c .before .before .before .before .before .before .before .less .result) (c .before .before .before .before .before .before .before .before .before .before .loop .inv .within) (c .before .before .before .before .before .before .before .less .ensures) in
+    let e = clipped p (c .before .before .before .before .before .before .before .before .before .before .loop .t) n (c .before .before .before .before .before .before .before .min .result) (c .before .before .before .before .before .before .before .before .before .before .loop .inv .within) (c .before .before .before .before .before .before .before .min .ensures) in
     let r : Answered (c .before .before .before .before .before .before .before .before .before .before .loop .state) (c .before .before .before .before .before .before .before .before .before .before .loop .store) (pieceAt p (c .before .before .before .before .before .before .before .before .before .before .loop .t) n) (c .before .before .before .before .receive .result) (c .before .before .before .before .receive .last .1 .1 .0) = rw e at (c .before .before .before .before .receive .ensures) in
     omega (arith, taken-within p (c .before .before .before .before .before .before .before .before .before .before .loop .store) (c .before .before .before .before .before .before .before .before .before .before .loop .state) (c .before .before .before .before .before .before .before .before .before .before .loop .t) n (c .before .before .before .before .receive .result) (c .before .before .before .before .receive .last .1 .1 .0) (c .before .before .before .before .before .before .before .before .before .before .loop .inv .within) r, c .before .before .before .before .before .before .before .before .before .before .before .before .before .before .before .before .good .1 .0 .0)
 
@@ -68,7 +68,7 @@ loop-again : tie.Need-loop-again Inv-loop μ-loop
 loop-again c =
     let p = c .before .before .before .before .before .before .before .before .before .before .before .before .before .before .before .before .args .stream .now in
     let n = getD (c .before .before .before .before .before .before .before .before .before .before .before .before .before .before .before .before .args .cuts .now) (c .before .before .before .before .before .before .before .before .before .before .loop .i) 0 in
-    let e = clipped p (c .before .before .before .before .before .before .before .before .before .before .loop .t) n (c .before .before .before .before .before .before .before .less .result) (c .before .before .before .before .before .before .before .before .before .before .loop .inv .within) (c .before .before .before .before .before .before .before .less .ensures) in
+    let e = clipped p (c .before .before .before .before .before .before .before .before .before .before .loop .t) n (c .before .before .before .before .before .before .before .min .result) (c .before .before .before .before .before .before .before .before .before .before .loop .inv .within) (c .before .before .before .before .before .before .before .min .ensures) in
     let r : Answered (c .before .before .before .before .before .before .before .before .before .before .loop .state) (c .before .before .before .before .before .before .before .before .before .before .loop .store) (pieceAt p (c .before .before .before .before .before .before .before .before .before .before .loop .t) n) (c .before .before .before .before .receive .result) (c .before .before .before .before .receive .last .1 .1 .0) = rw e at (c .before .before .before .before .receive .ensures) in
     called-next p (c .before .before .before .before .before .before .before .before .before .before .before .before .before .before .before .before .args .cuts .now) (c .before .before .before .before .before .before .before .before .before .before .before .before .before .before .before .before .args .store .now) (c .before .before .before .before .before .before .before .before .before .before .loop .store) (c .before .before .before .before .before .before .before .before .before .before .before .before .start .result .state) (c .before .before .before .before .before .before .before .before .before .before .loop .state) (c .before .before .before .before .before .before .before .before .before .before .loop .t) (c .before .before .before .before .before .before .before .before .before .before .loop .i) (c .before .before .before .before .receive .result) (c .before .before .before .before .receive .last .1 .1 .0) (c .before .before .before .before .before .before .before .before .before .before .loop .inv) (c .before .before .before .before .before .before .before .before .before .loop-test .taken) (c .before .before .before .before .receive .kept .1 .1 .0) r
 
@@ -99,10 +99,10 @@ receive-all-spec =
     μ-loop
     start-requires
     loop-holds
-    mul-less
-    shared-slice-read-less
-    sub-less
-    less-requires
+    mul-min
+    shared-slice-read-min
+    sub-min
+    min-requires
     add-end
     sub-receive
     part-receive-start

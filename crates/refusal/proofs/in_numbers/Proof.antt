@@ -1,12 +1,8 @@
-use mathlib.Core.Path.{_≡_, _∙_, sym, ap}
+use mathlib.Core.Path.{_∙_, sym, ap}
 use Rattle.refusal.specs.Refusals.{numbersOf}
 use borrow.Author.Needs.{needs}
 use Rattle.refusal.proofs.in_numbers.Statement.{statement}
 use Rattle.refusal.proofs.in_numbers.Tie as tie
-use Rattle.refusal.proofs.in_numbers.Reads as reads
-use Rattle.refusal.proofs.in_numbers.Lts as lts
-use Rattle.refusal.proofs.one.Reads as one-reads
-use Rattle.refusal.proofs.three.Reads as three-reads
 
 enum-told : tie.Need-enum-told
 enum-told c = search needs

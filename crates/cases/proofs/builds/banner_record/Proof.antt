@@ -36,8 +36,8 @@ returns c =
     let e : isWhole (bannerSize s) s ≡ false = ap (λ (k : ℕ). isWhole k s) (sym (c .before .before .before .before .before .before .banner-size .ensures)) ∙ sym (c .before .before .before .before .before .is-whole .ensures) ∙ not-true (c .before .before .before .before .before .is-whole .result) (c .before .before .before .before .if1 .taken) in
     did-bad (bannerSize s) (doneLine (bannerDoneOf s) ∷ []) e (c .before .before .bad-record .ensures .0) (c .before .before .bad-record .ensures .1)
 
-word-at-requires : tie.Need-word-at-requires
-word-at-requires c κs = search needs
+u32-at-requires : tie.Need-u32-at-requires
+u32-at-requires c κs = search needs
 
 cast-n : tie.Need-cast-n
 cast-n c = search needs
@@ -47,14 +47,14 @@ slice-relend-prefix-buf c =
     let s = c .before .before .before .before .before .before .before .args .s .now in
     let e : isWhole (bannerSize s) s ≡ true = ap (λ (k : ℕ). isWhole k s) (sym (c .before .before .before .banner-size .ensures)) ∙ sym (c .before .before .is-whole .ensures) ∙ not-false (c .before .before .is-whole .result) (c .before .if1 .left) in
     let h = banner-buffer s e in
-    omega (arith, c .word-at .ensures, c .before .before .before .before .before .before .before .pre)
+    omega (arith, c .u32-at .ensures, c .before .before .before .before .before .before .before .pre)
 
 slice-aggregate-buf : tie.Need-slice-aggregate-buf
 slice-aggregate-buf c =
     let s = c .before .before .before .before .before .before .before .before .args .s .now in
     let e : isWhole (bannerSize s) s ≡ true = ap (λ (k : ℕ). isWhole k s) (sym (c .before .before .before .before .banner-size .ensures)) ∙ sym (c .before .before .before .is-whole .ensures) ∙ not-false (c .before .before .before .is-whole .result) (c .before .before .if1 .left) in
     let h = banner-buffer s e in
-    sym (length-take-le (c .before .word-at .result) (c .before .before .before .before .before .before .before .before .args .space .now) (omega (arith, c .before .word-at .ensures, c .before .before .before .before .before .before .before .before .pre)))
+    sym (length-take-le (c .before .u32-at .result) (c .before .before .before .before .before .before .before .before .args .space .now) (omega (arith, c .before .u32-at .ensures, c .before .before .before .before .before .before .before .before .pre)))
 
 byte-at-requires : tie.Need-byte-at-requires
 byte-at-requires c κs = search needs
@@ -62,14 +62,14 @@ byte-at-requires c κs = search needs
 count-up-requires : tie.Need-count-up-requires
 count-up-requires c κs = search needs
 
-long-at-requires : tie.Need-long-at-requires
-long-at-requires c κs = search needs
+u64-at-requires : tie.Need-u64-at-requires
+u64-at-requires c κs = search needs
 
-long-at-requires-2 : tie.Need-long-at-requires-2
-long-at-requires-2 c κs = search needs
+u64-at-requires-2 : tie.Need-u64-at-requires-2
+u64-at-requires-2 c κs = search needs
 
-long-at-requires-3 : tie.Need-long-at-requires-3
-long-at-requires-3 c κs = search needs
+u64-at-requires-3 : tie.Need-u64-at-requires-3
+u64-at-requires-3 c κs = search needs
 
 build-banner-requires : tie.Need-build-banner-requires
 build-banner-requires c κs = search needs
@@ -93,8 +93,8 @@ returns-2 c =
     let s = a .s .now in
     let e : isWhole (bannerSize s) s ≡ true = ap (λ (k : ℕ). isWhole k s) (sym (c .before .before .before .before .before .before .before .before .before .before .before .before .before .before .before .before .before .before .before .before .before .before .before .before .banner-size .ensures)) ∙ sym (c .before .before .before .before .before .before .before .before .before .before .before .before .before .before .before .before .before .before .before .before .before .before .before .is-whole .ensures) ∙ not-false (c .before .before .before .before .before .before .before .before .before .before .before .before .before .before .before .before .before .before .before .before .before .before .before .is-whole .result) (c .before .before .before .before .before .before .before .before .before .before .before .before .before .before .before .before .before .before .before .before .before .before .if1 .left) in
     let h = banner-buffer s e in
-    let n : length (take (c .before .before .before .before .before .before .before .before .before .before .before .before .before .before .before .before .before .before .before .before .before .word-at .result) (a .space .now)) ≡ numberAt 4 17 s = length-take-le (c .before .before .before .before .before .before .before .before .before .before .before .before .before .before .before .before .before .before .before .before .before .word-at .result) (a .space .now) (omega (arith, c .before .before .before .before .before .before .before .before .before .before .before .before .before .before .before .before .before .before .before .before .before .word-at .ensures, c .before .before .before .before .before .before .before .before .before .before .before .before .before .before .before .before .before .before .before .before .before .before .before .before .before .before .before .before .pre)) ∙ c .before .before .before .before .before .before .before .before .before .before .before .before .before .before .before .before .before .before .before .before .before .word-at .ensures in
-    let d : done (answered (c .before .before .before .before .before .before .before .before .before .before .build-banner .result)) (c .before .before .before .before .before .before .before .before .before .before .build-banner .last .0) ≡ bannerDoneOf s = c .before .before .before .before .before .before .before .before .before .before .build-banner .ensures .promise ∙ banner-done s (c .before .before .before .before .before .before .before .before .before .before .before .before .before .before .before .before .before .count-up .last .0) (c .before .before .before .before .before .before .before .before .before .before .before .before .long-at2 .result) (c .before .before .before .before .before .before .before .before .before .before .before .long-at3 .result) (c .before .before .before .before .before .before .before .before .before .before .before .before .before .long-at .result) (c .before .before .before .before .before .before .before .before .before .before .before .before .long-at2 .ensures) (c .before .before .before .before .before .before .before .before .before .before .before .long-at3 .ensures) (c .before .before .before .before .before .before .before .before .before .before .before .before .before .before .before .before .before .count-up .ensures ∙ ap₂ counted (c .before .before .before .before .before .before .before .before .before .before .before .before .before .before .before .before .before .before .byte-at .ensures) n) (c .before .before .before .before .before .before .before .before .before .before .before .before .before .long-at .ensures) in
+    let n : length (take (c .before .before .before .before .before .before .before .before .before .before .before .before .before .before .before .before .before .before .before .before .before .u32-at .result) (a .space .now)) ≡ numberAt 4 17 s = length-take-le (c .before .before .before .before .before .before .before .before .before .before .before .before .before .before .before .before .before .before .before .before .before .u32-at .result) (a .space .now) (omega (arith, c .before .before .before .before .before .before .before .before .before .before .before .before .before .before .before .before .before .before .before .before .before .u32-at .ensures, c .before .before .before .before .before .before .before .before .before .before .before .before .before .before .before .before .before .before .before .before .before .before .before .before .before .before .before .before .pre)) ∙ c .before .before .before .before .before .before .before .before .before .before .before .before .before .before .before .before .before .before .before .before .before .u32-at .ensures in
+    let d : done (answered (c .before .before .before .before .before .before .before .before .before .before .build-banner .result)) (c .before .before .before .before .before .before .before .before .before .before .build-banner .last .0) ≡ bannerDoneOf s = c .before .before .before .before .before .before .before .before .before .before .build-banner .ensures .promise ∙ banner-done s (c .before .before .before .before .before .before .before .before .before .before .before .before .before .before .before .before .before .count-up .last .0) (c .before .before .before .before .before .before .before .before .before .before .before .before .u64-at2 .result) (c .before .before .before .before .before .before .before .before .before .before .before .u64-at3 .result) (c .before .before .before .before .before .before .before .before .before .before .before .before .before .u64-at .result) (c .before .before .before .before .before .before .before .before .before .before .before .before .u64-at2 .ensures) (c .before .before .before .before .before .before .before .before .before .before .before .u64-at3 .ensures) (c .before .before .before .before .before .before .before .before .before .before .before .before .before .before .before .before .before .count-up .ensures ∙ ap₂ counted (c .before .before .before .before .before .before .before .before .before .before .before .before .before .before .before .before .before .before .byte-at .ensures) n) (c .before .before .before .before .before .before .before .before .before .before .before .before .before .u64-at .ensures) in
     let k = built-line (c .before .before .before .before .before .before .before .before .before .before .build-banner .result) (c .before .before .before .before .before .before .checksum .result) (c .before .before .before .before .before .before .before .before .before .before .build-banner .last .0) (bannerDoneOf s) d (c .before .before .before .before .before .before .checksum .ensures) in
     did-whole (bannerSize s) (doneLine (bannerDoneOf s) ∷ []) e (c .before .before .before .before .before .before .before .before .before .before .before .before .before .before .before .before .before .before .before .before .before .before .before .before .banner-size .ensures) (c .before .before .print-built .ensures ∙ ap (λ (x : List Piece). print x (page (a .text .now) (a .at))) k)
 
@@ -107,15 +107,15 @@ banner-record-spec =
     bad-record-requires
     same-length
     returns
-    word-at-requires
+    u32-at-requires
     cast-n
     slice-relend-prefix-buf
     slice-aggregate-buf
     byte-at-requires
     count-up-requires
-    long-at-requires
-    long-at-requires-2
-    long-at-requires-3
+    u64-at-requires
+    u64-at-requires-2
+    u64-at-requires-3
     build-banner-requires
     checksum-requires
     print-built-requires

@@ -2,8 +2,8 @@ use borrow.Author.Needs.{needs}
 use Rattle.cases.proofs.builds.banner_size.Statement.{statement}
 use Rattle.cases.proofs.builds.banner_size.Tie as tie
 
-word-at-requires : tie.Need-word-at-requires
-word-at-requires c κs = search needs
+u32-at-requires : tie.Need-u32-at-requires
+u32-at-requires c κs = search needs
 
 cast-sized : tie.Need-cast-sized
 cast-sized c = search needs
@@ -15,4 +15,4 @@ returns : tie.Need-returns
 returns c = cc
 
 pub banner-size-spec : {M : Type 1} → statement M
-banner-size-spec = tie.close (tie.spec word-at-requires cast-sized sized-requires returns)
+banner-size-spec = tie.close (tie.spec u32-at-requires cast-sized sized-requires returns)

@@ -38,8 +38,8 @@ returns c =
     let e : isWhole (frameSize s) s ≡ false = ap (λ (k : ℕ). isWhole k s) (sym (c .before .before .before .before .before .before .frame-size .ensures)) ∙ sym (c .before .before .before .before .before .is-whole .ensures) ∙ not-true (c .before .before .before .before .before .is-whole .result) (c .before .before .before .before .if1 .taken) in
     did-bad (frameSize s) (doneLine (frameDoneOf s) ∷ []) e (c .before .before .bad-record .ensures .0) (c .before .before .bad-record .ensures .1)
 
-word-at-requires : tie.Need-word-at-requires
-word-at-requires c κs = search needs
+u32-at-requires : tie.Need-u32-at-requires
+u32-at-requires c κs = search needs
 
 cast-n : tie.Need-cast-n
 cast-n c = search needs
@@ -49,14 +49,14 @@ slice-relend-prefix-buf c =
     let s = c .before .before .before .before .before .before .before .args .s .now in
     let e : isWhole (frameSize s) s ≡ true = ap (λ (k : ℕ). isWhole k s) (sym (c .before .before .before .frame-size .ensures)) ∙ sym (c .before .before .is-whole .ensures) ∙ not-false (c .before .before .is-whole .result) (c .before .if1 .left) in
     let h = frame-buffer s e in
-    omega (arith, c .word-at .ensures, c .before .before .before .before .before .before .before .pre)
+    omega (arith, c .u32-at .ensures, c .before .before .before .before .before .before .before .pre)
 
 slice-aggregate-buf : tie.Need-slice-aggregate-buf
 slice-aggregate-buf c =
     let s = c .before .before .before .before .before .before .before .before .args .s .now in
     let e : isWhole (frameSize s) s ≡ true = ap (λ (k : ℕ). isWhole k s) (sym (c .before .before .before .before .frame-size .ensures)) ∙ sym (c .before .before .before .is-whole .ensures) ∙ not-false (c .before .before .before .is-whole .result) (c .before .before .if1 .left) in
     let h = frame-buffer s e in
-    sym (length-take-le (c .before .word-at .result) (c .before .before .before .before .before .before .before .before .args .space .now) (omega (arith, c .before .word-at .ensures, c .before .before .before .before .before .before .before .before .pre)))
+    sym (length-take-le (c .before .u32-at .result) (c .before .before .before .before .before .before .before .before .args .space .now) (omega (arith, c .before .u32-at .ensures, c .before .before .before .before .before .before .before .before .pre)))
 
 byte-at-requires : tie.Need-byte-at-requires
 byte-at-requires c κs = search needs
@@ -64,8 +64,8 @@ byte-at-requires c κs = search needs
 count-up-requires : tie.Need-count-up-requires
 count-up-requires c κs = search needs
 
-long-at-requires : tie.Need-long-at-requires
-long-at-requires c κs = search needs
+u64-at-requires : tie.Need-u64-at-requires
+u64-at-requires c κs = search needs
 
 byte-at-requires-2 : tie.Need-byte-at-requires-2
 byte-at-requires-2 c κs = search needs
@@ -79,8 +79,8 @@ behind-requires c κs = search needs
 read-header-requires : tie.Need-read-header-requires
 read-header-requires c κs = search needs
 
-word-at-requires-2 : tie.Need-word-at-requires-2
-word-at-requires-2 c κs = search needs
+u32-at-requires-2 : tie.Need-u32-at-requires-2
+u32-at-requires-2 c κs = search needs
 
 cast-part : tie.Need-cast-part
 cast-part c = search needs
@@ -113,8 +113,8 @@ returns-2 c =
     let s = a .s .now in
     let e : isWhole (frameSize s) s ≡ true = ap (λ (k : ℕ). isWhole k s) (sym (c .before .before .before .before .before .before .before .before .before .before .before .before .before .before .before .before .before .before .before .before .before .before .before .before .before .before .before .before .before .frame-size .ensures)) ∙ sym (c .before .before .before .before .before .before .before .before .before .before .before .before .before .before .before .before .before .before .before .before .before .before .before .before .before .before .before .before .is-whole .ensures) ∙ not-false (c .before .before .before .before .before .before .before .before .before .before .before .before .before .before .before .before .before .before .before .before .before .before .before .before .before .before .before .before .is-whole .result) (c .before .before .before .before .before .before .before .before .before .before .before .before .before .before .before .before .before .before .before .before .before .before .before .before .before .before .before .if1 .left) in
     let h = frame-buffer s e in
-    let n : length (take (c .before .before .before .before .before .before .before .before .before .before .before .before .before .before .before .before .before .before .before .before .before .before .before .before .before .before .word-at .result) (a .space .now)) ≡ numberAt 4 29 s = length-take-le (c .before .before .before .before .before .before .before .before .before .before .before .before .before .before .before .before .before .before .before .before .before .before .before .before .before .before .word-at .result) (a .space .now) (omega (arith, c .before .before .before .before .before .before .before .before .before .before .before .before .before .before .before .before .before .before .before .before .before .before .before .before .before .before .word-at .ensures, c .before .before .before .before .before .before .before .before .before .before .before .before .before .before .before .before .before .before .before .before .before .before .before .before .before .before .before .before .before .before .before .before .before .pre)) ∙ c .before .before .before .before .before .before .before .before .before .before .before .before .before .before .before .before .before .before .before .before .before .before .before .before .before .before .word-at .ensures in
-    let d : done (answered (c .before .before .before .before .before .before .before .before .before .before .build-frame .result)) (c .before .before .before .before .before .before .before .before .before .before .build-frame .last .0) ≡ frameDoneOf s = c .before .before .before .before .before .before .before .before .before .before .build-frame .ensures .promise ∙ frame-done s (c .before .before .before .before .before .before .before .before .before .before .before .before .before .before .before .before .before .before .before .before .before .before .count-up .last .0) (c .before .before .before .before .before .before .before .before .before .before .before .before .before .part .result .now) (c .before .before .before .before .before .before .before .before .before .before .before .before .before .before .before .before .before .before .before .long-at .result) (c .before .before .before .before .before .before .before .before .before .before .before .before .before .before .before .before .before .revision-of .result) (c .before .before .before .before .before .before .before .before .before .before .before .before .before .before .before .read-header .result) (eqb (c .before .before .before .before .before .before .before .before .before .before .before .before .byte-at3 .result) 1) (c .before .before .before .before .before .before .before .before .before .before .before .before .before .before .before .before .before .revision-of .ensures ∙ ap revisionOf (c .before .before .before .before .before .before .before .before .before .before .before .before .before .before .before .before .before .before .byte-at2 .ensures)) (c .before .before .before .before .before .before .before .before .before .before .before .before .before .before .before .read-header .ensures ∙ ap headerOf (c .before .before .before .before .before .before .before .before .before .before .before .before .before .before .before .before .behind .ensures)) (ap (λ (b : ℕ). eqb b 1) (c .before .before .before .before .before .before .before .before .before .before .before .before .byte-at3 .ensures)) (c .before .before .before .before .before .before .before .before .before .before .before .before .before .part .ensures ∙ ap (λ (k : ℕ). take k (drop 46 s)) (c .before .before .before .before .before .before .before .before .before .before .before .before .before .before .word-at2 .ensures)) (c .before .before .before .before .before .before .before .before .before .before .before .before .before .before .before .before .before .before .before .before .before .before .count-up .ensures ∙ ap₂ counted (c .before .before .before .before .before .before .before .before .before .before .before .before .before .before .before .before .before .before .before .before .before .before .before .byte-at .ensures) n) (c .before .before .before .before .before .before .before .before .before .before .before .before .before .before .before .before .before .before .before .long-at .ensures) in
+    let n : length (take (c .before .before .before .before .before .before .before .before .before .before .before .before .before .before .before .before .before .before .before .before .before .before .before .before .before .before .u32-at .result) (a .space .now)) ≡ numberAt 4 29 s = length-take-le (c .before .before .before .before .before .before .before .before .before .before .before .before .before .before .before .before .before .before .before .before .before .before .before .before .before .before .u32-at .result) (a .space .now) (omega (arith, c .before .before .before .before .before .before .before .before .before .before .before .before .before .before .before .before .before .before .before .before .before .before .before .before .before .before .u32-at .ensures, c .before .before .before .before .before .before .before .before .before .before .before .before .before .before .before .before .before .before .before .before .before .before .before .before .before .before .before .before .before .before .before .before .before .pre)) ∙ c .before .before .before .before .before .before .before .before .before .before .before .before .before .before .before .before .before .before .before .before .before .before .before .before .before .before .u32-at .ensures in
+    let d : done (answered (c .before .before .before .before .before .before .before .before .before .before .build-frame .result)) (c .before .before .before .before .before .before .before .before .before .before .build-frame .last .0) ≡ frameDoneOf s = c .before .before .before .before .before .before .before .before .before .before .build-frame .ensures .promise ∙ frame-done s (c .before .before .before .before .before .before .before .before .before .before .before .before .before .before .before .before .before .before .before .before .before .before .count-up .last .0) (c .before .before .before .before .before .before .before .before .before .before .before .before .before .part .result .now) (c .before .before .before .before .before .before .before .before .before .before .before .before .before .before .before .before .before .before .before .u64-at .result) (c .before .before .before .before .before .before .before .before .before .before .before .before .before .before .before .before .before .revision-of .result) (c .before .before .before .before .before .before .before .before .before .before .before .before .before .before .before .read-header .result) (eqb (c .before .before .before .before .before .before .before .before .before .before .before .before .byte-at3 .result) 1) (c .before .before .before .before .before .before .before .before .before .before .before .before .before .before .before .before .before .revision-of .ensures ∙ ap revisionOf (c .before .before .before .before .before .before .before .before .before .before .before .before .before .before .before .before .before .before .byte-at2 .ensures)) (c .before .before .before .before .before .before .before .before .before .before .before .before .before .before .before .read-header .ensures ∙ ap headerOf (c .before .before .before .before .before .before .before .before .before .before .before .before .before .before .before .before .behind .ensures)) (ap (λ (b : ℕ). eqb b 1) (c .before .before .before .before .before .before .before .before .before .before .before .before .byte-at3 .ensures)) (c .before .before .before .before .before .before .before .before .before .before .before .before .before .part .ensures ∙ ap (λ (k : ℕ). take k (drop 46 s)) (c .before .before .before .before .before .before .before .before .before .before .before .before .before .before .u32-at2 .ensures)) (c .before .before .before .before .before .before .before .before .before .before .before .before .before .before .before .before .before .before .before .before .before .before .count-up .ensures ∙ ap₂ counted (c .before .before .before .before .before .before .before .before .before .before .before .before .before .before .before .before .before .before .before .before .before .before .before .byte-at .ensures) n) (c .before .before .before .before .before .before .before .before .before .before .before .before .before .before .before .before .before .before .before .u64-at .ensures) in
     let k = built-line (c .before .before .before .before .before .before .before .before .before .before .build-frame .result) (c .before .before .before .before .before .before .checksum .result) (c .before .before .before .before .before .before .before .before .before .before .build-frame .last .0) (frameDoneOf s) d (c .before .before .before .before .before .before .checksum .ensures) in
     did-whole (frameSize s) (doneLine (frameDoneOf s) ∷ []) e (c .before .before .before .before .before .before .before .before .before .before .before .before .before .before .before .before .before .before .before .before .before .before .before .before .before .before .before .before .before .frame-size .ensures) (c .before .before .print-built .ensures ∙ ap (λ (x : List Piece). print x (page (a .text .now) (a .at))) k)
 
@@ -127,18 +127,18 @@ frame-record-spec =
     bad-record-requires
     same-length
     returns
-    word-at-requires
+    u32-at-requires
     cast-n
     slice-relend-prefix-buf
     slice-aggregate-buf
     byte-at-requires
     count-up-requires
-    long-at-requires
+    u64-at-requires
     byte-at-requires-2
     revision-of-requires
     behind-requires
     read-header-requires
-    word-at-requires-2
+    u32-at-requires-2
     cast-part
     part-requires
     byte-at-requires-3

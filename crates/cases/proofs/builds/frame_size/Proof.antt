@@ -2,8 +2,8 @@ use borrow.Author.Needs.{needs}
 use Rattle.cases.proofs.builds.frame_size.Statement.{statement}
 use Rattle.cases.proofs.builds.frame_size.Tie as tie
 
-word-at-requires : tie.Need-word-at-requires
-word-at-requires c κs = search needs
+u32-at-requires : tie.Need-u32-at-requires
+u32-at-requires c κs = search needs
 
 cast-n : tie.Need-cast-n
 cast-n c = search needs
@@ -17,8 +17,8 @@ byte-at-requires-2 c κs = search needs
 both-requires : tie.Need-both-requires
 both-requires c κs = search needs
 
-word-at-requires-2 : tie.Need-word-at-requires-2
-word-at-requires-2 c κs = search needs
+u32-at-requires-2 : tie.Need-u32-at-requires-2
+u32-at-requires-2 c κs = search needs
 
 cast-both : tie.Need-cast-both
 cast-both c = search needs
@@ -42,12 +42,12 @@ pub frame-size-spec : {M : Type 1} → statement M
 frame-size-spec =
     tie.close
     (tie.spec
-    word-at-requires
+    u32-at-requires
     cast-n
     byte-at-requires
     byte-at-requires-2
     both-requires
-    word-at-requires-2
+    u32-at-requires-2
     cast-both
     both-requires-2
     both-requires-3

@@ -48,8 +48,8 @@ stream-at-requires c κs = search needs
 add-part : tie.Need-add-part
 add-part c = search needs
 
-word-at-requires : tie.Need-word-at-requires
-word-at-requires c κs = search needs
+u32-at-requires : tie.Need-u32-at-requires
+u32-at-requires c κs = search needs
 
 cast-part : tie.Need-cast-part
 cast-part c = search needs
@@ -57,8 +57,8 @@ cast-part c = search needs
 part-requires : tie.Need-part-requires
 part-requires c κs = search needs
 
-word-at-requires-2 : tie.Need-word-at-requires-2
-word-at-requires-2 c κs = search needs
+u32-at-requires-2 : tie.Need-u32-at-requires-2
+u32-at-requires-2 c κs = search needs
 
 cast-n : tie.Need-cast-n
 cast-n c = search needs
@@ -69,7 +69,7 @@ slice-relend-prefix-store c =
     let s = c .before .before .before .before .before .before .before .before .before .before .before .before .args .s .now in
     let e : isWhole (receiverSize lends s) s ≡ true = ap (λ (k : ℕ). isWhole k s) (sym (c .before .before .before .before .before .before .before .before .receiver-size .ensures)) ∙ sym (c .before .before .before .before .before .before .before .is-whole .ensures) ∙ not-false (c .before .before .before .before .before .before .before .is-whole .result) (c .before .before .before .before .before .before .if1 .left) in
     let h = receiver-store lends s e in
-    omega (arith, c .word-at2 .ensures, c .before .before .before .before .before .before .before .before .before .before .before .before .pre)
+    omega (arith, c .u32-at2 .ensures, c .before .before .before .before .before .before .before .before .before .before .before .before .pre)
 
 slice-aggregate-store : tie.Need-slice-aggregate-store
 slice-aggregate-store c =
@@ -77,7 +77,7 @@ slice-aggregate-store c =
     let s = c .before .before .before .before .before .before .before .before .before .before .before .before .before .args .s .now in
     let e : isWhole (receiverSize lends s) s ≡ true = ap (λ (k : ℕ). isWhole k s) (sym (c .before .before .before .before .before .before .before .before .before .receiver-size .ensures)) ∙ sym (c .before .before .before .before .before .before .before .before .is-whole .ensures) ∙ not-false (c .before .before .before .before .before .before .before .before .is-whole .result) (c .before .before .before .before .before .before .before .if1 .left) in
     let h = receiver-store lends s e in
-    sym (length-take-le (c .before .word-at2 .result) (c .before .before .before .before .before .before .before .before .before .before .before .before .before .args .space .now) (omega (arith, c .before .word-at2 .ensures, c .before .before .before .before .before .before .before .before .before .before .before .before .before .pre)))
+    sym (length-take-le (c .before .u32-at2 .result) (c .before .before .before .before .before .before .before .before .before .before .before .before .before .args .space .now) (omega (arith, c .before .u32-at2 .ensures, c .before .before .before .before .before .before .before .before .before .before .before .before .before .pre)))
 
 byte-at-requires : tie.Need-byte-at-requires
 byte-at-requires c κs = search needs
@@ -85,11 +85,11 @@ byte-at-requires c κs = search needs
 count-up-requires : tie.Need-count-up-requires
 count-up-requires c κs = search needs
 
-long-at-requires : tie.Need-long-at-requires
-long-at-requires c κs = search needs
+u64-at-requires : tie.Need-u64-at-requires
+u64-at-requires c κs = search needs
 
-long-at-requires-2 : tie.Need-long-at-requires-2
-long-at-requires-2 c κs = search needs
+u64-at-requires-2 : tie.Need-u64-at-requires-2
+u64-at-requires-2 c κs = search needs
 
 start-requires : tie.Need-start-requires
 start-requires c κs = search needs
@@ -114,13 +114,13 @@ returns-2 c =
     let s = a .s .now in
     let e : isWhole (receiverSize lends s) s ≡ true = ap (λ (k : ℕ). isWhole k s) (sym (c .before .before .before .before .before .before .before .before .before .before .before .before .before .before .before .before .before .before .before .before .before .before .before .before .before .before .before .before .receiver-size .ensures)) ∙ sym (c .before .before .before .before .before .before .before .before .before .before .before .before .before .before .before .before .before .before .before .before .before .before .before .before .before .before .before .is-whole .ensures) ∙ not-false (c .before .before .before .before .before .before .before .before .before .before .before .before .before .before .before .before .before .before .before .before .before .before .before .before .before .before .before .is-whole .result) (c .before .before .before .before .before .before .before .before .before .before .before .before .before .before .before .before .before .before .before .before .before .before .before .before .before .before .if1 .left) in
     let h = receiver-store lends s e in
-    let n : length (take (c .before .before .before .before .before .before .before .before .before .before .before .before .before .before .before .before .before .before .before .before .word-at2 .result) (a .space .now)) ≡ numberAt 4 17 s = length-take-le (c .before .before .before .before .before .before .before .before .before .before .before .before .before .before .before .before .before .before .before .before .word-at2 .result) (a .space .now) (omega (arith, c .before .before .before .before .before .before .before .before .before .before .before .before .before .before .before .before .before .before .before .before .word-at2 .ensures, c .before .before .before .before .before .before .before .before .before .before .before .before .before .before .before .before .before .before .before .before .before .before .before .before .before .before .before .before .before .before .before .before .pre)) ∙ c .before .before .before .before .before .before .before .before .before .before .before .before .before .before .before .before .before .before .before .before .word-at2 .ensures in
+    let n : length (take (c .before .before .before .before .before .before .before .before .before .before .before .before .before .before .before .before .before .before .before .before .u32-at2 .result) (a .space .now)) ≡ numberAt 4 17 s = length-take-le (c .before .before .before .before .before .before .before .before .before .before .before .before .before .before .before .before .before .before .before .before .u32-at2 .result) (a .space .now) (omega (arith, c .before .before .before .before .before .before .before .before .before .before .before .before .before .before .before .before .before .before .before .before .u32-at2 .ensures, c .before .before .before .before .before .before .before .before .before .before .before .before .before .before .before .before .before .before .before .before .before .before .before .before .before .before .before .before .before .before .before .before .pre)) ∙ c .before .before .before .before .before .before .before .before .before .before .before .before .before .before .before .before .before .before .before .before .u32-at2 .ensures in
     did-whole (receiverSize lends s) (receiverLines lends s) e (c .before .before .before .before .before .before .before .before .before .before .before .before .before .before .before .before .before .before .before .before .before .before .before .before .before .before .before .before .receiver-size .ensures)
     (receiver-printed lends s (page (a .text .now) (a .at)) (c .before .before .before .before .before .before .before .before .before .before .before .before .before .before .before .before .before .before .before .before .before .before .before .before .before .calls-of .ensures .0) (c .before .before .before .before .before .before .before .before .before .before .before .before .before .before .before .before .before .before .before .before .before .before .before .before .calls-at .ensures .0)
-    (c .before .before .before .before .before .before .before .before .before .before .before .before .before .before .before .before .before .before .before .before .before .part .ensures ∙ rw (c .before .before .before .before .before .before .before .before .before .before .before .before .before .before .before .before .before .before .before .before .before .before .word-at .ensures, c .before .before .before .before .before .before .before .before .before .before .before .before .before .before .before .before .before .before .before .before .before .before .before .stream-at .ensures .0))
-    (c .before .before .before .before .before .before .before .before .before .before .before .start .ensures .state ∙ ap started (own-is (record { supported = c .before .before .before .before .before .before .before .before .before .before .before .before .before .long-at .result; required = c .before .before .before .before .before .before .before .before .before .before .before .before .long-at2 .result }) s (c .before .before .before .before .before .before .before .before .before .before .before .before .before .long-at .ensures) (c .before .before .before .before .before .before .before .before .before .before .before .before .long-at2 .ensures)))
+    (c .before .before .before .before .before .before .before .before .before .before .before .before .before .before .before .before .before .before .before .before .before .part .ensures ∙ rw (c .before .before .before .before .before .before .before .before .before .before .before .before .before .before .before .before .before .before .before .before .before .before .u32-at .ensures, c .before .before .before .before .before .before .before .before .before .before .before .before .before .before .before .before .before .before .before .before .before .before .before .stream-at .ensures .0))
+    (c .before .before .before .before .before .before .before .before .before .before .before .start .ensures .state ∙ ap started (own-is (record { supported = c .before .before .before .before .before .before .before .before .before .before .before .before .before .u64-at .result; required = c .before .before .before .before .before .before .before .before .before .before .before .before .u64-at2 .result }) s (c .before .before .before .before .before .before .before .before .before .before .before .before .before .u64-at .ensures) (c .before .before .before .before .before .before .before .before .before .before .before .before .u64-at2 .ensures)))
     (c .before .before .before .before .before .before .before .before .before .before .before .before .before .before .before .before .count-up .ensures ∙ ap₂ counted (c .before .before .before .before .before .before .before .before .before .before .before .before .before .before .before .before .before .byte-at .ensures) n)
-    (c .before .before .before .before .before .before .before .before .before .before .before .start .ensures .verdict ∙ ap₂ judgeOwn (c .before .before .before .before .before .before .before .before .before .before .before .before .before .long-at .ensures) (c .before .before .before .before .before .before .before .before .before .before .before .before .long-at2 .ensures))
+    (c .before .before .before .before .before .before .before .before .before .before .before .start .ensures .verdict ∙ ap₂ judgeOwn (c .before .before .before .before .before .before .before .before .before .before .before .before .before .u64-at .ensures) (c .before .before .before .before .before .before .before .before .before .before .before .before .u64-at2 .ensures))
     (c .before .before .before .before .before .before .before .before .print-start .ensures)
     (c .before .before .before .before .make-calls .ensures))
 
@@ -137,17 +137,17 @@ receiver-record-spec =
     calls-at-requires
     stream-at-requires
     add-part
-    word-at-requires
+    u32-at-requires
     cast-part
     part-requires
-    word-at-requires-2
+    u32-at-requires-2
     cast-n
     slice-relend-prefix-store
     slice-aggregate-store
     byte-at-requires
     count-up-requires
-    long-at-requires
-    long-at-requires-2
+    u64-at-requires
+    u64-at-requires-2
     start-requires
     print-start-requires
     make-calls-requires

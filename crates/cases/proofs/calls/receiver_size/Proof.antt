@@ -10,8 +10,8 @@ calls-of-requires c κs = search needs
 stream-at-requires : tie.Need-stream-at-requires
 stream-at-requires c κs = search needs
 
-word-at-requires : tie.Need-word-at-requires
-word-at-requires c κs = search needs
+u32-at-requires : tie.Need-u32-at-requires
+u32-at-requires c κs = search needs
 
 cast-n : tie.Need-cast-n
 cast-n c = search needs
@@ -22,8 +22,8 @@ no-switches-requires c κs = search needs
 both-requires : tie.Need-both-requires
 both-requires c κs = search needs
 
-word-at-requires-2 : tie.Need-word-at-requires-2
-word-at-requires-2 c κs = search needs
+u32-at-requires-2 : tie.Need-u32-at-requires-2
+u32-at-requires-2 c κs = search needs
 
 cast-both : tie.Need-cast-both
 cast-both c = search needs
@@ -54,7 +54,7 @@ sized-requires c κs = search needs
 
 returns : tie.Need-returns
 unfolding receiverSize
-returns c = c .sized .ensures ∙ rw (c .before .both4 .ensures, c .before .before .both3 .ensures, c .before .before .before .before .before .both2 .ensures, c .before .before .before .before .before .before .before .both .ensures, c .before .before .before .calls-good .ensures, c .before .before .before .before .before .before .before .before .no-switches .ensures, c .before .before .before .before .before .before .word-at2 .ensures, c .before .before .before .before .before .before .before .before .before .word-at .ensures, c .before .before .before .before .before .before .before .before .before .before .stream-at .ensures .0, c .before .before .before .before .calls-at .ensures .0, c .before .before .before .before .before .before .before .before .before .before .before .calls-of .ensures .0)
+returns c = c .sized .ensures ∙ rw (c .before .both4 .ensures, c .before .before .both3 .ensures, c .before .before .before .before .before .both2 .ensures, c .before .before .before .before .before .before .before .both .ensures, c .before .before .before .calls-good .ensures, c .before .before .before .before .before .before .before .before .no-switches .ensures, c .before .before .before .before .before .before .u32-at2 .ensures, c .before .before .before .before .before .before .before .before .before .u32-at .ensures, c .before .before .before .before .before .before .before .before .before .before .stream-at .ensures .0, c .before .before .before .before .calls-at .ensures .0, c .before .before .before .before .before .before .before .before .before .before .before .calls-of .ensures .0)
 
 pub receiver-size-spec : {M : Type 1} → statement M
 receiver-size-spec =
@@ -62,11 +62,11 @@ receiver-size-spec =
     (tie.spec
     calls-of-requires
     stream-at-requires
-    word-at-requires
+    u32-at-requires
     cast-n
     no-switches-requires
     both-requires
-    word-at-requires-2
+    u32-at-requires-2
     cast-both
     both-requires-2
     calls-at-requires

@@ -33,14 +33,14 @@ returns c =
     let e : isWhole (checksumSize s) s ≡ false = ap (λ (k : ℕ). isWhole k s) (sym (c .before .before .before .before .before .before .checksum-size .ensures)) ∙ sym (c .before .before .before .before .before .is-whole .ensures) ∙ not-true (c .before .before .before .before .before .is-whole .result) (c .before .before .before .before .if1 .taken) in
     did-bad (checksumSize s) (checksumLine (crcOf (numberAt 4 1 s) (take (numberAt 4 5 s) (drop 9 s))) ∷ []) e (c .before .before .bad-record .ensures .0) (c .before .before .bad-record .ensures .1)
 
-word-at-requires : tie.Need-word-at-requires
-word-at-requires c κs = search needs
+u32-at-requires : tie.Need-u32-at-requires
+u32-at-requires c κs = search needs
 
 cast-n : tie.Need-cast-n
 cast-n c = search needs
 
-word-at-requires-2 : tie.Need-word-at-requires-2
-word-at-requires-2 c κs = search needs
+u32-at-requires-2 : tie.Need-u32-at-requires-2
+u32-at-requires-2 c κs = search needs
 
 part-requires : tie.Need-part-requires
 part-requires c κs = search needs
@@ -59,7 +59,7 @@ unfolding checksumRecord prints
 returns-2 c =
     let s = c .before .before .before .before .before .before .before .before .before .before .before .before .before .args .s .now in
     let e : isWhole (checksumSize s) s ≡ true = ap (λ (k : ℕ). isWhole k s) (sym (c .before .before .before .before .before .before .before .before .before .before .checksum-size .ensures)) ∙ sym (c .before .before .before .before .before .before .before .before .before .is-whole .ensures) ∙ not-false (c .before .before .before .before .before .before .before .before .before .is-whole .result) (c .before .before .before .before .before .before .before .before .if1 .left) in
-    did-whole (checksumSize s) (checksumLine (crcOf (numberAt 4 1 s) (take (numberAt 4 5 s) (drop 9 s))) ∷ []) e (c .before .before .before .before .before .before .before .before .before .before .checksum-size .ensures) (c .before .before .print-checksum .ensures ∙ ap (λ (x : ℕ). print (checksumLine x) (page (c .before .before .before .before .before .before .before .before .before .before .before .before .before .args .text .now) (c .before .before .before .before .before .before .before .before .before .before .before .before .before .args .at))) (c .before .before .before .before .checksum .ensures ∙ ap₂ crcOf (c .before .before .before .before .before .before .word-at2 .ensures) (c .before .before .before .before .before .part .ensures ∙ ap (λ (k : ℕ). take k (drop 9 s)) (c .before .before .before .before .before .before .before .word-at .ensures))))
+    did-whole (checksumSize s) (checksumLine (crcOf (numberAt 4 1 s) (take (numberAt 4 5 s) (drop 9 s))) ∷ []) e (c .before .before .before .before .before .before .before .before .before .before .checksum-size .ensures) (c .before .before .print-checksum .ensures ∙ ap (λ (x : ℕ). print (checksumLine x) (page (c .before .before .before .before .before .before .before .before .before .before .before .before .before .args .text .now) (c .before .before .before .before .before .before .before .before .before .before .before .before .before .args .at))) (c .before .before .before .before .checksum .ensures ∙ ap₂ crcOf (c .before .before .before .before .before .before .u32-at2 .ensures) (c .before .before .before .before .before .part .ensures ∙ ap (λ (k : ℕ). take k (drop 9 s)) (c .before .before .before .before .before .before .before .u32-at .ensures))))
 
 pub checksum-record-spec : {M : Type 1} → statement M
 checksum-record-spec =
@@ -70,9 +70,9 @@ checksum-record-spec =
     bad-record-requires
     same-length
     returns
-    word-at-requires
+    u32-at-requires
     cast-n
-    word-at-requires-2
+    u32-at-requires-2
     part-requires
     checksum-requires
     print-checksum-requires

@@ -2,8 +2,8 @@ use borrow.Author.Needs.{needs}
 use Rattle.cases.proofs.checksums.checksum_size.Statement.{statement}
 use Rattle.cases.proofs.checksums.checksum_size.Tie as tie
 
-word-at-requires : tie.Need-word-at-requires
-word-at-requires c κs = search needs
+u32-at-requires : tie.Need-u32-at-requires
+u32-at-requires c κs = search needs
 
 cast-n : tie.Need-cast-n
 cast-n c = search needs
@@ -18,4 +18,4 @@ returns : tie.Need-returns
 returns c = cc
 
 pub checksum-size-spec : {M : Type 1} → statement M
-checksum-size-spec = tie.close (tie.spec word-at-requires cast-n add-sized sized-requires returns)
+checksum-size-spec = tie.close (tie.spec u32-at-requires cast-n add-sized sized-requires returns)

@@ -1,4 +1,4 @@
-use Rattle.buffer.specs.Splice.{rest, length-rest, laid-over, placed}
+use Rattle.buffer.proofs.Parts.{rest, length-rest, overwrite-fits, placed}
 use lib.Seq.{sets-eq}
 use lib.ListN.{length}
 use Prim.Native.Nat.{_+_, _-_, _≤_}
@@ -43,7 +43,7 @@ returns-2 c =
     let n = g .at in
     let l : length (rest s n) ≡ length s - n = length-rest s n in
     let k : n + length xs ≤ length s = c .before .before .before .before .before .before .before .before .pre (c .before .before .before .before .enum-told2 .given .1) in
-    rw (c .before .before .before .before .enum-told2 .given .1) (placed s xs (c .before .before .put .last .0) n (c .before .before .put .ensures ∙ laid-over xs (rest s n) (omega arith)) ∙ sym (sets-eq xs s n k))
+    rw (c .before .before .before .before .enum-told2 .given .1) (placed s xs (c .before .before .put .last .0) n (c .before .before .put .ensures ∙ overwrite-fits xs (rest s n) (omega arith)) ∙ sym (sets-eq xs s n k))
 
 returns-3 : tie.Need-returns-3
 returns-3 c = search needs

@@ -26,11 +26,11 @@ taking-length st piece = length-take-le (step.fitting st piece) piece (omega ari
 size-of-requires : tie.Need-size-of-requires
 size-of-requires c κs = search needs
 
-sub-less : tie.Need-sub-less
-sub-less c = search needs
+sub-min : tie.Need-sub-min
+sub-min c = search needs
 
-less-requires : tie.Need-less-requires
-less-requires c κs = search needs
+min-requires : tie.Need-min-requires
+min-requires c κs = search needs
 
 part-requires : tie.Need-part-requires
 part-requires c κs = search needs
@@ -44,7 +44,7 @@ fill-block-requires c κs =
     let st = g .st in
     let s = g .store .now in
     let p = g .piece .now in
-    let m : c .before .before .less .result ≡ step.fitting st p = c .before .before .less .ensures ∙ ap (λ (x : ℕ). min (x - st .position .got) (length p)) (c .before .before .before .size-of .ensures) in
+    let m : c .before .before .min .result ≡ step.fitting st p = c .before .before .min .ensures ∙ ap (λ (x : ℕ). min (x - st .position .got) (length p)) (c .before .before .before .size-of .ensures) in
     let b : now (c .before .part .result) ≡ taking st p = c .before .part .ensures ∙ ap (λ (n : ℕ). take n p) m in
     let l = taking-length st p in
     λ e. omega (arith, m, ap length b, l, block-room (st .position .stage) (st .known) (sym (c .place-of .ensures) ∙ e))
@@ -55,7 +55,7 @@ fill-store-requires c κs =
     let st = g .st in
     let s = g .store .now in
     let p = g .piece .now in
-    let m : c .before .before .before .before .less .result ≡ step.fitting st p = c .before .before .before .before .less .ensures ∙ ap (λ (x : ℕ). min (x - st .position .got) (length p)) (c .before .before .before .before .before .size-of .ensures) in
+    let m : c .before .before .before .before .min .result ≡ step.fitting st p = c .before .before .before .before .min .ensures ∙ ap (λ (x : ℕ). min (x - st .position .got) (length p)) (c .before .before .before .before .before .size-of .ensures) in
     let b : now (c .before .before .before .part .result) ≡ taking st p = c .before .before .before .part .ensures ∙ ap (λ (n : ℕ). take n p) m in
     let l = taking-length st p in
     λ e. omega (arith, m, ap length b, l, c .before .before .before .before .before .before .before .before .before .before .before .pre, store-room (st .position .stage) (st .known) (sym (c .before .before .place-of .ensures) ∙ e))
@@ -72,13 +72,13 @@ returns c =
     let st = g .st in
     let s = g .store .now in
     let p = g .piece .now in
-    let m : c .before .before .before .before .before .before .before .before .less .result ≡ step.fitting st p = c .before .before .before .before .before .before .before .before .less .ensures ∙ ap (λ (x : ℕ). min (x - st .position .got) (length p)) (c .before .before .before .before .before .before .before .before .before .size-of .ensures) in
+    let m : c .before .before .before .before .before .before .before .before .min .result ≡ step.fitting st p = c .before .before .before .before .before .before .before .before .min .ensures ∙ ap (λ (x : ℕ). min (x - st .position .got) (length p)) (c .before .before .before .before .before .before .before .before .before .size-of .ensures) in
     let b : now (c .before .before .before .before .before .before .before .part .result) ≡ taking st p = c .before .before .before .before .before .before .before .part .ensures ∙ ap (λ (n : ℕ). take n p) m in
     let l = taking-length st p in
     let t : ltb (st .position .got + length (taking st p)) (step.size st) ≡ true = lt-ltb (st .position .got + length (taking st p)) (step.size st) (omega (arith, m, l, c .before .before .before .before .before .before .before .before .before .size-of .ensures, c .if1 .taken)) in
     let eb = c .before .before .before .before .before .fill-block .ensures ∙ ap₂ (λ (q : Place) (xs : List ℕ). step.blockWith q (st .position .got) (st .position .block) xs) (c .before .before .before .before .before .before .place-of .ensures) b in
     let es = c .before .before .before .fill-store .ensures ∙ ap₂ (λ (q : Place) (xs : List ℕ). step.storeWith q (st .position .got) s xs) (c .before .before .before .before .before .before .place-of .ensures) b in
-    let n : st .position .got + c .before .before .before .before .before .before .before .before .less .result ≡ st .position .got + length (taking st p) = ap (λ (k : ℕ). st .position .got + k) (m ∙ sym l) in
+    let n : st .position .got + c .before .before .before .before .before .before .before .before .min .result ≡ st .position .got + length (taking st p) = ap (λ (k : ℕ). st .position .got + k) (m ∙ sym l) in
     record { taken = m; step = rw t (rw (eb, es, n)) }
 
 slice-aggregate-end-stage : tie.Need-slice-aggregate-end-stage
@@ -96,7 +96,7 @@ returns-2 c =
     let st = g .st in
     let s = g .store .now in
     let p = g .piece .now in
-    let m : c .before .before .before .before .before .before .before .before .before .before .before .before .before .before .less .result ≡ step.fitting st p = c .before .before .before .before .before .before .before .before .before .before .before .before .before .before .less .ensures ∙ ap (λ (x : ℕ). min (x - st .position .got) (length p)) (c .before .before .before .before .before .before .before .before .before .before .before .before .before .before .before .size-of .ensures) in
+    let m : c .before .before .before .before .before .before .before .before .before .before .before .before .before .before .min .result ≡ step.fitting st p = c .before .before .before .before .before .before .before .before .before .before .before .before .before .before .min .ensures ∙ ap (λ (x : ℕ). min (x - st .position .got) (length p)) (c .before .before .before .before .before .before .before .before .before .before .before .before .before .before .before .size-of .ensures) in
     let b : now (c .before .before .before .before .before .before .before .before .before .before .before .before .before .part .result) ≡ taking st p = c .before .before .before .before .before .before .before .before .before .before .before .before .before .part .ensures ∙ ap (λ (n : ℕ). take n p) m in
     let l = taking-length st p in
     let t : ltb (st .position .got + length (taking st p)) (step.size st) ≡ false = le-ltb (st .position .got + length (taking st p)) (step.size st) (omega (arith, m, l, c .before .before .before .before .before .before .before .before .before .before .before .before .before .before .before .size-of .ensures, c .before .before .before .before .before .before .if1 .left)) in
@@ -109,8 +109,8 @@ step-spec =
     tie.close
     (tie.spec
     size-of-requires
-    sub-less
-    less-requires
+    sub-min
+    min-requires
     part-requires
     place-of-requires
     fill-block-requires

@@ -15,8 +15,8 @@ use Rattle.receiver.proofs.transitions.end_first_sum.Tie as tie
 cast-n : tie.Need-cast-n
 cast-n c = search needs
 
-word-at-requires : tie.Need-word-at-requires
-word-at-requires c κs = search needs
+u32-at-requires : tie.Need-u32-at-requires
+u32-at-requires c κs = search needs
 
 part-requires : tie.Need-part-requires
 part-requires c κs = search needs
@@ -37,7 +37,7 @@ returns c =
     let s = g .store .now in
     let n = g .v .header .s1 .len in
     let own : c .before .before .segment-sum .result ≡ segmentSum (take n s) = c .before .before .segment-sum .ensures ∙ ap segmentSum (c .before .before .before .part .ensures) in
-    let t : eqb (numberAt 4 0 (g .block .now)) (segmentSum (take n s)) ≡ true = eq-eqb _ _ (sym (c .before .before .before .before .before .word-at .ensures) ∙ c .before .if1 .taken ∙ own) in
+    let t : eqb (numberAt 4 0 (g .block .now)) (segmentSum (take n s)) ≡ true = eq-eqb _ _ (sym (c .before .before .before .before .before .u32-at .ensures) ∙ c .before .if1 .taken ∙ own) in
     rw t (c .behind-first-sum .ensures s)
 
 in-numbers-requires : tie.Need-in-numbers-requires
@@ -56,7 +56,7 @@ returns-2 c =
     let s = g .store .now in
     let n = g .v .header .s1 .len in
     let own : c .before .before .before .before .before .before .segment-sum .result ≡ segmentSum (take n s) = c .before .before .before .before .before .before .segment-sum .ensures ∙ ap segmentSum (c .before .before .before .before .before .before .before .part .ensures) in
-    let t : eqb (numberAt 4 0 (g .block .now)) (segmentSum (take n s)) ≡ false = ne-eqb _ _ (λ e. c .before .before .before .before .before .if1 .left (c .before .before .before .before .before .before .before .before .before .word-at .ensures ∙ e ∙ sym own)) in
+    let t : eqb (numberAt 4 0 (g .block .now)) (segmentSum (take n s)) ≡ false = ne-eqb _ _ (λ e. c .before .before .before .before .before .if1 .left (c .before .before .before .before .before .before .before .before .before .u32-at .ensures ∙ e ∙ sym own)) in
     rw t (c .before .before .refuse-frame .ensures ∙ ap (λ (m : Numbers). step.endFrame (turnedAway m) (g .v) s) (c .before .before .before .before .in-numbers .ensures))
 
 pub end-first-sum-spec : {M : Type 1} → statement M
@@ -64,7 +64,7 @@ end-first-sum-spec =
     tie.close
     (tie.spec
     cast-n
-    word-at-requires
+    u32-at-requires
     part-requires
     segment-sum-requires
     behind-first-sum-requires

@@ -7,8 +7,8 @@ use borrow.Author.Needs.{needs}
 use Rattle.receiver.proofs.transitions.end_length.Statement.{statement}
 use Rattle.receiver.proofs.transitions.end_length.Tie as tie
 
-half-at-requires : tie.Need-half-at-requires
-half-at-requires c κs = search needs
+u16-at-requires : tie.Need-u16-at-requires
+u16-at-requires c κs = search needs
 
 with-payload-requires : tie.Need-with-payload-requires
 with-payload-requires c κs = search needs
@@ -31,14 +31,14 @@ returns c =
     λ s.
     c .unless-refused .ensures s
     ∙ ap₂ (λ (j : Judged) (x : Stepped). unlessRefused j (c .before .before .before .before .before .before .before .args .v) s x)
-    (c .before .before .judge-length .ensures ∙ ap judgeLength (c .before .before .before .before .before .half-at .ensures))
-    (c .before .more .ensures s ∙ rw (c .before .before .before .state-at .ensures, c .before .before .before .before .with-payload .ensures, c .before .before .before .before .before .half-at .ensures))
+    (c .before .before .judge-length .ensures ∙ ap judgeLength (c .before .before .before .before .before .u16-at .ensures))
+    (c .before .more .ensures s ∙ rw (c .before .before .before .state-at .ensures, c .before .before .before .before .with-payload .ensures, c .before .before .before .before .before .u16-at .ensures))
 
 pub end-length-spec : {M : Type 1} → statement M
 end-length-spec =
     tie.close
     (tie.spec
-    half-at-requires
+    u16-at-requires
     with-payload-requires
     state-at-requires
     judge-length-requires

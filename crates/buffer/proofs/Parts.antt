@@ -1,0 +1,75 @@
+-- Parts lent and given back: a writer that is lent a part leaves `overwrite xs` of it; the laws carry that to the whole.
+use mathlib.Core.Path.{_≡_, refl, sym, ap, ap₂, _∙_}
+use mathlib.Core.List.{List, [], _++_, append-assoc, append-nil}
+use Prim.Native.Nat.{ℕ, _+_, _-_, _≤_}
+use native.Mathlib.Nat.{le-refl, add-assoc}
+use native.Mathlib.Omega.{arith}
+use lib.ListN.{length, take, drop, length-append, length-take, length-drop, drop-of-length-le}
+use lib.Seq.{take-all, take-at, drop-at, drop-append-add, drop-drop, length-take-le}
+use Rattle.buffer.specs.Splice.{replaceFront, overwrite, splice}
+
+-- what a list holds again once the part from i on, lent whole, has come back as ys
+abbrev pub back : List ℕ → ℕ → List ℕ → List ℕ
+back l i ys = take i l ++ (ys ++ drop (length l - i) (drop i l))
+
+-- the part from i on, as it is lent
+abbrev pub rest : List ℕ → ℕ → List ℕ
+rest l i = take (length l - i) (drop i l)
+
+pub length-replaceFront : (xs l : List ℕ) → length xs ≤ length l → length (replaceFront xs l) ≡ length l
+length-replaceFront xs l h = simp (length-append, length-drop) (omega arith)
+
+pub length-splice : (l : List ℕ) (i : ℕ) (xs : List ℕ) → i + length xs ≤ length l → length (splice l i xs) ≡ length l
+length-splice l i xs h = simp (length-append, length-drop, length-take) (omega arith)
+
+-- with room, all of xs is laid down
+pub overwrite-fits : (xs l : List ℕ) → length xs ≤ length l → overwrite xs l ≡ replaceFront xs l
+unfolding overwrite
+overwrite-fits xs l h = take-all (length l) (replaceFront xs l) (let e = length-replaceFront xs l h in omega arith)
+
+-- nothing lies behind a part that goes to the end
+tail-nil : (l : List ℕ) (i : ℕ) → drop (length l - i) (drop i l) ≡ []
+tail-nil l i = drop-of-length-le (drop i l) {i = length l - i} (simp length-drop (le-refl (length l - i)))
+
+pub rest-is : (l : List ℕ) (i : ℕ) → rest l i ≡ drop i l
+rest-is l i = take-all (length l - i) (drop i l) (simp length-drop (le-refl (length l - i)))
+
+pub length-rest : (l : List ℕ) (i : ℕ) → length (rest l i) ≡ length l - i
+length-rest l i = ap length (rest-is l i) ∙ length-drop i l
+
+-- a writer that was lent the part from i on, and left xs at its front, has spliced xs into the whole
+lent : (l : List ℕ) (i : ℕ) (xs : List ℕ) → back l i (replaceFront xs (rest l i)) ≡ splice l i xs
+lent l i xs =
+    simp (rest-is l i, tail-nil l i, append-nil, drop-drop)
+    (sym (append-assoc (take i l) xs (drop (i + length xs) l)))
+
+-- a second writer behind a first
+pub replaceFront-next : (l xs ys : List ℕ) → splice (replaceFront xs l) (length xs) ys ≡ replaceFront (xs ++ ys) l
+replaceFront-next l xs ys =
+    simp (take-at xs (drop (length xs) l) (length xs) refl, drop-append-add, drop-drop, length-append)
+
+-- the two laws as a caller meets them: ys is what the writer left in the part from n on
+pub placed : (l xs ys : List ℕ) (n : ℕ) → ys ≡ replaceFront xs (rest l n) → back l n ys ≡ splice l n xs
+placed l xs ys n e = ap (back l n) e ∙ lent l n xs
+
+pub next : (l₀ l₁ xs ys zs : List ℕ) (n : ℕ) → length xs ≡ n → l₁ ≡ replaceFront xs l₀ → zs ≡ replaceFront ys (rest l₁ n) → back l₁ n zs ≡ replaceFront (xs ++ ys) l₀
+next l₀ l₁ xs ys zs n en e₁ e₂ =
+    placed l₁ ys zs n e₂ ∙ ap₂ (λ (l : List ℕ) (k : ℕ). splice l k ys) e₁ (sym en) ∙ replaceFront-next l₀ xs ys
+
+-- and where the writers lay down as far as there is room, and there is
+pub next-overwrite : (l₀ l₁ xs ys zs : List ℕ) (n : ℕ) → length xs ≡ n → n + length ys ≤ length l₀ → l₁ ≡ replaceFront xs l₀ → zs ≡ overwrite ys (rest l₁ n) → back l₁ n zs ≡ replaceFront (xs ++ ys) l₀
+next-overwrite l₀ l₁ xs ys zs n en h e₁ e₂ =
+    let a : length l₁ ≡ length l₀ = ap length e₁ ∙ length-replaceFront xs l₀ (omega arith) in
+    let b : length (rest l₁ n) ≡ length l₁ - n = length-rest l₁ n in
+    next l₀ l₁ xs ys zs n en e₁ (e₂ ∙ overwrite-fits ys (rest l₁ n) (omega arith))
+
+-- two splices, one behind the other
+pub splice-next : (l : List ℕ) (i : ℕ) (xs ys : List ℕ) → i ≤ length l → splice (splice l i xs) (i + length xs) ys ≡ splice l i (xs ++ ys)
+splice-next l i xs ys h =
+    let p : List ℕ = take i l ++ xs in
+    let r : List ℕ = drop (i + length xs) l in
+    let n : ℕ = i + length xs in
+    let e : length p ≡ n = simp (length-append, length-take-le i l h) in
+    ap (λ (t : List ℕ). t ++ ys ++ drop (n + length ys) (p ++ r)) (take-at p r n e)
+    ∙ ap (λ (t : List ℕ). p ++ ys ++ t) (sym (drop-drop (length ys) n (p ++ r)) ∙ ap (drop (length ys)) (drop-at p r n e) ∙ drop-drop (length ys) n l)
+    ∙ simp (append-assoc, length-append, add-assoc)
