@@ -409,6 +409,24 @@ static void make_up_a_state(void)
     check(r.report.refusal.number == MAHUIXEN_REFUSAL_STATE && r.state.first == 1, "a mark without its segment");
 }
 
+/* A msgr2.0 frame of one byte, in whose epilogue something stands at a place that we do not write there. */
+static void spell_in_another_way(size_t at, uint8_t byte, uint64_t detail)
+{
+    mahuixen_features own = {0, 0};
+    mahuixen_header header = {MAHUIXEN_TAG_ACK, 1, {{1, 8}}};
+    uint8_t bytes[MAHUIXEN_BANNER_LENGTH + 1 + MAHUIXEN_FRAME_OVERHEAD];
+    uint8_t source = 7;
+    uint8_t store[2] = {9, 9};
+    size_t banner = mahuixen_build_banner(bytes, sizeof bytes, 0, own).written;
+    size_t frame = mahuixen_build_frame(bytes, sizeof bytes, banner, MAHUIXEN_MSGR20, header, &source, 1).written;
+    bytes[banner + at] = byte;
+    mahuixen_received r = mahuixen_receive(mahuixen_start(own).state, bytes, sizeof bytes, store, sizeof store);
+    check(r.report.kind == MAHUIXEN_BANNER && r.taken == banner, "a banner with a frame behind it");
+    r = mahuixen_receive(r.state, bytes + banner, frame, store, sizeof store);
+    check(r.report.refusal.number == MAHUIXEN_REFUSAL_SPELLING && r.report.refusal.first == detail, "24");
+    check(r.taken == frame && store[0] == 0 && store[1] == 9, "the whole frame taken, and its byte zeroed");
+}
+
 int main(int argc, char **argv)
 {
     if (argc > 1) {
@@ -418,6 +436,8 @@ int main(int argc, char **argv)
     run_link(1, 0, MAHUIXEN_MSGR20);
     lend_nothing();
     make_up_a_state();
+    spell_in_another_way(33, 2, 0); /* late flags */
+    spell_in_another_way(49, 1, 4); /* the last byte of segment 4's field */
     printf("%s\n", failures == 0 ? "all as planned" : "not as planned");
     return failures == 0 ? 0 : 1;
 }

@@ -115,6 +115,9 @@ enum {
     MAHUIXEN_REFUSAL_NO_ROOM = 14,          /* build: no room behind the queued bytes; first: the bytes to be written */
     MAHUIXEN_REFUSAL_ABORT_ONE_SEGMENT = 15, /* build: an msgr2.1 frame of one segment cannot be aborted */
     MAHUIXEN_REFUSAL_OWN_FEATURES = 16,     /* our own features: an unknown bit, or required and not supported */
+    MAHUIXEN_REFUSAL_SPELLING = 24,         /* an epilogue that is not spelled as we write it: the checksum of an unused
+                                               segment is not 0, or, in msgr2.0, the late flags are neither 0 nor 1;
+                                               first: the lowest such segment, 1 to 4, or 0 for the late flags */
     MAHUIXEN_REFUSAL_STATE = 26             /* a state that contradicts itself; no start gives one, and no call that
                                                was not handed one */
 };

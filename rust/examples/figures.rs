@@ -15,7 +15,7 @@ use std::hint::black_box;
 use std::time::{Duration, Instant};
 
 /// Segment lengths that are measured.
-const LENGTHS: [u32; 3] = [64, 1_024, 16_384];
+const LENGTHS: [u32; 4] = [64, 1_024, 16_384, 1 << 20];
 
 /// Lengths whose checksums are measured; the first is a preamble's.
 const SUMMED: [usize; 6] = [28, 64, 256, 1_024, 16_384, 1 << 20];

@@ -101,6 +101,14 @@ pub enum Refusal {
     /// 16: our own features have a bit other than bit 0, or require what they
     /// do not support.
     OwnFeatures,
+    /// 24: a frame's epilogue is not spelled as we write it: the checksum field
+    /// of a segment that is not used is not 0, or a msgr2.0 frame's late flags
+    /// are neither 0 nor 1.
+    Spelling {
+        /// The number of the lowest such segment, 1 to 4, or 0 where it is the
+        /// late flags.
+        segment: u64,
+    },
     /// 26: the fields of the state contradict each other.
     State,
     /// A number that this crate does not know.
@@ -141,6 +149,7 @@ impl Refusal {
             Self::Room { .. } => 14,
             Self::Abort => 15,
             Self::OwnFeatures => 16,
+            Self::Spelling { .. } => 24,
             Self::State => 26,
             Self::Other { number, .. } => *number,
         }
@@ -169,7 +178,8 @@ impl Refusal {
             | Self::Store { needed: first }
             | Self::SegmentChecksum { segment: first }
             | Self::LateStatus { byte: first }
-            | Self::Room { needed: first } => [first, 0, 0],
+            | Self::Room { needed: first }
+            | Self::Spelling { segment: first } => [first, 0, 0],
             Self::Other { details, .. } => details,
             _ => [0; 3],
         }
@@ -207,6 +217,7 @@ impl From<Numbers> for Refusal {
             14 => Self::Room { needed: first },
             15 => Self::Abort,
             16 => Self::OwnFeatures,
+            24 => Self::Spelling { segment: first },
             26 => Self::State,
             _ => Self::Other {
                 number,
@@ -276,6 +287,11 @@ impl fmt::Display for Refusal {
             Self::OwnFeatures => write!(
                 f,
                 "our own features have a bit other than bit 0, or require one that they do not support"
+            ),
+            Self::Spelling { segment: 0 } => write!(f, "the late flags are neither 0 nor 1"),
+            Self::Spelling { segment } => write!(
+                f,
+                "the checksum field of segment {segment}, which is not used, is not 0"
             ),
             Self::State => write!(f, "the fields of the receiver's state contradict each other"),
             Self::Other { number, details } => {

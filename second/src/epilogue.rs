@@ -1,9 +1,9 @@
-//! What is judged of a body: its segments' checksums and its late byte.
-//! `segments` always stands for the frame's segments one after the other, as
-//! they lie at the store's front.
+//! What is judged of a body: its segments' checksums, its late byte, and how its
+//! epilogue is spelled. `segments` always stands for the frame's segments one
+//! after the other, as they lie at the store's front.
 
 use crate::checksum::{checksum, SEGMENT_START};
-use crate::frame::Frame;
+use crate::frame::{Frame, PLACES};
 use crate::refusal::Refusal;
 use crate::wire::{Revision, CHECKSUM_LENGTH};
 
@@ -19,9 +19,36 @@ const STATUS_COMPLETE: u8 = 0x0E;
 const STATUS_ABORTED: u8 = 0x01;
 const FLAG_ABORTED: u8 = 0x01;
 
-/// Reads the byte at the front of an epilogue. Late flags can't be wrong: all
-/// but one of their bits mean nothing. Of a late status only the low four bits
-/// are looked at.
+/// The place of the first segment whose checksum stands in the epilogue: msgr2.1
+/// has segment 1's behind that segment.
+fn first_listed(revision: Revision) -> usize {
+    usize::from(revision == Revision::Msgr21)
+}
+
+/// Judges what a frame's meaning leaves open, so that it has one spelling: the
+/// fields of unused segments, the lowest first, and then late flags beyond the
+/// bit for aborted.
+fn judge_spelling(
+    revision: Revision,
+    frame: &Frame,
+    late: u8,
+    fields: &[u8],
+) -> Result<(), Refusal> {
+    let listed = first_listed(revision)..PLACES;
+    let mut fields = listed.zip(fields.chunks_exact(CHECKSUM_LENGTH));
+    let is_filled = |(place, field): &(usize, &[u8])| !frame.uses(*place) && *field != [0; 4];
+    if let Some((place, _)) = fields.find(is_filled) {
+        return Err(Refusal::unused_checksum(place));
+    }
+    if revision == Revision::Msgr20 && late & !FLAG_ABORTED != 0 {
+        return Err(Refusal::late_flags());
+    }
+    Ok(())
+}
+
+/// Reads the byte at the front of an epilogue. Late flags can't be wrong here:
+/// their spelling was judged before. Of a late status only the low four bits are
+/// looked at.
 fn judge_late_byte(revision: Revision, late: u8) -> Result<Ending, Refusal> {
     match revision {
         Revision::Msgr20 if late & FLAG_ABORTED != 0 => Ok(Ending::Aborted),
@@ -53,8 +80,8 @@ pub fn judge_first_checksum(frame: &Frame, field: &[u8], segments: &[u8]) -> Res
     judge_checksum(frame, 0, field, segments)
 }
 
-/// Judges a whole epilogue. The late byte comes first: an aborted frame's
-/// checksums are not compared. Fields of unused segments are never looked at.
+/// Judges a whole epilogue: its spelling, of an aborted frame too, then the late
+/// byte, and then the checksums, which are not compared where it says aborted.
 pub fn judge_epilogue(
     revision: Revision,
     frame: &Frame,
@@ -62,13 +89,12 @@ pub fn judge_epilogue(
     segments: &[u8],
 ) -> Result<Ending, Refusal> {
     let (late, fields) = epilogue.split_first().expect("an epilogue has bytes");
+    judge_spelling(revision, frame, *late, fields)?;
     let ending = judge_late_byte(revision, *late)?;
     if ending == Ending::Aborted {
         return Ok(ending);
     }
-    // msgr2.1 has judged segment 1 already.
-    let first_listed = usize::from(revision == Revision::Msgr21);
-    let used = first_listed..usize::from(frame.count);
+    let used = first_listed(revision)..usize::from(frame.count);
     for (place, field) in used.zip(fields.chunks_exact(CHECKSUM_LENGTH)) {
         judge_checksum(frame, place, field, segments)?;
     }

@@ -56,6 +56,7 @@ const RECEIVER: Family = Family {
         ("receiver-boundaries", receiver::boundaries::boundaries),
         ("receiver-cuts", receiver::cuts::cuts),
         ("receiver-first", receiver::first::first),
+        ("receiver-spelling", receiver::spelling::spelling),
     ],
     bad_name: "receiver-bad",
     bad: receiver::bad::files,

@@ -138,6 +138,17 @@ impl Refusal {
         Self::new(23, 0)
     }
 
+    /// The checksum field of the unused segment at this place, counted from 0,
+    /// is not 0.
+    pub const fn unused_checksum(place: usize) -> Self {
+        Self::new(24, place as u64 + 1)
+    }
+
+    /// The late flags are neither 0 nor 1.
+    pub const fn late_flags() -> Self {
+        Self::new(24, 0)
+    }
+
     /// A session's numbers are all given.
     pub const fn numbers_spent() -> Self {
         Self::new(25, 0)

@@ -9,7 +9,7 @@ use borrow.Author.Tests.{le-leb, leb-true, leb-false, eqb-true}
 use lib.ListN.{length, take, drop, length-drop, take-append-drop}
 use lib.Seq.{take-at, take-add, drop-drop, drop-length, length-take-le}
 use Rattle.buffer.specs.Le.{le, leOf, numberAt, Bytes}
-use Rattle.buffer.proofs.Numbers.{bytes-take, bytes-drop}
+use Rattle.buffer.proofs.Numbers.{bytes-take, bytes-drop, le-leOf, number-again}
 use Rattle.buffer.specs.Splice.{replaceFront}
 use Rattle.preamble.specs.Judge.{segmentLimit}
 use Rattle.refusal.specs.declared.Numbers.{Numbers}
@@ -85,21 +85,6 @@ back tag n r ms ns bs out l b w q =
     q .answer ∙ ap (readBody tag) a ∙ reads-same tag fs (g .gs) (g .kinds) (w .fits) (closed-request r ms ns bs) (g .reads)
 
 -- ---- bytes of what was read
-
-le-leOf : (bs : List ℕ) → Bytes bs → le (length bs) (leOf bs) ≡ bs
-le-leOf [] h = refl
-le-leOf (b ∷ bs) h =
-    let k : b < 256 = h .at 0 in
-    let x : (leOf bs * 256 + b) % 256 ≡ b = omega arith in
-    let y : (leOf bs * 256 + b) / 256 ≡ leOf bs = omega arith in
-    rw (x, y) (ap (λ (l : List ℕ). b ∷ l) (le-leOf bs (record { at = λ i. h .at (suc i) })))
-
--- a number at a place, written again
-number-again : (w at : ℕ) (s : List ℕ) → Bytes s → w ≤ length s - at → le w (numberAt w at s) ≡ take w (drop at s)
-unfolding numberAt
-number-again w at s h k =
-    let e : length (take w (drop at s)) ≡ w = length-take-le w (drop at s) (rw (length-drop at s) k) in
-    subst (λ (n : ℕ). le n (leOf (take w (drop at s))) ≡ take w (drop at s)) e (le-leOf (take w (drop at s)) (bytes-take w (bytes-drop at h)))
 
 words-again : (n : ℕ) (t : List ℕ) → Bytes t → 4 * n ≤ length t → words (wordsOf n t) ≡ take (4 * n) t
 unfolding words wordsOf
@@ -260,31 +245,34 @@ read-well ks s fs = go (run ks s (good 0) .failed) (eqb (run ks s (good 0) .at) 
     go false false x y e = absurd (let z : _≡_ {A = ℕ} 0 1 = cc in omega arith)
     go true b x y e = absurd (let z : _≡_ {A = ℕ} 0 1 = cc in omega arith)
 
-record Same-bytes (tag : ℕ) (s : List ℕ) (fs : List Field) : Type 0 where
-  kinds : isListed (layoutOf tag) (kindsOf fs) ≡ true
-  bytes : bytesOf fs ≡ s
-
-same-bytes : (tag : ℕ) (s : List ℕ) (fs : List Field) → Bytes s → readBody tag s ≡ whole fs → Same-bytes tag s fs
+-- the fields that a body reads as are of the tag's kinds
+pub kinds-read : (tag : ℕ) (s : List ℕ) (fs : List Field) → readBody tag s ≡ whole fs → isListed (layoutOf tag) (kindsOf fs) ≡ true
 unfolding readBody
-same-bytes tag s fs h = go (leb (length s) segmentLimit) (layoutOf tag) refl
+kinds-read tag s fs = go (leb (length s) segmentLimit) (layoutOf tag) refl
   where
-    go : (a : Bool) (f : Found) → layoutOf tag ≡ f → cond a (readBy f s) (malformed 0) ≡ whole fs → Same-bytes tag s fs
+    go : (a : Bool) (f : Found) → layoutOf tag ≡ f → cond a (readBy f s) (malformed 0) ≡ whole fs → isListed (layoutOf tag) (kindsOf fs) ≡ true
     go true (listed ks) x e =
-        let r = read-well ks s fs e in
-        let k : kindsOf fs ≡ ks = ap kindsOf (sym (r .same)) ∙ kinds-again ks s (good 0) in
-        record {
-          kinds = listed-is (layoutOf tag) (kindsOf fs) (x ∙ ap listed (sym k));
-          bytes = ap bytesOf (sym (r .same)) ∙ fields-again ks s 0 h (omega arith) (r .fine) (r .ended);
-        }
+        let k : kindsOf fs ≡ ks = ap kindsOf (sym (read-well ks s fs e .same)) ∙ kinds-again ks s (good 0) in
+        listed-is (layoutOf tag) (kindsOf fs) (x ∙ ap listed (sym k))
     go true unlisted x e = absurd (let z : _≡_ {A = ℕ} 0 1 = cc in omega arith)
     go false f x e = absurd (let z : _≡_ {A = ℕ} 0 1 = cc in omega arith)
+
+same-bytes : (tag : ℕ) (s : List ℕ) (fs : List Field) → Bytes s → readBody tag s ≡ whole fs → bytesOf fs ≡ s
+unfolding readBody
+same-bytes tag s fs h = go (leb (length s) segmentLimit) (layoutOf tag)
+  where
+    go : (a : Bool) (f : Found) → cond a (readBy f s) (malformed 0) ≡ whole fs → bytesOf fs ≡ s
+    go true (listed ks) e =
+        let r = read-well ks s fs e in
+        ap bytesOf (sym (r .same)) ∙ fields-again ks s 0 h (omega arith) (r .fine) (r .ended)
+    go true unlisted e = absurd (let z : _≡_ {A = ℕ} 0 1 = cc in omega arith)
+    go false f e = absurd (let z : _≡_ {A = ℕ} 0 1 = cc in omega arith)
 
 -- it is then written whole, where there is room
 written-again : (tag : ℕ) (s : List ℕ) (fs : List Field) (out : List ℕ) → Bytes s → readBody tag s ≡ whole fs → length s ≤ length out → writeBody tag fs out ≡ done (wrote (length s)) (replaceFront s out)
 unfolding writeBody writeAs
 written-again tag s fs out h e l =
-    let b = same-bytes tag s fs h e in
-    rw (b .kinds, b .bytes, e, le-leb (length s) (length out) l)
+    rw (kinds-read tag s fs e, same-bytes tag s fs h e, e, le-leb (length s) (length out) l)
 
 wrote-is : (w : Written) (l m : List ℕ) (n : ℕ) → done (outcomeOf w) l ≡ done (wrote n) m → (w ≡ written.Wrote n) × (l ≡ m)
 wrote-is (written.Wrote k) l m n e = (ap written.Wrote (same-count (outcomes e)), ap (λ (d : Done). d .buffer) e)

@@ -15,13 +15,13 @@ use Rattle.preamble.proofs.Laws.{length-preamble}
 use Rattle.body.specs.Body.{segmentSum, restLength, words, field, fieldsFrom, segments, epilogueFrom, inEpilogue, noFirstSum, firstSumLength, noEpilogue, epilogueLength, bodyLength, wireLength, firstSum, lateByte, epilogue, body, restSent, frameBytes}
 
 -- zeros in place of a part's bytes
-take-sent : (abort : Bool) (n : ℕ) (l : List ℕ) → take n (restSent abort l) ≡ restSent abort (take n l)
+pub take-sent : (abort : Bool) (n : ℕ) (l : List ℕ) → take n (restSent abort l) ≡ restSent abort (take n l)
 take-sent false n l = refl
 take-sent true zero l = refl
 take-sent true (suc n) [] = refl
 take-sent true (suc n) (x ∷ l) = ap (λ (t : List ℕ). 0 ∷ t) (take-sent true n l)
 
-drop-sent : (abort : Bool) (n : ℕ) (l : List ℕ) → drop n (restSent abort l) ≡ restSent abort (drop n l)
+pub drop-sent : (abort : Bool) (n : ℕ) (l : List ℕ) → drop n (restSent abort l) ≡ restSent abort (drop n l)
 drop-sent false n l = refl
 drop-sent true zero l = refl
 drop-sent true (suc n) [] = refl

@@ -1,1 +1,4 @@
+pub mod Checksums
+pub mod Ends
 pub mod Laws
+pub mod Spelling

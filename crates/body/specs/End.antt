@@ -1,9 +1,9 @@
--- The end of a body (01, "Bodies", "Order at the end of a body", refusals 11 and 12).
+-- The end of a body (01, "Bodies", "Order at the end of a body", refusals 11 and 12; 02, K8 and K10).
 use mathlib.Core.List.{List, [], _∷_, _++_}
 use mathlib.Core.Bool.{cond, _||_}
 use Prim.Native.Nat.{ℕ, suc, _+_, _%_}
 use lib.ListN.{take, drop, getD}
-use lib.Dec.{ltb, eqb}
+use lib.Dec.{leb, ltb, eqb}
 use Rattle.buffer.specs.Le.{numberAt}
 use Rattle.refusal.specs.declared.Numbers.{Numbers}
 use Rattle.refusal.specs.declared.Refusal.the-variants as refusal
@@ -48,6 +48,19 @@ abbrev pub compared : Revision → Header → List ℕ → List ℕ → Judged
 compared revision h e p =
     compareFrom (h .count) (epilogueFrom revision) (stored revision e) (inEpilogue revision (segments h (take (h .s1 .len) p) (drop (h .s1 .len) p)))
 
+-- one frame, one spelling (02, K10): the checksum fields of unused segments are 0, from number k on, lowest first
+abbrev pub unusedFrom : ℕ → ℕ → List ℕ → Judged
+unusedFrom count k [] = fine
+unusedFrom count k (f ∷ fs) = orElse (unless (leb k count || eqb f 0) (refusal.NonCanonical k)) (unusedFrom count (suc k) fs)
+
+-- and late_flags, in msgr2.0, is 0 or 1
+abbrev pub judgeLateFlags : Revision → ℕ → Judged
+judgeLateFlags Msgr20 b = unless (ltb b 2) (refusal.NonCanonical 0)
+judgeLateFlags Msgr21 b = fine
+
+abbrev pub judgeSpelling : Revision → Header → List ℕ → Judged
+judgeSpelling revision h e = orElse (unusedFrom (h .count) (epilogueFrom revision) (stored revision e)) (judgeLateFlags revision (getD e 0 0))
+
 abbrev pub endedBy : Judged → Ended
 endedBy fine = whole
 endedBy (refused n) = turnedAway n
@@ -57,9 +70,15 @@ byLate late.Wrong b j = turnedAway (numbersOf (refusal.LateStatus b))
 byLate late.Aborted b j = dropped
 byLate late.Complete b j = endedBy j
 
--- THE ORDER AT THE END OF A BODY: the late byte, and only then the checksums
+abbrev pub unlessTurnedAway : Judged → Ended → Ended
+unlessTurnedAway fine x = x
+unlessTurnedAway (refused n) x = turnedAway n
+
+-- THE ORDER AT THE END OF A BODY: the spelling, of aborted frames too, then the late byte, and only then the checksums
 unfoldable pub ending : Revision → Header → List ℕ → List ℕ → Ended
-ending revision h e p = cond (noEpilogue revision h) whole (byLate (lateOf revision (getD e 0 0)) (getD e 0 0) (compared revision h e p))
+ending revision h e p =
+    cond (noEpilogue revision h) whole
+    (unlessTurnedAway (judgeSpelling revision h e) (byLate (lateOf revision (getD e 0 0)) (getD e 0 0) (compared revision h e p)))
 
 abbrev pub endedAs : Ending → Ended
 endedAs ends.Whole = whole

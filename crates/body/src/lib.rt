@@ -17,13 +17,13 @@ ghost use mathlib.Core.Path.{_≡_};
 ghost use mathlib.Core.Bool.{_||_};
 ghost use mathlib.Core.List.{_∷_, []};
 ghost use Prim.Native.Nat.{_+_, _<_, _≤_};
-ghost use lib.ListN.{drop};
-ghost use lib.Dec.{ltb, eqb};
+ghost use lib.ListN.{drop, getD};
+ghost use lib.Dec.{leb, ltb, eqb};
 ghost use Rattle.buffer.specs.Le.{numberAt};
 ghost use Rattle.refusal.specs.declared.Refusal.the-variants as refusal;
 ghost use Rattle.refusal.specs.Refusals.{judgedBy, unless};
 ghost use Rattle.body.specs.Body.{segmentSum, field, fieldsFrom, segments, restSent, words, lateByte, noFirstSum, firstSumLength, noEpilogue, epilogueLength, wireLength};
-ghost use Rattle.body.specs.End.{lateOf, compareFrom, compared, endedBy, endedAs, ending};
+ghost use Rattle.body.specs.End.{lateOf, compareFrom, compared, unusedFrom, judgeLateFlags, judgeSpelling, endedBy, endedAs, byLate, ending};
 
 // The start value of a segment's checksum.
 const SEGMENT_START: u32 = 0xFFFFFFFF;
@@ -200,7 +200,7 @@ pub fn epilogue21(late: u8, rest: Sums) -> [u8; 13]
 
 // ---- the end of a body
 
-// What a late byte says: the one place that reads it.
+// What a late byte says.
 pub fn read_late(revision: Revision, b: u8) -> Late
     ensures { λ r. ⌜ r ≡ lateOf revision b ⌝ }
 {
@@ -275,18 +275,72 @@ fn ended(v: Verdict) -> Ending
     }
 }
 
-// How a body ends, by its epilogue and its segments' bytes. Checksums are worked out only where the late byte says complete.
-pub fn end_of(revision: Revision, h: Header, e: &[u8], payload: &[u8]) -> Ending
-    ensures { λ r. ⌜ endedAs r ≡ ending revision h (now (e .entry)) (now (payload .entry)) ⌝ }
+// Segment k's field, stored in the epilogue e at place i, is 0 where the segment is not used.
+fn unused(count: u8, k: u8, e: &[u8], i: usize) -> Verdict
+    ensures { λ r. ⌜ judgedBy r ≡ unless (leb k count || eqb (numberAt 4 i (now (e .entry))) 0) (refusal.NonCanonical k) ⌝ }
 {
-    if no_epilogue(revision, h) {
-        return Ending::Whole;
+    let stored = u32_at(e, i);
+    unless_ok(either(k <= count, stored == 0), Refusal::NonCanonical(k))
+}
+
+// The fields of segments 2 to 4, from place i on.
+fn unused_rest(count: u8, e: &[u8], i: usize) -> Verdict
+    requires { ⌜ i < 250 ⌝ }
+    ensures { λ r. ⌜ judgedBy r ≡ unusedFrom count 2 (numberAt 4 i (now (e .entry)) ∷ numberAt 4 (i + 4) (now (e .entry)) ∷ numberAt 4 (i + 8) (now (e .entry)) ∷ []) ⌝ }
+{
+    let u2 = unused(count, 2, e, i);
+    let u3 = unused(count, 3, e, i + 4);
+    let u4 = unused(count, 4, e, i + 8);
+    or_else(u2, or_else(u3, u4))
+}
+
+fn judge_late_flags(revision: Revision, b: u8) -> Verdict
+    ensures { λ r. ⌜ judgedBy r ≡ judgeLateFlags revision b ⌝ }
+{
+    match revision {
+        Revision::Msgr20 => unless_ok(b < 2, Refusal::NonCanonical(0)),
+        Revision::Msgr21 => Verdict::Fine,
     }
+}
+
+// Whether an epilogue's unused fields are 0 and, in msgr2.0, its late_flags 0 or 1.
+fn judge_spelling(revision: Revision, h: Header, e: &[u8]) -> Verdict
+    ensures { λ r. ⌜ judgedBy r ≡ judgeSpelling revision h (now (e .entry)) ⌝ }
+{
+    let count = h.count;
+    let flags = judge_late_flags(revision, byte_at(e, 0));
+    match revision {
+        Revision::Msgr20 => {
+            let rest = unused_rest(count, e, 5);
+            or_else(or_else(unused(count, 1, e, 1), rest), flags)
+        }
+        Revision::Msgr21 => or_else(unused_rest(count, e, 1), flags),
+    }
+}
+
+// How a body ends whose epilogue is spelled as it should be. Checksums are worked out only where the late byte says complete.
+fn end_by_late(revision: Revision, h: Header, e: &[u8], payload: &[u8]) -> Ending
+    ensures { λ r. ⌜ endedAs r ≡ byLate (lateOf revision (getD (now (e .entry)) 0 0)) (getD (now (e .entry)) 0 0) (compared revision h (now (e .entry)) (now (payload .entry))) ⌝ }
+{
     let b = byte_at(e, 0);
     let late = read_late(revision, b);
     match late {
         Late::Wrong => Ending::Refused(Refusal::LateStatus(b)),
         Late::Aborted => Ending::Dropped,
         Late::Complete => ended(compare_sums(revision, h, e, payload)),
+    }
+}
+
+// How a body ends, by its epilogue and its segments' bytes.
+pub fn end_of(revision: Revision, h: Header, e: &[u8], payload: &[u8]) -> Ending
+    ensures { λ r. ⌜ endedAs r ≡ ending revision h (now (e .entry)) (now (payload .entry)) ⌝ }
+{
+    if no_epilogue(revision, h) {
+        return Ending::Whole;
+    }
+    let spelling = judge_spelling(revision, h, e);
+    match spelling {
+        Verdict::Refused(why) => Ending::Refused(why),
+        Verdict::Fine => end_by_late(revision, h, e, payload),
     }
 }

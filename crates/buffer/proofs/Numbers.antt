@@ -1,7 +1,7 @@
 -- Numbers written and read back, numbers of a part of a list, and lists of bytes.
-use mathlib.Core.Path.{_≡_, refl, sym, ap, _∙_}
+use mathlib.Core.Path.{_≡_, refl, sym, ap, subst, _∙_}
 use mathlib.Core.List.{List, [], _∷_, _++_}
-use Prim.Native.Nat.{ℕ, zero, suc, _+_, _*_, _/_, _^_, _<_, _≤_}
+use Prim.Native.Nat.{ℕ, zero, suc, _+_, _-_, _*_, _%_, _/_, _^_, _<_, _≤_}
 use native.Mathlib.Nat.{pow-suc, div-lt-iff-lt-mul, add-zero, mul-one, mul-assoc}
 use native.Mathlib.Omega.{arith}
 use mathlib.Core.Bool.{Bool, true, false}
@@ -128,3 +128,18 @@ bytes-zeros n = record { at = λ i. go i (ltb i n) refl }
         let k = ltb-false i n c in
         let m = length-replicate {A = ℕ} n 0 in
         rw (List·getD-eq-default {A = ℕ} (replicate n 0) 0 {n = i} (omega arith)) (lit< tt)
+
+-- bytes that were read, written again
+pub le-leOf : (bs : List ℕ) → Bytes bs → le (length bs) (leOf bs) ≡ bs
+le-leOf [] h = refl
+le-leOf (b ∷ bs) h =
+    let k : b < 256 = h .at 0 in
+    let x : (leOf bs * 256 + b) % 256 ≡ b = omega arith in
+    let y : (leOf bs * 256 + b) / 256 ≡ leOf bs = omega arith in
+    rw (x, y) (ap (λ (l : List ℕ). b ∷ l) (le-leOf bs (record { at = λ i. h .at (suc i) })))
+
+pub number-again : (w at : ℕ) (s : List ℕ) → Bytes s → w ≤ length s - at → le w (numberAt w at s) ≡ take w (drop at s)
+unfolding numberAt
+number-again w at s h k =
+    let e : length (take w (drop at s)) ≡ w = length-take-le w (drop at s) (rw (length-drop at s) k) in
+    subst (λ (n : ℕ). le n (leOf (take w (drop at s))) ≡ take w (drop at s)) e (le-leOf (take w (drop at s)) (bytes-take w (bytes-drop at h)))

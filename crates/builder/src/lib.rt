@@ -46,7 +46,8 @@ pub enum Built {
 
 // ---- judgements
 
-fn room(n: u64, space: usize, queued: usize) -> bool
+// Whether n bytes have room behind the queued ones.
+pub fn room(n: u64, space: usize, queued: usize) -> bool
     ensures { λ r. ⌜ r ≡ leb (queued + n) space ⌝ }
 {
     if queued <= space {
@@ -56,7 +57,8 @@ fn room(n: u64, space: usize, queued: usize) -> bool
     }
 }
 
-fn judge_abort(revision: Revision, count: u8, abort: bool) -> Verdict
+// A one-segment msgr2.1 frame has no late byte to say it in.
+pub fn judge_abort(revision: Revision, count: u8, abort: bool) -> Verdict
     ensures { λ r. ⌜ judgedBy r ≡ judgeAbort revision count abort ⌝ }
 {
     match revision {

@@ -7,7 +7,8 @@ use native.Mathlib.Omega.{arith}
 use lib.Arith.{lt-one}
 use lib.Bits.{bitXor, bitAnd, xor-block, xor-comm, xor-shifted, xor-zero-r, and-mask}
 use lib.Pow.{pow-add, pow-pos, shr-lt, split}
-use Rattle.crc_steps.proofs.Linear.{Linear, at-zero, xor-assoc}
+use Rattle.crc_steps.proofs.Linear.{Linear, at-zero}
+use Rattle.bits.proofs.Xor.{xor-assoc}
 use Rattle.crc_halves.specs.Square.{square}
 use Rattle.crc_halves.specs.Table.{halfAt, nibbles}
 use Rattle.crc_halves.proofs.Rules.{roots, squares}

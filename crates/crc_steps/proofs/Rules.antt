@@ -9,7 +9,8 @@ use lib.Dec.{T}
 use lib.ListN.{getD}
 use lib.Pow.{pow-pos}
 use Rattle.crc_steps.specs.Steps.{poly, step, steps}
-use Rattle.crc_steps.proofs.Linear.{digit, steps-add, steps-split, steps-xor}
+use Rattle.crc_steps.proofs.Linear.{steps-add, steps-split, steps-xor}
+use Rattle.bits.proofs.Xor.{digit}
 use Rattle.crc_steps.proofs.Tests.{alike, each}
 use Rattle.crc_steps.specs.Tables.{Bytewise, shifted, computed, entryFrom, entry}
 

@@ -2,18 +2,18 @@
 use Prim.Native.Nat.{ℕ, zero, suc, _+_, _-_, _*_, _≤_, _<_}
 use mathlib.Core.List.{List, [], _∷_}
 use mathlib.Core.Path.{_≡_, refl, sym, ap, ap₂, _∙_}
-use mathlib.Core.Bool.{Bool, true, false, not, cond, _&&_}
+use mathlib.Core.Bool.{Bool, true, false, not, cond, _&&_, true≢false}
 use native.Mathlib.Omega.{arith}
 use native.Mathlib.Nat.{add-zero}
 use lib.ListN.{length, take, drop, getD, length-drop}
 use lib.Seq.{take-take, take-at, getD-take, getD-drop, length-take-le}
 use lib.Dec.{lit<, lit≤, leb, ltb, eqb}
-use borrow.Author.Tests.{lt-ltb, ltb-true, le-leb, lt-leb, eq-eqb, eqb-true, not-true, not-false}
+use borrow.Author.Tests.{lt-ltb, ltb-true, le-leb, leb-true, lt-leb, eq-eqb, eqb-true, not-true, not-false}
 use Rattle.buffer.specs.Le.{numberAt}
 use Rattle.crc32c.specs.Crc.{crcOf}
 use Rattle.refusal.specs.declared.Refusal.the-variants as refusal
-use Rattle.refusal.specs.Refusals.{Judged, fine, refused}
-use Rattle.refusal.proofs.Judgements.{passed}
+use Rattle.refusal.specs.Refusals.{Judged, fine, refused, orElse, unless}
+use Rattle.refusal.proofs.Judgements.{both-fine, passed}
 use Rattle.banner.specs.declared.Revision.{Revision}
 use Rattle.banner.specs.declared.Revision.the-variants.{Msgr20, Msgr21}
 use Rattle.preamble.specs.declared.Header.{Header}
@@ -23,13 +23,13 @@ use Rattle.body.specs.declared.Late.{Late}
 use Rattle.body.specs.declared.Late.the-variants as late
 use Rattle.body.specs.Body.{segmentSum, cutInto, noFirstSum, noEpilogue, bodyLength, wireLength}
 use Rattle.body.specs.End as end
-use Rattle.body.specs.End.{Ended, whole, dropped, byLate, lateOf, segmentBytes, stored, ending}
+use Rattle.body.specs.End.{Ended, whole, dropped, byLate, unlessTurnedAway, lateOf, segmentBytes, stored, unusedFrom, judgeSpelling, ending}
 use Rattle.stream.specs.Stream.{firstWrong}
-use Rattle.receiver.proofs.Booleans.{both-left}
+use Rattle.refusal.proofs.Booleans.{both-left, both-right}
 use Rattle.buffer.proofs.Numbers.{number-take, number-drop}
-use Rattle.ends.specs.Handed.{headerIn, segmentOf, latePlace, sumPlace, lateIn, compared, CheckedPreamble, Checked, CheckedFirst}
+use Rattle.ends.specs.Handed.{headerIn, segmentOf, latePlace, sumPlace, lateIn, compared, unusedField, flagsFine, Spelled, CheckedPreamble, Checked, CheckedFirst}
 use Rattle.ends.proofs.Locality.{Judges, JudgesFirst}
-use Rattle.ends.proofs.Sums.{every-sum, all-sums}
+use Rattle.body.proofs.Checksums.{every-sum, all-sums, every-unused, all-unused}
 
 -- ---- the preamble
 
@@ -68,28 +68,34 @@ module _ (X : List ℕ) (n : ℕ) where
 
 -- ---- the late byte
 
--- c: there is no epilogue; l: what its late byte says; j: its checksums
-end-whole : (c : Bool) (l : Late) (b : ℕ) (j : Judged) → cond c whole (byLate l b j) ≡ whole → (cond c late.Complete l ≡ late.Complete) × (c ≡ false → j ≡ fine)
-end-whole true l b j e = (refl, λ f. cc)
-end-whole false late.Complete b fine e = (refl, λ f. refl)
-end-whole false late.Complete b (refused n) e = (refl, λ f. cc)
-end-whole false late.Aborted b j e = (cc, λ f. cc)
-end-whole false late.Wrong b j e = (cc, λ f. cc)
+-- c: there is no epilogue; g: its spelling; l: what its late byte says; j: its checksums
+abbrev endBy : Bool → Judged → Late → ℕ → Judged → Ended
+endBy c g l b j = cond c whole (unlessTurnedAway g (byLate l b j))
 
-whole-end : (c : Bool) (l : Late) (b : ℕ) (j : Judged) → cond c late.Complete l ≡ late.Complete → (c ≡ false → j ≡ fine) → cond c whole (byLate l b j) ≡ whole
-whole-end true l b j e f = refl
-whole-end false l b j e f = rw (e, f refl)
+end-whole : (c : Bool) (g : Judged) (l : Late) (b : ℕ) (j : Judged) → endBy c g l b j ≡ whole
+    → (cond c late.Complete l ≡ late.Complete) × ((c ≡ false → g ≡ fine) × (c ≡ false → j ≡ fine))
+end-whole true g l b j e = (refl, (λ f. cc, λ f. cc))
+end-whole false (refused n) l b j e = (cc, (λ f. cc, λ f. cc))
+end-whole false fine late.Complete b fine e = (refl, (λ f. refl, λ f. refl))
+end-whole false fine late.Complete b (refused n) e = (refl, (λ f. refl, λ f. cc))
+end-whole false fine late.Aborted b j e = (cc, (λ f. refl, λ f. cc))
+end-whole false fine late.Wrong b j e = (cc, (λ f. refl, λ f. cc))
 
-end-dropped : (c : Bool) (l : Late) (b : ℕ) (j : Judged) → cond c whole (byLate l b j) ≡ dropped → cond c late.Complete l ≡ late.Aborted
-end-dropped true l b j e = cc
-end-dropped false late.Complete b fine e = cc
-end-dropped false late.Complete b (refused n) e = cc
-end-dropped false late.Aborted b j e = refl
-end-dropped false late.Wrong b j e = cc
+whole-end : (c : Bool) (g : Judged) (l : Late) (b : ℕ) (j : Judged) → cond c late.Complete l ≡ late.Complete → (c ≡ false → g ≡ fine) → (c ≡ false → j ≡ fine) → endBy c g l b j ≡ whole
+whole-end true g l b j e s f = refl
+whole-end false g l b j e s f = rw (s refl, e, f refl)
 
-dropped-end : (c : Bool) (l : Late) (b : ℕ) (j : Judged) → cond c late.Complete l ≡ late.Aborted → cond c whole (byLate l b j) ≡ dropped
-dropped-end true l b j e = cc
-dropped-end false l b j e = rw e
+end-dropped : (c : Bool) (g : Judged) (l : Late) (b : ℕ) (j : Judged) → endBy c g l b j ≡ dropped → (cond c late.Complete l ≡ late.Aborted) × (c ≡ false → g ≡ fine)
+end-dropped true g l b j e = (cc, λ f. cc)
+end-dropped false (refused n) l b j e = (cc, λ f. cc)
+end-dropped false fine late.Complete b fine e = (cc, λ f. refl)
+end-dropped false fine late.Complete b (refused n) e = (cc, λ f. refl)
+end-dropped false fine late.Aborted b j e = (refl, λ f. refl)
+end-dropped false fine late.Wrong b j e = (cc, λ f. refl)
+
+dropped-end : (c : Bool) (g : Judged) (l : Late) (b : ℕ) (j : Judged) → cond c late.Complete l ≡ late.Aborted → (c ≡ false → g ≡ fine) → endBy c g l b j ≡ dropped
+dropped-end true g l b j e s = cc
+dropped-end false g l b j e s = rw (s refl, e)
 
 -- ---- the body's checksums
 
@@ -126,9 +132,18 @@ module _ (h : Header) (e p : List ℕ) where
       all-sums (h .count) 2 (stored Msgr21 e) (drop 1 segments)
       (λ k l u. let l′ : k < 3 = l in at21 k l ∙ f k (omega arith) (lt-ltb (suc k) (h .count) (omega arith)))
 
+  -- and the fields of unused segments
+  unused20 : unusedFrom (h .count) 1 (stored Msgr20 e) ≡ fine → (k : ℕ) → k < 4 → leb (h .count) k ≡ true → numberAt 4 (1 + k * 4) e ≡ 0
+  unused20 f k l u = sym (at20 k l) ∙ every-unused (h .count) 1 (stored Msgr20 e) f k l (let t = leb-true (h .count) k u in omega arith)
+
+  unused21 : unusedFrom (h .count) 2 (stored Msgr21 e) ≡ fine → (k : ℕ) → suc k < 4 → leb (h .count) (suc k) ≡ true → numberAt 4 (1 + k * 4) e ≡ 0
+  unused21 f k l u =
+      let l′ : k < 3 = omega arith in
+      sym (at21 k l′) ∙ every-unused (h .count) 2 (stored Msgr21 e) f k l′ (let t = leb-true (h .count) (suc k) u in omega arith)
+
 -- ---- segment 1's own checksum
 
-first-holds : (r : Revision) (h : Header) (b : List ℕ) → firstWrong r h b ≡ false → h .s1 .len + 4 ≤ length b → noFirstSum r h ≡ false
+pub first-holds : (r : Revision) (h : Header) (b : List ℕ) → firstWrong r h b ≡ false → h .s1 .len + 4 ≤ length b → noFirstSum r h ≡ false
     → numberAt 4 (h .s1 .len) b ≡ segmentSum (take (h .s1 .len) b)
 first-holds r h b e l u =
     eqb-true (numberAt 4 (h .s1 .len) b) (segmentSum (take (h .s1 .len) b))
@@ -142,7 +157,7 @@ first-fine r h b f = go (noFirstSum r h) refl (leb (h .s1 .len + 4) (length b))
     go false e false = refl
     go false e true = rw (eq-eqb (numberAt 4 (h .s1 .len) b) (segmentSum (take (h .s1 .len) b)) (f e))
 
-first-room : (r : Revision) (h : Header) (b : List ℕ) → bodyLength r h ≤ length b → noFirstSum r h ≡ false → h .s1 .len + 4 ≤ length b
+pub first-room : (r : Revision) (h : Header) (b : List ℕ) → bodyLength r h ≤ length b → noFirstSum r h ≡ false → h .s1 .len + 4 ≤ length b
 first-room r h b l u = (let k = rw u at l in omega arith)
 
 -- ---- the whole frame
@@ -173,6 +188,38 @@ module _ (X : List ℕ) (n : ℕ) where
   length-wire : (r : Revision) → 32 ≤ length X → bodyLength r h ≤ length b → wireLength r h ≤ length X
   length-wire r f l = (let d = length-drop 32 X in omega arith)
 
+  -- the spelling
+  spelled : (r : Revision) → (noEpilogue r h ≡ false → judgeSpelling r h (epilogue r) ≡ fine) → Spelled r X
+  spelled Msgr20 f =
+      let e : List ℕ = epilogue Msgr20 in
+      let p = both-fine (unusedFrom (h .count) 1 (stored Msgr20 e)) (end.judgeLateFlags Msgr20 (getD e 0 0)) (f refl) in
+      record {
+        unused = λ k l u. sym (number-drop 4 (1 + k * 4) (latePlace Msgr20 h) b) ∙ unused20 h e (segmentBytes Msgr20 h b) (p .0) k l u;
+        flags = ap (flagsFine Msgr20) (sym (late-byte Msgr20)) ∙ passed (ltb (getD e 0 0) 2) (refusal.NonCanonical 0) (p .1);
+      }
+  spelled Msgr21 f = record { unused = go; flags = refl }
+    where
+      go : (k : ℕ) → k < 4 → unusedField Msgr21 h k ≡ true → numberAt 4 (sumPlace Msgr21 h k) b ≡ 0
+      go zero l u = cc
+      go (suc k) l u =
+          let e : List ℕ = epilogue Msgr21 in
+          let c = not-true (leb (h .count) 1) (both-left (not (leb (h .count) 1)) (leb (h .count) (suc k)) u) in
+          let p = both-fine (unusedFrom (h .count) 2 (stored Msgr21 e)) fine (f c) in
+          sym (number-drop 4 (1 + k * 4) (latePlace Msgr21 h) b)
+          ∙ unused21 h e (segmentBytes Msgr21 h b) (p .0) k l (both-right (not (leb (h .count) 1)) (leb (h .count) (suc k)) u)
+
+  spelling-back : (r : Revision) → Spelled r X → noEpilogue r h ≡ false → judgeSpelling r h (epilogue r) ≡ fine
+  spelling-back Msgr20 s c =
+      let e : List ℕ = epilogue Msgr20 in
+      ap₂ orElse
+      (all-unused (h .count) 1 (stored Msgr20 e) (λ k l u. at20 h e (segmentBytes Msgr20 h b) k l ∙ number-drop 4 (1 + k * 4) (latePlace Msgr20 h) b ∙ s .unused k l (le-leb (h .count) k (omega arith))))
+      (ap (λ (t : Bool). unless t (refusal.NonCanonical 0)) (ap (flagsFine Msgr20) (late-byte Msgr20) ∙ s .flags))
+  spelling-back Msgr21 s c =
+      let e : List ℕ = epilogue Msgr21 in
+      ap (λ (j : Judged). orElse j fine)
+      (all-unused (h .count) 2 (stored Msgr21 e)
+      (λ k l u. at21 h e (segmentBytes Msgr21 h b) k l ∙ number-drop 4 (1 + k * 4) (latePlace Msgr21 h) b ∙ s .unused (suc k) (let l′ : k < 3 = l in omega arith) (ap₂ _&&_ (ap not c) (le-leb (h .count) (suc k) (omega arith)))))
+
   -- segment 1's checksum, which both kinds of frame compare
   first-sum : {x : Ended} → Judges x Msgr21 X n → not (eqb (h .s1 .len) 0) ≡ true → numberAt 4 (h .s1 .len) b ≡ segmentSum (segmentOf Msgr21 h 0 X)
   first-sum j u =
@@ -183,30 +230,34 @@ module _ (X : List ℕ) (n : ℕ) where
   unfolding ending
   sums-whole Msgr20 j k l u =
       sym (number-drop 4 (1 + k * 4) (latePlace Msgr20 h) b)
-      ∙ sums20 h (epilogue Msgr20) (segmentBytes Msgr20 h b) (end-whole false (lateOf Msgr20 (getD (epilogue Msgr20) 0 0)) _ _ (j .end) .1 refl) k l u
+      ∙ sums20 h (epilogue Msgr20) (segmentBytes Msgr20 h b) (end-whole false (judgeSpelling Msgr20 h (epilogue Msgr20)) (lateOf Msgr20 (getD (epilogue Msgr20) 0 0)) _ _ (j .end) .1 .1 refl) k l u
   sums-whole Msgr21 j zero l u = first-sum j u
   sums-whole Msgr21 j (suc k) l u =
       let c : noEpilogue Msgr21 h ≡ false = lt-leb (h .count) 1 (let t = ltb-true (suc k) (h .count) u in omega arith) in
       sym (number-drop 4 (1 + k * 4) (latePlace Msgr21 h) b)
-      ∙ sums21 h (epilogue Msgr21) (segmentBytes Msgr21 h b) (end-whole (noEpilogue Msgr21 h) (lateOf Msgr21 (getD (epilogue Msgr21) 0 0)) _ _ (j .end) .1 c) k l u
+      ∙ sums21 h (epilogue Msgr21) (segmentBytes Msgr21 h b) (end-whole (noEpilogue Msgr21 h) (judgeSpelling Msgr21 h (epilogue Msgr21)) (lateOf Msgr21 (getD (epilogue Msgr21) 0 0)) _ _ (j .end) .1 .1 c) k l u
 
   sums-dropped : (r : Revision) → Judges dropped r X n → (k : ℕ) → k < 4 → compared late.Aborted r h k ≡ true → numberAt 4 (sumPlace r h k) b ≡ segmentSum (segmentOf r h k X)
   sums-dropped Msgr20 j k l u = cc
   sums-dropped Msgr21 j zero l u = first-sum j u
   sums-dropped Msgr21 j (suc k) l u = cc
 
-  checked : (kind : Late) (x : Ended) (r : Revision) → Judges x r X n → lateIn r h X ≡ kind
+  checked : (kind : Late) (x : Ended) (r : Revision) → Judges x r X n → Spelled r X → lateIn r h X ≡ kind
       → ((k : ℕ) → k < 4 → compared kind r h k ≡ true → numberAt 4 (sumPlace r h k) b ≡ segmentSum (segmentOf r h k X)) → Checked kind r X n
-  checked kind x r j said sums =
-      record { preamble = preamble-checks X n (j .front) (j .accepted); arrived = length-wire r (j .front) (j .long); late = said; sums = sums }
+  checked kind x r j spelling said sums =
+      record { preamble = preamble-checks X n (j .front) (j .accepted); arrived = length-wire r (j .front) (j .long); spelling = spelling; late = said; sums = sums }
 
   pub whole-checked : (r : Revision) → Judges whole r X n → Checked late.Complete r X n
   unfolding ending
-  whole-checked r j = checked late.Complete whole r j (sym (late-said r) ∙ end-whole (noEpilogue r h) (lateOf r (getD (epilogue r) 0 0)) _ _ (j .end) .0) (sums-whole r j)
+  whole-checked r j =
+      let e = end-whole (noEpilogue r h) (judgeSpelling r h (epilogue r)) (lateOf r (getD (epilogue r) 0 0)) _ _ (j .end) in
+      checked late.Complete whole r j (spelled r (e .1 .0)) (sym (late-said r) ∙ e .0) (sums-whole r j)
 
   pub dropped-checked : (r : Revision) → Judges dropped r X n → Checked late.Aborted r X n
   unfolding ending
-  dropped-checked r j = checked late.Aborted dropped r j (sym (late-said r) ∙ end-dropped (noEpilogue r h) (lateOf r (getD (epilogue r) 0 0)) _ _ (j .end)) (sums-dropped r j)
+  dropped-checked r j =
+      let e = end-dropped (noEpilogue r h) (judgeSpelling r h (epilogue r)) (lateOf r (getD (epilogue r) 0 0)) _ _ (j .end) in
+      checked late.Aborted dropped r j (spelled r (e .1)) (sym (late-said r) ∙ e .0) (sums-dropped r j)
 
   -- and back
   judges : (kind : Late) (x : Ended) (r : Revision) → Checked kind r X n → firstWrong r h b ≡ false → ending r h (epilogue r) (segmentBytes r h b) ≡ x → Judges x r X n
@@ -230,13 +281,13 @@ module _ (X : List ℕ) (n : ℕ) where
   unfolding ending
   checked-whole r c =
       judges late.Complete whole r c (first-back late.Complete r c refl)
-      (whole-end (noEpilogue r h) (lateOf r (getD (epilogue r) 0 0)) _ _ (late-said r ∙ c .late) (λ f. compared-back r c))
+      (whole-end (noEpilogue r h) (judgeSpelling r h (epilogue r)) (lateOf r (getD (epilogue r) 0 0)) _ _ (late-said r ∙ c .late) (spelling-back r (c .spelling)) (λ f. compared-back r c))
 
   pub checked-dropped : (r : Revision) → Checked late.Aborted r X n → Judges dropped r X n
   unfolding ending
   checked-dropped r c =
       judges late.Aborted dropped r c (first-back late.Aborted r c refl)
-      (dropped-end (noEpilogue r h) (lateOf r (getD (epilogue r) 0 0)) _ _ (late-said r ∙ c .late))
+      (dropped-end (noEpilogue r h) (judgeSpelling r h (epilogue r)) (lateOf r (getD (epilogue r) 0 0)) _ _ (late-said r ∙ c .late) (spelling-back r (c .spelling)))
 
   -- segment 1, reported early
   pub first-checked : (r : Revision) → JudgesFirst r X n → CheckedFirst r X n

@@ -18,7 +18,8 @@ use Rattle.stream.specs.declared.Event.{Event}
 use Rattle.stream.specs.declared.Event.the-variants.{Frame, Dropped}
 use Rattle.stream.specs.Stream.{Trace, ended, after, refusedAt, zeroed, atEnd, frames}
 use Rattle.ends.specs.Handed.{headerIn, isEarly, FramesUpTo}
-use Rattle.ends.proofs.Locality.{length-segments, Judges, behindEarly, frame-trace, frame-trace-more, Seen, nothing, refuses, hands, drops, seen}
+use Rattle.body.proofs.Ends.{length-segments}
+use Rattle.ends.proofs.Locality.{Judges, behindEarly, frame-trace, frame-trace-more, Seen, nothing, refuses, hands, drops, seen}
 
 -- ---- how many frames there may be does not matter, as long as it is enough
 

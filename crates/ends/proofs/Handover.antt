@@ -20,8 +20,10 @@ use Rattle.receiver.specs.Step.{started}
 use Rattle.receiver.specs.Calls.{Call, Chained, takenBy, listOf, Demand3}
 use Rattle.receiver.proofs.Chain.{demand3}
 use Rattle.ends.specs.Handed.{headerIn, isEarly, isFirst, isFrame, isDrop, firstIs, behindFirst, Exactly, ExactlyBehind, Through, frame-taken, all-taken, refused, UpTo, HandedOver}
-use Rattle.ends.proofs.Locality.{Judges, JudgesFirst, segments-own, front-own, body-own, extends, restricts, extends-first, restricts-first, judges-first, behindEarly, frame-trace, first-trace, Seen, nothing, refuses, hands, drops, seen}
+use Rattle.body.proofs.Ends.{segments-own}
+use Rattle.ends.proofs.Locality.{Judges, JudgesFirst, front-own, body-own, extends, restricts, extends-first, restricts-first, judges-first, behindEarly, frame-trace, first-trace, Seen, nothing, refuses, hands, drops, seen}
 use Rattle.ends.proofs.Banners.{follows-on}
+use Rattle.ends.proofs.Written.{written-so}
 use Rattle.ends.proofs.Checks.{whole-checked, dropped-checked, checked-whole, checked-dropped, first-checked, checked-first}
 
 -- ---- the entries of the definition
@@ -73,12 +75,13 @@ module _ (f : ℕ) (r : Revision) (P : ℕ) (X s : List ℕ) where
   by-drop (hands j) u = absurd (true≢false (sym u ∙ behind-first isDrop (isEarly r h) _ refl (frame-trace f P X s j)))
   by-drop (drops j) u = j
 
-  exactly : Exactly r P X s es
+  pub exactly : Exactly r P X s es
   exactly = record {
     first = (λ u. first-checked X (length s) r (by-first (seen r P X s) u), λ c. ap (λ (u : Trace). firstIs isFirst (u .entries)) (first-trace f P X s (checked-first X (length s) r c)));
     firsts = λ u. (_, ap (λ (t : Trace). t .entries) (first-trace f P X s (by-first (seen r P X s) u)));
     handed = (λ u. whole-checked X (length s) r (by-frame (seen r P X s) u), λ c. behind-first isFrame (isEarly r h) _ refl (frame-trace f P X s (checked-whole X (length s) r c)));
     frames = λ u. (_, behind-is (isEarly r h) _ refl (frame-trace f P X s (by-frame (seen r P X s) u)));
+    spelled = λ b u z. written-so r X (length s) b (by-frame (seen r P X s) u) z;
     dropped = (λ u. dropped-checked X (length s) r (by-drop (seen r P X s) u), λ c. behind-first isDrop (isEarly r h) _ refl (frame-trace f P X s (checked-dropped X (length s) r c)));
     drops = λ u. (_, behind-is (isEarly r h) _ refl (frame-trace f P X s (by-drop (seen r P X s) u)));
   }
@@ -102,6 +105,7 @@ exactly-more r P X Y s es l₁ l₂ x =
         λ c. x .handed .1 (whole-checked X n r (restricts r X Y l₁ l₂ (checked-whole (X ++ Y) n r c))),
       );
       frames = rw (hd, bd, all) (x .frames);
+      spelled = λ b u z. written-so r (X ++ Y) n b (extends r X Y l₁ l₂ (checked-whole X n r (x .handed .0 u))) z;
       dropped = (
         λ u. dropped-checked (X ++ Y) n r (extends r X Y l₁ l₂ (checked-dropped X n r (x .dropped .0 u))),
         λ c. x .dropped .1 (dropped-checked X n r (restricts r X Y l₁ l₂ (checked-dropped (X ++ Y) n r c))),

@@ -1,9 +1,10 @@
 mod Locality
 mod Concatenation
 mod Banners
-mod Sums
 mod Checks
+mod Written
 mod Handover
 mod ReadBack
 mod Builds
 mod Trips
+mod Spelled

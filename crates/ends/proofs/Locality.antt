@@ -21,27 +21,9 @@ use Rattle.preamble.specs.Judge.{judgePreamble}
 use Rattle.body.specs.Body.{restLength, noFirstSum, firstSumLength, epilogueLength, bodyLength, wireLength}
 use Rattle.body.specs.End.{Ended, whole, dropped, turnedAway, segmentBytes, ending}
 use Rattle.stream.specs.Stream.{Trace, ended, refusedAt, zeroed, firstWrong, firstReported, reportedFirst, atEnd, frames}
-use Rattle.receiver.proofs.Booleans.{wrong}
-use Rattle.receiver.proofs.Frames.{ending-none}
+use Rattle.refusal.proofs.Booleans.{wrong}
+use Rattle.body.proofs.Ends.{segments-own, length-segments, ending-append}
 use Rattle.ends.specs.Handed.{headerIn, isEarly}
-
--- ---- a body's bytes b, and y behind them
-
-module _ (r : Revision) (h : Header) (b y : List ℕ) (l : bodyLength r h ≤ length b) where
-  pub segments-own : segmentBytes r h (b ++ y) ≡ segmentBytes r h b
-  segments-own =
-      let n = h .s1 .len + firstSumLength r h in
-      let d = length-drop n b in
-      ap₂ (λ (p q : List ℕ). p ++ take (restLength h) q) (take-append-le (h .s1 .len) b y (omega arith)) (drop-append-le n b y (omega arith))
-      ∙ ap (λ (q : List ℕ). take (h .s1 .len) b ++ q) (take-append-le (restLength h) (drop n b) y (omega arith))
-
-  pub length-segments : length (segmentBytes r h b) ≡ total h
-  length-segments =
-      let n = h .s1 .len + firstSumLength r h in
-      let d = length-drop n b in
-      let e₁ = length-take-le (h .s1 .len) b (omega arith) in
-      let e₂ = length-take-le (restLength h) (drop n b) (omega arith) in
-      simp (length-append, e₁, e₂) (omega arith)
 
 first-own : (r : Revision) (h : Header) (b y : List ℕ) → bodyLength r h ≤ length b → firstWrong r h (b ++ y) ≡ firstWrong r h b
 first-own r h b y l = go (noFirstSum r h) refl
@@ -72,18 +54,6 @@ reported-parts r h b e = (let p = go (not (noFirstSum r h)) (leb (h .s1 .len + 4
 
 pub parts-reported : (r : Revision) (h : Header) (b : List ℕ) → isEarly r h ≡ true → h .s1 .len + 4 ≤ length b → firstReported r h b ≡ true
 parts-reported r h b e l = rw (le-leb (h .s1 .len + 4) (length b) l) e
-
-ending-append : (r : Revision) (h : Header) (e y p : List ℕ) → epilogueLength r h ≤ length e → ending r h (e ++ y) p ≡ ending r h e p
-unfolding ending
-ending-append Msgr20 h e y p l =
-    rw (List·getD-append e y 0 0 (omega arith), number-append 4 1 e y (omega arith), number-append 4 5 e y (omega arith), number-append 4 9 e y (omega arith), number-append 4 13 e y (omega arith))
-ending-append Msgr21 h e y p l = go (leb (h .count) 1) refl
-  where
-    go : (c : Bool) → leb (h .count) 1 ≡ c → ending Msgr21 h (e ++ y) p ≡ ending Msgr21 h e p
-    go true c = ending-none Msgr21 h (e ++ y) p c ∙ sym (ending-none Msgr21 h e p c)
-    go false c =
-        let l′ : 13 ≤ length e = rw c at l in
-        rw (List·getD-append e y 0 0 (omega arith), number-append 4 1 e y (omega arith), number-append 4 5 e y (omega arith), number-append 4 9 e y (omega arith))
 
 -- ---- how the frame at the front of X is judged, where n is the store's length
 

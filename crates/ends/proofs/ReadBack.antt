@@ -6,14 +6,14 @@ use mathlib.Core.Bool.{Bool, true, false, not, cond, true≢false}
 use native.Mathlib.Omega.{arith}
 use lib.ListN.{length, take, drop, length-append, length-drop, take-append-drop, drop-of-length-le}
 use lib.Seq.{take-at, drop-at, take-append-le, drop-append-le, length-take-le}
-use lib.Dec.{lit<, leb, eqb}
+use lib.Dec.{lit<, leb, eqb, ltb}
 use borrow.Author.Tests.{le-leb, leb-true, eq-eqb, eqb-true}
 use Rattle.buffer.specs.Splice.{replaceFront}
 use Rattle.buffer.specs.Le.{le, leOf, numberAt, Bytes}
 use Rattle.buffer.proofs.Numbers.{leOf-le, number-append, bytes-take, bytes-drop, bytes-zeros}
 use Rattle.crc32c.proofs.Laws.{crc-lt}
 use Rattle.refusal.specs.declared.Refusal.the-variants as refusal
-use Rattle.refusal.specs.Refusals.{fine, orElse}
+use Rattle.refusal.specs.Refusals.{Judged, fine, orElse, unless}
 use Rattle.refusal.proofs.Judgements.{all-fine, passed}
 use Rattle.banner.specs.declared.Revision.{Revision}
 use Rattle.banner.specs.declared.Revision.the-variants.{Msgr20, Msgr21}
@@ -26,7 +26,7 @@ use Rattle.preamble.proofs.Laws.{length-preamble}
 use Rattle.preamble.proofs.Back as preamble
 use Rattle.body.specs.Body.{segmentSum, cutInto, segments, field, restLength, words, lateByte, epilogue, firstSum, firstSumLength, bodyLength, wireLength, body, restSent, frameBytes}
 use Rattle.body.specs.End as end
-use Rattle.body.specs.End.{Ended, whole, dropped, compareFrom, segmentBytes, stored, ending}
+use Rattle.body.specs.End.{Ended, whole, dropped, compareFrom, unusedFrom, segmentBytes, stored, ending}
 use Rattle.body.proofs.Laws.{length-sent, length-first-sum, length-frame}
 use Rattle.builder.specs.Build.{judgeAbort}
 use Rattle.builder.proofs.Accepted.{Accepted}
@@ -34,9 +34,8 @@ use Rattle.stream.specs.declared.Event.the-variants.{Frame, Dropped}
 use Rattle.stream.specs.Stream.{Trace, after, reportedFirst, zeroed, firstWrong, atEnd, frames}
 use Rattle.ends.specs.Handed.{isEarly}
 use Rattle.ends.proofs.Locality.{Judges, frame-trace-more}
-use Rattle.ends.proofs.Sums.{same-sums}
+use Rattle.body.proofs.Checksums.{same-sums, same-unused}
 use Rattle.ends.proofs.Checks.{first-fine}
-
 
 sum-lt : {l : List ℕ} → Bytes l → segmentSum l < 2 ^ 32
 sum-lt {l} h = crc-lt 0xFFFFFFFF l (lit< tt) (h .at)
@@ -181,16 +180,27 @@ module _ (h : Header) (first rest : List ℕ) (e₁ : length first ≡ h .s1 .le
       (ap (cutInto (h .s2 .len ∷ h .s3 .len ∷ h .s4 .len ∷ [])) (drop-at first rest (h .s1 .len) e₁))
       ∙ same-sums (h .count) 2 (cutInto (h .s2 .len ∷ h .s3 .len ∷ h .s4 .len ∷ []) rest)
 
+  spelled20 : (late : ℕ) → ltb late 2 ≡ true → end.judgeSpelling Msgr20 h (late ∷ words (f1 ∷ f2 ∷ f3 ∷ f4 ∷ [])) ≡ fine
+  spelled20 late t =
+      ap₂ orElse
+      (ap (unusedFrom (h .count) 1) (stored20 late f1 f2 f3 f4 (field-lt (h .count) 1 bf) lt2 lt3 lt4) ∙ same-unused (h .count) 1 (segments h first rest))
+      (ap (λ (b : Bool). unless b (refusal.NonCanonical 0)) t)
+
+  spelled21 : (late : ℕ) → end.judgeSpelling Msgr21 h (late ∷ words (f2 ∷ f3 ∷ f4 ∷ [])) ≡ fine
+  spelled21 late =
+      ap (λ (j : Judged). orElse j fine)
+      (ap (unusedFrom (h .count) 2) (stored21 late f2 f3 f4 lt2 lt3 lt4) ∙ same-unused (h .count) 2 (cutInto (h .s2 .len ∷ h .s3 .len ∷ h .s4 .len ∷ []) rest))
+
   ends20 : (abort : Bool) → ending Msgr20 h (epilogue Msgr20 h (lateByte Msgr20 abort) first rest) (first ++ rest) ≡ ends-as abort
   unfolding ending
-  ends20 true = refl
-  ends20 false = ap end.endedBy (read20 0)
+  ends20 true = rw (spelled20 1 refl)
+  ends20 false = rw (spelled20 0 refl) (ap end.endedBy (read20 0))
 
   -- with an epilogue, and without one, which an aborted frame always has
   ends21 : (abort : Bool) → leb (h .count) 1 ≡ false → ending Msgr21 h (epilogue Msgr21 h (lateByte Msgr21 abort) first rest) (first ++ rest) ≡ ends-as abort
   unfolding ending
-  ends21 true c = rw c
-  ends21 false c = rw c (ap end.endedBy (read21 0x0E))
+  ends21 true c = rw (c, spelled21 1)
+  ends21 false c = rw (c, spelled21 0x0E) (ap end.endedBy (read21 0x0E))
 
   none21 : leb (h .count) 1 ≡ true → ending Msgr21 h (epilogue Msgr21 h (lateByte Msgr21 false) first rest) (first ++ rest) ≡ whole
   unfolding ending

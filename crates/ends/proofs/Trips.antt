@@ -24,7 +24,7 @@ use Rattle.body.specs.Body.{frameBytes, wireLength}
 use Rattle.stream.specs.declared.Event.the-variants.{Banner, First}
 use Rattle.stream.specs.Stream.{Entry, entry, Trace, after, reportedFirst, zeroed, payloadOf, peerOf, frames, traceOf}
 use Rattle.stream.proofs.Sums.{least}
-use Rattle.receiver.proofs.Booleans.{both-left, both-right}
+use Rattle.refusal.proofs.Booleans.{both-left, both-right}
 use Rattle.receiver.specs.Calls.{takenBy}
 use Rattle.builder.specs.Build.{bannerLength}
 use Rattle.ends.specs.Handed.{isEarly}

@@ -3,11 +3,11 @@
 use mathlib.Core.Path.{_≡_}
 use mathlib.Core.Logic.{_↔_}
 use mathlib.Core.List.{List, [], _∷_, _++_}
-use mathlib.Core.Bool.{Bool, true, false, not, cond, _&&_}
+use mathlib.Core.Bool.{Bool, true, false, not, cond, _&&_, _||_}
 use Prim.Native.Nat.{ℕ, zero, suc, _+_, _-_, _*_, _≤_, _<_}
 use lib.ListN.{length, take, drop, getD}
-use lib.Dec.{ltb, eqb}
-use Rattle.buffer.specs.Le.{numberAt}
+use lib.Dec.{leb, ltb, eqb}
+use Rattle.buffer.specs.Le.{numberAt, Bytes}
 use Rattle.buffer.specs.Splice.{replaceFront}
 use Rattle.crc32c.specs.Crc.{crcOf}
 use Rattle.refusal.specs.Refusals.{fine}
@@ -20,7 +20,7 @@ use Rattle.preamble.specs.Layout.{total}
 use Rattle.preamble.specs.Judge.{headerOf, judgeShape, judgeFlags, judgeTag, judgeLimits, judgeStore}
 use Rattle.body.specs.declared.Late.{Late}
 use Rattle.body.specs.declared.Late.the-variants as late
-use Rattle.body.specs.Body.{segmentSum, cutInto, noFirstSum, firstSumLength, noEpilogue, wireLength}
+use Rattle.body.specs.Body.{segmentSum, cutInto, noFirstSum, firstSumLength, noEpilogue, wireLength, frameBytes}
 use Rattle.body.specs.End.{lateOf, segmentBytes}
 use Rattle.stream.specs.declared.Event.{Event}
 use Rattle.stream.specs.declared.Event.the-variants.{Banner, First, Frame, Dropped, Refused}
@@ -88,6 +88,21 @@ compared late.Aborted Msgr21 h zero = not (eqb (h .s1 .len) 0)
 compared late.Aborted Msgr21 h (suc k) = false
 compared late.Wrong revision h k = false
 
+-- which segments have a field in the epilogue and are not used; segments are counted from 0
+abbrev pub unusedField : Revision → Header → ℕ → Bool
+unusedField Msgr20 h k = leb (h .count) k
+unusedField Msgr21 h zero = false
+unusedField Msgr21 h (suc k) = not (leb (h .count) 1) && leb (h .count) (suc k)
+
+abbrev pub flagsFine : Revision → ℕ → Bool
+flagsFine Msgr20 b = ltb b 2
+flagsFine Msgr21 b = true
+
+-- its epilogue has one spelling (02, K10): unused fields are 0, late_flags is 0 or 1
+pub record Spelled (revision : Revision) (X : List ℕ) : Type 0 where
+  pub unused : (k : ℕ) → k < 4 → unusedField revision (headerIn X) k ≡ true → numberAt 4 (sumPlace revision (headerIn X) k) (drop 32 X) ≡ 0
+  pub flags : flagsFine revision (getD (drop 32 X) (latePlace revision (headerIn X)) 0) ≡ true
+
 -- its preamble: all of it arrived, its CRC32-C holds, and 01's checks of its fields
 pub record CheckedPreamble (X : List ℕ) (n : ℕ) : Type 0 where
   pub arrived : 32 ≤ length X
@@ -102,6 +117,7 @@ pub record CheckedPreamble (X : List ℕ) (n : ℕ) : Type 0 where
 pub record Checked (kind : Late) (revision : Revision) (X : List ℕ) (n : ℕ) : Type 0 where
   pub preamble : CheckedPreamble X n
   pub arrived : wireLength revision (headerIn X) ≤ length X
+  pub spelling : Spelled revision X
   -- complete or aborted
   pub late : lateIn revision (headerIn X) X ≡ kind
   -- the CRC32-C of each segment that is compared
@@ -118,6 +134,12 @@ pub record CheckedFirst (revision : Revision) (X : List ℕ) (n : ℕ) : Type 0 
   pub early : isEarly revision (headerIn X) ≡ true
   pub arrived : 36 + headerIn X .s1 .len ≤ length X
   pub sum : numberAt 4 (headerIn X .s1 .len) (drop 32 X) ≡ segmentSum (take (headerIn X .s1 .len) (drop 32 X))
+
+-- the high four bits of late_status are zero, where a frame has one: a receiver does not look at them (02, K8), so that without this two frames could differ there
+-- and read alike
+abbrev pub zeroNibble : Revision → Header → List ℕ → Bool
+zeroNibble Msgr20 h X = true
+zeroNibble Msgr21 h X = leb (h .count) 1 || ltb (getD (drop 32 X) (latePlace Msgr21 h) 0) 16
 
 -- ---- the claim
 
@@ -162,6 +184,9 @@ pub record Exactly (revision : Revision) (P : ℕ) (X s : List ℕ) (es : List E
   pub handed : firstIs isFrame (behindFirst es) ≡ true ↔ Checked late.Complete revision X (length s)
   pub frames : firstIs isFrame (behindFirst es) ≡ true
       → (later : List Entry) × (behindFirst es ≡ entry (Frame (headerIn X)) (P + wireLength revision (headerIn X)) (replaceFront (segmentBytes revision (headerIn X) (drop 32 X)) s) ∷ later)
+  -- and its bytes are those that the builder writes for the same fields and segments (02, K10)
+  pub spelled : Bytes X → firstIs isFrame (behindFirst es) ≡ true → zeroNibble revision (headerIn X) X ≡ true
+      → take (wireLength revision (headerIn X)) X ≡ frameBytes revision (headerIn X) false (segmentBytes revision (headerIn X) (drop 32 X))
   -- and a drop, with zeros in the store's first T bytes
   pub dropped : firstIs isDrop (behindFirst es) ≡ true ↔ Checked late.Aborted revision X (length s)
   pub drops : firstIs isDrop (behindFirst es) ≡ true

@@ -1,3 +1,4 @@
 pub mod Handed
 pub mod Trip
 pub mod Ends
+pub mod Spelling

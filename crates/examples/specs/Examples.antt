@@ -158,6 +158,12 @@ banners =
     ∷ judgeOwn 3 2 ⇒ refuse 16 0
     ∷ judgeOwn 0 2 ⇒ refuse 16 0
     ∷ judgeOwn 0x8000000000000001 0 ⇒ refuse 16 0
+    ∷ judgeMagic (set magic 1 0x45) ⇒ refuse 1 0
+    ∷ judgeMagic (set magic 2 0x50) ⇒ refuse 1 0
+    ∷ judgeMagic (set magic 3 0x48) ⇒ refuse 1 0
+    ∷ judgeMagic (set magic 4 0x09) ⇒ refuse 1 0
+    ∷ judgeMagic (set magic 5 0x56) ⇒ refuse 1 0
+    ∷ judgeMagic (set magic 6 0x31) ⇒ refuse 1 0
     ∷ []
 
 -- refusals 5, 7 and 10, and the order 5, 6, 7, 8, 9, 10
@@ -180,6 +186,8 @@ preambles =
     ∷ fields empty 1 0 0 ⇒ refuse 7 26
     ∷ fields empty 0 1 0 ⇒ refuse 7 27
     ∷ fields empty 0x80 0x80 0 ⇒ refuse 7 26
+    ∷ fields empty 0x7E 0 0 ⇒ refuse 7 26
+    ∷ fields empty 0 0xFE 0 ⇒ refuse 7 27
     ∷ fields empty 0 0 0 ⇒ fine
     -- 7 and 8
     ∷ fields (header 21 1 (segment 0 0) (segment 0 0) (segment 0 0) (segment 0 0)) 1 0 0 ⇒ refuse 7 26
@@ -220,6 +228,15 @@ headers =
     ++ asked (header 17 1 (segment 0 0) (segment 0 0) (segment 0 0) (segment 0 0x8000)) (refuse 6 24)
     -- 6: any alignment of a used segment
     ++ asked (header 17 4 (segment 0 0xFFFF) (segment 0 1) (segment 0 2) (segment 1 0x1000)) fine
+    -- 6: an unused length and an unused alignment, behind two and three segments
+    ++ asked (sized 2 1 1 1 0) (refuse 6 14)
+    ++ asked (sized 2 1 1 0 1) (refuse 6 20)
+    ++ asked (sized 3 1 1 1 1) (refuse 6 20)
+    ++ asked (sized 1 0 0x10000 0 0) (refuse 6 8)
+    ++ asked (header 17 1 (segment 0 0) (segment 0 0x100) (segment 0 0) (segment 0 0)) (refuse 6 12)
+    ++ asked (header 17 2 (segment 1 0) (segment 1 0) (segment 0 1) (segment 0 0)) (refuse 6 18)
+    ++ asked (header 17 2 (segment 1 0) (segment 1 0) (segment 0 0) (segment 0 1)) (refuse 6 24)
+    ++ asked (header 17 3 (segment 1 0) (segment 1 0) (segment 1 0) (segment 0 1)) (refuse 6 24)
     -- 6: the first of two fields, for each two neighbours
     ++ asked (sized 0 1 0 0 0) (refuse 6 1)
     ++ asked (header 17 0 (segment 0 1) (segment 0 0) (segment 0 0) (segment 0 0)) (refuse 6 1)
@@ -314,7 +331,7 @@ builds =
     ∷ judgeBanner 0 1 25 0 ⇒ refuse 16 0
     ∷ []
 
--- the end of a body: 12, drop, 11 (late_status: bench case 10 as 02 amends it)
+-- the end of a body: 24, 12, drop, 11 (late_status: bench case 10 as 02 amends it)
 unfoldable pub ends : List (Row Ended)
 ends =
     -- msgr2.1: code words in the low four bits
@@ -334,25 +351,25 @@ ends =
     ∷ ended Msgr21 two 0x10 (sum-a ∷ 0 ∷ 0 ∷ []) (0x61 ∷ 0x62 ∷ []) ⇒ away 12 0x10
     -- a drop and 11
     ∷ ended Msgr21 two 0x01 (sum-a ∷ 0 ∷ 0 ∷ []) (0x61 ∷ 0x62 ∷ []) ⇒ dropped
-    -- 11 at each segment, and the lowest of two; unused fields are not looked at
+    -- 11 at each segment, and the lowest of two; 24 where an unused field is not 0
     ∷ ended Msgr21 two 0x0E (sum-a ∷ 0 ∷ 0 ∷ []) (0x61 ∷ 0x62 ∷ []) ⇒ away 11 2
     ∷ ended Msgr21 four 0x0E (sum-b ∷ sum-c ∷ sum-d ∷ []) letters ⇒ whole
     ∷ ended Msgr21 four 0x0E (sum-b ∷ 0 ∷ sum-d ∷ []) letters ⇒ away 11 3
     ∷ ended Msgr21 four 0x0E (sum-b ∷ sum-c ∷ 0 ∷ []) letters ⇒ away 11 4
     ∷ ended Msgr21 four 0x0E (sum-b ∷ 0 ∷ 0 ∷ []) letters ⇒ away 11 3
-    ∷ ended Msgr21 two 0x0E (sum-b ∷ 7 ∷ 7 ∷ []) (0x61 ∷ 0x62 ∷ []) ⇒ whole
+    ∷ ended Msgr21 two 0x0E (sum-b ∷ 7 ∷ 7 ∷ []) (0x61 ∷ 0x62 ∷ []) ⇒ away 24 3
     -- one segment: no epilogue, so no late byte
     ∷ ending Msgr21 one [] (replicate 5 0) ⇒ whole
-    -- msgr2.0: only bit 0 of late_flags is looked at
+    -- msgr2.0: late_flags is 0 or 1, else 24
     ∷ ended Msgr20 two 0x00 (sum-a ∷ sum-b ∷ 0 ∷ 0 ∷ []) (0x61 ∷ 0x62 ∷ []) ⇒ whole
-    ∷ ended Msgr20 two 0x02 (sum-a ∷ sum-b ∷ 0 ∷ 0 ∷ []) (0x61 ∷ 0x62 ∷ []) ⇒ whole
-    ∷ ended Msgr20 two 0xFE (sum-a ∷ sum-b ∷ 0 ∷ 0 ∷ []) (0x61 ∷ 0x62 ∷ []) ⇒ whole
+    ∷ ended Msgr20 two 0x02 (sum-a ∷ sum-b ∷ 0 ∷ 0 ∷ []) (0x61 ∷ 0x62 ∷ []) ⇒ away 24 0
+    ∷ ended Msgr20 two 0xFE (sum-a ∷ sum-b ∷ 0 ∷ 0 ∷ []) (0x61 ∷ 0x62 ∷ []) ⇒ away 24 0
     ∷ ended Msgr20 two 0x01 (sum-a ∷ sum-b ∷ 0 ∷ 0 ∷ []) (0x61 ∷ 0x62 ∷ []) ⇒ dropped
-    ∷ ended Msgr20 two 0x03 (sum-a ∷ sum-b ∷ 0 ∷ 0 ∷ []) (0x61 ∷ 0x62 ∷ []) ⇒ dropped
-    ∷ ended Msgr20 two 0xFF (sum-a ∷ sum-b ∷ 0 ∷ 0 ∷ []) (0x61 ∷ 0x62 ∷ []) ⇒ dropped
+    ∷ ended Msgr20 two 0x03 (sum-a ∷ sum-b ∷ 0 ∷ 0 ∷ []) (0x61 ∷ 0x62 ∷ []) ⇒ away 24 0
+    ∷ ended Msgr20 two 0xFF (sum-a ∷ sum-b ∷ 0 ∷ 0 ∷ []) (0x61 ∷ 0x62 ∷ []) ⇒ away 24 0
     -- a drop and 11
-    ∷ ended Msgr20 two 0x03 (0 ∷ 0 ∷ 0 ∷ 0 ∷ []) (0x61 ∷ 0x62 ∷ []) ⇒ dropped
-    -- 11 at each segment, and the lowest of two; unused fields are not looked at
+    ∷ ended Msgr20 two 0x01 (0 ∷ 0 ∷ 0 ∷ 0 ∷ []) (0x61 ∷ 0x62 ∷ []) ⇒ dropped
+    -- 11 at each segment, and the lowest of two; 24 where an unused field is not 0
     ∷ ended Msgr20 four 0x00 (sum-a ∷ sum-b ∷ sum-c ∷ sum-d ∷ []) letters ⇒ whole
     ∷ ended Msgr20 four 0x00 (0 ∷ sum-b ∷ sum-c ∷ sum-d ∷ []) letters ⇒ away 11 1
     ∷ ended Msgr20 four 0x00 (sum-a ∷ 0 ∷ sum-c ∷ sum-d ∷ []) letters ⇒ away 11 2
@@ -361,10 +378,28 @@ ends =
     ∷ ended Msgr20 four 0x00 (0 ∷ 0 ∷ sum-c ∷ sum-d ∷ []) letters ⇒ away 11 1
     ∷ ended Msgr20 four 0x00 (sum-a ∷ 0 ∷ 0 ∷ sum-d ∷ []) letters ⇒ away 11 2
     ∷ ended Msgr20 four 0x00 (sum-a ∷ sum-b ∷ 0 ∷ 0 ∷ []) letters ⇒ away 11 3
-    ∷ ended Msgr20 two 0x00 (sum-a ∷ sum-b ∷ 7 ∷ 7 ∷ []) (0x61 ∷ 0x62 ∷ []) ⇒ whole
+    ∷ ended Msgr20 two 0x00 (sum-a ∷ sum-b ∷ 7 ∷ 7 ∷ []) (0x61 ∷ 0x62 ∷ []) ⇒ away 24 3
     -- empty segments have FFFFFFFF
     ∷ ended Msgr20 empty 0x00 (0xFFFFFFFF ∷ 0 ∷ 0 ∷ 0 ∷ []) [] ⇒ whole
     ∷ ended Msgr20 empty 0x00 (0 ∷ 0 ∷ 0 ∷ 0 ∷ []) [] ⇒ away 11 1
+    -- late_status: each other code word, and each bit of the high nibble
+    ∷ ended Msgr21 two 0x03 (sum-b ∷ 0 ∷ 0 ∷ []) (0x61 ∷ 0x62 ∷ []) ⇒ away 12 0x03
+    ∷ ended Msgr21 two 0x04 (sum-b ∷ 0 ∷ 0 ∷ []) (0x61 ∷ 0x62 ∷ []) ⇒ away 12 0x04
+    ∷ ended Msgr21 two 0x05 (sum-b ∷ 0 ∷ 0 ∷ []) (0x61 ∷ 0x62 ∷ []) ⇒ away 12 0x05
+    ∷ ended Msgr21 two 0x07 (sum-b ∷ 0 ∷ 0 ∷ []) (0x61 ∷ 0x62 ∷ []) ⇒ away 12 0x07
+    ∷ ended Msgr21 two 0x08 (sum-b ∷ 0 ∷ 0 ∷ []) (0x61 ∷ 0x62 ∷ []) ⇒ away 12 0x08
+    ∷ ended Msgr21 two 0x09 (sum-b ∷ 0 ∷ 0 ∷ []) (0x61 ∷ 0x62 ∷ []) ⇒ away 12 0x09
+    ∷ ended Msgr21 two 0x0A (sum-b ∷ 0 ∷ 0 ∷ []) (0x61 ∷ 0x62 ∷ []) ⇒ away 12 0x0A
+    ∷ ended Msgr21 two 0x0B (sum-b ∷ 0 ∷ 0 ∷ []) (0x61 ∷ 0x62 ∷ []) ⇒ away 12 0x0B
+    ∷ ended Msgr21 two 0x0C (sum-b ∷ 0 ∷ 0 ∷ []) (0x61 ∷ 0x62 ∷ []) ⇒ away 12 0x0C
+    ∷ ended Msgr21 two 0x0D (sum-b ∷ 0 ∷ 0 ∷ []) (0x61 ∷ 0x62 ∷ []) ⇒ away 12 0x0D
+    ∷ ended Msgr21 two 0x2E (sum-b ∷ 0 ∷ 0 ∷ []) (0x61 ∷ 0x62 ∷ []) ⇒ whole
+    ∷ ended Msgr21 two 0x4E (sum-b ∷ 0 ∷ 0 ∷ []) (0x61 ∷ 0x62 ∷ []) ⇒ whole
+    ∷ ended Msgr21 two 0x8E (sum-b ∷ 0 ∷ 0 ∷ []) (0x61 ∷ 0x62 ∷ []) ⇒ whole
+    ∷ ended Msgr21 two 0x11 (sum-b ∷ 0 ∷ 0 ∷ []) (0x61 ∷ 0x62 ∷ []) ⇒ dropped
+    ∷ ended Msgr21 two 0x21 (sum-b ∷ 0 ∷ 0 ∷ []) (0x61 ∷ 0x62 ∷ []) ⇒ dropped
+    ∷ ended Msgr21 two 0x41 (sum-b ∷ 0 ∷ 0 ∷ []) (0x61 ∷ 0x62 ∷ []) ⇒ dropped
+    ∷ ended Msgr21 two 0x81 (sum-b ∷ 0 ∷ 0 ∷ []) (0x61 ∷ 0x62 ∷ []) ⇒ dropped
     ∷ []
 
 -- the banner of 01, and frames

@@ -1,9 +1,9 @@
 // Fields of control frames' bodies: a cursor by value that reads them one by one, and a draft by value that appends them to a buffer.
 use buffer::byte_at;
 use buffer::min;
-use buffer::u64_at;
 use buffer::u32_at;
 use buffer::u32_bytes;
+use buffer::u64_at;
 use preamble::SEGMENT_LIMIT;
 ghost use mathlib.Core.Path.{_≡_};
 ghost use mathlib.Core.Bool.{true, cond};

@@ -104,7 +104,7 @@ plain-back p e =
     let h = both-true (leb (p .stage) 9) (leb (p .revision) 1) (g .0) in
     rw (number-back (p .stage) (leb-true (p .stage) 9 (h .0)), truth-back (p .revision) (leb-true (p .revision) 1 (h .1)), mark-number (p .first) (leb-true (p .first) 1 (g .1)))
 
-report-back : (r : Report) → reportOf (plainReport r) ≡ r
+pub report-back : (r : Report) → reportOf (plainReport r) ≡ r
 report-back report.More = refl
 report-back (report.Event (event.Banner p v)) = rw (revision-back v)
 report-back (report.Event (event.First h)) = refl

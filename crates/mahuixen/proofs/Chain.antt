@@ -11,7 +11,7 @@ use Rattle.mahuixen.specs.Calls.{PlainCall, PlainChained, plainCalls, Pl
 use Rattle.mahuixen.proofs.Back.{state-back, state-known}
 
 -- the answer to a state's plain form is the plain form of its answer
-answers : (st : State) (s piece : List ℕ) → plainAnswer (plainOf st) s piece ≡ plainly (answer st s piece)
+pub answers : (st : State) (s piece : List ℕ) → plainAnswer (plainOf st) s piece ≡ plainly (answer st s piece)
 unfolding plainAnswer
 answers st s piece = rw (state-known st, state-back st)
 
@@ -24,7 +24,7 @@ pub record AsCalls (stream : List ℕ) (st : State) (s : List ℕ) (t : ℕ) (ps
   pub plain : ps ≡ plainCalls calls
   pub chained : Chained stream st s t calls
 
-as-calls : (stream : List ℕ) (st : State) (s : List ℕ) (t : ℕ) (ps : List PlainCall) → PlainChained stream (plainOf st) s t ps → AsCalls stream st s t ps
+pub as-calls : (stream : List ℕ) (st : State) (s : List ℕ) (t : ℕ) (ps : List PlainCall) → PlainChained stream (plainOf st) s t ps → AsCalls stream st s t ps
 as-calls stream st s t [] h = record { calls = []; plain = refl; chained = tt }
 as-calls stream st s t (c ∷ ps) h =
     let a = answer st s (pieceAt stream t (c .size)) in
@@ -40,6 +40,6 @@ as-calls stream st s t (c ∷ ps) h =
 
 pub demand3-in-c : Demand3 → PlainDemand3
 unfolding Demand3 PlainDemand3 plainStarted
-demand3-in-c demand own stream store ps h =
-    let found = as-calls stream (started own) store 0 ps h in
+demand3-in-c demand own begun b stream store ps h =
+    let found = as-calls stream (started own) store 0 ps (rw (b .promise) at h) in
     record { calls = found .calls; plain = found .plain; chained = found .chained; defined = demand own stream store (found .calls) (found .chained) }

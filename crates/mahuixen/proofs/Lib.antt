@@ -1,2 +1,3 @@
 pub mod Back
 pub mod Chain
+pub mod Demands

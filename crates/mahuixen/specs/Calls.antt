@@ -14,7 +14,8 @@ use Rattle.receiver.specs.Calls.{Call, pieceAt, Chained, AsDefined}
 use Rattle.mahuixen.specs.declared.PlainState.{PlainState}
 use Rattle.mahuixen.specs.declared.PlainReport.{PlainReport}
 use Rattle.mahuixen.specs.declared.PlainReceived.{PlainReceived}
-use Rattle.mahuixen.specs.Plain.{revisionOf, plainOf, stateOf, known, plainReport, plainReceived, PlainAnswered, plainStarted}
+use Rattle.mahuixen.specs.declared.PlainStarted.{PlainStarted}
+use Rattle.mahuixen.specs.Plain.{revisionOf, plainOf, stateOf, known, plainReport, plainReceived, PlainAnswered, PlainStartedWith}
 
 -- ---- plain forms can be read back
 
@@ -68,4 +69,5 @@ pub record PlainDefined (own : Features) (stream store : List ℕ) (ps : List Pl
 
 unfoldable pub PlainDemand3 : Type 0
 PlainDemand3 =
-    (own : Features) (stream store : List ℕ) (ps : List PlainCall) → PlainChained stream (plainStarted own .state) store 0 ps → PlainDefined own stream store ps
+    (own : Features) (begun : PlainStarted) → PlainStartedWith own begun
+    → (stream store : List ℕ) (ps : List PlainCall) → PlainChained stream (begun .state) store 0 ps → PlainDefined own stream store ps

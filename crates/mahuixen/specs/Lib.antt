@@ -1,2 +1,3 @@
 pub mod Plain
 pub mod Calls
+pub mod Demands

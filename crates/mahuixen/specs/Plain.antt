@@ -147,6 +147,10 @@ plainStart st j = record { state = plainOf st; refusal = refusalOf j }
 unfoldable pub plainStarted : Features → PlainStarted
 plainStarted own = plainStart (started own) (judgeOwn (own .supported) (own .required))
 
+-- THE PROMISE OF A START
+pub record PlainStartedWith (own : Features) (r : PlainStarted) : Type 0 where
+  pub promise : r ≡ plainStarted own
+
 -- ---- builds
 
 abbrev pub plainBuilt : build.Answer → PlainBuilt
@@ -164,3 +168,10 @@ plainDone b l = record { built = b; buffer = l }
 -- THE PLAIN FORM OF A BUILD
 abbrev pub inPlain : build.Done → PlainDone
 inPlain d = plainDone (plainBuilt (d .answer)) (d .buffer)
+
+-- THE PROMISES OF THE BUILDERS: a buffer with so many bytes queued, the answer, and the buffer then
+pub record PlainBuiltBanner (own : Features) (buf : List ℕ) (queued : ℕ) (r : PlainBuilt) (after : List ℕ) : Type 0 where
+  pub promise : plainDone r after ≡ inPlain (build.bannerDone (own .supported) (own .required) buf queued)
+
+pub record PlainBuiltFrame (revision : ℕ) (h : Header) (abort : Bool) (source buf : List ℕ) (queued : ℕ) (r : PlainBuilt) (after : List ℕ) : Type 0 where
+  pub promise : plainDone r after ≡ inPlain (build.frameDone (revisionOf revision) h abort source buf queued)

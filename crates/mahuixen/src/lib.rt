@@ -20,9 +20,9 @@ use refusal::Numbers;
 ghost use mathlib.Core.Path.{_≡_};
 ghost use mathlib.Core.Bool.{true, false};
 ghost use Rattle.crc32c.specs.Crc.{crcOf};
-ghost use Rattle.builder.specs.Build.{frameDone, bannerDone};
-ghost use Rattle.mahuixen.specs.Plain.{revisionOf, PlainAnswered, plainStarted, plainDone, inPlain};
+ghost use Rattle.mahuixen.specs.Plain.{PlainAnswered, PlainStartedWith, PlainBuiltBanner, PlainBuiltFrame};
 ghost use Rattle.mahuixen.specs.Calls.{ReadsBack, PlainDemand3};
+ghost use Rattle.mahuixen.specs.Demands.{PlainDemand1, PlainDemand2};
 
 // A receiver between two calls; the stage, the revision and the mark of an early report as numbers.
 #[repr(C)]
@@ -75,7 +75,7 @@ pub struct PlainBuilt {
 // A receiver with our own features.
 #[no_mangle]
 pub extern "C" fn mahuixen_start(own: Features) -> PlainStarted
-    ensures { λ r. ⌜ r ≡ plainStarted own ⌝ }
+    ensures { λ r. ⌜ PlainStartedWith own r ⌝ }
 {
     plain_started(start(own))
 }
@@ -98,7 +98,7 @@ pub extern "C" fn mahuixen_receive(
 // Builds our banner behind the queued bytes.
 #[no_mangle]
 pub extern "C" fn mahuixen_build_banner(buf: &mut [u8], queued: usize, own: Features) -> PlainBuilt
-    ensures { λ r. ⌜ plainDone r (now (buf .exit)) ≡ inPlain (bannerDone (own .supported) (own .required) (now (buf .entry)) queued) ⌝ }
+    ensures { λ r. ⌜ PlainBuiltBanner own (now (buf .entry)) queued r (now (buf .exit)) ⌝ }
 {
     plain_built(build_banner(buf, queued, own.supported, own.required))
 }
@@ -112,7 +112,7 @@ pub extern "C" fn mahuixen_build_frame(
     header: Header,
     source: &[u8],
 ) -> PlainBuilt
-    ensures { λ r. ⌜ plainDone r (now (buf .exit)) ≡ inPlain (frameDone (revisionOf revision) header false (now (source .entry)) (now (buf .entry)) queued) ⌝ }
+    ensures { λ r. ⌜ PlainBuiltFrame revision header false (now (source .entry)) (now (buf .entry)) queued r (now (buf .exit)) ⌝ }
 {
     plain_built(build_frame(buf, queued, revision_of(revision), header, false, source))
 }
@@ -126,7 +126,7 @@ pub extern "C" fn mahuixen_abort_frame(
     header: Header,
     source: &[u8],
 ) -> PlainBuilt
-    ensures { λ r. ⌜ plainDone r (now (buf .exit)) ≡ inPlain (frameDone (revisionOf revision) header true (now (source .entry)) (now (buf .entry)) queued) ⌝ }
+    ensures { λ r. ⌜ PlainBuiltFrame revision header true (now (source .entry)) (now (buf .entry)) queued r (now (buf .exit)) ⌝ }
 {
     plain_built(build_frame(buf, queued, revision_of(revision), header, true, source))
 }
@@ -149,4 +149,20 @@ pub fn every_cutting()
     ensures { λ _. ⌜ PlainDemand3 ⌝ }
 {
     receiver::every_cutting();
+}
+
+// DEMAND 1 of calls by C: it follows from what holds of every call of the receiver.
+pub fn every_call()
+    ensures { λ _. ⌜ PlainDemand1 ⌝ }
+{
+    receiver::every_call();
+}
+
+// DEMAND 2 of calls by C: it follows from what holds of the two ends.
+pub fn both_ends()
+    ensures { λ _. ⌜ PlainDemand2 ⌝ }
+{
+    ends::handed_over();
+    ends::round_trip();
+    ends::two_ends();
 }

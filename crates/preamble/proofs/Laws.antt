@@ -1,21 +1,22 @@
 -- Laws of the preamble: its length, its fields read back, and what is known of one that is accepted.
-use mathlib.Core.Path.{_≡_, refl, ap, _∙_}
+use mathlib.Core.Path.{_≡_, refl, ap, ap₂, _∙_}
+use mathlib.Core.Bool.{_&&_}
 use mathlib.Core.List.{List, [], _∷_, _++_}
 use Prim.Native.Nat.{ℕ, _+_, _^_, _<_, _≤_}
 use borrow.Author.Tests.{leb-true}
-use lib.Dec.{lit<, leb}
+use lib.Dec.{lit<, leb, eqb}
 use lib.ListN.{length, getD, length-append}
 use Rattle.buffer.specs.Le.{le, numberAt, Bytes}
 use Rattle.buffer.proofs.Numbers.{leOf-le, bytes-nil, bytes-cons, bytes-append, le-bytes}
 use Rattle.crc32c.specs.Crc.{crcOf}
 use Rattle.crc32c.proofs.Laws.{crc-lt}
 use Rattle.refusal.specs.declared.Refusal.the-variants as refusal
-use Rattle.refusal.specs.Refusals.{fine}
-use Rattle.refusal.proofs.Judgements.{all-fine, fine-all, passed}
+use Rattle.refusal.specs.Refusals.{Judged, fine, isFine, orElse}
+use Rattle.refusal.proofs.Judgements.{all-fine, fine-all, fine-or, fine-unless, or-else-last, passed}
 use Rattle.preamble.specs.declared.Segment.{Segment}
 use Rattle.preamble.specs.declared.Header.{Header}
 use Rattle.preamble.specs.Layout.{total, frontList, preambleFront, preambleBytes, segmentFields}
-use Rattle.preamble.specs.Judge.{headerOf, judgeChecksum, judgeShape, judgeFlags, judgeTag, judgeLimits, judgeStore, judgeHeader, judgeFields, judgePreamble}
+use Rattle.preamble.specs.Judge.{headerOf, judgeChecksum, shapeFault, limitFault, judgeShape, judgeFlags, judgeTag, judgeLimits, judgeStore, judgeHeader, judgeFields, judgePreamble}
 use Rattle.preamble.specs.Reading.{HeaderFits}
 
 pub front-is : (h : Header) → frontList h ≡ preambleFront h
@@ -80,3 +81,16 @@ accepted-header {bs} {room} a =
 -- and the store is long enough
 pub store-fits : {needed room : ℕ} → judgeStore needed room ≡ fine → needed ≤ room
 store-fits {needed} {room} e = leb-true needed room (passed (leb needed room) (refusal.StoreShort needed) e)
+
+-- what is asked of a header, as one test
+pub header-fine : (h : Header) → isFine (judgeHeader h) ≡ (eqb (shapeFault h) 0 && ((leb 1 (h .tag) && leb (h .tag) 20) && eqb (limitFault h) 0))
+unfolding judgeHeader
+header-fine h =
+    let a : Judged = judgeShape h in
+    let b : Judged = judgeTag (h .tag) in
+    let c : Judged = judgeLimits h in
+    fine-or a (orElse b (orElse c fine))
+    ∙ ap₂ _&&_ (fine-unless (eqb (shapeFault h) 0) (refusal.Shape (shapeFault h)))
+    (fine-or b (orElse c fine)
+    ∙ ap₂ _&&_ (fine-unless (leb 1 (h .tag) && leb (h .tag) 20) (refusal.Tag (h .tag)))
+    (ap isFine (or-else-last c) ∙ fine-unless (eqb (limitFault h) 0) (refusal.Limit (limitFault h))))

@@ -1,7 +1,7 @@
 // The preamble: its bytes, its fields and the judgements on them, each a small function that needs nothing of its caller.
 use buffer::byte_at;
-use buffer::u16_at;
 use buffer::part;
+use buffer::u16_at;
 use buffer::u32_at;
 use crc32c::checksum;
 use refusal::Refusal;
@@ -11,7 +11,7 @@ use refusal::or_else;
 use refusal::unless_ok;
 ghost use mathlib.Core.Path.{_≡_};
 ghost use Prim.Native.Nat.{_<_};
-ghost use Rattle.refusal.specs.Refusals.{judgedBy};
+ghost use Rattle.refusal.specs.Refusals.{judgedBy, isFine};
 ghost use Rattle.preamble.specs.Layout.{total, frontList};
 ghost use Rattle.preamble.specs.Reading.{ReadsBack};
 ghost use Rattle.preamble.specs.Judge.{first, faultWhen, lengthWrong, segmentFault, shapeFault, judgeShape, judgeFlags, judgeTag, above, limitFault, judgeLimits, judgeStore, judgeHeader, segmentAt, headerOf, preambleOf, judgeFields, judgePreamble};
@@ -167,6 +167,15 @@ pub fn judge_header(h: Header) -> Verdict
 {
     let last = or_else(judge_tag(h.tag), judge_limits(h));
     or_else(judge_shape(h), last)
+}
+
+// The same as one test, for who does not ask which refusal it would be.
+pub fn header_is_fine(h: Header) -> bool
+    ensures { λ r. ⌜ r ≡ isFine (judgeHeader h) ⌝ }
+{
+    let shape = shape_fault(h) == 0;
+    let tag = both(1 <= h.tag, h.tag <= 20);
+    both(shape, both(tag, limit_fault(h) == 0))
 }
 
 // The segment fields from place i on.

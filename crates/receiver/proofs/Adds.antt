@@ -10,7 +10,7 @@ use lib.Dec.{leb, ltb, eqb}
 use borrow.Author.Tests.{ltb-true, ltb-false, leb-true}
 use Rattle.buffer.specs.Le.{numberAt}
 use Rattle.refusal.specs.declared.Numbers.{Numbers}
-use Rattle.refusal.specs.Refusals.{Judged, fine, refused, row}
+use Rattle.refusal.specs.Refusals.{Judged, fine, refused, row, isFine}
 use Rattle.banner.specs.declared.Features.{Features}
 use Rattle.banner.specs.Banner.{judgeMagic, judgeLength, judgeFeatures, featuresOf}
 use Rattle.preamble.specs.Layout.{total}
@@ -27,10 +27,11 @@ use Rattle.receiver.specs.declared.State.{State}
 use Rattle.receiver.specs.declared.Report.{Report}
 use Rattle.receiver.specs.declared.Report.the-variants as report
 use Rattle.receiver.specs.declared.Received.{Received}
-use Rattle.receiver.specs.State.{sizeOf, isRefused, isFine, hasFirstSum, agrees}
+use Rattle.receiver.specs.State.{sizeOf, isRefused, hasFirstSum, agrees}
 use Rattle.receiver.specs.Step.{at, withPeer, withHeader, withFirst, absorbed, stored, size, Stepped, silent, refuse, unlessRefused, endBanner, endFrame, beginEpilogue, beginRest, beginBody, reportFirst, behindFirstSum, reached, chunk, finish, onByte, Answer, onward, feed, neededBy, shortStore, Answered, Running, refusedState, started}
 use Rattle.receiver.specs.Every.{AnyCall, Handed, allTaken, lengthOf, allReported, cameBefore, unfinished, unfinishedAfter, unfinishedBy, Refuses}
-use Rattle.receiver.proofs.Frames.{no-length, rest-silent}
+use Rattle.body.proofs.Ends.{no-length}
+use Rattle.receiver.proofs.Frames.{rest-silent}
 use Rattle.receiver.proofs.Streams.{long-enough}
 use Rattle.receiver.proofs.Live.{Rules, Gone, After, live, inside-of, chunk-after, feed-after, refused-gone, agree-own}
 use Rattle.receiver.proofs.Every.{feeding, shortened, refuses, gone-answer}

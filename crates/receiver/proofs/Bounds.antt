@@ -22,7 +22,7 @@ use Rattle.receiver.specs.declared.Report.{Report}
 use Rattle.receiver.specs.declared.Report.the-variants as report
 use Rattle.receiver.specs.State.{sizeOf, placeOf, needed}
 use Rattle.receiver.specs.Step.{size, Stepped, chunk, Answer, answered, onward, feed, isMore}
-use Rattle.receiver.proofs.Booleans.{wrong}
+use Rattle.refusal.proofs.Booleans.{wrong}
 use Rattle.receiver.proofs.Chunks.{feed-chunk}
 
 least-epilogue : (revision : Revision) (h : Header) → epilogueLength revision h ≤ 32

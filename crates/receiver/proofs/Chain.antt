@@ -26,7 +26,7 @@ use Rattle.receiver.specs.Step.{at, onlyOwn, started, Answer, feed, answ
 use Rattle.receiver.specs.Every.{Refuses, unfinished, EveryCall}
 use Rattle.receiver.proofs.Adds.{bytes-add-up}
 use Rattle.receiver.specs.Calls.{Call, pieceAt, Chained, takenBy, stateBy, storeBy, entered, reportedBy, dueTaken, dueReport, Each, Repeats, refusedIn, passing, AsDefined, Demand3}
-use Rattle.receiver.proofs.Booleans.{wrong}
+use Rattle.refusal.proofs.Booleans.{wrong}
 use Rattle.receiver.proofs.Scan.{Scanned, scan, scan-append, scan-none, before, noted, AsScan, feed-scan, feed-due}
 use Rattle.receiver.proofs.Stages.{traceBy, gone}
 use Rattle.receiver.proofs.Streams.{stream-trace}

@@ -17,7 +17,7 @@ use Rattle.receiver.specs.declared.Received.{Received}
 use Rattle.receiver.specs.State.{isRefused, given, agrees}
 use Rattle.receiver.specs.Step.{refusedState, Stepped, onByte, Answer, onward, feed, refuseUnchanged, contradiction, shortStore, neededBy, answer, Answered, Running}
 use Rattle.receiver.specs.Every.{Refuses, Sound}
-use Rattle.receiver.proofs.Booleans.{wrong}
+use Rattle.refusal.proofs.Booleans.{wrong}
 use Rattle.receiver.proofs.Live.{Gone, After, AfterEvent, feed-after, after-agrees, refused-gone, agree-own}
 
 -- ---- the kinds of answer

@@ -1,20 +1,55 @@
 -- In the middle of a piece: what is left of it, from the state that the last step left, gives what the whole gives.
 use Prim.Native.Nat.{ℕ, _+_, _-_, _≤_, _<_, zero-le}
-use mathlib.Core.List.{List, []}
-use mathlib.Core.Path.{_≡_, refl, sym, ap, _∙_}
+use mathlib.Core.List.{List, [], _∷_}
+use mathlib.Core.Path.{_≡_, refl, sym, ap, ap₂, _∙_}
 use mathlib.Core.Bool.{true, false}
 use native.Mathlib.Omega.{arith}
-use native.Mathlib.Nat.{zero-add, add-zero, add-assoc}
+use native.Mathlib.Nat.{zero-add, add-zero, add-assoc, le-refl}
 use lib.ListN.{length, take, drop, length-drop, drop-of-length-le}
-use lib.Seq.{drop-drop}
+use lib.Seq.{drop-drop, take-all}
+use lib.Dec.{ltb}
+use borrow.Author.Tests.{lt-ltb}
 use Rattle.buffer.proofs.Parts.{rest, rest-is}
 use Rattle.receiver.specs.declared.State.{State}
 use Rattle.receiver.specs.declared.Report.{Report}
 use Rattle.receiver.specs.declared.Report.the-variants as report
 use Rattle.receiver.specs.declared.Received.{Received}
-use Rattle.receiver.specs.Step.{Stepped, stepped, chunk, Answer, answered, onward, feed, fitting, isMore, Chunked, Running, Fed}
+use Rattle.receiver.specs.declared.Place.{Place}
+use Rattle.receiver.specs.declared.Place.the-variants as place
+use Rattle.receiver.specs.State.{placeOf}
+use Rattle.receiver.specs.Step.{Stepped, stepped, stateAt, blockWith, storeWith, absorbed, stored, reached, silent, size, chunk, Answer, answered, onward, feed, fitting, isMore, Chunked, Running, Fed}
 use Rattle.receiver.proofs.Live.{After, chunk-after, inside-of}
 use Rattle.receiver.proofs.Bounds.{feed-step, onward-report, is-more}
+
+-- ---- a piece that does not end the stage
+
+no-block : (p : Place) (got : ℕ) (b : List ℕ) → blockWith p got b [] ≡ b
+no-block place.Block got b = refl
+no-block place.Store got b = refl
+no-block place.Nowhere got b = refl
+
+no-store : (p : Place) (got : ℕ) (s : List ℕ) → storeWith p got s [] ≡ s
+no-store place.Block got s = refl
+no-store place.Store got s = refl
+no-store place.Nowhere got s = refl
+
+pub held-piece : (st : State) (s piece : List ℕ) → st .position .got + length piece < size st → feed st s piece ≡ answered (absorbed st piece) (length piece) report.More (stored st s piece)
+unfolding feed
+held-piece st s [] l =
+    let e : absorbed st [] ≡ st = ap₂ (λ (n : ℕ) (b : List ℕ). stateAt (st .position .stage) n b (st .known)) (add-zero (st .position .got)) (no-block (placeOf (st .position .stage)) (st .position .got) (st .position .block)) in
+    sym (ap₂ (λ (x : State) (t : List ℕ). answered x 0 report.More t) e (no-store (placeOf (st .position .stage)) (st .position .got) s))
+held-piece st s (b ∷ bs) l =
+    let p : List ℕ = b ∷ bs in
+    let k : ℕ = length p in
+    let t : ltb (st .position .got + length p) (size st) ≡ true = lt-ltb (st .position .got + length p) (size st) l in
+    let e : chunk st s p ≡ silent (absorbed st p) (stored st s p) = ap (reached (absorbed st p) (stored st s p)) t in
+    feed-step st s p k (omega arith) (le-refl k) (omega arith)
+    ∙ ap (λ (xs : List ℕ). let x = chunk st s xs in onward (x .report) k x (feed (x .state) (x .store) (drop k p))) (take-all k p (le-refl k))
+    ∙ ap (λ (x : Stepped). onward (x .report) k x (feed (x .state) (x .store) (drop k p))) e
+    ∙ ap (λ (q : List ℕ). onward report.More k (silent (absorbed st p) (stored st s p)) (feed (absorbed st p) (stored st s p) q)) (drop-of-length-le p {i = k} (le-refl k))
+    ∙ ap (λ (n : ℕ). answered (absorbed st p) n report.More (stored st s p)) (add-zero k)
+
+-- ---- in the middle of a piece
 
 abbrev pub behind : ℕ → Answer → Answer
 behind k a = answered (a .received .state) (k + a .received .taken) (a .received .report) (a .store)

@@ -30,26 +30,10 @@ use Rattle.receiver.specs.Step.{at, nextFrame, refusedState, silent, ref
 use Rattle.receiver.proofs.Scan.{scan}
 use Rattle.receiver.proofs.Placed.{sets-front, sets-behind, take-sets, take-over, over-over, over-longer}
 use Rattle.buffer.proofs.Numbers.{number-take, number-drop}
+use Rattle.body.proofs.Ends.{no-length, has-length, ending-take, ending-none}
 use Rattle.receiver.proofs.Stages.{traceBy, noteTrace, run, short, full, gone}
 
--- ---- lengths
-
-pub no-length : (revision : Revision) (h : Header) → noEpilogue revision h ≡ true → epilogueLength revision h ≡ 0
-no-length Msgr20 h e = cc
-no-length Msgr21 h e = rw e
-
-pub has-length : (revision : Revision) (h : Header) → noEpilogue revision h ≡ false → (0 < epilogueLength revision h) × (epilogueLength revision h ≤ 32)
-has-length Msgr20 h e = (omega arith, omega arith)
-has-length Msgr21 h e = rw e (omega arith, omega arith)
-
 -- ---- an epilogue is read by its own bytes
-
-ending-take : (revision : Revision) (h : Header) (e p : List ℕ) → noEpilogue revision h ≡ false → ending revision h (take (epilogueLength revision h) e) p ≡ ending revision h e p
-unfolding ending
-ending-take Msgr20 h e p q =
-    rw (getD-take 17 e 0 0 (lit< tt), number-take 4 1 17 e (lit≤ tt), number-take 4 5 17 e (lit≤ tt), number-take 4 9 17 e (lit≤ tt), number-take 4 13 17 e (lit≤ tt))
-ending-take Msgr21 h e p q =
-    rw (q, getD-take 13 e 0 0 (lit< tt), number-take 4 1 13 e (lit≤ tt), number-take 4 5 13 e (lit≤ tt), number-take 4 9 13 e (lit≤ tt))
 
 ending-block : (revision : Revision) (h : Header) (e p : List ℕ) → noEpilogue revision h ≡ false → epilogueLength revision h ≤ length e
     → ending revision h (sets blank 0 (take (epilogueLength revision h) e)) p ≡ ending revision h e p
@@ -59,10 +43,6 @@ ending-block revision h e p q l =
     sym (ending-take revision h (sets blank 0 (take n e)) p q)
     ∙ ap (λ (x : List ℕ). ending revision h x p) (take-sets blank (take n e) n k (has-length revision h q .1))
     ∙ ending-take revision h e p q
-
-pub ending-none : (revision : Revision) (h : Header) (e p : List ℕ) → noEpilogue revision h ≡ true → ending revision h e p ≡ whole
-unfolding ending
-ending-none revision h e p q = rw q
 
 -- ---- what follows a frame
 

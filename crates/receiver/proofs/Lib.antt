@@ -1,4 +1,3 @@
-pub mod Booleans
 pub mod Zeros
 pub mod Scan
 pub mod Chunks

@@ -12,7 +12,7 @@ use Rattle.buffer.specs.Le.{numberAt}
 use Rattle.crc32c.specs.Crc.{crcOf}
 use Rattle.refusal.specs.declared.Numbers.{Numbers}
 use Rattle.refusal.specs.declared.Refusal.the-variants as refusal
-use Rattle.refusal.specs.Refusals.{Judged, fine, refused, row, orElse, unless}
+use Rattle.refusal.specs.Refusals.{Judged, fine, refused, row, orElse, unless, isFine}
 use Rattle.banner.specs.declared.Features.{Features}
 use Rattle.banner.specs.declared.Revision.{Revision}
 use Rattle.banner.specs.declared.Revision.the-variants.{Msgr20, Msgr21}
@@ -26,7 +26,7 @@ use Rattle.body.specs.declared.Late.{Late}
 use Rattle.body.specs.declared.Late.the-variants as late
 use Rattle.body.specs.Body.{segmentSum, segments, epilogueFrom, inEpilogue, noFirstSum, noEpilogue}
 use Rattle.body.specs.End as ended
-use Rattle.body.specs.End.{Ended, whole, dropped, turnedAway, compareFrom, compared, endedBy, byLate, lateOf, ending}
+use Rattle.body.specs.End.{Ended, whole, dropped, turnedAway, compareFrom, compared, unusedFrom, judgeSpelling, endedBy, byLate, unlessTurnedAway, lateOf, ending}
 use Rattle.stream.specs.declared.Event.{Event}
 use Rattle.stream.specs.declared.Event.the-variants as event
 use Rattle.stream.specs.Stream.{zeroed}
@@ -38,11 +38,12 @@ use Rattle.receiver.specs.declared.Known.{Known}
 use Rattle.receiver.specs.declared.State.{State}
 use Rattle.receiver.specs.declared.Report.{Report}
 use Rattle.receiver.specs.declared.Report.the-variants as report
-use Rattle.receiver.specs.State.{sizeOf, placeOf, isRefused, inBody, needed, blank, noRefusal, isFine, sameRevision, hasFirstSum, given, ownRule, payloadRule, peerRule, revisionRule, headerRule, firstRule, markRule, refusalRule, rules, leastOf, countRule, isZeros, inBlock, blockRule, agreesAt, agrees}
+use Rattle.receiver.specs.State.{sizeOf, placeOf, isRefused, inBody, needed, blank, noRefusal, sameRevision, hasFirstSum, given, ownRule, payloadRule, peerRule, revisionRule, headerRule, firstRule, markRule, refusalRule, rules, leastOf, countRule, isZeros, inBlock, blockRule, agreesAt, agrees}
 use Rattle.receiver.specs.Step.{at, onlyOwn, withPayload, withPeer, withRevision, withHeader, withFirst, nextFrame, refusedState, blockWith, storeWith, absorbed, stored, size, Stepped, silent, refuse, unlessRefused, endBanner, endFrame, beginEpilogue, beginRest, beginBody, reportFirst, behindFirstSum, reached, chunk, finish, onByte, onward, feed, Running}
-use Rattle.receiver.proofs.Booleans.{wrong, both-left, both-right}
+use Rattle.refusal.proofs.Booleans.{wrong, both-left, both-right}
 use Rattle.receiver.proofs.Zeros.{zeros-later, drop-sets}
-use Rattle.receiver.proofs.Frames.{has-length, first-some, not-so, rest-silent}
+use Rattle.body.proofs.Ends.{has-length}
+use Rattle.receiver.proofs.Frames.{first-some, not-so, rest-silent}
 use Rattle.receiver.proofs.Due.{Passes}
 
 -- ---- refusals that a receiver gives
@@ -93,6 +94,19 @@ given-compare count k (f ∷ fs) ss =
     let one : Given (unless (ltb count k || eqb f (segmentSum (getD ss 0 []))) (refusal.SegmentChecksum k)) = given-cond (ltb count k || eqb f (segmentSum (getD ss 0 []))) (row 11 k 0 0) refl in
     given-or one (given-compare count (suc k) fs (drop 1 ss))
 
+given-unused : (count k : ℕ) (fs : List ℕ) → Given (unusedFrom count k fs)
+given-unused count k [] = given-fine
+given-unused count k (f ∷ fs) =
+    let one : Given (unless (leb k count || eqb f 0) (refusal.NonCanonical k)) = given-cond (leb k count || eqb f 0) (row 24 k 0 0) refl in
+    given-or one (given-unused count (suc k) fs)
+
+given-flags : (revision : Revision) (b : ℕ) → Given (ended.judgeLateFlags revision b)
+given-flags Msgr20 b = given-cond (ltb b 2) (row 24 0 0 0) refl
+given-flags Msgr21 b = given-fine
+
+given-spelling : (revision : Revision) (h : Header) (e : List ℕ) → Given (judgeSpelling revision h e)
+given-spelling revision h e = given-or (given-unused (h .count) (epilogueFrom revision) (ended.stored revision e)) (given-flags revision (getD e 0 0))
+
 given-compared : (revision : Revision) (h : Header) (e p : List ℕ) → Given (compared revision h e p)
 given-compared revision h e p =
     given-compare (h .count) (epilogueFrom revision) (ended.stored revision e) (inEpilogue revision (segments h (take (h .s1 .len) p) (drop (h .s1 .len) p)))
@@ -112,13 +126,17 @@ end-of late.Complete b {j} k = go j k
     go fine k = end-whole
     go (refused n) k = record { gives = λ m e. k .gives m (let i : n ≡ m = cc in ap refused i) }
 
+turned-or : (j : Judged) {x : Ended} → Given j → GivenEnd x → GivenEnd (unlessTurnedAway j x)
+turned-or fine k l = l
+turned-or (refused n) k l = record { gives = λ m e. k .gives m (let i : n ≡ m = cc in ap refused i) }
+
 given-ending : (revision : Revision) (h : Header) (e p : List ℕ) → GivenEnd (ending revision h e p)
 unfolding ending
 given-ending revision h e p = go (noEpilogue revision h)
   where
-    go : (b : Bool) → GivenEnd (cond b whole (byLate (lateOf revision (getD e 0 0)) (getD e 0 0) (compared revision h e p)))
+    go : (b : Bool) → GivenEnd (cond b whole (unlessTurnedAway (judgeSpelling revision h e) (byLate (lateOf revision (getD e 0 0)) (getD e 0 0) (compared revision h e p))))
     go true = end-whole
-    go false = end-of (lateOf revision (getD e 0 0)) (getD e 0 0) (given-compared revision h e p)
+    go false = turned-or (judgeSpelling revision h e) (given-spelling revision h e) (end-of (lateOf revision (getD e 0 0)) (getD e 0 0) (given-compared revision h e p))
 
 -- ---- the rules, one by one
 

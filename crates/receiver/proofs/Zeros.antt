@@ -1,28 +1,47 @@
 -- Zeros behind the bytes that came.
-use Prim.Native.Nat.{ℕ, zero, suc, _+_, _<_}
+use Prim.Native.Nat.{ℕ, zero, suc, _+_, _≤_, _<_}
 use mathlib.Core.Path.{_≡_, refl, sym, ap, _∙_}
 use mathlib.Core.List.{List, [], _∷_}
-use mathlib.Core.Bool.{true, false}
+use mathlib.Core.Bool.{Bool, true, false, _&&_, _||_}
 use native.Mathlib.Omega.{arith}
-use native.Mathlib.Nat.{add-suc, suc-add}
+use native.Mathlib.Nat.{add-suc, suc-add, add-zero, le-refl}
+use native.Mathlib.Numerals.{add-one}
 use lib.ListN.{length, drop, getD, set}
 use lib.Seq.{sets, drop-drop}
-use lib.Dec.{eqb}
-use borrow.Author.Tests.{eq-eqb, ne-eqb}
+use lib.Dec.{ltb, eqb}
+use borrow.Author.Tests.{lt-ltb, le-ltb}
 use Rattle.receiver.specs.State.{isZeros}
-use Rattle.receiver.proofs.Booleans.{both-right}
+use Rattle.refusal.proofs.Booleans.{both-right}
 
--- one byte further on, past a zero
-pub zeros-step : (l : List ℕ) (i : ℕ) → i < length l → getD l i 0 ≡ 0 → isZeros (drop (suc i) l) ≡ isZeros (drop i l)
-zeros-step [] i h e = absurd (omega arith)
-zeros-step (x ∷ l) zero h e = rw (eq-eqb x 0 e)
-zeros-step (x ∷ l) (suc i) h e = zeros-step l i (omega arith) e
+-- the test of each byte from place i on: it stands before a place, or is 0
+abbrev pub past : ℕ → ℕ → List ℕ → Bool
+past from i [] = true
+past from i (b ∷ bs) = (ltb i from || eqb b 0) && past from (suc i) bs
 
--- and a byte that is none
-pub zeros-stop : (l : List ℕ) (i : ℕ) → i < length l → (getD l i 0 ≡ 0 → ⊥) → isZeros (drop i l) ≡ false
-zeros-stop [] i h e = absurd (omega arith)
-zeros-stop (x ∷ l) zero h e = rw (ne-eqb x 0 e)
-zeros-stop (x ∷ l) (suc i) h e = zeros-stop l i (omega arith) e
+past-all : (l : List ℕ) (i : ℕ) → isZeros l ≡ past i i l
+past-all l i = go l i (le-refl i)
+  where
+    go : (l : List ℕ) (k : ℕ) → i ≤ k → isZeros l ≡ past i k l
+    go [] k h = refl
+    go (x ∷ l) k h = rw (le-ltb k i h) (ap (λ (c : Bool). eqb x 0 && c) (go l (suc k) (omega arith)))
+
+pub past-from : (from i : ℕ) (l : List ℕ) → isZeros (drop from l) ≡ past (i + from) i l
+past-from zero i l = rw (add-zero i) (past-all l i)
+past-from (suc n) i [] = refl
+past-from (suc n) i (x ∷ l) = rw (lt-ltb i (i + suc n) (omega arith)) (past-from n (suc i) l ∙ ap (λ (k : ℕ). past k (suc i) l) (let e : suc i + n ≡ i + suc n = omega arith in e))
+
+-- one byte further on; c says how those before it came out
+pub past-step : (from i : ℕ) (l : List ℕ) (c : Bool) → i < length l → (c && past from i (drop i l)) ≡ ((c && (ltb i from || eqb (getD l i 0) 0)) && past from (i + 1) (drop (i + 1) l))
+past-step from i l c h = rw (add-one i) (ap (λ (d : Bool). c && d) (ap (past from i) (head-at l i h)) ∙ joined c (ltb i from || eqb (getD l i 0) 0) (past from (suc i) (drop (suc i) l)))
+  where
+    head-at : (l : List ℕ) (i : ℕ) → i < length l → drop i l ≡ getD l i 0 ∷ drop (suc i) l
+    head-at [] i h = absurd (omega arith)
+    head-at (x ∷ l) zero h = refl
+    head-at (x ∷ l) (suc i) h = head-at l i (omega arith)
+
+    joined : (a b c : Bool) → (a && (b && c)) ≡ ((a && b) && c)
+    joined true b c = refl
+    joined false b c = refl
 
 -- zeros from a place on are zeros from a later one on
 zeros-drop : (l : List ℕ) (k : ℕ) → isZeros l ≡ true → isZeros (drop k l) ≡ true
@@ -44,3 +63,7 @@ drop-sets l i (x ∷ xs) = rw (add-suc i (length xs), ← (suc-add i (length xs)
     drop-set (y ∷ l) zero (suc n) h = refl
     drop-set (y ∷ l) (suc i) zero h = absurd (omega arith)
     drop-set (y ∷ l) (suc i) (suc n) h = drop-set l i n (omega arith)
+
+pub and-true : (c : Bool) → (c && true) ≡ c
+and-true true = refl
+and-true false = refl

@@ -2,3 +2,4 @@ pub mod State
 pub mod Step
 pub mod Calls
 pub mod Every
+pub mod Worked

@@ -5,7 +5,7 @@ use Prim.Native.Nat.{ℕ, _-_}
 use lib.ListN.{drop, replicate}
 use lib.Dec.{leb, ltb, eqb}
 use Rattle.refusal.specs.declared.Numbers.{Numbers}
-use Rattle.refusal.specs.Refusals.{Judged, fine, refused, row}
+use Rattle.refusal.specs.Refusals.{Judged, fine, refused, row, isFine}
 use Rattle.banner.specs.declared.Features.{Features}
 use Rattle.banner.specs.declared.Revision.{Revision}
 use Rattle.banner.specs.declared.Revision.the-variants.{Msgr20, Msgr21}
@@ -97,10 +97,6 @@ blank = replicate 32 0
 
 -- ---- the rules
 
-abbrev pub isFine : Judged → Bool
-isFine fine = true
-isFine (refused n) = false
-
 abbrev pub isMsgr21 : Revision → Bool
 isMsgr21 Msgr20 = false
 isMsgr21 Msgr21 = true
@@ -121,13 +117,13 @@ isNoHeader h = (eqb (h .tag) 0 && eqb (h .count) 0) && ((isNoSegment (h .s1) && 
 abbrev pub isNoRefusal : Numbers → Bool
 isNoRefusal n = (eqb (n .number) 0 && eqb (n .first) 0) && (eqb (n .second) 0 && eqb (n .third) 0)
 
--- a refusal that a receiver gives: 1 to 12, or 16 at its start; only 3 and 4 have three details
+-- a refusal that a receiver gives: 1 to 12, 24, or 16 at its start; only 3 and 4 have three details
 abbrev pub threeDetails : ℕ → Bool
 threeDetails n = eqb n 3 || eqb n 4
 
 abbrev pub given : Numbers → Bool
 given n =
-    ((leb 1 (n .number) && leb (n .number) 12) || eqb (n .number) 16)
+    ((leb 1 (n .number) && leb (n .number) 12) || (eqb (n .number) 16 || eqb (n .number) 24))
     && (threeDetails (n .number) || (eqb (n .second) 0 && eqb (n .third) 0))
 
 -- our own features are those of a start that was not refused, unless the refusal is 16
@@ -160,7 +156,7 @@ hasFirstSum v = not (noFirstSum (v .revision) (v .header))
 abbrev pub firstRule : Stage → Known → Bool
 firstRule k v = cond (eqb (rank k) 5 || eqb (rank k) 6) (hasFirstSum v) true
 
--- segment 1 was reported early, or has no other report of its own: behind its checksum, to the frame's end
+-- segment 1's checksum was there and held: in the stages behind it, to the frame's end
 abbrev pub behindFirst : Stage → Known → Bool
 behindFirst k v = (eqb (rank k) 7 || eqb (rank k) 8) && hasFirstSum v
 

@@ -7,7 +7,7 @@ use banner::Features;
 use banner::Revision;
 use banner::judge_own;
 use buffer::min;
-use pieces::feed;
+use pieces::take_piece;
 use preamble::Header;
 use refusal::Numbers;
 use refusal::Refusal;
@@ -25,6 +25,7 @@ ghost use Prim.Native.Nat.{ℕ};
 ghost use Rattle.receiver.specs.Step.{refuseUnchanged, Answered, StartedWith};
 ghost use Rattle.receiver.specs.Calls.{Demand3, ReceivedAll};
 ghost use Rattle.receiver.specs.Every.{EveryCall};
+ghost use Rattle.receiver.specs.Worked.{WorkedStates};
 
 // What the next bytes of the stream are.
 pub enum Stage {
@@ -144,7 +145,7 @@ pub fn receive(state: State, piece: &[u8], store: &mut [u8]) -> Received
         let n = in_numbers(Refusal::StoreShort(need));
         return refuse_unchanged(refused_state(known.own, n), n);
     }
-    feed(state, piece, store)
+    take_piece(state, piece, store)
 }
 
 // DEMAND 3, as a promise: it holds of every start, stream and store, and of every list of calls of `receive`. The body does nothing:
@@ -157,6 +158,11 @@ pub fn every_cutting()
 // stream stays refused, whatever the later calls lend; at least one byte of a piece that is not empty; bytes add up.
 pub fn every_call()
     ensures { λ _. ⌜ EveryCall ⌝ }
+{}
+
+// Which states agree with themselves, by worked examples of each rule.
+pub fn worked_states()
+    ensures { λ _. ⌜ WorkedStates ⌝ }
 {}
 
 // What a list of calls comes to.

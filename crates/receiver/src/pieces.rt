@@ -85,6 +85,34 @@ fn step(st: State, piece: &[u8], store: &mut [u8]) -> Received
     }
 }
 
+// A piece that does not end the stage, up to its byte `to`.
+fn hold(st: State, to: usize, piece: &[u8], store: &mut [u8]) -> Received
+    requires { ⌜ Running st (now store) × (to ≡ st .position .got + length (now piece)) × (to < sizeOf (st .position .stage) (st .known)) ⌝ }
+    ensures { λ r. ⌜ Fed st (now (store .entry)) (now (piece .entry)) r (now (store .exit)) ⌝ }
+{
+    let position = st.position;
+    let stage = position.stage;
+    let got = position.got;
+    let known = st.known;
+    let place = place_of(stage);
+    let old = position.block;
+    let block = fill_block(place, old, got, piece);
+    fill_store(place, store, got, piece);
+    let n = piece.len();
+    Received {
+        state: State {
+            position: Position {
+                stage: stage,
+                got: to,
+                block: block,
+            },
+            known: known,
+        },
+        taken: n,
+        report: Report::More,
+    }
+}
+
 fn is_more(report: Report) -> bool
     ensures { λ r. ⌜ r ≡ isMore report ⌝ }
 {
@@ -94,8 +122,8 @@ fn is_more(report: Report) -> bool
     }
 }
 
-// A piece, up to and including the byte of the first report.
-pub(crate) fn feed(state: State, piece: &[u8], store: &mut [u8]) -> Received
+// A piece, stage by stage, up to and including the byte of the first report.
+fn feed(state: State, piece: &[u8], store: &mut [u8]) -> Received
     requires { ⌜ Running state (now store) ⌝ }
     ensures { λ r. ⌜ Fed state (now (store .entry)) (now (piece .entry)) r (now (store .exit)) ⌝ }
 {
@@ -119,4 +147,20 @@ pub(crate) fn feed(state: State, piece: &[u8], store: &mut [u8]) -> Received
         taken: at,
         report: Report::More,
     }
+}
+
+// A piece. Most of those that a network hands in piecemeal end no stage: nothing but the position changes then.
+pub(crate) fn take_piece(state: State, piece: &[u8], store: &mut [u8]) -> Received
+    requires { ⌜ Running state (now store) ⌝ }
+    ensures { λ r. ⌜ Fed state (now (store .entry)) (now (piece .entry)) r (now (store .exit)) ⌝ }
+{
+    let position = state.position;
+    let known = state.known;
+    let stage = position.stage;
+    let got = position.got;
+    let left = size_of(stage, known) - got;
+    if piece.len() < left {
+        return hold(state, got + piece.len(), piece, store);
+    }
+    feed(state, piece, store)
 }

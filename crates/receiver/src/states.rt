@@ -14,18 +14,17 @@ use body::epilogue_length;
 use body::no_first_sum;
 use preamble::Header;
 use preamble::Segment;
-use preamble::judge_header;
+use preamble::header_is_fine;
 use preamble::total_of;
 use refusal::Numbers;
-use refusal::Verdict;
 use refusal::both;
 use refusal::either;
+use refusal::is_fine;
 ghost use mathlib.Core.Path.{_≡_};
 ghost use mathlib.Core.Bool.{cond, _&&_};
 ghost use Prim.Native.Nat.{_-_};
 ghost use lib.ListN.{drop};
-ghost use Rattle.refusal.specs.Refusals.{judgedBy};
-ghost use Rattle.receiver.specs.State.{rank, sizeOf, placeOf, isRefused, inBody, liveFrom, needed, noRefusal, isFine, isMsgr21, sameRevision, isNoFeatures, isNoSegment, isNoHeader, isNoRefusal, given, ownRule, payloadRule, peerRule, revisionRule, headerRule, hasFirstSum, firstRule, markRule, refusalRule, rules, leastOf, countRule, isZeros, inBlock, blockRule, agrees};
+ghost use Rattle.receiver.specs.State.{rank, sizeOf, placeOf, isRefused, inBody, liveFrom, needed, noRefusal, isMsgr21, sameRevision, isNoFeatures, isNoSegment, isNoHeader, isNoRefusal, given, ownRule, payloadRule, peerRule, revisionRule, headerRule, hasFirstSum, firstRule, markRule, refusalRule, rules, leastOf, countRule, isZeros, inBlock, blockRule, agrees};
 ghost use Rattle.receiver.specs.declared.Stage.the-variants as stage;
 ghost use Rattle.receiver.specs.Step.{at, onlyOwn, withPayload, withPeer, withRevision, withHeader, withFirst, nextFrame};
 
@@ -256,15 +255,6 @@ pub(crate) fn needed_by(stage: Stage, v: Known) -> u64
 
 // ---- what refusal 26 asks
 
-fn is_fine(v: Verdict) -> bool
-    ensures { λ r. ⌜ r ≡ isFine (judgedBy v) ⌝ }
-{
-    match v {
-        Verdict::Fine => true,
-        Verdict::Refused(_) => false,
-    }
-}
-
 // One of two tests, by a third: a function, so that a chain of tests is one equation.
 fn pick(test: bool, a: bool, b: bool) -> bool
     ensures { λ r. ⌜ r ≡ cond test a b ⌝ }
@@ -322,40 +312,48 @@ fn is_given(n: Numbers) -> bool
     ensures { λ r. ⌜ r ≡ given n ⌝ }
 {
     let k = n.number;
-    let known = either(both(1 <= k, k <= 12), k == 16);
+    let known = either(both(1 <= k, k <= 12), either(k == 16, k == 24));
     let one = both(n.second == 0, n.third == 0);
     both(known, either(either(k == 3, k == 4), one))
 }
 
-fn own_and_payload(stage: Stage, v: Known) -> bool
-    ensures { λ r. ⌜ r ≡ (ownRule stage v && payloadRule stage v) ⌝ }
+fn own_rule(stage: Stage, v: Known) -> bool
+    ensures { λ r. ⌜ r ≡ ownRule stage v ⌝ }
 {
-    let start = both(is_refused(stage), v.refusal.number == 16);
-    let own = pick(
-        start,
-        true,
-        is_fine(judge_own(v.own.supported, v.own.required)),
-    );
-    let known = live_from(2, stage);
-    let payload = pick(known, is_fine(judge_length(v.payload)), v.payload == 0);
-    both(own, payload)
+    if both(is_refused(stage), v.refusal.number == 16) {
+        return true;
+    }
+    is_fine(judge_own(v.own.supported, v.own.required))
+}
+
+fn payload_rule(stage: Stage, v: Known) -> bool
+    ensures { λ r. ⌜ r ≡ payloadRule stage v ⌝ }
+{
+    if live_from(2, stage) {
+        return is_fine(judge_length(v.payload));
+    }
+    v.payload == 0
+}
+
+fn peer_rule(stage: Stage, v: Known) -> bool
+    ensures { λ r. ⌜ r ≡ peerRule stage v ⌝ }
+{
+    if live_from(3, stage) {
+        return true;
+    }
+    is_no_features(v.peer)
 }
 
 fn revision_rule(stage: Stage, v: Known) -> bool
     ensures { λ r. ⌜ r ≡ revisionRule stage v ⌝ }
 {
     let revision = v.revision;
-    let chosen = revision_of(v.own.supported, v.peer.supported);
-    let fine = is_fine(judge_features(v.own, v.peer));
-    let agreed = both(fine, same_revision(chosen, revision));
-    pick(live_from(4, stage), agreed, !is_msgr21(revision))
-}
-
-fn peer_and_revision(stage: Stage, v: Known) -> bool
-    ensures { λ r. ⌜ r ≡ (peerRule stage v && revisionRule stage v) ⌝ }
-{
-    let peer = pick(live_from(3, stage), true, is_no_features(v.peer));
-    both(peer, revision_rule(stage, v))
+    if live_from(4, stage) {
+        let chosen = revision_of(v.own.supported, v.peer.supported);
+        let fine = is_fine(judge_features(v.own, v.peer));
+        return both(fine, same_revision(chosen, revision));
+    }
+    !is_msgr21(revision)
 }
 
 // Segment 1 has its checksum behind it.
@@ -369,11 +367,10 @@ pub(crate) fn has_first_sum(v: Known) -> bool
 fn header_rule(stage: Stage, v: Known) -> bool
     ensures { λ r. ⌜ r ≡ headerRule stage v ⌝ }
 {
-    pick(
-        in_body(stage),
-        is_fine(judge_header(v.header)),
-        is_no_header(v.header),
-    )
+    if in_body(stage) {
+        return header_is_fine(v.header);
+    }
+    is_no_header(v.header)
 }
 
 fn first_and_mark(stage: Stage, v: Known) -> bool
@@ -389,11 +386,10 @@ fn first_and_mark(stage: Stage, v: Known) -> bool
 fn refusal_rule(stage: Stage, v: Known) -> bool
     ensures { λ r. ⌜ r ≡ refusalRule stage v ⌝ }
 {
-    pick(
-        is_refused(stage),
-        is_given(v.refusal),
-        is_no_refusal(v.refusal),
-    )
+    if is_refused(stage) {
+        return is_given(v.refusal);
+    }
+    is_no_refusal(v.refusal)
 }
 
 // How many bytes of the stage came at least.
@@ -410,8 +406,10 @@ fn least_of(stage: Stage, v: Known) -> usize
 fn count_rule(stage: Stage, v: Known, got: usize) -> bool
     ensures { λ r. ⌜ r ≡ countRule stage v got ⌝ }
 {
-    let inside = both(least_of(stage, v) <= got, got < size_of(stage, v));
-    pick(is_refused(stage), got == 0, inside)
+    if is_refused(stage) {
+        return got == 0;
+    }
+    both(least_of(stage, v) <= got, got < size_of(stage, v))
 }
 
 // How many bytes of the stage stand in the block.
@@ -425,18 +423,17 @@ fn in_block(place: Place, got: usize) -> usize
     }
 }
 
-// Zeros from a place on.
+// Zeros from a place on. Every byte is looked at, so that the loop has no branch.
 fn zeros_from(block: &[u8], from: usize) -> bool
     ensures { λ r. ⌜ r ≡ isZeros (drop from (now (block .entry))) ⌝ }
 {
-    let mut i = from;
+    let mut fine = true;
+    let mut i: usize = 0;
     while i < block.len() {
-        if block[i] != 0 {
-            return false;
-        }
+        fine = both(fine, either(i < from, block[i] == 0));
         i += 1;
     }
-    true
+    fine
 }
 
 fn block_rule(stage: Stage, got: usize, block: [u8; 32]) -> bool
@@ -445,12 +442,19 @@ fn block_rule(stage: Stage, got: usize, block: [u8; 32]) -> bool
     zeros_from(&block, in_block(place_of(stage), got))
 }
 
+fn banner_rules(stage: Stage, v: Known) -> bool
+    ensures { λ r. ⌜ r ≡ ((ownRule stage v && payloadRule stage v) && (peerRule stage v && revisionRule stage v)) ⌝ }
+{
+    let first = both(own_rule(stage, v), payload_rule(stage, v));
+    both(first, both(peer_rule(stage, v), revision_rule(stage, v)))
+}
+
 fn rules_hold(stage: Stage, v: Known) -> bool
     ensures { λ r. ⌜ r ≡ rules stage v ⌝ }
 {
-    let banner = both(own_and_payload(stage, v), peer_and_revision(stage, v));
     let frame = both(header_rule(stage, v), first_and_mark(stage, v));
-    both(banner, both(frame, refusal_rule(stage, v)))
+    let rest = both(frame, refusal_rule(stage, v));
+    both(banner_rules(stage, v), rest)
 }
 
 // The fields agree: what refusal 26 asks.

@@ -1,10 +1,10 @@
 -- 01's table of refusals, the one place of their numbers and details (three, 0 where a case has fewer), and judgements, which name a case.
-use mathlib.Core.Bool.{Bool, cond}
+use mathlib.Core.Bool.{Bool, true, false, cond}
 use mathlib.Core.List.{List, [], _∷_}
 use Prim.Native.Nat.{ℕ}
 use Rattle.refusal.specs.declared.Numbers.{Numbers}
 use Rattle.refusal.specs.declared.Refusal.{Refusal}
-use Rattle.refusal.specs.declared.Refusal.the-variants.{Magic, BannerLength, PeerRequires, PeerLacks, PreambleChecksum, Shape, Flags, Tag, Limit, StoreShort, SegmentChecksum, LateStatus, SourceLength, NoRoom, AbortOneSegment, OwnFeatures, AuthTag, BodyMalformed, UnexpectedTag, TableFull, AckAhead, NonCanonical, NumbersSpent, StateContradicts}
+use Rattle.refusal.specs.declared.Refusal.the-variants.{Magic, BannerLength, PeerRequires, PeerLacks, PreambleChecksum, Shape, Flags, Tag, Limit, StoreShort, SegmentChecksum, LateStatus, SourceLength, NoRoom, AbortOneSegment, OwnFeatures, AuthTag, NoncesSpent, Padding, BodyMalformed, UnexpectedTag, TableFull, AckAhead, NonCanonical, NumbersSpent, StateContradicts, SwitchRefused}
 use Rattle.refusal.specs.declared.Verdict.{Verdict}
 use Rattle.refusal.specs.declared.Verdict.the-variants as verdict
 
@@ -31,6 +31,8 @@ numbersOf (NoRoom n) = row 14 n 0 0
 numbersOf AbortOneSegment = row 15 0 0 0
 numbersOf OwnFeatures = row 16 0 0 0
 numbersOf AuthTag = row 17 0 0 0
+numbersOf NoncesSpent = row 18 0 0 0
+numbersOf Padding = row 19 0 0 0
 numbersOf (BodyMalformed place) = row 20 place 0 0
 numbersOf (UnexpectedTag t) = row 21 t 0 0
 numbersOf TableFull = row 22 0 0 0
@@ -38,6 +40,7 @@ numbersOf AckAhead = row 23 0 0 0
 numbersOf (NonCanonical k) = row 24 k 0 0
 numbersOf NumbersSpent = row 25 0 0 0
 numbersOf StateContradicts = row 26 0 0 0
+numbersOf SwitchRefused = row 27 0 0 0
 
 -- what a judgement comes to: nothing wrong, or a refusal
 pub data Judged : Type 0 where
@@ -50,6 +53,10 @@ refusedWith r = refused (numbersOf r)
 abbrev pub judgedBy : Verdict → Judged
 judgedBy verdict.Fine = fine
 judgedBy (verdict.Refused r) = refusedWith r
+
+abbrev pub isFine : Judged → Bool
+isFine fine = true
+isFine (refused n) = false
 
 -- the first of two that is a refusal
 abbrev pub orElse : Judged → Judged → Judged

@@ -1,7 +1,7 @@
 // What can be turned away, as 01's table has it: cases, their numbers and details, and verdicts put in order.
 ghost use mathlib.Core.Path.{_≡_};
 ghost use mathlib.Core.Bool.{_&&_, _||_};
-ghost use Rattle.refusal.specs.Refusals.{row, numbersOf, judgedBy, orElse, unless};
+ghost use Rattle.refusal.specs.Refusals.{row, numbersOf, judgedBy, isFine, orElse, unless};
 
 // Feature bits that one side requires and the other does not support.
 pub struct Missing {
@@ -29,15 +29,22 @@ pub enum Refusal {
     AbortOneSegment,
     OwnFeatures,
     AuthTag,
+    // No nonce is left that was not used before.
+    NoncesSpent,
+    // Padding that is not zero.
+    Padding,
     // The place of the field at fault in a control frame's body.
     BodyMalformed(u64),
     // The tag that a handshake did not wait for.
     UnexpectedTag(u8),
     TableFull,
     AckAhead,
+    // The number of an unused segment whose checksum field is not 0; 0 for late_flags.
     NonCanonical(u8),
     NumbersSpent,
     StateContradicts,
+    // A switch to secure mode where there is none to be made, and what it handed back.
+    SwitchRefused,
 }
 
 // What a judgement comes to.
@@ -99,6 +106,8 @@ pub fn in_numbers(refusal: Refusal) -> Numbers
         Refusal::AbortOneSegment => one(15, 0),
         Refusal::OwnFeatures => one(16, 0),
         Refusal::AuthTag => one(17, 0),
+        Refusal::NoncesSpent => one(18, 0),
+        Refusal::Padding => one(19, 0),
         Refusal::BodyMalformed(place) => one(20, place),
         Refusal::UnexpectedTag(t) => one(21, t as u64),
         Refusal::TableFull => one(22, 0),
@@ -106,6 +115,17 @@ pub fn in_numbers(refusal: Refusal) -> Numbers
         Refusal::NonCanonical(k) => one(24, k as u64),
         Refusal::NumbersSpent => one(25, 0),
         Refusal::StateContradicts => one(26, 0),
+        Refusal::SwitchRefused => one(27, 0),
+    }
+}
+
+// Nothing is wrong.
+pub fn is_fine(v: Verdict) -> bool
+    ensures { λ r. ⌜ r ≡ isFine (judgedBy v) ⌝ }
+{
+    match v {
+        Verdict::Fine => true,
+        Verdict::Refused(_) => false,
     }
 }
 

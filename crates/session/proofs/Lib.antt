@@ -2,4 +2,4 @@
 mod Lent
 mod Past
 mod Single
-mod Table
+pub mod Table

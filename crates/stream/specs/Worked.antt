@@ -80,7 +80,7 @@ bytes2 = 0x61 ∷ 0x62 ∷ []
 abbrev bytes3 : List ℕ
 bytes3 = 0x61 ∷ 0x62 ∷ 0x63 ∷ []
 
--- frames as bytes: with one, two, four and no segment bytes, and the second one aborted
+-- frames as bytes: with frames of one, two, four and no segments, and the second one aborted
 abbrev onePreamble : List ℕ
 onePreamble = 0x12 ∷ 0x01 ∷ 0x02 ∷ 0x00 ∷ 0x00 ∷ 0x00 ∷ 0x08 ∷ 0x00 ∷ 0x00 ∷ 0x00 ∷ 0x00 ∷ 0x00 ∷ 0x00 ∷ 0x00 ∷ 0x00 ∷ 0x00 ∷ 0x00 ∷ 0x00 ∷ 0x00 ∷ 0x00 ∷ 0x00 ∷ 0x00 ∷ 0x00 ∷ 0x00 ∷ 0x00 ∷ 0x00 ∷ 0x00 ∷ 0x00 ∷ 0x4F ∷ 0x8B ∷ 0x30 ∷ 0xAA ∷ []
 
@@ -92,6 +92,18 @@ fourPreamble = 0x11 ∷ 0x04 ∷ 0x00 ∷ 0x00 ∷ 0x00 ∷ 0x00 ∷ 0x08 ∷ 0x
 
 abbrev nonePreamble : List ℕ
 nonePreamble = 0x10 ∷ 0x01 ∷ 0x00 ∷ 0x00 ∷ 0x00 ∷ 0x00 ∷ 0x08 ∷ 0x00 ∷ 0x00 ∷ 0x00 ∷ 0x00 ∷ 0x00 ∷ 0x00 ∷ 0x00 ∷ 0x00 ∷ 0x00 ∷ 0x00 ∷ 0x00 ∷ 0x00 ∷ 0x00 ∷ 0x00 ∷ 0x00 ∷ 0x00 ∷ 0x00 ∷ 0x00 ∷ 0x00 ∷ 0x00 ∷ 0x00 ∷ 0xC8 ∷ 0xE3 ∷ 0xAA ∷ 0xB0 ∷ []
+
+abbrev three : Header
+three = header 17 3 (segment 2 8) (segment 0 8) (segment 1 8) (segment 0 0)
+
+abbrev threePreamble : List ℕ
+threePreamble = 0x11 ∷ 0x03 ∷ 0x02 ∷ 0x00 ∷ 0x00 ∷ 0x00 ∷ 0x08 ∷ 0x00 ∷ 0x00 ∷ 0x00 ∷ 0x00 ∷ 0x00 ∷ 0x08 ∷ 0x00 ∷ 0x01 ∷ 0x00 ∷ 0x00 ∷ 0x00 ∷ 0x08 ∷ 0x00 ∷ 0x00 ∷ 0x00 ∷ 0x00 ∷ 0x00 ∷ 0x00 ∷ 0x00 ∷ 0x00 ∷ 0x00 ∷ 0xCD ∷ 0xD4 ∷ 0xA7 ∷ 0x6E ∷ []
+
+abbrev three21 : List ℕ
+three21 = threePreamble ++ (0x61 ∷ 0x62 ∷ 0xC9 ∷ 0xD6 ∷ 0x5D ∷ 0x1D ∷ 0x63 ∷ 0x0E ∷ 0xFF ∷ 0xFF ∷ 0xFF ∷ 0xFF ∷ 0x38 ∷ 0xCC ∷ 0x14 ∷ 0xDF ∷ 0x00 ∷ 0x00 ∷ 0x00 ∷ 0x00 ∷ [])
+
+abbrev three20 : List ℕ
+three20 = threePreamble ++ (0x61 ∷ 0x62 ∷ 0x63 ∷ 0x00 ∷ 0xC9 ∷ 0xD6 ∷ 0x5D ∷ 0x1D ∷ 0xFF ∷ 0xFF ∷ 0xFF ∷ 0xFF ∷ 0x38 ∷ 0xCC ∷ 0x14 ∷ 0xDF ∷ 0x00 ∷ 0x00 ∷ 0x00 ∷ 0x00 ∷ [])
 
 abbrev one21 : List ℕ
 one21 = onePreamble ++ (0x61 ∷ 0x62 ∷ 0xC9 ∷ 0xD6 ∷ 0x5D ∷ 0x1D ∷ [])
@@ -144,6 +156,9 @@ frameRows =
     ∷ in21 (dropped21 ++ one21) (firstAt 63 two (front (0x61 ∷ [])) ∷ dropAt 78 two (front (0 ∷ 0 ∷ 0 ∷ [])) ∷ frameAt 116 one (front (0x61 ∷ 0x62 ∷ 0 ∷ [])) ∷ []) (front (0x61 ∷ 0x62 ∷ 0 ∷ []))
     -- the same in msgr2.0
     ∷ in20 (dropped20 ++ one20) (dropAt 78 two (front (0 ∷ 0 ∷ 0 ∷ [])) ∷ frameAt 129 one (front (0x61 ∷ 0x62 ∷ 0 ∷ [])) ∷ []) (front (0x61 ∷ 0x62 ∷ 0 ∷ []))
+    -- three segments, the second one empty: segment 1 is reported early at its own checksum's last byte
+    ∷ in21 three21 (firstAt 64 three (front bytes2) ∷ frameAt 78 three (front bytes3) ∷ []) (front bytes3)
+    ∷ in20 three20 (frameAt 78 three (front bytes3) ∷ []) (front bytes3)
     ∷ []
 
 -- banners, and refusals 1 to 4 and 16
@@ -172,6 +187,13 @@ bannerRows =
     -- starts refused with 16: no entry
     ∷ worked (features 2 0) sent21 store [] store
     ∷ worked (features 0 1) sent21 store [] store
+    -- the peer's features are 64 bits each, little-endian, and the revision is by their bit 0
+    ∷ worked ours (take 10 sent21 ++ (0x11 ∷ 0x22 ∷ 0x33 ∷ 0x44 ∷ 0x55 ∷ 0x66 ∷ 0x77 ∷ 0x88 ∷ 0x01 ∷ 0x00 ∷ 0x00 ∷ 0x00 ∷ 0x00 ∷ 0x00 ∷ 0x00 ∷ 0x00 ∷ [])) store (bannerAt 26 (features 0x8877665544332211 1) Msgr21 store ∷ []) store
+    ∷ worked ours (take 18 sent21 ++ (0x01 ∷ 0x02 ∷ 0x03 ∷ 0x04 ∷ 0x05 ∷ 0x06 ∷ 0x07 ∷ 0x88 ∷ [])) store (missingAt 26 3 0x8807060504030200 9 13 store ∷ []) store
+    -- msgr2.0 where we do not support bit 0 ourselves
+    ∷ worked (features 0 0) (sent21 ++ none20) store (bannerAt 26 (features 1 0) Msgr20 store ∷ frameAt 75 none store ∷ []) store
+    -- 4, at a longer payload's last byte
+    ∷ worked (features 1 1) (set sent20 8 17 ++ (0xFF ∷ [])) store (missingAt 27 4 1 0 1 store ∷ []) store
     ∷ []
 
 -- refusals 5 to 10
@@ -197,7 +219,7 @@ preambleRows =
     ∷ worked ours (sent21 ++ one21) (0xAA ∷ 0xAA ∷ []) (bannerAt 26 (features 1 0) Msgr21 (0xAA ∷ 0xAA ∷ []) ∷ frameAt 64 one bytes2 ∷ []) bytes2
     ∷ []
 
--- the end of a body: 12, drop, 11
+-- the end of a body: 24, 12, drop, 11
 unfoldable pub endRows : List (Row Trace)
 endRows =
     -- msgr2.1: 11 at segment 1's checksum, although the late byte is wrong too
@@ -213,16 +235,55 @@ endRows =
     ∷ in21 (set (set two21 38 0) 39 0x1F ++ none21) (firstAt 63 two (front (0x61 ∷ [])) ∷ refusalAt 78 12 0x1F (front (0 ∷ 0 ∷ 0 ∷ [])) ∷ []) (front (0 ∷ 0 ∷ 0 ∷ []))
     -- a drop and 11
     ∷ in21 (set (set two21 38 0) 39 0xE1) (firstAt 63 two (front (0x61 ∷ [])) ∷ dropAt 78 two (front (0 ∷ 0 ∷ 0 ∷ [])) ∷ []) (front (0 ∷ 0 ∷ 0 ∷ []))
-    -- what is not looked at: the high four bits of late_status, the field of an unused segment
-    ∷ in21 (set (set two21 39 0x1E) 44 0x01) (firstAt 63 two (front (0x61 ∷ [])) ∷ frameAt 78 two (front bytes3) ∷ []) (front bytes3)
+    -- what is not looked at: the high four bits of late_status
+    ∷ in21 (set two21 39 0x1E) (firstAt 63 two (front (0x61 ∷ [])) ∷ frameAt 78 two (front bytes3) ∷ []) (front bytes3)
     -- msgr2.0: 11 at the end for segment 1, where segment 2 differs too
     ∷ in20 (set (set two20 36 0) 40 0) (refusalAt 78 11 1 (front (0 ∷ 0 ∷ 0 ∷ [])) ∷ []) (front (0 ∷ 0 ∷ 0 ∷ []))
     -- 11 at segment 4
     ∷ in20 (set four20 33 0) (refusalAt 77 11 4 (front (0 ∷ 0 ∷ [])) ∷ []) (front (0 ∷ 0 ∷ []))
     -- a drop and 11
-    ∷ in20 (set (set two20 32 0) 35 0x03) (dropAt 78 two (front (0 ∷ 0 ∷ 0 ∷ [])) ∷ []) (front (0 ∷ 0 ∷ 0 ∷ []))
-    -- what is not looked at: late_flags but for bit 0, the field of an unused segment
-    ∷ in20 (set (set two20 35 0xFE) 48 0x01) (frameAt 78 two (front bytes3) ∷ []) (front bytes3)
+    ∷ in20 (set (set two20 32 0) 35 0x01) (dropAt 78 two (front (0 ∷ 0 ∷ 0 ∷ [])) ∷ []) (front (0 ∷ 0 ∷ 0 ∷ []))
+    -- 11: the checksum of an empty used segment, and the last of three
+    ∷ in21 (set three21 40 0) (firstAt 64 three (front bytes2) ∷ refusalAt 78 11 2 (front (0 ∷ 0 ∷ 0 ∷ [])) ∷ []) (front (0 ∷ 0 ∷ 0 ∷ []))
+    ∷ in21 (set three21 38 0) (firstAt 64 three (front bytes2) ∷ refusalAt 78 11 3 (front (0 ∷ 0 ∷ 0 ∷ [])) ∷ []) (front (0 ∷ 0 ∷ 0 ∷ []))
+    -- 11 at segment 1's checksum: its last byte
+    ∷ in21 (set two21 36 0) (refusalAt 63 11 1 (front (0 ∷ 0 ∷ 0 ∷ [])) ∷ []) (front (0 ∷ 0 ∷ 0 ∷ []))
+    -- 11 of a single segment in msgr2.1
+    ∷ in21 (set one21 33 0) (refusalAt 64 11 1 (front (0 ∷ 0 ∷ [])) ∷ []) (front (0 ∷ 0 ∷ []))
+    ∷ []
+
+-- the end of a body: 24 (02, K10), before all else there
+unfoldable pub spellingRows : List (Row Trace)
+spellingRows =
+    -- 24: the fields of segments 3 and 4, then that of 4 alone, with 12 and 11 at once
+    in21 (set (set two21 44 0x01) 48 0x01) (firstAt 63 two (front (0x61 ∷ [])) ∷ refusalAt 78 24 3 (front (0 ∷ 0 ∷ 0 ∷ [])) ∷ []) (front (0 ∷ 0 ∷ 0 ∷ []))
+    ∷ in21 (set (set (set two21 38 0) 39 0x0F) 51 0x80) (firstAt 63 two (front (0x61 ∷ [])) ∷ refusalAt 78 24 4 (front (0 ∷ 0 ∷ 0 ∷ [])) ∷ []) (front (0 ∷ 0 ∷ 0 ∷ []))
+    -- 24 of an aborted frame
+    ∷ in21 (set (set two21 39 0x01) 47 0x01) (firstAt 63 two (front (0x61 ∷ [])) ∷ refusalAt 78 24 3 (front (0 ∷ 0 ∷ 0 ∷ [])) ∷ []) (front (0 ∷ 0 ∷ 0 ∷ []))
+    -- 24: late_flags 2, and 3, with 11 at once
+    ∷ in20 (set two20 35 0x02) (refusalAt 78 24 0 (front (0 ∷ 0 ∷ 0 ∷ [])) ∷ []) (front (0 ∷ 0 ∷ 0 ∷ []))
+    ∷ in20 (set (set two20 32 0) 35 0x03) (refusalAt 78 24 0 (front (0 ∷ 0 ∷ 0 ∷ [])) ∷ []) (front (0 ∷ 0 ∷ 0 ∷ []))
+    -- 24: the field of segment 4 before late_flags, that of segment 3 of an aborted frame, and a frame behind it
+    ∷ in20 (set (set two20 35 0xFE) 48 0x01) (refusalAt 78 24 4 (front (0 ∷ 0 ∷ 0 ∷ [])) ∷ []) (front (0 ∷ 0 ∷ 0 ∷ []))
+    ∷ in20 (set (set two20 35 0x01) 44 0x01 ++ two20) (refusalAt 78 24 3 (front (0 ∷ 0 ∷ 0 ∷ [])) ∷ []) (front (0 ∷ 0 ∷ 0 ∷ []))
+    -- 24 and 11 of a complete frame, by a field and by late_flags
+    ∷ in21 (set (set two21 38 0) 44 0x01) (firstAt 63 two (front (0x61 ∷ [])) ∷ refusalAt 78 24 3 (front (0 ∷ 0 ∷ 0 ∷ [])) ∷ []) (front (0 ∷ 0 ∷ 0 ∷ []))
+    ∷ in20 (set (set two20 32 0) 44 0x01) (refusalAt 78 24 3 (front (0 ∷ 0 ∷ 0 ∷ [])) ∷ []) (front (0 ∷ 0 ∷ 0 ∷ []))
+    ∷ in20 (set (set two20 32 0) 35 0x02) (refusalAt 78 24 0 (front (0 ∷ 0 ∷ 0 ∷ [])) ∷ []) (front (0 ∷ 0 ∷ 0 ∷ []))
+    -- 24 in msgr2.0: the lowest of two fields
+    ∷ in20 (set (set two20 44 0x01) 48 0x01) (refusalAt 78 24 3 (front (0 ∷ 0 ∷ 0 ∷ [])) ∷ []) (front (0 ∷ 0 ∷ 0 ∷ []))
+    -- 24 in msgr2.0: each other bit of late_flags
+    ∷ in20 (set two20 35 0x04) (refusalAt 78 24 0 (front (0 ∷ 0 ∷ 0 ∷ [])) ∷ []) (front (0 ∷ 0 ∷ 0 ∷ []))
+    ∷ in20 (set two20 35 0x08) (refusalAt 78 24 0 (front (0 ∷ 0 ∷ 0 ∷ [])) ∷ []) (front (0 ∷ 0 ∷ 0 ∷ []))
+    ∷ in20 (set two20 35 0x10) (refusalAt 78 24 0 (front (0 ∷ 0 ∷ 0 ∷ [])) ∷ []) (front (0 ∷ 0 ∷ 0 ∷ []))
+    ∷ in20 (set two20 35 0x21) (refusalAt 78 24 0 (front (0 ∷ 0 ∷ 0 ∷ [])) ∷ []) (front (0 ∷ 0 ∷ 0 ∷ []))
+    ∷ in20 (set two20 35 0x41) (refusalAt 78 24 0 (front (0 ∷ 0 ∷ 0 ∷ [])) ∷ []) (front (0 ∷ 0 ∷ 0 ∷ []))
+    ∷ in20 (set two20 35 0x80) (refusalAt 78 24 0 (front (0 ∷ 0 ∷ 0 ∷ [])) ∷ []) (front (0 ∷ 0 ∷ 0 ∷ []))
+    -- 24 of a single segment in msgr2.0: an empty segment's checksum in segment 2's field
+    ∷ in20 (take 39 one20 ++ replicate 4 0xFF ++ drop 43 one20) (refusalAt 77 24 2 (front (0 ∷ 0 ∷ [])) ∷ []) (front (0 ∷ 0 ∷ []))
+    -- 24 of three segments
+    ∷ in21 (set three21 50 0x01) (firstAt 64 three (front bytes2) ∷ refusalAt 78 24 4 (front (0 ∷ 0 ∷ 0 ∷ [])) ∷ []) (front (0 ∷ 0 ∷ 0 ∷ []))
+    ∷ in20 (set three20 49 0x01) (refusalAt 78 24 4 (front (0 ∷ 0 ∷ 0 ∷ [])) ∷ []) (front (0 ∷ 0 ∷ 0 ∷ []))
     ∷ []
 
 -- streams that end before a judgement
@@ -250,4 +311,4 @@ cutRows =
 
 -- THE CLAIM: the definition gives the entries of each row
 unfoldable pub Worked : Type 0
-Worked = Holds frameRows × Holds bannerRows × Holds preambleRows × Holds endRows × Holds cutRows
+Worked = Holds frameRows × Holds bannerRows × Holds preambleRows × Holds endRows × Holds spellingRows × Holds cutRows

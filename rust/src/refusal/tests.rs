@@ -1,7 +1,7 @@
 use super::*;
 
 /// The numbers that there are, and how many details each has.
-const DETAILS: [(u8, usize); 17] = [
+const DETAILS: [(u8, usize); 18] = [
     (1, 0),
     (2, 1),
     (3, 3),
@@ -18,6 +18,7 @@ const DETAILS: [(u8, usize); 17] = [
     (14, 1),
     (15, 0),
     (16, 0),
+    (24, 1),
     (26, 0),
 ];
 
@@ -82,4 +83,6 @@ fn the_words_name_the_details() {
     said(11, [3, 0, 0], "segment 3");
     said(12, [0x0F, 0, 0], "0x0f");
     said(14, [489, 0, 0], "489 bytes");
+    said(24, [3, 0, 0], "segment 3, which is not used");
+    said(24, [0, 0, 0], "late flags");
 }

@@ -106,7 +106,7 @@ fn good_refusal(state: &State) -> bool {
         return state.refusal == Numbers::default();
     }
     let alone = second == 0 && third == 0;
-    matches!(number, 3 | 4) || (alone && matches!(number, 1..=12 | 16))
+    matches!(number, 3 | 4) || (alone && matches!(number, 1..=12 | 16 | 24))
 }
 
 /// Bytes of the state's stage.

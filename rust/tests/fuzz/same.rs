@@ -92,7 +92,7 @@ pub fn tells(report: &Report, expected: &second::report::Report) -> bool {
 }
 
 /// The kinds that [`kind`] tells apart.
-pub const KINDS: [&str; 19] = [
+pub const KINDS: [&str; 20] = [
     "more",
     "banner msgr2.0",
     "banner msgr2.1",
@@ -112,6 +112,7 @@ pub const KINDS: [&str; 19] = [
     "refused 11",
     "refused 12",
     "refused 16",
+    "refused 24",
 ];
 
 pub fn kind(report: &RawReport) -> &'static str {
@@ -121,6 +122,7 @@ pub fn kind(report: &RawReport) -> &'static str {
         (2 | 3, _) => KINDS[1 + usize::from(report.kind)],
         (5, _) => KINDS[5],
         (_, 16) => KINDS[18],
+        (_, 24) => KINDS[19],
         (_, number) => KINDS[5 + usize::from(number)],
     }
 }

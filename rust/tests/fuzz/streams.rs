@@ -10,7 +10,7 @@ use second::random::Random;
 use second::records::ReceiverRecord;
 use second::report::Report;
 
-pub const KINDS: [&str; 19] = same::KINDS;
+pub const KINDS: [&str; 20] = same::KINDS;
 
 /// One call in so many is tried on changed states too.
 const PROBED: u32 = 3;

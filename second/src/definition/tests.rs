@@ -40,6 +40,42 @@ fn entries_of_a_stream() {
     assert_eq!(list.store, zeroed);
 }
 
+/// At the frame's last byte, as other faults of an epilogue, the store zeroed;
+/// the frame behind it is not read.
+#[test]
+fn a_second_spelling_is_refused_at_the_frames_end() {
+    for (revision, late, early) in [(Revision::Msgr20, 73, 0), (Revision::Msgr21, 77, 1)] {
+        for frame in [three_whole(revision), three_aborted(revision)] {
+            let mut filled = frame.clone();
+            filled[87] = 0x10;
+            let mut flags = frame.clone();
+            flags[late] |= 0x10;
+            let told = |frame: Vec<u8>| {
+                let stream = [banner(revision), frame, empty(revision)].concat();
+                let list = entries(Features::new(1, 0), &stream, &[9; 43]);
+                list.entries[1 + early..].to_vec()
+            };
+            let zeroed = [[0; 41].as_slice(), &[9, 9]].concat();
+            let refused = |refusal| Entry {
+                report: Report::Refused(refusal),
+                byte: 116,
+                store: zeroed.clone(),
+            };
+            let unused = refused(Refusal::unused_checksum(3));
+            assert_eq!(told(filled), [unused]);
+            match revision {
+                Revision::Msgr20 => assert_eq!(told(flags), [refused(Refusal::late_flags())]),
+                // The high four bits of a late status are not looked at.
+                Revision::Msgr21 => {
+                    let spelled = told(frame.clone());
+                    assert_eq!(spelled.len(), 2);
+                    assert_eq!(told(flags), spelled);
+                }
+            }
+        }
+    }
+}
+
 #[test]
 fn no_early_report_without_a_checksum_and_more_segments() {
     let reports = |revision, frame: Vec<u8>| {

@@ -6,3 +6,4 @@ pub mod boundaries;
 pub mod case;
 pub mod cuts;
 pub mod first;
+pub mod spelling;

@@ -148,13 +148,22 @@ pub fn spoil_frame(random: &mut Random, link: &mut Link) {
             let changes = (0..count).map(|_| preamble_change(random, tag)).collect();
             change_preamble(frame, changes);
         }
-        17..=24 => spoil_late_byte(random, frame),
-        25..=32 => spoil_checksums(random, frame),
-        33..=36 => {
+        17..=23 => spoil_late_byte(random, frame),
+        24..=29 => spoil_checksums(random, frame),
+        30..=32 => {
             spoil_late_byte(random, frame);
             spoil_checksums(random, frame);
         }
-        _ => fill_unused_fields(random, frame),
+        33..=35 => fill_unused_fields(random, frame),
+        // The first of the faults at a frame's end, with one behind it.
+        36 | 37 => {
+            fill_unused_fields(random, frame);
+            spoil_late_byte(random, frame);
+        }
+        _ => {
+            fill_unused_fields(random, frame);
+            spoil_checksums(random, frame);
+        }
     }
 }
 
@@ -218,8 +227,13 @@ fn change_preamble(frame: &mut WireFrame, changes: Vec<Change>) {
 fn spoil_late_byte(random: &mut Random, frame: &mut WireFrame) {
     let any = random.u8();
     let bit = 1 << random.between(0, 7);
+    let known = match frame.revision {
+        Revision::Msgr20 => [0x00, 0x01, 0x02, 0x03, 0xFE, 0xFF],
+        Revision::Msgr21 => [0x00, 0x01, 0x0E, 0x0F, 0x1E, 0xE1],
+    };
     if let Some(late) = frame.late_byte_mut() {
-        *late = random.pick(&[0x00, 0x01, 0x0E, 0x0F, 0x1E, 0xE1, any, *late ^ bit]);
+        let known = random.pick(&known);
+        *late = random.pick(&[known, known, known, any, *late ^ bit]);
     }
 }
 
@@ -235,11 +249,24 @@ fn spoil_checksums(random: &mut Random, frame: &mut WireFrame) {
     }
 }
 
-/// Fields of unused segments aren't looked at.
+/// Fields of unused segments that are not 0: all of them, or a single one, which
+/// is mostly not the lowest; with any number, one bit, or the checksum that an
+/// empty segment has.
 fn fill_unused_fields(random: &mut Random, frame: &mut WireFrame) {
-    for place in usize::from(frame.frame.count)..PLACES {
-        if let Some(field) = frame.checksum_mut(place) {
-            field.copy_from_slice(&random.u32().to_le_bytes());
+    let unused = u32::from(frame.frame.count)..PLACES as u32;
+    if unused.is_empty() {
+        return;
+    }
+    let only = random.between(unused.start, unused.end - 1);
+    let filled = match random.between(1, 3) {
+        1 => unused,
+        _ => only..only + 1,
+    };
+    for place in filled {
+        let (any, bit) = (random.u32(), 1 << random.between(0, 31));
+        let number = random.pick(&[any, bit, u32::MAX]);
+        if let Some(field) = frame.checksum_mut(place as usize) {
+            field.copy_from_slice(&number.to_le_bytes());
         }
     }
 }

@@ -110,6 +110,8 @@ fn drops_and_refusals_behind_an_early_report_zero_segment_1_too() {
     late[77] = 0x0F;
     let mut wrong = three_whole(Revision::Msgr21);
     wrong[60] ^= 1;
+    let mut unused = three_whole(Revision::Msgr21);
+    unused[89] = 1;
     let cases = [
         (
             three_aborted(Revision::Msgr21),
@@ -117,6 +119,7 @@ fn drops_and_refusals_behind_an_early_report_zero_segment_1_too() {
         ),
         (late, refused(12, 0x0F)),
         (wrong, refused(11, 3)),
+        (unused, refused(24, 4)),
     ];
     for (frame, report) in cases {
         let mut receiver = past_banner(Revision::Msgr21);
@@ -195,8 +198,9 @@ fn drops_zero_the_frames_part_of_the_store() {
         let zeroed = filled(&[0; T]);
         let frame = three_aborted(revision);
         assert_eq!(received(revision, &frame), (90, report, zeroed.clone()));
+        // Segment 3 and its checksum are not compared.
         let mut wrong = frame;
-        wrong[86..].fill(0x33);
+        wrong[85] ^= 1;
         wrong[50] = 1;
         assert_eq!(received(revision, &wrong), (90, report, zeroed));
     }
@@ -233,13 +237,76 @@ fn the_lowest_wrong_segment_is_named() {
 }
 
 #[test]
-fn unused_fields_are_not_looked_at() {
+fn every_byte_of_an_unused_field_must_be_0() {
     for revision in REVISIONS {
-        let mut frame = three_whole(revision);
-        frame[86..].fill(0xAB);
-        let (taken, report, _) = received(revision, &frame);
-        assert_eq!((taken, report), (90, Report::Frame(three_frame())));
+        for frame in [three_whole(revision), three_aborted(revision)] {
+            for place in 86..90 {
+                let mut filled_field = frame.clone();
+                filled_field[place] = 1;
+                let got = received(revision, &filled_field);
+                assert_eq!(got, (90, refused(24, 4), filled(&[0; T])));
+            }
+        }
     }
+}
+
+/// A frame of tag 17 with two digits in each of so many segments.
+fn twos(revision: Revision, count: u8, abort: bool) -> Vec<u8> {
+    let used = |place| if place < count { (2, 0) } else { (0, 0) };
+    let fields = [used(0), used(1), used(2), used(3)];
+    let source = &b"12345678"[..2 * usize::from(count)];
+    frame_bytes(revision, &frame(17, count, fields), abort, source)
+}
+
+#[test]
+fn the_lowest_filled_field_of_an_unused_segment_is_named() {
+    for (revision, counts, last) in [(Revision::Msgr20, 1..5, 0), (Revision::Msgr21, 2..5, 1)] {
+        for (count, abort) in counts.flat_map(|count| [(count, false), (count, true)]) {
+            let made = twos(revision, count, abort);
+            for filled in 0..16_u8 {
+                let mut bytes = made.clone();
+                let fields = bytes.len() - 4 * (4 - last);
+                let places = (last..4).filter(|place| filled >> place & 1 == 1);
+                let mut lowest = None;
+                for place in places.filter(|place| *place >= usize::from(count)) {
+                    lowest = lowest.or(Some(place as u64 + 1));
+                    bytes[fields + 4 * (place - last) + 2] = 0x40;
+                }
+                let (taken, report, _) = received(revision, &bytes);
+                assert_eq!(taken, made.len());
+                match (lowest, abort) {
+                    (Some(segment), _) => assert_eq!(report, refused(24, segment)),
+                    (None, true) => assert!(matches!(report, Report::Dropped(_))),
+                    (None, false) => assert!(matches!(report, Report::Frame(_))),
+                }
+            }
+        }
+    }
+}
+
+#[test]
+fn the_spelling_is_judged_first() {
+    // With a wrong late status and a wrong segment, in a drop, with late flags.
+    let mut late = three_whole(Revision::Msgr21);
+    (late[60], late[77], late[88]) = (0, 0x0F, 7);
+    let mut aborted = three_aborted(Revision::Msgr21);
+    (aborted[60], aborted[86]) = (9, 7);
+    let mut flags = three_whole(Revision::Msgr20);
+    (flags[40], flags[73], flags[89]) = (0, 0x02, 7);
+    let cases = [
+        (Revision::Msgr21, late),
+        (Revision::Msgr21, aborted),
+        (Revision::Msgr20, flags),
+    ];
+    for (revision, frame) in cases {
+        let got = received(revision, &frame);
+        assert_eq!(got, (90, refused(24, 4), filled(&[0; T])));
+    }
+    // But segment 1 of msgr2.1 was judged before.
+    let mut first = three_whole(Revision::Msgr21);
+    (first[32], first[89]) = (0, 7);
+    let got = received(Revision::Msgr21, &first);
+    assert_eq!(got, (45, refused(11, 1), filled(&[0; T])));
 }
 
 #[test]
@@ -252,9 +319,10 @@ fn late_bytes() {
         received(revision, &frame).1
     };
     for late in 0..=255 {
-        let flags = match late & 1 {
+        let flags = match late {
+            0 => refused(11, 3),
             1 => Report::Dropped(three_frame()),
-            _ => refused(11, 3),
+            _ => refused(24, 0),
         };
         assert_eq!(with(Revision::Msgr20, 73, late), flags);
         let status = match late & 0x0F {
@@ -264,6 +332,10 @@ fn late_bytes() {
         };
         assert_eq!(with(Revision::Msgr21, 77, late), status);
     }
+    let mut frame = three_whole(Revision::Msgr20);
+    frame[73] = 0x80;
+    let got = received(Revision::Msgr20, &frame);
+    assert_eq!(got, (90, refused(24, 0), filled(&[0; T])));
     let mut frame = three_whole(Revision::Msgr21);
     frame[77] = 0x1F;
     let got = received(Revision::Msgr21, &frame);

@@ -1,5 +1,6 @@
 use mathlib.Core.Path.{_∙_, sym, ap}
-use Rattle.body.specs.End.{ending, lateOf, endedBy}
+use Rattle.refusal.specs.Refusals.{judgedBy}
+use Rattle.body.specs.End.{ending}
 use borrow.Author.Needs.{needs}
 use Rattle.body.proofs.end_of.Statement.{statement}
 use Rattle.body.proofs.end_of.Tie as tie
@@ -11,45 +12,25 @@ returns : tie.Need-returns
 unfolding ending
 returns c = rw (sym (c .before .no-epilogue .ensures) ∙ c .if1 .taken)
 
-byte-at-requires : tie.Need-byte-at-requires
-byte-at-requires c κs = search needs
+judge-spelling-requires : tie.Need-judge-spelling-requires
+judge-spelling-requires c κs = search needs
 
-read-late-requires : tie.Need-read-late-requires
-read-late-requires c κs = search needs
+enum-known-spelling : tie.Need-enum-known-spelling
+enum-known-spelling c = search needs
 
 enum-told : tie.Need-enum-told
 enum-told c = search needs
 
-enum-told-2 : tie.Need-enum-told-2
-enum-told-2 c = search needs
-
-enum-told-3 : tie.Need-enum-told-3
-enum-told-3 c = search needs
-
-compare-sums-requires : tie.Need-compare-sums-requires
-compare-sums-requires c κs = search needs
-
-ended-requires : tie.Need-ended-requires
-ended-requires c κs = search needs
+end-by-late-requires : tie.Need-end-by-late-requires
+end-by-late-requires c κs = search needs
 
 returns-2 : tie.Need-returns-2
 unfolding ending
-returns-2 c =
-    let b = c .before .before .before .byte-at .ensures in
-    rw (sym (c .before .before .before .before .before .no-epilogue .ensures) ∙ c .before .before .before .before .if1 .left, ap (lateOf (c .before .before .before .before .before .before .before .before .args .revision)) (sym b) ∙ sym (c .before .before .read-late .ensures) ∙ c .enum-told .given .1, ← b)
+returns-2 c = rw (sym (c .before .before .before .before .before .no-epilogue .ensures) ∙ c .before .before .before .before .if1 .left, sym (c .before .before .before .judge-spelling .ensures) ∙ ap judgedBy (c .before .spelling .given .1))
 
 returns-3 : tie.Need-returns-3
 unfolding ending
-returns-3 c =
-    let b = c .before .before .before .byte-at .ensures in
-    rw (sym (c .before .before .before .before .before .no-epilogue .ensures) ∙ c .before .before .before .before .if1 .left, ap (lateOf (c .before .before .before .before .before .before .before .before .args .revision)) (sym b) ∙ sym (c .before .before .read-late .ensures) ∙ c .enum-told2 .given .1)
-
-returns-4 : tie.Need-returns-4
-unfolding ending
-returns-4 c =
-    let b = c .before .before .before .before .before .byte-at .ensures in
-    rw (sym (c .before .before .before .before .before .before .before .no-epilogue .ensures) ∙ c .before .before .before .before .before .before .if1 .left, ap (lateOf (c .before .before .before .before .before .before .before .before .before .before .args .revision)) (sym b) ∙ sym (c .before .before .before .before .read-late .ensures) ∙ c .before .before .enum-told3 .given .1)
-    (c .ended .ensures ∙ ap endedBy (c .before .compare-sums .ensures))
+returns-3 c = rw (sym (c .before .before .before .before .before .no-epilogue .ensures) ∙ c .before .before .before .before .if1 .left, sym (c .before .before .before .judge-spelling .ensures) ∙ ap judgedBy (c .before .enum-told .given .1)) (c .end-by-late .ensures)
 
 pub end-of-spec : {M : Type 1} → statement M
 end-of-spec =
@@ -57,13 +38,9 @@ end-of-spec =
     (tie.spec
     no-epilogue-requires
     returns
-    byte-at-requires
-    read-late-requires
+    judge-spelling-requires
+    enum-known-spelling
     enum-told
-    enum-told-2
-    enum-told-3
-    compare-sums-requires
-    ended-requires
+    end-by-late-requires
     returns-2
-    returns-3
-    returns-4)
+    returns-3)

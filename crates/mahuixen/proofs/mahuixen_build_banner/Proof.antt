@@ -14,7 +14,7 @@ same-length : tie.Need-same-length
 same-length c = search needs
 
 returns : tie.Need-returns
-returns c = rw (c .plain-built .ensures) (ap inPlain (c .before .before .before .build-banner .ensures .promise))
+returns c = record { promise = rw (c .plain-built .ensures) (ap inPlain (c .before .before .before .build-banner .ensures .promise)) }
 
 pub mahuixen-build-banner-spec : {M : Type 1} → statement M
 mahuixen-build-banner-spec =

@@ -17,7 +17,7 @@ same-length : tie.Need-same-length
 same-length c = search needs
 
 returns : tie.Need-returns
-returns c = rw (c .plain-built .ensures, ← (c .before .before .before .before .revision-of .ensures)) (ap inPlain (c .before .before .before .build-frame .ensures .promise))
+returns c = record { promise = rw (c .plain-built .ensures, ← (c .before .before .before .before .revision-of .ensures)) (ap inPlain (c .before .before .before .build-frame .ensures .promise)) }
 
 pub mahuixen-build-frame-spec : {M : Type 1} → statement M
 mahuixen-build-frame-spec =

@@ -12,7 +12,7 @@ plain-started-requires c κs = search needs
 
 returns : tie.Need-returns
 unfolding plain.plainStarted
-returns c = c .plain-started .ensures ∙ rw (c .before .start .ensures .state, c .before .start .ensures .verdict)
+returns c = record { promise = c .plain-started .ensures ∙ rw (c .before .start .ensures .state, c .before .start .ensures .verdict) }
 
 pub mahuixen-start-spec : {M : Type 1} → statement M
 mahuixen-start-spec = tie.close (tie.spec start-requires plain-started-requires returns)

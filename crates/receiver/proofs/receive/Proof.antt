@@ -66,8 +66,8 @@ returns-3 c =
     let n : c .before .before .in-numbers2 .result ≡ step.shortStore st = c .before .before .in-numbers2 .ensures ∙ ap (λ (k : ℕ). row 10 k 0 0) (c .before .before .before .before .needed-by .ensures) in
     record { received = rw (a, r, t) (c .refuse-unchanged3 .ensures s ∙ rw (c .before .refused-state .ensures, n)); store = rw (a, r, t) }
 
-feed-requires : tie.Need-feed-requires
-feed-requires c κs =
+take-piece-requires : tie.Need-take-piece-requires
+take-piece-requires c κs =
     let st = c .before .before .before .before .before .before .before .before .before .before .before .args .state in
     let s = c .before .before .before .before .before .before .before .before .before .before .before .args .store .now in
     let a = sym (c .before .before .before .before .before .before .before .before .agrees-with-itself .ensures) ∙ not-false (c .before .before .before .before .before .before .before .before .agrees-with-itself .result) (c .before .before .before .before .before .before .before .if1 .left) in
@@ -85,7 +85,7 @@ returns-4 c =
     let a = sym (c .before .before .before .before .before .before .before .before .before .before .before .agrees-with-itself .ensures) ∙ not-false (c .before .before .before .before .before .before .before .before .before .before .before .agrees-with-itself .result) (c .before .before .before .before .before .before .before .before .before .before .if1 .left) in
     let r = sym (c .before .before .before .before .before .before .before .is-refused .ensures) ∙ c .before .before .before .before .before .before .if2 .left in
     let t : ltb (length s) (step.neededBy st) ≡ false = le-ltb (length s) (step.neededBy st) (rw (c .before .before .before .before .before .needed-by .ensures) at (c .before .before .before .before .if3 .left)) in
-    record { received = rw (a, r, t) (c .before .before .feed .ensures .received); store = rw (a, r, t) (c .before .before .feed .ensures .store) }
+    record { received = rw (a, r, t) (c .before .before .take-piece .ensures .received); store = rw (a, r, t) (c .before .before .take-piece .ensures .store) }
 
 pub receive-spec : {M : Type 1} → statement M
 receive-spec =
@@ -103,6 +103,6 @@ receive-spec =
     refused-state-requires
     refuse-unchanged-requires-3
     returns-3
-    feed-requires
+    take-piece-requires
     same-length
     returns-4)

@@ -127,11 +127,23 @@ enum-told-6 c = search needs
 one-requires-15 : tie.Need-one-requires-15
 one-requires-15 c κs = search needs
 
-enum-known-refusal-12 : tie.Need-enum-known-refusal-12
-enum-known-refusal-12 c = search needs
+enum-told-7 : tie.Need-enum-told-7
+enum-told-7 c = search needs
 
 one-requires-16 : tie.Need-one-requires-16
 one-requires-16 c κs = search needs
+
+enum-told-8 : tie.Need-enum-told-8
+enum-told-8 c = search needs
+
+one-requires-17 : tie.Need-one-requires-17
+one-requires-17 c κs = search needs
+
+enum-known-refusal-12 : tie.Need-enum-known-refusal-12
+enum-known-refusal-12 c = search needs
+
+one-requires-18 : tie.Need-one-requires-18
+one-requires-18 c κs = search needs
 
 enum-known-refusal-13 : tie.Need-enum-known-refusal-13
 enum-known-refusal-13 c = search needs
@@ -139,20 +151,20 @@ enum-known-refusal-13 c = search needs
 cast-one-8 : tie.Need-cast-one-8
 cast-one-8 c = search needs
 
-one-requires-17 : tie.Need-one-requires-17
-one-requires-17 c κs = search needs
-
-enum-told-7 : tie.Need-enum-told-7
-enum-told-7 c = search needs
-
-one-requires-18 : tie.Need-one-requires-18
-one-requires-18 c κs = search needs
-
-enum-told-8 : tie.Need-enum-told-8
-enum-told-8 c = search needs
-
 one-requires-19 : tie.Need-one-requires-19
 one-requires-19 c κs = search needs
+
+enum-told-9 : tie.Need-enum-told-9
+enum-told-9 c = search needs
+
+one-requires-20 : tie.Need-one-requires-20
+one-requires-20 c κs = search needs
+
+enum-told-10 : tie.Need-enum-told-10
+enum-told-10 c = search needs
+
+one-requires-21 : tie.Need-one-requires-21
+one-requires-21 c κs = search needs
 
 enum-known-refusal-14 : tie.Need-enum-known-refusal-14
 enum-known-refusal-14 c = search needs
@@ -160,20 +172,26 @@ enum-known-refusal-14 c = search needs
 cast-one-9 : tie.Need-cast-one-9
 cast-one-9 c = search needs
 
-one-requires-20 : tie.Need-one-requires-20
-one-requires-20 c κs = search needs
-
-enum-told-9 : tie.Need-enum-told-9
-enum-told-9 c = search needs
-
-one-requires-21 : tie.Need-one-requires-21
-one-requires-21 c κs = search needs
-
-enum-told-10 : tie.Need-enum-told-10
-enum-told-10 c = search needs
-
 one-requires-22 : tie.Need-one-requires-22
 one-requires-22 c κs = search needs
+
+enum-told-11 : tie.Need-enum-told-11
+enum-told-11 c = search needs
+
+one-requires-23 : tie.Need-one-requires-23
+one-requires-23 c κs = search needs
+
+enum-told-12 : tie.Need-enum-told-12
+enum-told-12 c = search needs
+
+one-requires-24 : tie.Need-one-requires-24
+one-requires-24 c κs = search needs
+
+enum-told-13 : tie.Need-enum-told-13
+enum-told-13 c = search needs
+
+one-requires-25 : tie.Need-one-requires-25
+one-requires-25 c κs = search needs
 
 returns : tie.Need-returns
 returns c = c .one .ensures ∙ sym (ap numbersOf (c .before .enum-told .given .1))
@@ -227,25 +245,34 @@ returns-17 : tie.Need-returns-17
 returns-17 c = c .one15 .ensures ∙ sym (ap numbersOf (c .before .enum-told6 .given .1))
 
 returns-18 : tie.Need-returns-18
-returns-18 c = c .one16 .ensures ∙ sym (ap numbersOf (c .before .before .refusal12 .given .1))
+returns-18 c = c .one16 .ensures ∙ sym (ap numbersOf (c .before .enum-told7 .given .1))
 
 returns-19 : tie.Need-returns-19
-returns-19 c = c .one17 .ensures ∙ sym (ap numbersOf (c .before .before .refusal13 .given .1))
+returns-19 c = c .one17 .ensures ∙ sym (ap numbersOf (c .before .enum-told8 .given .1))
 
 returns-20 : tie.Need-returns-20
-returns-20 c = c .one18 .ensures ∙ sym (ap numbersOf (c .before .enum-told7 .given .1))
+returns-20 c = c .one18 .ensures ∙ sym (ap numbersOf (c .before .before .refusal12 .given .1))
 
 returns-21 : tie.Need-returns-21
-returns-21 c = c .one19 .ensures ∙ sym (ap numbersOf (c .before .enum-told8 .given .1))
+returns-21 c = c .one19 .ensures ∙ sym (ap numbersOf (c .before .before .refusal13 .given .1))
 
 returns-22 : tie.Need-returns-22
-returns-22 c = c .one20 .ensures ∙ sym (ap numbersOf (c .before .before .refusal14 .given .1))
+returns-22 c = c .one20 .ensures ∙ sym (ap numbersOf (c .before .enum-told9 .given .1))
 
 returns-23 : tie.Need-returns-23
-returns-23 c = c .one21 .ensures ∙ sym (ap numbersOf (c .before .enum-told9 .given .1))
+returns-23 c = c .one21 .ensures ∙ sym (ap numbersOf (c .before .enum-told10 .given .1))
 
 returns-24 : tie.Need-returns-24
-returns-24 c = c .one22 .ensures ∙ sym (ap numbersOf (c .before .enum-told10 .given .1))
+returns-24 c = c .one22 .ensures ∙ sym (ap numbersOf (c .before .before .refusal14 .given .1))
+
+returns-25 : tie.Need-returns-25
+returns-25 c = c .one23 .ensures ∙ sym (ap numbersOf (c .before .enum-told11 .given .1))
+
+returns-26 : tie.Need-returns-26
+returns-26 c = c .one24 .ensures ∙ sym (ap numbersOf (c .before .enum-told12 .given .1))
+
+returns-27 : tie.Need-returns-27
+returns-27 c = c .one25 .ensures ∙ sym (ap numbersOf (c .before .enum-told13 .given .1))
 
 pub in-numbers-spec : {M : Type 1} → statement M
 in-numbers-spec =
@@ -292,22 +319,28 @@ in-numbers-spec =
     one-requires-14
     enum-told-6
     one-requires-15
-    enum-known-refusal-12
+    enum-told-7
     one-requires-16
+    enum-told-8
+    one-requires-17
+    enum-known-refusal-12
+    one-requires-18
     enum-known-refusal-13
     cast-one-8
-    one-requires-17
-    enum-told-7
-    one-requires-18
-    enum-told-8
     one-requires-19
+    enum-told-9
+    one-requires-20
+    enum-told-10
+    one-requires-21
     enum-known-refusal-14
     cast-one-9
-    one-requires-20
-    enum-told-9
-    one-requires-21
-    enum-told-10
     one-requires-22
+    enum-told-11
+    one-requires-23
+    enum-told-12
+    one-requires-24
+    enum-told-13
+    one-requires-25
     returns
     returns-2
     returns-3
@@ -331,4 +364,7 @@ in-numbers-spec =
     returns-21
     returns-22
     returns-23
-    returns-24)
+    returns-24
+    returns-25
+    returns-26
+    returns-27)

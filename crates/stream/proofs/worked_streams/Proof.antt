@@ -7,7 +7,7 @@ use Rattle.preamble.specs.Judge.{shapeFault, limitFault, headerOf, judgeFields,
 use Rattle.body.specs.End.{ending}
 use Rattle.stream.specs.Stream.{frames, streamTrace, traceOf}
 use Rattle.stream.specs.Rows.{Holds}
-use Rattle.stream.specs.Worked.{Worked, frameRows, bannerRows, preambleRows, endRows, cutRows}
+use Rattle.stream.specs.Worked.{Worked, frameRows, bannerRows, preambleRows, endRows, spellingRows, cutRows}
 use Rattle.stream.proofs.worked_streams.Statement.{statement}
 use Rattle.stream.proofs.worked_streams.Tie as tie
 
@@ -28,13 +28,17 @@ endRows-hold : Holds endRows
 unfolding endRows numberAt crcOf steps step missing lowestBit bitCount judgeFeatures shapeFault limitFault headerOf judgeFields judgePreamble ending frames streamTrace traceOf
 endRows-hold = refl
 
+spellingRows-hold : Holds spellingRows
+unfolding spellingRows numberAt crcOf steps step missing lowestBit bitCount judgeFeatures shapeFault limitFault headerOf judgeFields judgePreamble ending frames streamTrace traceOf
+spellingRows-hold = refl
+
 cutRows-hold : Holds cutRows
 unfolding cutRows numberAt crcOf steps step missing lowestBit bitCount judgeFeatures shapeFault limitFault headerOf judgeFields judgePreamble ending frames streamTrace traceOf
 cutRows-hold = refl
 
 table : Worked
 unfolding Worked
-table = (frameRows-hold, bannerRows-hold, preambleRows-hold, endRows-hold, cutRows-hold)
+table = (frameRows-hold, bannerRows-hold, preambleRows-hold, endRows-hold, spellingRows-hold, cutRows-hold)
 
 returns : tie.Need-returns
 returns c = table

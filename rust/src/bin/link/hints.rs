@@ -29,7 +29,7 @@ pub fn hints(seen: &Seen, end: &End, other: Option<&Seen>) -> Vec<String> {
         let detail = refusal.details()[0];
         hints.extend(match refusal.number() {
             1 => older(unfinished.bytes),
-            5 | 11 | 12 if seen.last_tag.is_none() => another_revision(seen.revision),
+            5 | 11 | 12 | 24 if seen.last_tag.is_none() => another_revision(seen.revision),
             7 if detail == 26 => Some(
                 "a flag is set, which compressed frames have; they are not read here".to_string(),
             ),
@@ -191,7 +191,10 @@ mod tests {
             revision: Some(Revision::Msgr20),
             ..seen(None, None)
         };
-        let hint = only(hints(&old, &refused(5, 28, &[]), None));
-        assert!(hint.contains("msgr2.1") && hint.ends_with("try --own=1"));
+        for (number, detail) in [(5, 28), (24, 2), (24, 0)] {
+            let hint = only(hints(&old, &refused(number, detail, &[]), None));
+            assert!(hint.contains("msgr2.1") && hint.ends_with("try --own=1"));
+        }
+        assert!(hints(&seen(Some(1), None), &refused(24, 3, &[]), None).is_empty());
     }
 }

@@ -193,6 +193,25 @@ fn a_refused_segment() {
 }
 
 #[test]
+fn an_epilogue_in_another_spelling() {
+    let mut stream = stream();
+    stream[132] = 5;
+    let (lines, ok) = printed(&stream, &[]);
+    assert!(!ok);
+    let words = "the checksum field of segment 4, which is not used, is not 0";
+    assert_eq!(
+        lines[2],
+        format!("frames 1, dropped 0; refused at byte 136 with number 24: {words}")
+    );
+    assert_eq!(
+        lines[3],
+        "at bytes 133 to 136: the checksum of segment 4, which is not used, is 0x00000005; the part began at byte 83"
+    );
+    assert!(lines[5].starts_with("         131  00 00[05 00 00 00]"));
+    assert_eq!(lines.len(), 6);
+}
+
+#[test]
 fn a_length_at_fault() {
     let mut stream = stream();
     stream.extend(preamble(14, &0x7FFF_FFFFu32.to_le_bytes()));

@@ -48,6 +48,12 @@ pub fn aborted(revision: Revision, lengths: &[u32]) -> WireFrame {
     WireFrame::new(revision, frame, true, &source(frame.sum()))
 }
 
+/// A frame whose segments are together the bytes 0 to 31.
+pub fn counting(revision: Revision, lengths: &[u32], abort: bool) -> WireFrame {
+    let source: Vec<u8> = (0..32).collect();
+    WireFrame::new(revision, frame(lengths), abort, &source)
+}
+
 /// A preamble with these lengths, and no body behind it.
 pub fn preamble(revision: Revision, lengths: &[u32]) -> WireFrame {
     WireFrame::preamble_only(revision, aligned(lengths))
@@ -64,6 +70,21 @@ impl Case {
             own: OWN,
             store,
             stream,
+        }
+    }
+
+    /// A banner and the frames, with a store of the bytes 0 to 31: while the
+    /// segments are those too, its checksum is the published one.
+    pub fn counting(revision: Revision, frames: &[&WireFrame]) -> Self {
+        let mut stream = peer(revision).banner();
+        stream.extend(frames.iter().flat_map(|frame| &frame.bytes));
+        let store = FrameStore {
+            length: 32,
+            fill: 0,
+        };
+        Self {
+            store,
+            ..Self::stream(stream)
         }
     }
 

@@ -2,10 +2,9 @@
 //! The segments are the bytes 0 to 31, as the store's own are: while the frame
 //! stays good, the store's checksum is the published one of those bytes.
 
-use crate::fixed::receiver::case::{peer, Case};
-use crate::fixed::request::frame;
+use crate::fixed::receiver::case::{counting, Case};
 use crate::input::LARGEST_LENGTH;
-use crate::records::{FrameStore, Record};
+use crate::records::Record;
 use crate::spoil::WireFrame;
 use crate::wire::Revision;
 
@@ -15,36 +14,18 @@ const BANNER: u32 = 26;
 /// Where segment 1's checksum ends in a frame whose segment 1 has eleven bytes.
 const END: u32 = 32 + 11 + 4;
 
-fn made(revision: Revision, lengths: &[u32], abort: bool) -> WireFrame {
-    let source: Vec<u8> = (0..32).collect();
-    WireFrame::new(revision, frame(lengths), abort, &source)
-}
-
 fn two() -> WireFrame {
-    made(Revision::Msgr21, &[11, 21], false)
-}
-
-fn case(revision: Revision, frames: &[&WireFrame]) -> Case {
-    let mut stream = peer(revision).banner();
-    stream.extend(frames.iter().flat_map(|frame| &frame.bytes));
-    let store = FrameStore {
-        length: 32,
-        fill: 0,
-    };
-    Case {
-        store,
-        ..Case::stream(stream)
-    }
+    counting(Revision::Msgr21, &[11, 21], false)
 }
 
 fn calls(frame: &WireFrame, pieces: &[u32]) -> Record {
-    case(frame.revision, &[frame]).calls(pieces.to_vec())
+    Case::counting(frame.revision, &[frame]).calls(pieces.to_vec())
 }
 
 /// Cut before, at and behind the checksum's last byte, and streams that end
 /// before it and at it.
 fn cuts() -> Vec<Record> {
-    let mut cut = case(Revision::Msgr21, &[&two()]);
+    let mut cut = Case::counting(Revision::Msgr21, &[&two()]);
     let mut records = vec![
         calls(&two(), &[ALL; 4]),
         calls(&two(), &[BANNER, END - 1, 1, 0, ALL]),
@@ -60,20 +41,20 @@ fn cuts() -> Vec<Record> {
 
 /// Four segments, and two frames one behind the other.
 fn others() -> Vec<Record> {
-    let four = made(Revision::Msgr21, &[11, 0, 20, 1], false);
-    let frames = case(Revision::Msgr21, &[&two(), &four]);
+    let four = counting(Revision::Msgr21, &[11, 0, 20, 1], false);
+    let frames = Case::counting(Revision::Msgr21, &[&two(), &four]);
     vec![calls(&four, &[ALL; 3]), frames.calls(vec![ALL; 6])]
 }
 
 /// One segment, an empty segment 1, msgr2.0, and a store that is too short.
 fn none() -> Vec<Record> {
     let shapes = [
-        made(Revision::Msgr21, &[32], false),
-        made(Revision::Msgr21, &[0, 32], false),
-        made(Revision::Msgr20, &[11, 21], false),
+        counting(Revision::Msgr21, &[32], false),
+        counting(Revision::Msgr21, &[0, 32], false),
+        counting(Revision::Msgr20, &[11, 21], false),
     ];
     let mut records: Vec<Record> = shapes.iter().map(|f| calls(f, &[ALL; 3])).collect();
-    let short = case(Revision::Msgr21, &[&two()]).with_store(31);
+    let short = Case::counting(Revision::Msgr21, &[&two()]).with_store(31);
     records.push(short.calls(vec![ALL; 3]));
     records
 }
@@ -88,7 +69,7 @@ fn faults() -> Vec<Record> {
     };
     vec![
         spoilt(|frame| frame.checksum_mut(0).expect("a checksum")[3] ^= 1),
-        calls(&made(Revision::Msgr21, &[11, 21], true), &[ALL; 4]),
+        calls(&counting(Revision::Msgr21, &[11, 21], true), &[ALL; 4]),
         spoilt(|frame| *frame.late_byte_mut().expect("an epilogue") = 0x0F),
         spoilt(|frame| frame.segment_mut(1)[20] ^= 1),
     ]

@@ -19,6 +19,9 @@ either-requires-2 : tie.Need-either-requires-2
 either-requires-2 c κs = search needs
 
 -- src/states.rt:320:17
+either-requires-4 : tie.Need-either-requires-4
+either-requires-4 c κs = search needs
+
 either-requires-3 : tie.Need-either-requires-3
 either-requires-3 c κs = search needs
 
@@ -36,8 +39,9 @@ is-given-spec =
     (tie.spec
     both-requires
     either-requires
-    both-requires-2
     either-requires-2
+    both-requires-2
     either-requires-3
+    either-requires-4
     both-requires-3
     returns)

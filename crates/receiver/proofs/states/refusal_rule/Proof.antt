@@ -1,3 +1,4 @@
+use mathlib.Core.Path.{_∙_, sym}
 use borrow.Author.Needs.{needs}
 use Rattle.receiver.proofs.states.refusal_rule.Statement.{statement}
 use Rattle.receiver.proofs.states.refusal_rule.Tie as tie
@@ -8,16 +9,16 @@ is-refused-requires c κs = search needs
 is-given-requires : tie.Need-is-given-requires
 is-given-requires c κs = search needs
 
+returns : tie.Need-returns
+returns c = rw (sym (c .before .before .is-refused .ensures) ∙ c .before .if1 .taken) (c .is-given .ensures)
+
 is-no-refusal-requires : tie.Need-is-no-refusal-requires
 is-no-refusal-requires c κs = search needs
 
-pick-requires : tie.Need-pick-requires
-pick-requires c κs = search needs
-
-returns : tie.Need-returns
-returns c = cc
+returns-2 : tie.Need-returns-2
+returns-2 c = rw (sym (c .before .before .is-refused .ensures) ∙ c .before .if1 .left) (c .is-no-refusal .ensures)
 
 pub refusal-rule-spec : {M : Type 1} → statement M
 refusal-rule-spec =
     tie.close
-    (tie.spec is-refused-requires is-given-requires is-no-refusal-requires pick-requires returns)
+    (tie.spec is-refused-requires is-given-requires returns is-no-refusal-requires returns-2)

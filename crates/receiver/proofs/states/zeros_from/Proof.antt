@@ -1,27 +1,34 @@
-use Prim.Native.Nat.{_-_}
-use mathlib.Core.Path.{_≡_, refl, sym, ap, _∙_}
+use borrow.Author.Needs.{needs}
+use mathlib.Core.List.{List}
+use native.Mathlib.Nat.{zero-add}
+use Prim.Native.Nat.{ℕ, _+_, _-_}
+use mathlib.Core.Path.{_≡_, refl, sym, ap, ap₂, _∙_}
+use mathlib.Core.Bool.{Bool, true, _&&_, _||_}
 use native.Mathlib.Omega.{arith}
-use native.Mathlib.Numerals.{add-one}
-use lib.ListN.{length, drop, drop-of-length-le}
+use lib.ListN.{length, drop, getD, drop-of-length-le}
+use lib.Dec.{ltb, eqb}
 use Rattle.receiver.specs.State.{isZeros}
-use Rattle.receiver.proofs.Zeros.{zeros-step, zeros-stop}
+use Rattle.receiver.proofs.Zeros.{past, past-from, past-step, and-true}
 use Rattle.receiver.proofs.states.zeros_from.Statement.{statement}
 use Rattle.receiver.proofs.states.zeros_from.Tie as tie
 
 abbrev Inv-loop : tie.InvT-loop
-Inv-loop block from i₀ i = isZeros (drop i block) ≡ isZeros (drop from block)
+Inv-loop block from fine₀ i₀ fine i = (fine && past from i (drop i block)) ≡ isZeros (drop from block)
 
 abbrev μ-loop : tie.MeasureT-loop
-μ-loop block from i₀ i = length block - i
+μ-loop block from fine₀ i₀ fine i = length block - i
 
 loop-holds : tie.Need-loop-holds Inv-loop μ-loop
-loop-holds c = refl
+loop-holds c = sym (past-from (c .before .args .from) 0 (c .before .args .block .now) ∙ ap (λ (k : ℕ). past k 0 (c .before .args .block .now)) (zero-add (c .before .args .from)))
 
-shared-slice-read-if1 : tie.Need-shared-slice-read-if1 Inv-loop μ-loop
-shared-slice-read-if1 c = omega arith
+shared-slice-read-either : tie.Need-shared-slice-read-either Inv-loop μ-loop
+shared-slice-read-either c = omega arith
 
-returns : tie.Need-returns Inv-loop μ-loop
-returns c = sym (zeros-stop (c .before .before .before .before .args .block .now) (c .before .before .before .loop .i) (omega arith) (λ e. c .if1 .taken e)) ∙ c .before .before .before .loop .inv
+either-requires : tie.Need-either-requires Inv-loop μ-loop
+either-requires c κs = search needs
+
+both-requires : tie.Need-both-requires Inv-loop μ-loop
+both-requires c κs = search needs
 
 add-i : tie.Need-add-i Inv-loop μ-loop
 add-i c = omega arith
@@ -30,10 +37,17 @@ loop-less : tie.Need-loop-less Inv-loop μ-loop
 loop-less c = omega arith
 
 loop-again : tie.Need-loop-again Inv-loop μ-loop
-loop-again c = rw (add-one (c .before .before .before .loop .i)) (zeros-step (c .before .before .before .before .args .block .now) (c .before .before .before .loop .i) (omega arith) (c .if1 .left) ∙ c .before .before .before .loop .inv)
+loop-again c =
+    let l = c .before .before .before .before .before .before .args .block .now in
+    let i = c .before .before .before .before .loop .i in
+    let f = c .before .before .before .before .before .before .args .from in
+    let e : c .both .result ≡ (c .before .before .before .before .loop .fine && (ltb i f || eqb (getD l i 0) 0)) = c .both .ensures ∙ ap (λ (b : Bool). c .before .before .before .before .loop .fine && b) (c .before .either .ensures) in
+    rw e (sym (past-step f i l (c .before .before .before .before .loop .fine) (omega arith)) ∙ c .before .before .before .before .loop .inv)
 
-returns-2 : tie.Need-returns-2 Inv-loop μ-loop
-returns-2 c = sym (ap isZeros (drop-of-length-le (c .before .before .args .block .now) {i = c .before .loop .i} (c .loop-test .left))) ∙ c .before .loop .inv
+returns : tie.Need-returns Inv-loop μ-loop
+returns c =
+    let l = c .before .before .before .args .block .now in
+    sym (and-true (c .before .loop .fine)) ∙ ap (λ (t : List ℕ). c .before .loop .fine && past (c .before .before .before .args .from) (c .before .loop .i) t) (sym (drop-of-length-le l {i = c .before .loop .i} (c .loop-test .left))) ∙ c .before .loop .inv
 
 pub zeros-from-spec : {M : Type 1} → statement M
 zeros-from-spec =
@@ -42,9 +56,10 @@ zeros-from-spec =
     Inv-loop
     μ-loop
     loop-holds
-    shared-slice-read-if1
-    returns
+    shared-slice-read-either
+    either-requires
+    both-requires
     add-i
     loop-less
     loop-again
-    returns-2)
+    returns)

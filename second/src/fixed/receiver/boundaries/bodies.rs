@@ -1,4 +1,4 @@
-//! Refusals 11 and 12, drops, and which of them comes first.
+//! Refusals 11, 12 and 24, drops, and which of them comes first.
 
 use crate::fixed::receiver::case::{aborted, whole, Case};
 use crate::frame::PLACES;
@@ -100,7 +100,7 @@ fn late_bytes(revision: Revision) -> Vec<Record> {
 /// first before the late byte and the others after it.
 fn late_bytes_against_checksums(revision: Revision) -> Vec<Record> {
     let mut records = Vec::new();
-    for late in [0x0E, 0x01, 0x00, 0x0F, 0x1E, 0xE1, 0xFE, 0xFF] {
+    for late in [0x0E, 0x01, 0x00, 0x02, 0x03, 0x0F, 0x1E, 0xE1, 0xFE, 0xFF] {
         for choice in 0..16 {
             let mut frame = whole(revision, &[2, 3, 0, 1]);
             *frame.late_byte_mut().expect("an epilogue") = late;
@@ -133,6 +133,44 @@ fn drops(revision: Revision) -> Vec<Record> {
     records
 }
 
+/// The frame with this late byte, these fields of unused segments filled, and
+/// perhaps a wrong checksum of its last segment.
+fn spelled(mut frame: WireFrame, late: u8, filled: u32, wrong: bool) -> Option<Record> {
+    *frame.late_byte_mut()? = late;
+    for place in places_in(filled) {
+        spoil_checksum(&mut frame, place, place);
+    }
+    if wrong {
+        let last = usize::from(frame.frame.count) - 1;
+        spoil_checksum(&mut frame, last, 0);
+    }
+    Some(Case::frame(&frame).edges())
+}
+
+/// Every choice of filled fields of unused segments in whole and in aborted
+/// frames, with several late bytes, and with a wrong checksum.
+fn spellings(revision: Revision) -> Vec<Record> {
+    let lates: &[u8] = match revision {
+        Revision::Msgr20 => &[0x00, 0x01, 0x02, 0x03, 0xFE],
+        Revision::Msgr21 => &[0x0E, 0x01, 0x00, 0x0F, 0x1E, 0xE1],
+    };
+    let shapes: [&[u32]; 4] = [&[5], &[0, 4], &[5, 4], &[5, 0, 4]];
+    let choices = shapes.into_iter().flat_map(|lengths| {
+        let all = 0..1_u32 << (PLACES - lengths.len());
+        all.map(move |choice| (lengths, choice << lengths.len()))
+    });
+    let mut records = Vec::new();
+    for (lengths, filled) in choices {
+        for frame in [whole(revision, lengths), aborted(revision, lengths)] {
+            for &late in lates {
+                records.extend(spelled(frame.clone(), late, filled, false));
+                records.extend(spelled(frame.clone(), late, filled, true));
+            }
+        }
+    }
+    records
+}
+
 /// Streams that end at each byte of a frame, so that what its body leaves in
 /// the store while unfinished shows.
 fn unfinished(revision: Revision) -> Vec<Record> {
@@ -155,6 +193,7 @@ pub fn bodies(revision: Revision) -> Vec<Record> {
         late_bytes,
         late_bytes_against_checksums,
         drops,
+        spellings,
         unfinished,
     ];
     makers.into_iter().flat_map(|make| make(revision)).collect()

@@ -1,0 +1,99 @@
+-- Checksum fields that are judged one after the other, as one fact for each segment.
+use Prim.Native.Nat.{ℕ, zero, suc, _+_, _≤_, _<_}
+use mathlib.Core.List.{List, [], _∷_}
+use mathlib.Core.Path.{_≡_, refl, sym, ap, ap₂, _∙_}
+use mathlib.Core.Bool.{Bool, true, false, _||_}
+use native.Mathlib.Omega.{arith}
+use lib.ListN.{length, drop, getD}
+use lib.Dec.{leb, ltb, eqb}
+use borrow.Author.Tests.{le-ltb, lt-ltb, leb-true, leb-false, le-leb, lt-leb, eq-eqb, eqb-true}
+use Rattle.refusal.specs.declared.Refusal.the-variants as refusal
+use Rattle.refusal.specs.Refusals.{Judged, fine, refused, orElse, unless}
+use Rattle.refusal.proofs.Judgements.{both-fine, passed}
+use Rattle.body.specs.Body.{segmentSum, field, fieldsFrom}
+use Rattle.body.specs.End.{compareFrom, unusedFrom}
+
+-- the segments behind the first one
+behind : (ss : List (List ℕ)) (i : ℕ) → getD (drop 1 ss) i [] ≡ getD ss (suc i) []
+behind [] i = refl
+behind (s ∷ ss) i = refl
+
+-- the stored numbers fs against the checksums of the segments ss, which are numbered from k on
+pub every-sum : (count k : ℕ) (fs : List ℕ) (ss : List (List ℕ)) → compareFrom count k fs ss ≡ fine
+    → (i : ℕ) → i < length fs → k + i ≤ count → getD fs i 0 ≡ segmentSum (getD ss i [])
+every-sum count k [] ss e i l u = absurd (omega arith)
+every-sum count k (f ∷ fs) ss e zero l u =
+    let a = both-fine (unless (ltb count k || eqb f (segmentSum (getD ss 0 []))) (refusal.SegmentChecksum k)) (compareFrom count (suc k) fs (drop 1 ss)) e in
+    let t = passed (ltb count k || eqb f (segmentSum (getD ss 0 []))) (refusal.SegmentChecksum k) (a .0) in
+    eqb-true f (segmentSum (getD ss 0 [])) (rw (le-ltb count k (omega arith)) at t)
+every-sum count k (f ∷ fs) ss e (suc i) l u =
+    let a = both-fine (unless (ltb count k || eqb f (segmentSum (getD ss 0 []))) (refusal.SegmentChecksum k)) (compareFrom count (suc k) fs (drop 1 ss)) e in
+    every-sum count (suc k) fs (drop 1 ss) (a .1) i (omega arith) (omega arith) ∙ ap segmentSum (behind ss i)
+
+-- one test, by what is stored
+test-holds : (count k f : ℕ) (s : List ℕ) → (k ≤ count → f ≡ segmentSum s) → (ltb count k || eqb f (segmentSum s)) ≡ true
+test-holds count k f s a = go (leb k count) refl
+  where
+    go : (c : Bool) → leb k count ≡ c → (ltb count k || eqb f (segmentSum s)) ≡ true
+    go true c = (let u = leb-true k count c in rw (le-ltb count k u, eq-eqb f (segmentSum s) (a u)))
+    go false c = rw (lt-ltb count k (leb-false k count c))
+
+pub all-sums : (count k : ℕ) (fs : List ℕ) (ss : List (List ℕ))
+    → ((i : ℕ) → i < length fs → k + i ≤ count → getD fs i 0 ≡ segmentSum (getD ss i [])) → compareFrom count k fs ss ≡ fine
+all-sums count k [] ss a = refl
+all-sums count k (f ∷ fs) ss a =
+    rw (test-holds count k f (getD ss 0 []) (λ u. a 0 (omega arith) (omega arith)))
+    (all-sums count (suc k) fs (drop 1 ss) (λ i l u. a (suc i) (omega arith) (omega arith) ∙ ap segmentSum (sym (behind ss i))))
+
+-- checksums that were written compare as equal
+pub same-sums : (count k : ℕ) (ss : List (List ℕ)) → compareFrom count k (fieldsFrom count k ss) ss ≡ fine
+same-sums count k [] = refl
+same-sums count k (s ∷ ss) = rw (test-holds count k (field count k s) s (λ u. used u)) (same-sums count (suc k) ss)
+  where
+    used : k ≤ count → field count k s ≡ segmentSum s
+    used u = rw (le-leb k count u)
+
+-- ---- the fields fs of unused segments, which are numbered from k on, are 0
+
+pub every-unused : (count k : ℕ) (fs : List ℕ) → unusedFrom count k fs ≡ fine → (i : ℕ) → i < length fs → count < k + i → getD fs i 0 ≡ 0
+every-unused count k [] e i l u = absurd (omega arith)
+every-unused count k (f ∷ fs) e zero l u =
+    let a = both-fine (unless (leb k count || eqb f 0) (refusal.NonCanonical k)) (unusedFrom count (suc k) fs) e in
+    let t = passed (leb k count || eqb f 0) (refusal.NonCanonical k) (a .0) in
+    eqb-true f 0 (rw (lt-leb k count (omega arith)) at t)
+every-unused count k (f ∷ fs) e (suc i) l u =
+    let a = both-fine (unless (leb k count || eqb f 0) (refusal.NonCanonical k)) (unusedFrom count (suc k) fs) e in
+    every-unused count (suc k) fs (a .1) i (omega arith) (omega arith)
+
+unused-holds : (count k f : ℕ) → (count < k → f ≡ 0) → (leb k count || eqb f 0) ≡ true
+unused-holds count k f a = go (leb k count) refl
+  where
+    go : (c : Bool) → leb k count ≡ c → (leb k count || eqb f 0) ≡ true
+    go true c = rw c
+    go false c = rw (c, eq-eqb f 0 (a (leb-false k count c)))
+
+pub all-unused : (count k : ℕ) (fs : List ℕ) → ((i : ℕ) → i < length fs → count < k + i → getD fs i 0 ≡ 0) → unusedFrom count k fs ≡ fine
+all-unused count k [] a = refl
+all-unused count k (f ∷ fs) a =
+    rw (unused-holds count k f (λ u. a 0 (omega arith) (omega arith))) (all-unused count (suc k) fs (λ i l u. a (suc i) (omega arith) (omega arith)))
+
+-- those that were written are
+pub same-unused : (count k : ℕ) (ss : List (List ℕ)) → unusedFrom count k (fieldsFrom count k ss) ≡ fine
+same-unused count k [] = refl
+same-unused count k (s ∷ ss) = rw (unused-holds count k (field count k s) (λ u. rw (lt-leb k count u))) (same-unused count (suc k) ss)
+
+-- fields that pass both are those that are written
+pub fields-back : (count k : ℕ) (fs : List ℕ) (ss : List (List ℕ)) → length fs ≡ length ss → compareFrom count k fs ss ≡ fine → unusedFrom count k fs ≡ fine → fs ≡ fieldsFrom count k ss
+fields-back count k [] [] l c u = refl
+fields-back count k [] (s ∷ ss) l c u = absurd (omega arith)
+fields-back count k (f ∷ fs) [] l c u = absurd (omega arith)
+fields-back count k (f ∷ fs) (s ∷ ss) l c u =
+    let a = both-fine (unless (ltb count k || eqb f (segmentSum s)) (refusal.SegmentChecksum k)) (compareFrom count (suc k) fs ss) c in
+    let b = both-fine (unless (leb k count || eqb f 0) (refusal.NonCanonical k)) (unusedFrom count (suc k) fs) u in
+    ap₂ (λ (x : ℕ) (xs : List ℕ). x ∷ xs)
+    (one (leb k count) refl (passed (ltb count k || eqb f (segmentSum s)) (refusal.SegmentChecksum k) (a .0)) (passed (leb k count || eqb f 0) (refusal.NonCanonical k) (b .0)))
+    (fields-back count (suc k) fs ss (omega arith) (a .1) (b .1))
+  where
+    one : (c : Bool) → leb k count ≡ c → (ltb count k || eqb f (segmentSum s)) ≡ true → (leb k count || eqb f 0) ≡ true → f ≡ field count k s
+    one true c p q = rw c (eqb-true f (segmentSum s) (rw (le-ltb count k (leb-true k count c)) at p))
+    one false c p q = rw c (eqb-true f 0 (rw c at q))
