@@ -1,4 +1,4 @@
--- Laws of records: buffers that count up, steps, calls, and bytes that are moved to the front of a list.
+-- Laws of builds, of calls, and of bytes that are moved to the front of a list.
 use mathlib.Core.Path.{_≡_, refl, sym, ap, ap₂, _∙_}
 use mathlib.Core.Bool.{Bool, true, false, _&&_}
 use mathlib.Core.List.{List, [], _∷_, _++_, append-assoc, append-nil}
@@ -6,7 +6,7 @@ use Prim.Native.Nat.{ℕ, zero, suc, _+_, _-_, _%_, _≤_, _<_}
 use native.Mathlib.Nat.{add-comm, not-suc-le-zero}
 use native.Mathlib.Numerals.{add-one}
 use native.Mathlib.Omega.{arith}
-use borrow.Author.Tests.{leb-true}
+use borrow.Author.Tests.{leb-true, eq-eqb, ne-eqb}
 use lib.Dec.{ltb, leb, eqb}
 use lib.ListN.{length, take, drop, getD, set, length-drop, length-append, drop-of-length-le}
 use lib.Seq.{getD-append-add, getD-drop, length-take-le, take-at, take-all, drop-cons, drop-drop, drop-length, set-at}
@@ -26,55 +26,27 @@ use Rattle.preamble.specs.declared.Header.{Header}
 use Rattle.preamble.specs.Judge.{headerOf}
 use Rattle.text.specs.Line.{Piece}
 use Rattle.text.specs.Page.{Page, page}
-use Rattle.cases.specs.declared.Step.{Step}
 use Rattle.cases.specs.declared.calls.Call.{Call}
 use Rattle.cases.specs.declared.calls.Called.{Called}
-use Rattle.cases.specs.Records.{Did, sized, allowed, whole, isWhole, badRecord, print, prints, counted}
+use Rattle.records.specs.Records.{allowed, isWhole, print, prints, counted}
+use Rattle.records.proofs.Laws.{sized-good, first, second}
 use Rattle.cases.specs.Builds.{answerLine, doneLine, bannerSize, bannerDoneOf, revisionOf, frameSize, frameDoneOf}
 use Rattle.cases.specs.Calls.{CallDid, startLine, callAnswer, callLine, lentAnswer, callLines, ownOf, receiverLines, callAt, callsFrom, callGood, callsGood, callWidth, callsAt, callsOf, streamAt, streamOf, noSwitches, receiverSize}
 
--- ---- buffers
+-- ---- kinds
 
-pub length-counted : (first n : ℕ) → length (counted first n) ≡ n
-unfolding counted
-length-counted first zero = refl
-length-counted first (suc n) = length-append (counted first n) _ ∙ (let e = length-counted first n in omega arith)
+-- the first byte is n, or is not
+pub kind-is : {k b n : ℕ} → k ≡ b → k ≡ n → eqb b n ≡ true
+kind-is {k} {b} {n} e f = eq-eqb b n (sym e ∙ f)
 
--- one more byte that counts up
-pub counted-more : (l : List ℕ) (first i : ℕ) → i < length l → set (counted first i ++ drop i l) i ((first + i) % 256) ≡ counted first (i + 1) ++ drop (i + 1) l
-unfolding counted
-counted-more l first i h =
-    rw (drop-cons l i 0 h, set-at (counted first i) (getD l i 0) (drop (suc i) l) ((first + i) % 256) i (length-counted first i), add-one)
-    (sym (append-assoc (counted first i) ((first + i) % 256 ∷ []) (drop (suc i) l)))
+pub kind-isnt : {k b n : ℕ} → k ≡ b → (k ≡ n → ⊥) → eqb b n ≡ false
+kind-isnt {k} {b} {n} e f = ne-eqb b n (λ g. f (e ∙ g))
 
--- ---- steps
+-- as much space as the longest buffer needs
+pub space-lent : (l : List ℕ) → 65536 ≤ length l → length (take 65536 l) ≡ 65536
+space-lent l h = length-take-le 65536 l h
 
-second : (a b : Bool) → (a && b) ≡ true → b ≡ true
-second true b e = e
-second false b e = cc
-
-pub whole-within : (n : ℕ) (s : List ℕ) → isWhole n s ≡ true → n ≤ length s
-whole-within n s e = leb-true n (length s) (second (ltb 0 n) (leb n (length s)) e)
-
-module _ (n : ℕ) (lines : List (List Piece)) {s before : List ℕ} {at : ℕ} {after : List ℕ} {r : Step} where
-  -- a bad record
-  pub did-bad : isWhole n s ≡ false → r .taken ≡ 0 → page after (r .filled) ≡ prints (badRecord .lines) (page before at) → Did (whole n s lines) s before at after r
-  unfolding whole
-  did-bad e t p = record { taken = rw e t; printed = rw e p; within = omega arith }
-
-  -- one that is whole
-  pub did-whole : isWhole n s ≡ true → r .taken ≡ n → page after (r .filled) ≡ prints lines (page before at) → Did (whole n s lines) s before at after r
-  unfolding whole
-  did-whole e t p = record { taken = rw e t; printed = rw e p; within = let h = whole-within n s e in omega arith }
-
--- a size of 0 is no record
-pub sized-good : (good : Bool) (n : ℕ) (s : List ℕ) → isWhole (sized good n) s ≡ true → good ≡ true
-sized-good true n s e = refl
-sized-good false n s e = cc
-
-pub first : (a b : Bool) → (a && b) ≡ true → a ≡ true
-first true b e = refl
-first false b e = e
+-- ---- builds
 
 -- the buffer's length of a build that is whole
 pub banner-buffer : (s : List ℕ) → isWhole (bannerSize s) s ≡ true → numberAt 4 17 s ≤ 65536

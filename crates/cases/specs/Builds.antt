@@ -1,6 +1,6 @@
 -- B and F records: a banner and a frame are built.
 use mathlib.Core.Bool.{cond, _&&_}
-use mathlib.Core.List.{List, [], _∷_, _++_}
+use mathlib.Core.List.{List, [], _∷_}
 use Prim.Native.Nat.{ℕ, _+_}
 use lib.Dec.{leb, eqb}
 use lib.ListN.{take, drop, getD}
@@ -10,14 +10,12 @@ use Rattle.banner.specs.declared.Revision.{Revision}
 use Rattle.banner.specs.declared.Revision.the-variants.{Msgr20, Msgr21}
 use Rattle.preamble.specs.Judge.{headerOf}
 use Rattle.builder.specs.Build.{Answer, wrote, turnedAway, Done, bannerDone, frameDone}
-use Rattle.text.specs.Line.{Piece, word, field}
-use Rattle.cases.specs.Records.{Record, sumPieces, whyPieces, sized, allowed, whole, counted}
+use Rattle.text.specs.Line.{Piece}
+use Rattle.records.specs.Records.{Record, wroteLine, refusedLine, sized, allowed, whole, counted}
 
--- wrote 26 crc 01234567
--- refused 14 detail 26 0 0 crc 01234567
 abbrev pub answerLine : Answer → ℕ → List Piece
-answerLine (wrote n) c = field "wrote" n ++ sumPieces c
-answerLine (turnedAway w) c = (word "refused" ∷ whyPieces w) ++ sumPieces c
+answerLine (wrote n) c = wroteLine n c
+answerLine (turnedAway w) c = refusedLine w c
 
 -- a build's line: its answer, and the checksum of the buffer that it left
 abbrev pub doneLine : Done → List Piece

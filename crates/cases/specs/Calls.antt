@@ -24,7 +24,7 @@ use Rattle.text.specs.Line.{Piece, raw, codes, word, number, field, newline}
 use Rattle.text.specs.Page.{page}
 use Rattle.cases.specs.declared.calls.Call.{Call}
 use Rattle.cases.specs.declared.calls.Called.{Called}
-use Rattle.cases.specs.Records.{print, Record, sumPieces, whyPieces, sized, allowed, whole, counted}
+use Rattle.records.specs.Records.{print, Record, sumPieces, whyPieces, sized, allowed, whole, counted}
 
 -- ---- lines
 

@@ -5,7 +5,7 @@ use lib.ListN.{take, drop}
 use Rattle.buffer.specs.Le.{numberAt}
 use Rattle.crc32c.specs.Crc.{crcOf}
 use Rattle.text.specs.Line.{Piece, word, hex, newline}
-use Rattle.cases.specs.Records.{Record, sized, allowed, whole}
+use Rattle.records.specs.Records.{Record, sized, allowed, whole}
 
 abbrev pub checksumSize : List ℕ → ℕ
 checksumSize s = sized (allowed (numberAt 4 5 s)) (9 + numberAt 4 5 s)

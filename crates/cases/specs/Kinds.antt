@@ -4,10 +4,28 @@ use mathlib.Core.List.{List}
 use Prim.Native.Nat.{ℕ}
 use lib.Dec.{eqb}
 use lib.ListN.{getD}
-use Rattle.cases.specs.Records.{Record, badRecord}
+use Rattle.records.specs.Records.{Record, badRecord}
+use Rattle.session_cases.specs.Session.{sessionRecord}
+use Rattle.handshake_cases.specs.Steps.{stepsRecord}
+use Rattle.handshake_cases.specs.Modes.{modeRecord}
+use Rattle.sealing_cases.specs.Sealing.{sealingRecord}
+use Rattle.body_cases.specs.Reading.{readRecord}
+use Rattle.body_cases.specs.Writing.{writeRecord}
 use Rattle.cases.specs.Checksums.{checksumRecord}
 use Rattle.cases.specs.Builds.{bannerRecord, frameRecord}
 use Rattle.cases.specs.Calls.{receiverRecord}
+
+-- kinds that have a crate of their own; the longest buffer has 65,536 bytes
+unfoldable pub otherRecord : List ℕ → Record
+otherRecord s =
+    cond (eqb (getD s 0 0) 0x4E) (sessionRecord s)
+    (cond (eqb (getD s 0 0) 0x50) (stepsRecord s)
+    (cond (eqb (getD s 0 0) 0x4D) (modeRecord s)
+    (cond (eqb (getD s 0 0) 0x53) (sealingRecord false 65536 s)
+    (cond (eqb (getD s 0 0) 0x4F) (sealingRecord true 65536 s)
+    (cond (eqb (getD s 0 0) 0x48) (readRecord s)
+    (cond (eqb (getD s 0 0) 0x57) (writeRecord 65536 s)
+    badRecord))))))
 
 unfoldable pub recordOf : List ℕ → Record
 recordOf s =
@@ -16,4 +34,4 @@ recordOf s =
     (cond (eqb (getD s 0 0) 0x46) (frameRecord s)
     (cond (eqb (getD s 0 0) 0x52) (receiverRecord false s)
     (cond (eqb (getD s 0 0) 0x54) (receiverRecord true s)
-    badRecord))))
+    (otherRecord s)))))

@@ -3,4 +3,3 @@ pub mod Builds
 pub mod Calls
 pub mod Checksums
 pub mod Kinds
-pub mod Records

@@ -1,53 +1,32 @@
 // B and F records: a banner and a frame are built into a buffer that counts up.
-use crate::Step;
-use crate::records::LARGEST;
-use crate::records::bad_record;
-use crate::records::count_up;
-use crate::records::is_whole;
-use crate::records::put_sum;
-use crate::records::put_why;
-use crate::records::room;
-use crate::records::sized;
 use banner::Revision;
 use buffer::behind;
 use buffer::byte_at;
-use buffer::u64_at;
 use buffer::part;
 use buffer::u32_at;
+use buffer::u64_at;
 use builder::Built;
 use builder::build_banner;
 use builder::build_frame;
 use crc32c::checksum;
 use preamble::read_header;
-use refusal::Numbers;
+use records::LARGEST;
+use records::Step;
+use records::bad_record;
+use records::count_up;
+use records::is_whole;
+use records::print_refused;
+use records::print_wrote;
+use records::sized;
 use refusal::both;
 use refusal::in_numbers;
-use text::put_field;
-use text::put_word;
 ghost use mathlib.Core.Path.{_≡_};
 ghost use Prim.Native.Nat.{_≤_};
 ghost use lib.ListN.{length};
-ghost use Rattle.builder.specs.Build.{wrote, turnedAway, answered};
+ghost use Rattle.builder.specs.Build.{answered};
 ghost use Rattle.text.specs.Page.{page};
-ghost use Rattle.cases.specs.Records.{Did, print};
+ghost use Rattle.records.specs.Records.{Did, print};
 ghost use Rattle.cases.specs.Builds.{answerLine, revisionOf, bannerSize, bannerRecord, frameSize, frameRecord};
-
-fn print_wrote(text: &mut [u8], at: usize, n: usize, sum: u32) -> usize
-    ensures { λ r. ⌜ page (now (text .exit)) r ≡ print (answerLine (wrote n) sum) (page (now (text .entry)) at) ⌝ }
-{
-    let from = room(text, at);
-    let a = put_field(text, from, b"wrote", n as u64);
-    put_sum(text, a, sum)
-}
-
-fn print_refused(text: &mut [u8], at: usize, why: Numbers, sum: u32) -> usize
-    ensures { λ r. ⌜ page (now (text .exit)) r ≡ print (answerLine (turnedAway why) sum) (page (now (text .entry)) at) ⌝ }
-{
-    let from = room(text, at);
-    let a = put_word(text, from, b"refused");
-    let b = put_why(text, a, why);
-    put_sum(text, b, sum)
-}
 
 fn print_built(text: &mut [u8], at: usize, built: Built, sum: u32) -> usize
     ensures { λ r. ⌜ page (now (text .exit)) r ≡ print (answerLine (answered built) sum) (page (now (text .entry)) at) ⌝ }

@@ -1,21 +1,12 @@
 // R and T records: a receiver is started and lent a stream piece by piece, with a line for the start and one for each call.
-use crate::Step;
-use crate::records::LARGEST;
-use crate::records::bad_record;
-use crate::records::count_up;
-use crate::records::is_whole;
-use crate::records::put_sum;
-use crate::records::put_why;
-use crate::records::room;
-use crate::records::sized;
 use banner::Features;
 use banner::Revision;
 use buffer::behind;
 use buffer::byte_at;
-use buffer::u16_at;
-use buffer::u64_at;
 use buffer::part;
+use buffer::u16_at;
 use buffer::u32_at;
+use buffer::u64_at;
 use crc32c::checksum;
 use preamble::Header;
 use receiver::Received;
@@ -23,6 +14,15 @@ use receiver::Report;
 use receiver::State;
 use receiver::receive;
 use receiver::start;
+use records::LARGEST;
+use records::Step;
+use records::bad_record;
+use records::count_up;
+use records::is_whole;
+use records::put_sum;
+use records::put_why;
+use records::room;
+use records::sized;
 use refusal::Numbers;
 use refusal::Verdict;
 use refusal::both;
@@ -39,7 +39,7 @@ ghost use Rattle.refusal.specs.Refusals.{fine, refused, judgedBy};
 ghost use Rattle.stream.specs.declared.Event.the-variants as event;
 ghost use Rattle.receiver.specs.declared.Report.the-variants as report;
 ghost use Rattle.text.specs.Page.{page, puts};
-ghost use Rattle.cases.specs.Records.{Did, print, prints};
+ghost use Rattle.records.specs.Records.{Did, print, prints};
 ghost use Rattle.cases.specs.Calls.{startLine, revisionNumber, fourPieces, tagPieces, lengthPieces, alignmentPieces, headerPieces, featurePieces, peerPieces, frameLine, eventLine, reportLine, LentAnswer, CallDid, callLines, callsAt, callWidth, lentAt, callAt, callsFrom, callGood, callsGood, callsOf, streamAt, noSwitches, receiverSize, receiverRecord};
 
 // The longest stream that a record may give.

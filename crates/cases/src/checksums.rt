@@ -1,19 +1,19 @@
 // C records: the checksum of some bytes.
-use crate::Step;
-use crate::records::LARGEST;
-use crate::records::bad_record;
-use crate::records::is_whole;
-use crate::records::room;
-use crate::records::sized;
 use buffer::part;
 use buffer::u32_at;
 use crc32c::checksum;
+use records::LARGEST;
+use records::Step;
+use records::bad_record;
+use records::is_whole;
+use records::room;
+use records::sized;
 use text::put_end;
 use text::put_hex;
 use text::put_word;
 ghost use mathlib.Core.Path.{_≡_};
 ghost use Rattle.text.specs.Page.{page};
-ghost use Rattle.cases.specs.Records.{Did, print};
+ghost use Rattle.records.specs.Records.{Did, print};
 ghost use Rattle.cases.specs.Checksums.{checksumSize, checksumLine, checksumRecord};
 
 fn checksum_size(s: &[u8]) -> usize

@@ -2,24 +2,31 @@
 mod builds;
 mod calls;
 mod checksums;
-mod records;
 
+use body_cases::reading::read_record;
+use body_cases::writing::write_record;
 use buffer::byte_at;
 use buffer::part;
 use builds::banner_record;
 use builds::frame_record;
 use calls::receiver_record;
 use checksums::checksum_record;
+use handshake_cases::mode_record;
+use handshake_cases::steps_record;
 use libc::STDIN_FILENO;
 use libc::STDOUT_FILENO;
+use records::LARGEST;
+use records::Step;
 use records::bad_record;
+use sealing_cases::sealing_record;
+use session_cases::session_record;
 ghost use mathlib.Core.Path.{_≡_};
 ghost use mathlib.Core.List.{_++_};
 ghost use Prim.Native.Nat.{_+_, _≤_, _<_};
 ghost use lib.ListN.{length, take, drop};
 ghost use Rattle.cases.specs.Between.{Between, Refilled};
-ghost use Rattle.cases.specs.Records.{Did};
-ghost use Rattle.cases.specs.Kinds.{recordOf};
+ghost use Rattle.records.specs.Records.{Did};
+ghost use Rattle.cases.specs.Kinds.{otherRecord, recordOf};
 
 // The bytes of the longest record of any kind.
 const LONGEST: usize = 163869;
@@ -32,12 +39,6 @@ struct Input {
     at: usize,
     end: usize,
     open: bool,
-}
-
-// What a record came to: how many bytes it has, 0 where it is bad, and where the text now ends.
-struct Step {
-    taken: usize,
-    filled: usize,
 }
 
 // Between two records: the input, where the text ends, and how many more records are read.
@@ -87,6 +88,36 @@ fn refill(held: &mut [u8], input: Input) -> Input
 
 // ---- records
 
+// Kinds that have a crate of their own.
+fn run_other(s: &[u8], space: &mut [u8], text: &mut [u8], at: usize) -> Step
+    requires { ⌜ 65536 ≤ length (now space) ⌝ }
+    ensures { λ r. ⌜ Did (otherRecord (now (s .entry))) (now (s .entry)) (now (text .entry)) at (now (text .exit)) r ⌝ }
+{
+    let kind = byte_at(s, 0);
+    if kind == b'N' {
+        return session_record(s, text, at);
+    }
+    if kind == b'P' {
+        return steps_record(s, text, at);
+    }
+    if kind == b'M' {
+        return mode_record(s, text, at);
+    }
+    if kind == b'S' {
+        return sealing_record(false, s, &mut space[..LARGEST], text, at);
+    }
+    if kind == b'O' {
+        return sealing_record(true, s, &mut space[..LARGEST], text, at);
+    }
+    if kind == b'H' {
+        return read_record(s, text, at);
+    }
+    if kind == b'W' {
+        return write_record(s, &mut space[..LARGEST], text, at);
+    }
+    bad_record(text, at)
+}
+
 // The record that the input begins with, by its first byte.
 fn run_record(s: &[u8], space: &mut [u8], text: &mut [u8], at: usize) -> Step
     requires { ⌜ 65536 ≤ length (now space) ⌝ }
@@ -108,7 +139,7 @@ fn run_record(s: &[u8], space: &mut [u8], text: &mut [u8], at: usize) -> Step
     if kind == b'T' {
         return receiver_record(true, s, space, text, at);
     }
-    bad_record(text, at)
+    run_other(s, space, text, at)
 }
 
 // ---- the run

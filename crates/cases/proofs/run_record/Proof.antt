@@ -1,20 +1,9 @@
-use mathlib.Core.Path.{_≡_, sym, _∙_}
-use mathlib.Core.Bool.{true, false}
-use Prim.Native.Nat.{ℕ}
-use native.Mathlib.Omega.{arith}
+use mathlib.Core.Path.{_≡_}
 use borrow.Author.Needs.{needs}
-use borrow.Author.Tests.{eq-eqb, ne-eqb}
-use lib.Dec.{eqb}
+use Rattle.cases.proofs.Laws.{kind-is, kind-isnt}
 use Rattle.cases.specs.Kinds.{recordOf}
 use Rattle.cases.proofs.run_record.Statement.{statement}
 use Rattle.cases.proofs.run_record.Tie as tie
-
--- the first byte is n, or is not
-is : {k b n : ℕ} → k ≡ b → k ≡ n → eqb b n ≡ true
-is {k} {b} {n} e f = eq-eqb b n (sym e ∙ f)
-
-isnt : {k b n : ℕ} → k ≡ b → (k ≡ n → ⊥) → eqb b n ≡ false
-isnt {k} {b} {n} e f = ne-eqb b n (λ g. f (e ∙ g))
 
 byte-at-requires : tie.Need-byte-at-requires
 byte-at-requires c κs = search needs
@@ -27,9 +16,8 @@ same-length c = search needs
 
 returns : tie.Need-returns
 unfolding recordOf
-returns c =
-    let k = c .before .before .before .before .before .byte-at .ensures in
-    rw (is k (c .before .before .before .before .if1 .taken)) (c .before .before .checksum-record .ensures)
+returns c = let k = c .before .before .before .before .before .byte-at .ensures in
+    rw (kind-is k (c .before .before .before .before .if1 .taken)) (c .before .before .checksum-record .ensures)
 
 banner-record-requires : tie.Need-banner-record-requires
 banner-record-requires c κs = search needs
@@ -42,9 +30,8 @@ same-length-3 c = search needs
 
 returns-2 : tie.Need-returns-2
 unfolding recordOf
-returns-2 c =
-    let k = c .before .before .before .before .before .before .before .before .before .byte-at .ensures in
-    rw (isnt k (c .before .before .before .before .before .before .before .before .if1 .left), is k (c .before .before .before .before .before .before .before .if2 .taken)) (c .before .before .before .before .banner-record .ensures)
+returns-2 c = let k = c .before .before .before .before .before .before .before .before .before .byte-at .ensures in
+    rw (kind-isnt k (c .before .before .before .before .before .before .before .before .if1 .left), kind-is k (c .before .before .before .before .before .before .before .if2 .taken)) (c .before .before .before .before .banner-record .ensures)
 
 frame-record-requires : tie.Need-frame-record-requires
 frame-record-requires c κs = search needs
@@ -57,9 +44,8 @@ same-length-5 c = search needs
 
 returns-3 : tie.Need-returns-3
 unfolding recordOf
-returns-3 c =
-    let k = c .before .before .before .before .before .before .before .before .before .before .byte-at .ensures in
-    rw (isnt k (c .before .before .before .before .before .before .before .before .before .if1 .left), isnt k (c .before .before .before .before .before .before .before .before .if2 .left), is k (c .before .before .before .before .before .before .before .if3 .taken)) (c .before .before .before .before .frame-record .ensures)
+returns-3 c = let k = c .before .before .before .before .before .before .before .before .before .before .byte-at .ensures in
+    rw (kind-isnt k (c .before .before .before .before .before .before .before .before .before .if1 .left), kind-isnt k (c .before .before .before .before .before .before .before .before .if2 .left), kind-is k (c .before .before .before .before .before .before .before .if3 .taken)) (c .before .before .before .before .frame-record .ensures)
 
 receiver-record-requires : tie.Need-receiver-record-requires
 receiver-record-requires c κs = search needs
@@ -72,9 +58,8 @@ same-length-7 c = search needs
 
 returns-4 : tie.Need-returns-4
 unfolding recordOf
-returns-4 c =
-    let k = c .before .before .before .before .before .before .before .before .before .before .before .byte-at .ensures in
-    rw (isnt k (c .before .before .before .before .before .before .before .before .before .before .if1 .left), isnt k (c .before .before .before .before .before .before .before .before .before .if2 .left), isnt k (c .before .before .before .before .before .before .before .before .if3 .left), is k (c .before .before .before .before .before .before .before .if4 .taken)) (c .before .before .before .before .receiver-record .ensures)
+returns-4 c = let k = c .before .before .before .before .before .before .before .before .before .before .before .byte-at .ensures in
+    rw (kind-isnt k (c .before .before .before .before .before .before .before .before .before .before .if1 .left), kind-isnt k (c .before .before .before .before .before .before .before .before .before .if2 .left), kind-isnt k (c .before .before .before .before .before .before .before .before .if3 .left), kind-is k (c .before .before .before .before .before .before .before .if4 .taken)) (c .before .before .before .before .receiver-record .ensures)
 
 receiver-record-requires-2 : tie.Need-receiver-record-requires-2
 receiver-record-requires-2 c κs = search needs
@@ -87,22 +72,22 @@ same-length-9 c = search needs
 
 returns-5 : tie.Need-returns-5
 unfolding recordOf
-returns-5 c =
-    let k = c .before .before .before .before .before .before .before .before .before .before .before .before .byte-at .ensures in
-    rw (isnt k (c .before .before .before .before .before .before .before .before .before .before .before .if1 .left), isnt k (c .before .before .before .before .before .before .before .before .before .before .if2 .left), isnt k (c .before .before .before .before .before .before .before .before .before .if3 .left), isnt k (c .before .before .before .before .before .before .before .before .if4 .left), is k (c .before .before .before .before .before .before .before .if5 .taken)) (c .before .before .before .before .receiver-record2 .ensures)
+returns-5 c = let k = c .before .before .before .before .before .before .before .before .before .before .before .before .byte-at .ensures in
+    rw (kind-isnt k (c .before .before .before .before .before .before .before .before .before .before .before .if1 .left), kind-isnt k (c .before .before .before .before .before .before .before .before .before .before .if2 .left), kind-isnt k (c .before .before .before .before .before .before .before .before .before .if3 .left), kind-isnt k (c .before .before .before .before .before .before .before .before .if4 .left), kind-is k (c .before .before .before .before .before .before .before .if5 .taken)) (c .before .before .before .before .receiver-record2 .ensures)
 
-bad-record-requires : tie.Need-bad-record-requires
-bad-record-requires c κs = search needs
+run-other-requires : tie.Need-run-other-requires
+run-other-requires c κs = search needs
 
 same-length-10 : tie.Need-same-length-10
 same-length-10 c = search needs
 
+same-length-11 : tie.Need-same-length-11
+same-length-11 c = search needs
+
 returns-6 : tie.Need-returns-6
 unfolding recordOf
-returns-6 c =
-    let k = c .before .before .before .before .before .before .before .before .before .byte-at .ensures in
-    rw (isnt k (c .before .before .before .before .before .before .before .before .if1 .left), isnt k (c .before .before .before .before .before .before .before .if2 .left), isnt k (c .before .before .before .before .before .before .if3 .left), isnt k (c .before .before .before .before .before .if4 .left), isnt k (c .before .before .before .before .if5 .left))
-    (record { taken = c .before .before .bad-record .ensures .0; printed = c .before .before .bad-record .ensures .1; within = let z = c .before .before .bad-record .ensures .0 in omega arith })
+returns-6 c = let k = c .before .before .before .before .before .before .before .before .before .before .before .before .byte-at .ensures in
+    rw (kind-isnt k (c .before .before .before .before .before .before .before .before .before .before .before .if1 .left), kind-isnt k (c .before .before .before .before .before .before .before .before .before .before .if2 .left), kind-isnt k (c .before .before .before .before .before .before .before .before .before .if3 .left), kind-isnt k (c .before .before .before .before .before .before .before .before .if4 .left), kind-isnt k (c .before .before .before .before .before .before .before .if5 .left)) (c .before .before .before .before .run-other .ensures)
 
 pub run-record-spec : {M : Type 1} → statement M
 run-record-spec =
@@ -128,6 +113,7 @@ run-record-spec =
     same-length-8
     same-length-9
     returns-5
-    bad-record-requires
+    run-other-requires
     same-length-10
+    same-length-11
     returns-6)

@@ -10,9 +10,10 @@ use Rattle.buffer.specs.Le.{numberAt}
 use Rattle.builder.specs.Build.{done, answered}
 use Rattle.text.specs.Line.{Piece}
 use Rattle.text.specs.Page.{page}
-use Rattle.cases.specs.Records.{isWhole, print, prints, counted}
+use Rattle.records.specs.Records.{isWhole, print, prints, counted}
 use Rattle.cases.specs.Builds.{doneLine, bannerSize, bannerDoneOf, bannerRecord}
-use Rattle.cases.proofs.Laws.{did-bad, did-whole, banner-buffer, banner-done, built-line}
+use Rattle.records.proofs.Laws.{did-bad, did-whole}
+use Rattle.cases.proofs.Laws.{banner-buffer, banner-done, built-line}
 use borrow.Author.Needs.{needs}
 use Rattle.cases.proofs.builds.banner_record.Statement.{statement}
 use Rattle.cases.proofs.builds.banner_record.Tie as tie

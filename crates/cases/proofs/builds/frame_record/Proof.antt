@@ -12,9 +12,10 @@ use Rattle.preamble.specs.Judge.{headerOf}
 use Rattle.builder.specs.Build.{done, answered}
 use Rattle.text.specs.Line.{Piece}
 use Rattle.text.specs.Page.{page}
-use Rattle.cases.specs.Records.{isWhole, print, prints, counted}
+use Rattle.records.specs.Records.{isWhole, print, prints, counted}
 use Rattle.cases.specs.Builds.{doneLine, revisionOf, frameSize, frameDoneOf, frameRecord}
-use Rattle.cases.proofs.Laws.{did-bad, did-whole, frame-buffer, frame-done, built-line}
+use Rattle.records.proofs.Laws.{did-bad, did-whole}
+use Rattle.cases.proofs.Laws.{frame-buffer, frame-done, built-line}
 use borrow.Author.Needs.{needs}
 use Rattle.cases.proofs.builds.frame_record.Statement.{statement}
 use Rattle.cases.proofs.builds.frame_record.Tie as tie

@@ -6,7 +6,7 @@ use borrow.Author.Needs.{needs}
 use lib.ListN.{length, drop}
 use Rattle.text.specs.Page.{page}
 use Rattle.cases.specs.declared.calls.Call.{Call}
-use Rattle.cases.specs.Records.{prints}
+use Rattle.records.specs.Records.{prints}
 use Rattle.cases.specs.Calls.{callLines, callsFrom, callWidth}
 use Rattle.cases.proofs.Laws.{calls-none, calls-on}
 use Rattle.cases.proofs.calls.make_calls.Statement.{statement}

@@ -9,9 +9,10 @@ use Rattle.buffer.specs.Le.{numberAt}
 use Rattle.banner.specs.Banner.{judgeOwn}
 use Rattle.receiver.specs.Step.{started}
 use Rattle.text.specs.Page.{page}
-use Rattle.cases.specs.Records.{isWhole, counted}
+use Rattle.records.specs.Records.{isWhole, counted}
 use Rattle.cases.specs.Calls.{receiverSize, receiverLines, receiverRecord}
-use Rattle.cases.proofs.Laws.{did-bad, did-whole, receiver-store, own-is, receiver-printed}
+use Rattle.records.proofs.Laws.{did-bad, did-whole}
+use Rattle.cases.proofs.Laws.{receiver-store, own-is, receiver-printed}
 use borrow.Author.Needs.{needs}
 use Rattle.cases.proofs.calls.receiver_record.Statement.{statement}
 use Rattle.cases.proofs.calls.receiver_record.Tie as tie

@@ -7,9 +7,9 @@ use lib.ListN.{take, drop}
 use Rattle.buffer.specs.Le.{numberAt}
 use Rattle.crc32c.specs.Crc.{crcOf}
 use Rattle.text.specs.Page.{page}
-use Rattle.cases.specs.Records.{isWhole, print, prints}
+use Rattle.records.specs.Records.{isWhole, print, prints}
 use Rattle.cases.specs.Checksums.{checksumSize, checksumLine, checksumRecord}
-use Rattle.cases.proofs.Laws.{did-bad, did-whole}
+use Rattle.records.proofs.Laws.{did-bad, did-whole}
 use borrow.Author.Needs.{needs}
 use Rattle.cases.proofs.checksums.checksum_record.Statement.{statement}
 use Rattle.cases.proofs.checksums.checksum_record.Tie as tie

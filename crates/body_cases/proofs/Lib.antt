@@ -1,0 +1,3 @@
+mod Laws
+mod Names
+mod Requests

@@ -1,0 +1,154 @@
+-- Requests that are read off a record, and the bodies that they write.
+use mathlib.Core.Path.{_≡_, refl, sym, ap, _∙_}
+use mathlib.Core.Bool.{Bool, true, false, not, _&&_}
+use mathlib.Core.List.{List, [], _∷_}
+use Prim.Native.Nat.{ℕ, _+_, _*_, _≤_, min}
+use native.Mathlib.Omega.{arith}
+use borrow.Author.Tests.{leb-true, ne-eqb}
+use lib.Dec.{leb}
+use lib.ListN.{length, take, drop, getD, drop-of-length-le}
+use Rattle.buffer.specs.Le.{numberAt}
+use Rattle.crc32c.specs.Crc.{crcOf}
+use Rattle.fields.specs.declared.Cursor.{Cursor}
+use Rattle.fields.specs.Layout.{Kind, num, neg, list, size, rest, plain, good, stepOf}
+use Rattle.fields.specs.Field.{Field, number, negative, numbers, sized, opaque, fixed, wordsOf}
+use Rattle.fields.specs.Reading.{Took, spanIn}
+use Rattle.bodies.specs.declared.Written.{Written}
+use Rattle.bodies.specs.Table.{layoutIn, layoutOf, unlisted}
+use Rattle.bodies.specs.Rows.{requested}
+use Rattle.bodies.specs.Write.{Done, done, outcomeOf, writeAs, writeBody}
+use Rattle.records.specs.Records.{isWhole, allowed, counted}
+use Rattle.records.specs.Records as records
+use Rattle.records.proofs.Laws.{first, sized-good, words-take}
+use Rattle.body_cases.specs.declared.writing.Asked.{Asked}
+use Rattle.body_cases.specs.Writing.{limited, pastGiven, fieldsGiven, allGiven, kindsFor, outcomeLine, doneLine, writeSize, writeOf, Given, BytesGiven, fieldsOf, Asks, AsksFor}
+
+-- ---- steps
+
+-- past the end nothing is left
+pub drop-past : (s : List ℕ) (at : ℕ) → length s ≤ at → drop at s ≡ drop (at + 1) s
+drop-past s at h = drop-of-length-le s {i = at} h ∙ sym (drop-of-length-le s {i = at + 1} (omega arith))
+
+module _ {s : List ℕ} {c d : Cursor} where
+  pub num-given : {w : ℕ} {f : Field} → Took (num w) s c f d → Given (num w) s c f d
+  num-given t = record { next = t .next; value = t .value }
+
+  pub neg-given : {n : ℕ} → Took (num 4) s c (number 4 n) d → Given neg s c (negative n) d
+  neg-given {n} t = let e = t .value in record { next = t .next; value = cc }
+
+  pub plain-given : {w : ℕ} {f : Field} → Took (plain w) s c f d → Given (plain w) s c f d
+  plain-given t = record { next = t .next; value = t .value }
+
+  pub size-given : {bs : List ℕ} → BytesGiven s c bs d → Given size s c (sized bs) d
+  size-given t = record { next = t .next; value = ap sized (t .value) }
+
+  pub rest-given : {bs : List ℕ} (k : ℕ) → BytesGiven s c bs d → Given (rest k) s c (opaque k bs) d
+  rest-given k t = record { next = t .next; value = ap (opaque k) (t .value) }
+
+pub bytes-by : {s : List ℕ} {c d e : Cursor} {bs : List ℕ} {n : ℕ} → Took size s c (sized bs) d → n ≡ numberAt 4 (c .at) s → e ≡ limited (allowed n) d → BytesGiven s c bs e
+bytes-by {s} {c} {d} {e} {bs} {n} t en k = let v = t .value in record { next = k ∙ rw (t .next, en); value = cc }
+
+pub list-by : (place : ℕ) {s : List ℕ} {c a b d : Cursor} {n count : ℕ} {f : Field}
+    → Took (num 1) s c (number 1 n) a
+    → Took (plain (4 * n)) s a f b
+    → d ≡ limited (leb n 64) b
+    → count ≡ min n 64
+    → drop place s ≡ drop (c .at + 1) s
+    → Given list s c (numbers (wordsOf count (drop place s))) d
+list-by place {s} {c} {a} {b} {d} {n} {count} t u k ec ep =
+    let v = t .value in
+    let en : n ≡ numberAt 1 (c .at) s = cc in
+    record { next = k ∙ rw (u .next, t .next, en); value = rw (ec, ep, en) }
+
+-- ---- rows of steps
+
+pub data Row (s : List ℕ) : Cursor → List Kind → List Field → Cursor → Type 0 where
+  end : {c : Cursor} → Row s c [] [] c
+  step : {k : Kind} {c d e : Cursor} {f : Field} {ks : List Kind} {fs : List Field} → Given k s c f d → Row s d ks fs e → Row s c (k ∷ ks) (f ∷ fs) e
+
+row-end : {s : List ℕ} {c e : Cursor} {ks : List Kind} {fs : List Field} → Row s c ks fs e → allGiven ks s c ≡ e
+unfolding allGiven
+row-end end = refl
+row-end (step t r) = rw (← (t .next)) (row-end r)
+
+row-fields : {s : List ℕ} {c e : Cursor} {ks : List Kind} {fs : List Field} → Row s c ks fs e → fieldsGiven ks s c ≡ fs
+unfolding fieldsGiven
+row-fields end = refl
+row-fields (step {f = f} t r) = rw (← (t .next), ← (t .value)) (ap (λ (l : List Field). f ∷ l) (row-fields r))
+
+pub asked : {s : List ℕ} {c e : Cursor} {ks : List Kind} {fs : List Field} {a : Asked}
+    → c ≡ good 7
+    → Row s c ks fs e
+    → fieldsOf s a ≡ fs
+    → a .end ≡ e
+    → a .first .count ≤ 64
+    → a .second .count ≤ 64
+    → Asks ks s a
+asked {s} {c} {e} {ks} z r f k m n =
+    record {
+      fields = f ∙ sym (row-fields r) ∙ ap (fieldsGiven ks s) z;
+      end = k ∙ sym (row-end r) ∙ ap (allGiven ks s) z;
+      few = (m, n);
+    }
+
+-- ---- by tag
+
+pub asks-for : {ks : List Kind} {s : List ℕ} {a : Asked} (tag k : ℕ) → tag ≡ k → kindsFor k ≡ ks → Asks ks s a → AsksFor tag s a
+asks-for {ks} {s} {a} tag k e q x =
+    let t : kindsFor tag ≡ ks = ap kindsFor e ∙ q in
+    record {
+      writes = λ out. ap (λ (fs : List Field). writeBody tag fs out) (x .fields ∙ ap (λ (l : List Kind). fieldsGiven l s (good 7)) (sym t));
+      end = x .end ∙ ap (λ (l : List Kind). allGiven l s (good 7)) (sym t);
+      few = x .few;
+    }
+
+pub not-listed : (tag : ℕ) → (tag ≡ 1 → ⊥) → (tag ≡ 2 → ⊥) → (tag ≡ 3 → ⊥) → (tag ≡ 4 → ⊥) → (tag ≡ 5 → ⊥) → (tag ≡ 6 → ⊥) → (tag ≡ 8 → ⊥) → (tag ≡ 9 → ⊥) → (tag ≡ 10 → ⊥) → (tag ≡ 11 → ⊥) → (tag ≡ 12 → ⊥) → (tag ≡ 15 → ⊥) → (tag ≡ 18 → ⊥) → (tag ≡ 19 → ⊥) → (tag ≡ 20 → ⊥) → layoutOf tag ≡ unlisted
+unfolding layoutIn
+not-listed tag n1 n2 n3 n4 n5 n6 n8 n9 n10 n11 n12 n15 n18 n19 n20 =
+    rw
+    (ne-eqb tag 1 n1, ne-eqb tag 2 n2, ne-eqb tag 3 n3, ne-eqb tag 4 n4, ne-eqb tag 5 n5, ne-eqb tag 6 n6, ne-eqb tag 8 n8, ne-eqb tag 9 n9, ne-eqb tag 10 n10, ne-eqb tag 11 n11, ne-eqb tag 12 n12, ne-eqb tag 15 n15, ne-eqb tag 18 n18, ne-eqb tag 19 n19, ne-eqb tag 20 n20)
+
+pub asks-none : {s : List ℕ} {a : Asked} (tag : ℕ) → layoutOf tag ≡ unlisted → a .end ≡ good 7 → a .first .count ≤ 64 → a .second .count ≤ 64 → AsksFor tag s a
+unfolding writeBody writeAs allGiven
+asks-none {s} {a} tag e k m n = record { writes = λ out. rw e; end = rw e k; few = (m, n) }
+
+-- ---- the body
+
+pub fields-same : (s : List ℕ) (a : Asked) (xs ys bs : List ℕ)
+    → a .first .count ≤ 64
+    → a .second .count ≤ 64
+    → xs ≡ wordsOf 64 (drop (a .first .at) s)
+    → ys ≡ wordsOf 64 (drop (a .second .at) s)
+    → bs ≡ spanIn s (a .bytes)
+    → requested (a .request) (take (a .first .count) xs) (take (a .second .count) ys) bs ≡ fieldsOf s a
+fields-same s a xs ys bs m n ex ey eb =
+    rw (ex, ey, eb, words-take (a .first .count) 64 (drop (a .first .at) s) m, words-take (a .second .count) 64 (drop (a .second .at) s) n)
+
+-- ---- the record
+
+pub size-is : (room : ℕ) (s : List ℕ) (tag n : ℕ) {a : Asked} {b : Bool} {size : ℕ}
+    → tag ≡ getD s 1 0
+    → n ≡ numberAt 4 2 s
+    → AsksFor tag s a
+    → b ≡ (leb n room && not (a .end .failed))
+    → size ≡ records.sized b (a .end .at)
+    → size ≡ writeSize room s
+unfolding writeSize
+size-is room s tag n et en x eb es = es ∙ rw (eb, x .end, en, et)
+
+pub write-buffer : (room : ℕ) (s : List ℕ) → isWhole (writeSize room s) s ≡ true → numberAt 4 2 s ≤ room
+unfolding writeSize
+write-buffer room s e = leb-true (numberAt 4 2 s) room (first (leb (numberAt 4 2 s) room) _ (sized-good _ _ s e))
+
+pub write-done : (s : List ℕ) (tag : ℕ) (buf : List ℕ) {a : Asked} {d : Done}
+    → tag ≡ getD s 1 0
+    → buf ≡ counted (getD s 6 0) (numberAt 4 2 s)
+    → AsksFor tag s a
+    → d ≡ writeBody tag (fieldsOf s a) buf
+    → d ≡ writeOf s
+unfolding writeOf
+write-done s tag buf et eb x ed = ed ∙ x .writes buf ∙ rw (et, eb)
+
+-- the line as code comes to it
+pub written-line : (w : Written) (sum : ℕ) (buf : List ℕ) (d : Done) → done (outcomeOf w) buf ≡ d → sum ≡ crcOf 4294967295 buf → outcomeLine (outcomeOf w) sum ≡ doneLine d
+written-line w sum buf d e k = ap (outcomeLine (outcomeOf w)) k ∙ ap doneLine e

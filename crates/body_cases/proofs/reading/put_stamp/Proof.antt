@@ -1,0 +1,59 @@
+use mathlib.Core.List.{List, [], _∷_}
+use mathlib.Core.Path.{_≡_, _∙_, sym, refl, ap}
+use Prim.Native.Nat.{_≤_, _-_}
+use native.Mathlib.Omega.{arith}
+use borrow.Author.Needs.{needs}
+use lib.ListN.{length, drop}
+use lib.Seq.{drop-length}
+use Rattle.body_cases.proofs.Laws.{stamp-more, stamp-none}
+use Rattle.body_cases.specs.Reading.{eachByte}
+use Rattle.text.specs.Page.{Page, page, puts}
+use Rattle.body_cases.proofs.reading.put_stamp.Statement.{statement}
+use Rattle.body_cases.proofs.reading.put_stamp.Tie as tie
+
+abbrev Inv-loop : tie.InvT-loop
+Inv-loop text₀ at bytes end₀ i₀ text end i = (i ≤ length bytes) × (length text ≡ length text₀) × (puts (eachByte (drop i bytes)) (page text end) ≡ puts (eachByte bytes) (page text₀ at))
+
+abbrev μ-loop : tie.MeasureT-loop
+μ-loop text₀ at bytes end₀ i₀ text end i = length bytes - i
+
+loop-holds : tie.Need-loop-holds Inv-loop μ-loop
+loop-holds c = (omega arith, refl, refl)
+
+shared-slice-read-put-byte : tie.Need-shared-slice-read-put-byte Inv-loop μ-loop
+shared-slice-read-put-byte c = omega arith
+
+put-byte-requires : tie.Need-put-byte-requires Inv-loop μ-loop
+put-byte-requires c κs = search needs
+
+add-i : tie.Need-add-i Inv-loop μ-loop
+add-i c = omega arith
+
+loop-less : tie.Need-loop-less Inv-loop μ-loop
+loop-less c = omega arith
+
+loop-again : tie.Need-loop-again Inv-loop μ-loop
+loop-again c = let l = c .before .before .before .before .before .before .loop in
+    (omega arith, c .before .before .put-byte .kept .0 ∙ l .inv .1, stamp-more (c .before .before .before .before .before .before .before .before .before .args .bytes .now) (l .i) (page (l .text) (l .end)) (omega arith) (c .before .before .put-byte .ensures) ∙ l .inv .2)
+
+same-length : tie.Need-same-length Inv-loop μ-loop
+same-length c = c .before .loop .inv .1
+
+returns : tie.Need-returns Inv-loop μ-loop
+returns c = let l = c .before .loop in
+    sym (stamp-none (c .before .before .before .before .args .bytes .now) (l .i) (page (l .text) (l .end)) (omega arith)) ∙ l .inv .2
+
+pub put-stamp-spec : {M : Type 1} → statement M
+put-stamp-spec =
+    tie.close
+    (tie.spec
+    Inv-loop
+    μ-loop
+    loop-holds
+    shared-slice-read-put-byte
+    put-byte-requires
+    add-i
+    loop-less
+    loop-again
+    same-length
+    returns)

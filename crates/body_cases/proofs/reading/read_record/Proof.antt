@@ -1,0 +1,80 @@
+use mathlib.Core.Bool.{true, false}
+use mathlib.Core.List.{List, [], _∷_}
+use mathlib.Core.Path.{_≡_, sym, ap, ap₂, _∙_}
+use Prim.Native.Nat.{ℕ}
+use borrow.Author.Needs.{needs}
+use borrow.Author.Tests.{not-true, not-false}
+use lib.ListN.{take, drop, getD}
+use Rattle.bodies.specs.Read.{readBody}
+use Rattle.body_cases.proofs.Laws.{read-answer}
+use Rattle.body_cases.specs.Reading.{readLine, readSize, answerOf, readRecord}
+use Rattle.records.proofs.Laws.{did-bad, did-whole}
+use Rattle.records.specs.Records.{isWhole, print, prints}
+use Rattle.text.specs.Line.{Piece}
+use Rattle.text.specs.Page.{page}
+use Rattle.body_cases.proofs.reading.read_record.Statement.{statement}
+use Rattle.body_cases.proofs.reading.read_record.Tie as tie
+
+read-size-requires : tie.Need-read-size-requires
+read-size-requires c κs = search needs
+
+is-whole-requires : tie.Need-is-whole-requires
+is-whole-requires c κs = search needs
+
+bad-record-requires : tie.Need-bad-record-requires
+bad-record-requires c κs = search needs
+
+same-length : tie.Need-same-length
+same-length c = search needs
+
+returns : tie.Need-returns
+unfolding readRecord
+returns c = let s = c .before .before .before .before .before .before .before .before .before .args .s .now in
+    let e : isWhole (readSize s) s ≡ false = ap (λ (k : ℕ). isWhole k s) (sym (c .before .before .before .before .before .before .read-size .ensures)) ∙ sym (c .before .before .before .before .before .is-whole .ensures) ∙ not-true (c .before .before .before .before .before .is-whole .result) (c .before .before .before .before .if1 .taken) in
+    did-bad (readSize s) (readLine (getD s 1 0) (answerOf s) ∷ []) e (c .before .before .bad-record .ensures .0) (c .before .before .bad-record .ensures .1)
+
+byte-at-requires : tie.Need-byte-at-requires
+byte-at-requires c κs = search needs
+
+u32-at-requires : tie.Need-u32-at-requires
+u32-at-requires c κs = search needs
+
+cast-part : tie.Need-cast-part
+cast-part c = search needs
+
+part-requires : tie.Need-part-requires
+part-requires c κs = search needs
+
+read-requires : tie.Need-read-requires
+read-requires c κs = search needs
+
+print-body-requires : tie.Need-print-body-requires
+print-body-requires c κs = search needs
+
+same-length-2 : tie.Need-same-length-2
+same-length-2 c = search needs
+
+returns-2 : tie.Need-returns-2
+unfolding readRecord prints
+returns-2 c = let s = c .before .before .before .before .before .before .before .before .before .before .before .before .before .args .s .now in
+    let e : isWhole (readSize s) s ≡ true = ap (λ (k : ℕ). isWhole k s) (sym (c .before .before .before .before .before .before .before .before .before .before .read-size .ensures)) ∙ sym (c .before .before .before .before .before .before .before .before .before .is-whole .ensures) ∙ not-false (c .before .before .before .before .before .before .before .before .before .is-whole .result) (c .before .before .before .before .before .before .before .before .if1 .left) in
+    did-whole (readSize s) (readLine (getD s 1 0) (answerOf s) ∷ []) e (c .before .before .before .before .before .before .before .before .before .before .read-size .ensures)
+    (c .before .before .print-body .ensures ∙ ap (λ (l : List Piece). print l (page (c .before .before .before .before .before .before .before .before .before .before .before .before .before .args .text .now) (c .before .before .before .before .before .before .before .before .before .before .before .before .before .args .at))) (read-answer s (c .before .before .before .before .before .before .before .byte-at .result) (c .before .before .before .before .before .before .u32-at .result) (c .before .before .before .before .before .part .result .now) (c .before .before .before .before .before .before .before .byte-at .ensures) (c .before .before .before .before .before .before .u32-at .ensures) (c .before .before .before .before .before .part .ensures)))
+
+pub read-record-spec : {M : Type 1} → statement M
+read-record-spec =
+    tie.close
+    (tie.spec
+    read-size-requires
+    is-whole-requires
+    bad-record-requires
+    same-length
+    returns
+    byte-at-requires
+    u32-at-requires
+    cast-part
+    part-requires
+    read-requires
+    print-body-requires
+    same-length-2
+    returns-2)

@@ -1,0 +1,131 @@
+use mathlib.Core.Bool.{true, false}
+use mathlib.Core.List.{List, [], _∷_}
+use mathlib.Core.Path.{_≡_, sym, ap, ap₂, _∙_}
+use Prim.Native.Nat.{ℕ}
+use native.Mathlib.Omega.{arith}
+use borrow.Author.Needs.{needs}
+use borrow.Author.Tests.{not-true, not-false}
+use lib.ListN.{length, take}
+use lib.Seq.{length-take-le}
+use Rattle.bodies.specs.Write.{done, outcomeOf}
+use Rattle.body_cases.proofs.Requests.{size-is, write-buffer, write-done, written-line}
+use Rattle.body_cases.specs.Writing.{doneLine, writeSize, writeOf, writeRecord}
+use Rattle.buffer.specs.Le.{numberAt}
+use Rattle.records.proofs.Laws.{did-bad, did-whole}
+use Rattle.records.specs.Records.{isWhole, print, prints, counted}
+use Rattle.text.specs.Line.{Piece}
+use Rattle.text.specs.Page.{page}
+use Rattle.body_cases.proofs.writing.write_record.Statement.{statement}
+use Rattle.body_cases.proofs.writing.write_record.Tie as tie
+
+byte-at-requires : tie.Need-byte-at-requires
+byte-at-requires c κs = search needs
+
+u32-at-requires : tie.Need-u32-at-requires
+u32-at-requires c κs = search needs
+
+cast-n : tie.Need-cast-n
+cast-n c = search needs
+
+ask-requires : tie.Need-ask-requires
+ask-requires c κs = search needs
+
+both-requires : tie.Need-both-requires
+both-requires c κs = search needs
+
+sized-requires : tie.Need-sized-requires
+sized-requires c κs = search needs
+
+is-whole-requires : tie.Need-is-whole-requires
+is-whole-requires c κs = search needs
+
+bad-record-requires : tie.Need-bad-record-requires
+bad-record-requires c κs = search needs
+
+same-length : tie.Need-same-length
+same-length c = search needs
+
+returns : tie.Need-returns
+unfolding writeRecord
+returns c = let s = c .before .before .before .before .before .before .before .before .before .before .before .before .before .before .before .before .args .s .now in
+    let room = length (c .before .before .before .before .before .before .before .before .before .before .before .before .before .before .before .before .args .space .now) in
+    let z : c .before .before .before .before .before .before .sized .result ≡ writeSize room s = size-is room s (c .before .before .before .before .before .before .before .before .before .before .before .before .byte-at .result) (c .before .before .before .before .before .before .before .before .before .before .before .u32-at .result) (c .before .before .before .before .before .before .before .before .before .before .before .before .byte-at .ensures) (c .before .before .before .before .before .before .before .before .before .before .before .u32-at .ensures) (c .before .before .before .before .before .before .before .before .before .before .ask .ensures) (c .before .before .before .before .before .before .before .both .ensures) (c .before .before .before .before .before .before .sized .ensures) in
+    let e : isWhole (writeSize room s) s ≡ false = ap (λ (k : ℕ). isWhole k s) (sym z) ∙ sym (c .before .before .before .before .before .is-whole .ensures) ∙ not-true (c .before .before .before .before .before .is-whole .result) (c .before .before .before .before .if1 .taken) in
+    did-bad (writeSize room s) (doneLine (writeOf s) ∷ []) e (c .before .before .bad-record .ensures .0) (c .before .before .bad-record .ensures .1)
+
+slice-relend-prefix-buf : tie.Need-slice-relend-prefix-buf
+slice-relend-prefix-buf c = let s = c .before .before .before .before .before .before .before .before .before .before .before .before .args .s .now in
+    let room = length (c .before .before .before .before .before .before .before .before .before .before .before .before .args .space .now) in
+    let z : c .before .before .sized .result ≡ writeSize room s = size-is room s (c .before .before .before .before .before .before .before .before .byte-at .result) (c .before .before .before .before .before .before .before .u32-at .result) (c .before .before .before .before .before .before .before .before .byte-at .ensures) (c .before .before .before .before .before .before .before .u32-at .ensures) (c .before .before .before .before .before .before .ask .ensures) (c .before .before .before .both .ensures) (c .before .before .sized .ensures) in
+    let e : isWhole (writeSize room s) s ≡ true = ap (λ (k : ℕ). isWhole k s) (sym z) ∙ sym (c .before .is-whole .ensures) ∙ not-false (c .before .is-whole .result) (c .if1 .left) in
+    let h = write-buffer room s e in
+    omega (arith, c .before .before .before .before .before .before .before .u32-at .ensures)
+
+slice-aggregate-buf : tie.Need-slice-aggregate-buf
+slice-aggregate-buf c = let s = c .before .before .before .before .before .before .before .before .before .before .before .before .before .args .s .now in
+    let room = length (c .before .before .before .before .before .before .before .before .before .before .before .before .before .args .space .now) in
+    let z : c .before .before .before .sized .result ≡ writeSize room s = size-is room s (c .before .before .before .before .before .before .before .before .before .byte-at .result) (c .before .before .before .before .before .before .before .before .u32-at .result) (c .before .before .before .before .before .before .before .before .before .byte-at .ensures) (c .before .before .before .before .before .before .before .before .u32-at .ensures) (c .before .before .before .before .before .before .before .ask .ensures) (c .before .before .before .before .both .ensures) (c .before .before .before .sized .ensures) in
+    let e : isWhole (writeSize room s) s ≡ true = ap (λ (k : ℕ). isWhole k s) (sym z) ∙ sym (c .before .before .is-whole .ensures) ∙ not-false (c .before .before .is-whole .result) (c .before .if1 .left) in
+    let h = write-buffer room s e in
+    sym (length-take-le (c .before .before .before .before .before .before .before .before .u32-at .result) (c .before .before .before .before .before .before .before .before .before .before .before .before .before .args .space .now) (omega (arith, c .before .before .before .before .before .before .before .before .u32-at .ensures)))
+
+byte-at-requires-2 : tie.Need-byte-at-requires-2
+byte-at-requires-2 c κs = search needs
+
+count-up-requires : tie.Need-count-up-requires
+count-up-requires c κs = search needs
+
+write-asked-requires : tie.Need-write-asked-requires
+write-asked-requires c κs = search needs
+
+checksum-requires : tie.Need-checksum-requires
+checksum-requires c κs = search needs
+
+print-written-requires : tie.Need-print-written-requires
+print-written-requires c κs = search needs
+
+same-length-2 : tie.Need-same-length-2
+same-length-2 c = search needs
+
+same-length-3 : tie.Need-same-length-3
+same-length-3 c = search needs
+
+returns-2 : tie.Need-returns-2
+unfolding writeRecord prints
+returns-2 c = let s = c .before .before .before .before .before .before .before .before .before .before .before .before .before .before .before .before .before .before .before .before .before .before .before .before .before .before .before .before .before .before .args .s .now in
+    let room = length (c .before .before .before .before .before .before .before .before .before .before .before .before .before .before .before .before .before .before .before .before .before .before .before .before .before .before .before .before .before .before .args .space .now) in
+    let z : c .before .before .before .before .before .before .before .before .before .before .before .before .before .before .before .before .before .before .before .before .sized .result ≡ writeSize room s = size-is room s (c .before .before .before .before .before .before .before .before .before .before .before .before .before .before .before .before .before .before .before .before .before .before .before .before .before .before .byte-at .result) (c .before .before .before .before .before .before .before .before .before .before .before .before .before .before .before .before .before .before .before .before .before .before .before .before .before .u32-at .result) (c .before .before .before .before .before .before .before .before .before .before .before .before .before .before .before .before .before .before .before .before .before .before .before .before .before .before .byte-at .ensures) (c .before .before .before .before .before .before .before .before .before .before .before .before .before .before .before .before .before .before .before .before .before .before .before .before .before .u32-at .ensures) (c .before .before .before .before .before .before .before .before .before .before .before .before .before .before .before .before .before .before .before .before .before .before .before .before .ask .ensures) (c .before .before .before .before .before .before .before .before .before .before .before .before .before .before .before .before .before .before .before .before .before .both .ensures) (c .before .before .before .before .before .before .before .before .before .before .before .before .before .before .before .before .before .before .before .before .sized .ensures) in
+    let e : isWhole (writeSize room s) s ≡ true = ap (λ (k : ℕ). isWhole k s) (sym z) ∙ sym (c .before .before .before .before .before .before .before .before .before .before .before .before .before .before .before .before .before .before .before .is-whole .ensures) ∙ not-false (c .before .before .before .before .before .before .before .before .before .before .before .before .before .before .before .before .before .before .before .is-whole .result) (c .before .before .before .before .before .before .before .before .before .before .before .before .before .before .before .before .before .before .if1 .left) in
+    let h = write-buffer room s e in
+    let n : length (take (c .before .before .before .before .before .before .before .before .before .before .before .before .before .before .before .before .before .before .before .before .before .before .before .before .before .u32-at .result) (c .before .before .before .before .before .before .before .before .before .before .before .before .before .before .before .before .before .before .before .before .before .before .before .before .before .before .before .before .before .before .args .space .now)) ≡ numberAt 4 2 s = length-take-le (c .before .before .before .before .before .before .before .before .before .before .before .before .before .before .before .before .before .before .before .before .before .before .before .before .before .u32-at .result) (c .before .before .before .before .before .before .before .before .before .before .before .before .before .before .before .before .before .before .before .before .before .before .before .before .before .before .before .before .before .before .args .space .now) (omega (arith, c .before .before .before .before .before .before .before .before .before .before .before .before .before .before .before .before .before .before .before .before .before .before .before .before .before .u32-at .ensures)) ∙ c .before .before .before .before .before .before .before .before .before .before .before .before .before .before .before .before .before .before .before .before .before .before .before .before .before .u32-at .ensures in
+    let d : done (outcomeOf (c .before .before .before .before .before .before .before .before .before .before .write-asked .result)) (c .before .before .before .before .before .before .before .before .before .before .write-asked .last .0) ≡ writeOf s =
+    write-done s (c .before .before .before .before .before .before .before .before .before .before .before .before .before .before .before .before .before .before .before .before .before .before .before .before .before .before .byte-at .result) (c .before .before .before .before .before .before .before .before .before .before .before .before .before .before .count-up .last .0) (c .before .before .before .before .before .before .before .before .before .before .before .before .before .before .before .before .before .before .before .before .before .before .before .before .before .before .byte-at .ensures) (c .before .before .before .before .before .before .before .before .before .before .before .before .before .before .count-up .ensures ∙ ap₂ counted (c .before .before .before .before .before .before .before .before .before .before .before .before .before .before .before .byte-at2 .ensures) n) (c .before .before .before .before .before .before .before .before .before .before .before .before .before .before .before .before .before .before .before .before .before .before .before .before .ask .ensures) (c .before .before .before .before .before .before .before .before .before .before .write-asked .ensures)
+    in
+    let k = written-line (c .before .before .before .before .before .before .before .before .before .before .write-asked .result) (c .before .before .before .before .before .before .checksum .result) (c .before .before .before .before .before .before .before .before .before .before .write-asked .last .0) (writeOf s) d (c .before .before .before .before .before .before .checksum .ensures) in
+    did-whole (writeSize room s) (doneLine (writeOf s) ∷ []) e z
+    (c .before .before .print-written .ensures ∙ ap (λ (x : List Piece). print x (page (c .before .before .before .before .before .before .before .before .before .before .before .before .before .before .before .before .before .before .before .before .before .before .before .before .before .before .before .before .before .before .args .text .now) (c .before .before .before .before .before .before .before .before .before .before .before .before .before .before .before .before .before .before .before .before .before .before .before .before .before .before .before .before .before .before .args .at))) k)
+
+pub write-record-spec : {M : Type 1} → statement M
+write-record-spec =
+    tie.close
+    (tie.spec
+    byte-at-requires
+    u32-at-requires
+    cast-n
+    ask-requires
+    both-requires
+    sized-requires
+    is-whole-requires
+    bad-record-requires
+    same-length
+    returns
+    slice-relend-prefix-buf
+    slice-aggregate-buf
+    byte-at-requires-2
+    count-up-requires
+    write-asked-requires
+    checksum-requires
+    print-written-requires
+    same-length-2
+    same-length-3
+    returns-2)

@@ -1,0 +1,456 @@
+// W records: a body's fields are read off the record, and the body is written into a buffer that counts up.
+use bodies::Ident;
+use bodies::Reconnect;
+use bodies::Request;
+use bodies::Written;
+use bodies::write;
+use buffer::byte_at;
+use buffer::part;
+use buffer::u32_at;
+use crc32c::checksum;
+use fields::Cursor;
+use fields::ListStep;
+use fields::NumberList;
+use fields::Span;
+use fields::SpanStep;
+use fields::read_bytes;
+use fields::read_payload;
+use fields::read_u8;
+use fields::read_u32;
+use fields::read_u64;
+use records::LARGEST;
+use records::Step;
+use records::bad_record;
+use records::count_up;
+use records::is_whole;
+use records::print_refused;
+use records::print_wrote;
+use records::read_words;
+use records::sized;
+use refusal::both;
+use refusal::either;
+use refusal::in_numbers;
+ghost use mathlib.Core.Path.{_≡_};
+ghost use Prim.Native.Nat.{_+_, _≤_, _<_, min};
+ghost use lib.ListN.{length, drop};
+ghost use Rattle.fields.specs.Field.{numbers};
+ghost use Rattle.fields.specs.Layout.{good, list};
+ghost use Rattle.fields.specs.Reading.{numbersIn, spanIn};
+ghost use Rattle.bodies.specs.Table.{hello, authRequest, badMethod, more, authDone, ident, reconnect, oneNumber, reset, stamp};
+ghost use Rattle.bodies.specs.Write.{done, outcomeOf, writeBody};
+ghost use Rattle.text.specs.Page.{page};
+ghost use Rattle.records.specs.Records.{Did, print};
+ghost use Rattle.body_cases.specs.Writing.{limited, Given, BytesGiven, fieldsOf, Asks, AsksFor, outcomeLine, writeSize, writeRecord};
+
+// What is to be written: the request, the places of its lists and bytes in the record, and the cursor behind them.
+struct Asked {
+    request: Request,
+    first: NumberList,
+    second: NumberList,
+    bytes: Span,
+    end: Cursor,
+}
+
+// ---- fields
+
+fn start() -> Cursor
+    ensures { λ r. ⌜ r ≡ good 7 ⌝ }
+{
+    Cursor {
+        at: 7,
+        failed: false,
+    }
+}
+
+fn limit(ok: bool, c: Cursor) -> Cursor
+    ensures { λ r. ⌜ r ≡ limited ok c ⌝ }
+{
+    Cursor {
+        at: c.at,
+        failed: either(c.failed, !ok),
+    }
+}
+
+// The place behind a byte, but not past the end.
+fn behind_byte(s: &[u8], at: usize) -> usize
+    ensures { λ r. ⌜ drop r (now (s .entry)) ≡ drop (at + 1) (now (s .entry)) ⌝ }
+{
+    if at < s.len() { at + 1 } else { at }
+}
+
+fn at_most(n: u8) -> u32
+    ensures { λ r. ⌜ (r ≡ min n 64) × (r ≤ 64) ⌝ }
+{
+    if n <= 64 { n as u32 } else { 64 }
+}
+
+fn given_list(s: &[u8], c: Cursor) -> ListStep
+    ensures { λ r. ⌜ Given list (now (s .entry)) c (numbers (numbersIn (now (s .entry)) (r .value))) (r .next) × (r .value .count ≤ 64) ⌝ }
+{
+    let a = read_u8(s, c);
+    let n = a.value;
+    let b = read_bytes(s, a.next, 4 * (n as usize));
+    let at = c.at;
+    let value = NumberList {
+        at: behind_byte(s, at),
+        count: at_most(n),
+    };
+    ListStep {
+        value: value,
+        next: limit(n <= 64, b.next),
+    }
+}
+
+fn given_bytes(s: &[u8], c: Cursor) -> SpanStep
+    ensures { λ r. ⌜ BytesGiven (now (s .entry)) c (spanIn (now (s .entry)) (r .value)) (r .next) ⌝ }
+{
+    let p = read_payload(s, c);
+    let at = c.at;
+    let span = p.value;
+    SpanStep {
+        value: span,
+        next: limit(u32_at(s, at) as usize <= LARGEST, p.next),
+    }
+}
+
+fn no_list() -> NumberList
+    ensures { λ r. ⌜ r .count ≡ 0 ⌝ }
+{
+    NumberList { at: 0, count: 0 }
+}
+
+fn no_bytes() -> Span {
+    Span { at: 0, len: 0 }
+}
+
+// ---- requests: a row of steps each
+
+fn ask_hello(s: &[u8]) -> Asked
+    ensures { λ r. ⌜ Asks hello (now (s .entry)) r ⌝ }
+{
+    let a = read_u8(s, start());
+    let p = given_bytes(s, a.next);
+    let bytes = p.value;
+    let end = p.next;
+    Asked {
+        request: Request::Hello(a.value),
+        first: no_list(),
+        second: no_list(),
+        bytes: bytes,
+        end: end,
+    }
+}
+
+fn ask_auth_request(s: &[u8]) -> Asked
+    ensures { λ r. ⌜ Asks authRequest (now (s .entry)) r ⌝ }
+{
+    let a = read_u32(s, start());
+    let b = given_list(s, a.next);
+    let p = given_bytes(s, b.next);
+    let first = b.value;
+    let bytes = p.value;
+    let end = p.next;
+    Asked {
+        request: Request::AuthRequest(a.value),
+        first: first,
+        second: no_list(),
+        bytes: bytes,
+        end: end,
+    }
+}
+
+fn ask_bad_method(s: &[u8]) -> Asked
+    ensures { λ r. ⌜ Asks badMethod (now (s .entry)) r ⌝ }
+{
+    let a = read_u32(s, start());
+    let e = read_u32(s, a.next);
+    let f = given_list(s, e.next);
+    let g = given_list(s, f.next);
+    let first = f.value;
+    let second = g.value;
+    let end = g.next;
+    let request = Request::BadMethod {
+        method: a.value,
+        error: e.value,
+    };
+    Asked {
+        request: request,
+        first: first,
+        second: second,
+        bytes: no_bytes(),
+        end: end,
+    }
+}
+
+fn ask_more(s: &[u8]) -> Asked
+    ensures { λ r. ⌜ Asks more (now (s .entry)) r ⌝ }
+{
+    let p = given_bytes(s, start());
+    let bytes = p.value;
+    let end = p.next;
+    Asked {
+        request: Request::More,
+        first: no_list(),
+        second: no_list(),
+        bytes: bytes,
+        end: end,
+    }
+}
+
+fn ask_auth_done(s: &[u8]) -> Asked
+    ensures { λ r. ⌜ Asks authDone (now (s .entry)) r ⌝ }
+{
+    let a = read_u64(s, start());
+    let b = read_u32(s, a.next);
+    let p = given_bytes(s, b.next);
+    let bytes = p.value;
+    let end = p.next;
+    let request = Request::AuthDone {
+        id: a.value,
+        mode: b.value,
+    };
+    Asked {
+        request: request,
+        first: no_list(),
+        second: no_list(),
+        bytes: bytes,
+        end: end,
+    }
+}
+
+fn ask_ident(s: &[u8]) -> Asked
+    ensures { λ r. ⌜ Asks ident (now (s .entry)) r ⌝ }
+{
+    let n = read_u32(s, start());
+    let p = given_bytes(s, n.next);
+    let a = read_u64(s, p.next);
+    let b = read_u64(s, a.next);
+    let d = read_u64(s, b.next);
+    let e = read_u64(s, d.next);
+    let f = read_u64(s, e.next);
+    let g = read_u64(s, f.next);
+    let bytes = p.value;
+    let end = g.next;
+    let i = Ident {
+        gid: a.value,
+        global: b.value,
+        supported: d.value,
+        required: e.value,
+        flags: f.value,
+        cookie: g.value,
+    };
+    let request = Request::Identity {
+        addresses: n.value,
+        ident: i,
+    };
+    Asked {
+        request: request,
+        first: no_list(),
+        second: no_list(),
+        bytes: bytes,
+        end: end,
+    }
+}
+
+fn ask_reconnect(s: &[u8]) -> Asked
+    ensures { λ r. ⌜ Asks reconnect (now (s .entry)) r ⌝ }
+{
+    let n = read_u32(s, start());
+    let p = given_bytes(s, n.next);
+    let a = read_u64(s, p.next);
+    let b = read_u64(s, a.next);
+    let d = read_u64(s, b.next);
+    let e = read_u64(s, d.next);
+    let f = read_u64(s, e.next);
+    let bytes = p.value;
+    let end = f.next;
+    let k = Reconnect {
+        client: a.value,
+        server: b.value,
+        global: d.value,
+        connect: e.value,
+        message: f.value,
+    };
+    let request = Request::Resume {
+        addresses: n.value,
+        reconnect: k,
+    };
+    Asked {
+        request: request,
+        first: no_list(),
+        second: no_list(),
+        bytes: bytes,
+        end: end,
+    }
+}
+
+fn ask_number(s: &[u8]) -> Asked
+    ensures { λ r. ⌜ Asks oneNumber (now (s .entry)) r ⌝ }
+{
+    let a = read_u64(s, start());
+    let end = a.next;
+    Asked {
+        request: Request::Number(a.value),
+        first: no_list(),
+        second: no_list(),
+        bytes: no_bytes(),
+        end: end,
+    }
+}
+
+fn ask_reset(s: &[u8]) -> Asked
+    ensures { λ r. ⌜ Asks reset (now (s .entry)) r ⌝ }
+{
+    let a = read_u8(s, start());
+    let end = a.next;
+    Asked {
+        request: Request::Reset(a.value),
+        first: no_list(),
+        second: no_list(),
+        bytes: no_bytes(),
+        end: end,
+    }
+}
+
+fn ask_stamp(s: &[u8]) -> Asked
+    ensures { λ r. ⌜ Asks stamp (now (s .entry)) r ⌝ }
+{
+    let p = read_bytes(s, start(), 8);
+    let bytes = p.value;
+    let end = p.next;
+    Asked {
+        request: Request::Stamp,
+        first: no_list(),
+        second: no_list(),
+        bytes: bytes,
+        end: end,
+    }
+}
+
+// A tag that is not listed has no fields: any request is refused.
+fn ask_none() -> Asked
+    ensures { λ r. ⌜ (r .end ≡ good 7) × (r .first .count ≤ 64) × (r .second .count ≤ 64) ⌝ }
+{
+    Asked {
+        request: Request::More,
+        first: no_list(),
+        second: no_list(),
+        bytes: no_bytes(),
+        end: start(),
+    }
+}
+
+// ---- by tag
+
+// The tags 1 to 6, which authenticate.
+fn ask_auth(tag: u8, s: &[u8]) -> Asked
+    ensures { λ r. ⌜ (tag < 8 → AsksFor tag (now (s .entry)) r) ⌝ }
+{
+    if tag == 1 {
+        return ask_hello(s);
+    }
+    if tag == 2 {
+        return ask_auth_request(s);
+    }
+    if tag == 3 {
+        return ask_bad_method(s);
+    }
+    if tag == 4 {
+        return ask_more(s);
+    }
+    if tag == 5 {
+        return ask_more(s);
+    }
+    if tag == 6 {
+        return ask_auth_done(s);
+    }
+    ask_none()
+}
+
+// The tags from 8 on.
+fn ask_session(tag: u8, s: &[u8]) -> Asked
+    ensures { λ r. ⌜ (7 < tag → AsksFor tag (now (s .entry)) r) ⌝ }
+{
+    if tag == 8 {
+        return ask_ident(s);
+    }
+    if tag == 9 {
+        return ask_ident(s);
+    }
+    if tag == 10 {
+        return ask_number(s);
+    }
+    if tag == 11 {
+        return ask_reconnect(s);
+    }
+    if tag == 12 {
+        return ask_reset(s);
+    }
+    if tag == 15 {
+        return ask_number(s);
+    }
+    if tag == 18 {
+        return ask_stamp(s);
+    }
+    if tag == 19 {
+        return ask_stamp(s);
+    }
+    if tag == 20 {
+        return ask_number(s);
+    }
+    ask_none()
+}
+
+fn ask(tag: u8, s: &[u8]) -> Asked
+    ensures { λ r. ⌜ AsksFor tag (now (s .entry)) r ⌝ }
+{
+    if tag < 8 {
+        return ask_auth(tag, s);
+    }
+    ask_session(tag, s)
+}
+
+fn write_asked(out: &mut [u8], tag: u8, s: &[u8], a: Asked) -> Written
+    requires { ⌜ (a .first .count ≤ 64) × (a .second .count ≤ 64) ⌝ }
+    ensures { λ w. ⌜ done (outcomeOf w) (now (out .exit)) ≡ writeBody tag (fieldsOf (now (s .entry)) a) (now (out .entry)) ⌝ }
+{
+    let request = a.request;
+    let n = a.first.count as usize;
+    let m = a.second.count as usize;
+    let first = read_words(s, a.first.at);
+    let second = read_words(s, a.second.at);
+    let bytes = part(s, a.bytes.at, a.bytes.len);
+    write(out, tag, request, &first[..n], &second[..m], bytes)
+}
+
+// ---- the record
+
+fn print_written(text: &mut [u8], at: usize, written: Written, sum: u32) -> usize
+    ensures { λ r. ⌜ page (now (text .exit)) r ≡ print (outcomeLine (outcomeOf written) sum) (page (now (text .entry)) at) ⌝ }
+{
+    match written {
+        Written::Wrote(n) => print_wrote(text, at, n, sum),
+        Written::Refused(why) => print_refused(text, at, in_numbers(why), sum),
+    }
+}
+
+pub fn write_record(s: &[u8], space: &mut [u8], text: &mut [u8], at: usize) -> Step
+    ensures { λ r. ⌜ Did (writeRecord (length (now (space .entry))) (now (s .entry))) (now (s .entry)) (now (text .entry)) at (now (text .exit)) r ⌝ }
+{
+    let tag = byte_at(s, 1);
+    let n = u32_at(s, 2) as usize;
+    let a = ask(tag, s);
+    let end = a.end;
+    let size = sized(both(n <= space.len(), !end.failed), end.at);
+    if !is_whole(size, s) {
+        return bad_record(text, at);
+    }
+    let buf = &mut space[..n];
+    count_up(buf, byte_at(s, 6));
+    let written = write_asked(buf, tag, s, a);
+    let sum = checksum(0xFFFFFFFF, buf);
+    Step {
+        taken: size,
+        filled: print_written(text, at, written, sum),
+    }
+}

@@ -1,0 +1,100 @@
+use mathlib.Core.Bool.{true, false}
+use mathlib.Core.Path.{_≡_, _∙_, sym, refl}
+use Prim.Native.Nat.{_≤_}
+use native.Mathlib.Omega.{arith}
+use borrow.Author.Needs.{needs}
+use borrow.Author.Tests.{not-true, not-false}
+use lib.ListN.{length}
+use Rattle.handshake.specs.declared.State.the-variants.{Hello}
+use Rattle.handshake_cases.proofs.Laws.{steps-none, steps-broken, steps-on, good-within}
+use Rattle.handshake_cases.specs.Steps.{sideOf, stepGood, stepsFrom}
+use Rattle.records.proofs.Laws.{Left, left-all, left-is, did-all, did-broken}
+use Rattle.text.specs.Page.{page}
+use Rattle.handshake_cases.proofs.make_steps.Statement.{statement}
+use Rattle.handshake_cases.proofs.make_steps.Tie as tie
+
+abbrev Inv-loop : tie.InvT-loop
+Inv-loop s n side text₀ at state₀ place₀ end₀ left₀ text state place end left = (place ≤ length s) × (length text ≡ length text₀) × Left (stepsFrom s (sideOf side) Hello n 4) (stepsFrom s (sideOf side) state left place) (page text₀ at) (page text end)
+
+abbrev μ-loop : tie.MeasureT-loop
+μ-loop s n side text₀ at state₀ place₀ end₀ left₀ text state place end left = left
+
+loop-holds : tie.Need-loop-holds Inv-loop μ-loop
+loop-holds c = (omega arith, refl, left-all)
+
+step-good-requires : tie.Need-step-good-requires Inv-loop μ-loop
+step-good-requires c κs = omega arith
+
+bad-record-requires : tie.Need-bad-record-requires Inv-loop μ-loop
+bad-record-requires c κs = search needs
+
+same-length : tie.Need-same-length Inv-loop μ-loop
+same-length c = c .before .before .bad-record .kept .0 ∙ c .before .before .before .before .before .before .before .loop .inv .1
+
+returns : tie.Need-returns Inv-loop μ-loop
+returns c = let l = c .before .before .before .before .before .before .before .loop in
+    let e : stepGood (c .before .before .before .before .before .before .before .before .before .before .args .s .now) (l .place) ≡ false = sym (c .before .before .before .before .before .step-good .ensures) ∙ not-true (c .before .before .before .before .before .step-good .result) (c .before .before .before .before .if1 .taken) in
+    did-broken (left-is (steps-broken (c .before .before .before .before .before .before .before .before .before .before .args .s .now) (sideOf (c .before .before .before .before .before .before .before .before .before .before .args .side)) (l .state) (l .left) (l .place) (c .before .before .before .before .before .before .loop-test .taken) e) (l .inv .2)) (c .before .before .bad-record .ensures .0) (c .before .before .bad-record .ensures .1)
+
+byte-at-requires : tie.Need-byte-at-requires Inv-loop μ-loop
+byte-at-requires c κs = search needs
+
+add-byte-at : tie.Need-add-byte-at Inv-loop μ-loop
+add-byte-at c = let e : stepGood (c .before .before .before .before .before .before .before .args .s .now) (c .before .before .before .before .loop .place) ≡ true = sym (c .before .before .step-good .ensures) ∙ not-false (c .before .before .step-good .result) (c .before .if1 .left) in
+    let h = good-within (c .before .before .before .before .before .before .before .args .s .now) (c .before .before .before .before .loop .place) e in omega arith
+
+byte-at-requires-2 : tie.Need-byte-at-requires-2 Inv-loop μ-loop
+byte-at-requires-2 c κs = search needs
+
+make-step-requires : tie.Need-make-step-requires Inv-loop μ-loop
+make-step-requires c κs = search needs
+
+print-step-requires : tie.Need-print-step-requires Inv-loop μ-loop
+print-step-requires c κs = search needs
+
+add-place : tie.Need-add-place Inv-loop μ-loop
+add-place c = let e : stepGood (c .before .before .before .before .before .before .before .before .before .before .before .before .before .args .s .now) (c .before .before .before .before .before .before .before .before .before .before .loop .place) ≡ true = sym (c .before .before .before .before .before .before .before .before .step-good .ensures) ∙ not-false (c .before .before .before .before .before .before .before .before .step-good .result) (c .before .before .before .before .before .before .before .if1 .left) in
+    let h = good-within (c .before .before .before .before .before .before .before .before .before .before .before .before .before .args .s .now) (c .before .before .before .before .before .before .before .before .before .before .loop .place) e in omega arith
+
+sub-left : tie.Need-sub-left Inv-loop μ-loop
+sub-left c = omega arith
+
+loop-less : tie.Need-loop-less Inv-loop μ-loop
+loop-less c = omega arith
+
+loop-again : tie.Need-loop-again Inv-loop μ-loop
+loop-again c = let l = c .before .before .before .before .before .before .before .before .before .before .loop in
+    let s = c .before .before .before .before .before .before .before .before .before .before .before .before .before .args .s .now in
+    let e : stepGood s (l .place) ≡ true = sym (c .before .before .before .before .before .before .before .before .step-good .ensures) ∙ not-false (c .before .before .before .before .before .before .before .before .step-good .result) (c .before .before .before .before .before .before .before .if1 .left) in
+    let h = good-within s (l .place) e in
+    (omega arith, c .before .before .print-step .kept .0 ∙ l .inv .1, steps-on s (sideOf (c .before .before .before .before .before .before .before .before .before .before .before .before .before .args .side)) (l .state) (l .left) (l .place) (c .before .before .before .before .before .before .byte-at .result) (c .before .before .before .before .before .byte-at2 .result) (c .before .before .before .before .before .before .before .before .before .loop-test .taken) e (c .before .before .before .before .before .before .byte-at .ensures) (c .before .before .before .before .before .byte-at2 .ensures) (c .before .before .before .before .make-step .ensures) (c .before .before .print-step .ensures) (l .inv .2))
+
+same-length-2 : tie.Need-same-length-2 Inv-loop μ-loop
+same-length-2 c = c .before .loop .inv .1
+
+returns-2 : tie.Need-returns-2 Inv-loop μ-loop
+returns-2 c = let l = c .before .loop in
+    did-all (l .place) (left-is (steps-none (c .before .before .before .before .args .s .now) (sideOf (c .before .before .before .before .args .side)) (l .state) (l .left) (l .place) (omega arith)) (l .inv .2)) refl (l .inv .0)
+
+pub make-steps-spec : {M : Type 1} → statement M
+make-steps-spec =
+    tie.close
+    (tie.spec
+    Inv-loop
+    μ-loop
+    loop-holds
+    step-good-requires
+    bad-record-requires
+    same-length
+    returns
+    byte-at-requires
+    add-byte-at
+    byte-at-requires-2
+    make-step-requires
+    print-step-requires
+    add-place
+    sub-left
+    loop-less
+    loop-again
+    same-length-2
+    returns-2)
