@@ -1,0 +1,8 @@
+mod Ends
+mod Counts
+mod Moves
+mod Chains
+pub mod Outcomes
+mod Widths
+mod Lists
+mod Whole

@@ -1,0 +1,160 @@
+-- What follows bytes of the file, by the tests.
+use mathlib.Core.Path.{_≡_, refl, sym, ap, subst, _∙_}
+use mathlib.Core.Bool.{Bool, true, false, cond, not, _&&_}
+use mathlib.Core.List.{List}
+use Prim.Native.Nat.{ℕ, zero, suc, _+_, _*_, _-_, _≤_, _<_, min}
+use native.Mathlib.Nat.{add-zero}
+use native.Mathlib.Omega.{arith}
+use lib.Dec.{leb, ltb, eqb}
+use lib.ListN.{length, take, drop, length-take}
+use lib.Seq.{drop-drop}
+use borrow.Author.Tests.{lt-ltb, le-ltb, le-leb, lt-leb, eq-eqb, ne-eqb, leb-true, ltb-false}
+use Rattle.buffer.specs.Le.{numberAt}
+use Rattle.buffer.proofs.Numbers.{number-drop}
+use Rattle.link.specs.declared.Walk.{Walk}
+use Rattle.link.specs.declared.Part.{Part}
+use Rattle.link.specs.declared.Part.the-variants.{Count, Table, Bodies, Ended}
+use Rattle.link.specs.declared.Outcome.the-variants.{Goes, Ends}
+use Rattle.link.specs.declared.Outcome.{Outcome}
+use Rattle.link.specs.declared.Link.{Link}
+use Rattle.link.specs.File.{sumOf}
+use Rattle.link.specs.Reads.{wantedBy, wantedOf, linkAfter, remainingBy, remaining, countOutcome, tableOutcome, bodiesOutcome, filledTo, linkAt, ready, WalkRead, ReadBy, ReadOn}
+use Rattle.link.specs.Walks.{Fits}
+
+module _ (b : List ℕ) where
+  pub count-short : length b < 2 → Ends true ≡ countOutcome b
+  count-short h = rw (lt-ltb (length b) 2 h)
+
+  module _ (h : 2 ≤ length b) (n : ℕ) (e : n ≡ numberAt 2 0 b) where
+    pub count-many : 512 < n → Ends true ≡ countOutcome b
+    count-many g = rw (le-ltb (length b) 2 h, ← e, lt-ltb 512 n g)
+
+    pub count-none : n ≤ 512 → n ≡ 0 → Ends false ≡ countOutcome b
+    count-none g z = rw (le-ltb (length b) 2 h, ← e, le-ltb 512 n g, eq-eqb n 0 z)
+
+    pub count-some : n ≤ 512 → (n ≡ 0 → ⊥) → Goes Table n ≡ countOutcome b
+    count-some g z = rw (le-ltb (length b) 2 h, ← e, le-ltb 512 n g, ne-eqb n 0 z)
+
+  module _ (n : ℕ) where
+    pub table-short : length b < 4 * n → Ends true ≡ tableOutcome n b
+    table-short h = rw (lt-ltb (length b) (4 * n) h)
+
+    pub table-none : 4 * n ≤ length b → (k : ℕ) → k ≡ sumOf n b → k ≡ 0 → Ends false ≡ tableOutcome n b
+    table-none h k e z = rw (le-ltb (length b) (4 * n) h, ← e, eq-eqb k 0 z)
+
+    pub table-some : 4 * n ≤ length b → (k : ℕ) → k ≡ sumOf n b → (k ≡ 0 → ⊥) → Goes Bodies k ≡ tableOutcome n b
+    table-some h k e z = rw (le-ltb (length b) (4 * n) h, ← e, ne-eqb k 0 z)
+
+module _ (left n : ℕ) (refused : Bool) (live : refused ≡ false) where
+  pub bodies-short : n < min left 16384 → Ends true ≡ bodiesOutcome left n refused
+  bodies-short h = rw (live, lt-ltb n (min left 16384) h)
+
+  pub bodies-all : min left 16384 ≤ n → left ≤ n → Ends false ≡ bodiesOutcome left n refused
+  bodies-all h g = rw (live, le-ltb n (min left 16384) h, le-leb left n g)
+
+  pub bodies-more : min left 16384 ≤ n → n < left → Goes Bodies (left - n) ≡ bodiesOutcome left n refused
+  bodies-more h g = rw (live, le-ltb n (min left 16384) h, lt-leb left n g)
+
+-- one more length of a table
+pub sum-more : (m i : ℕ) (table : List ℕ) → sumOf (suc m) (drop (4 * i) table) ≡ numberAt 4 (4 * i) table + sumOf m (drop (4 * (i + 1)) table)
+unfolding sumOf
+sum-more m i table =
+    let k : 4 * i + 4 ≡ 4 * (i + 1) = omega arith in
+    rw (drop-drop 4 (4 * i) table, number-drop 4 0 (4 * i) table, add-zero, k)
+
+pub sum-none : (table : List ℕ) → sumOf 0 table ≡ 0
+unfolding sumOf
+sum-none table = refl
+
+-- a walk that can go on, and at most 16,384 bytes
+both-true : (a b : Bool) → (a && b) ≡ true → (a ≡ true) × (b ≡ true)
+both-true true b e = (refl, e)
+both-true false b e = absurd (let z : _≡_ {A = ℕ} 0 1 = cc in omega arith)
+
+open-walk : (b : Bool) → not b ≡ true → b ≡ false
+open-walk true e = absurd (let z : _≡_ {A = ℕ} 0 1 = cc in omega arith)
+open-walk false e = refl
+
+pub ready-fits : (w : Walk) (n : ℕ) → ready w ≡ true → n ≤ 16384 → Fits w n
+ready-fits w n e h =
+    let a = both-true (not (w .refused)) (leb (w .taken) 4611686018427387904 && leb (w .frames) 4611686018427387904) e in
+    let b = both-true (leb (w .taken) 4611686018427387904) (leb (w .frames) 4611686018427387904) (a .1) in
+    record {
+      live = open-walk (w .refused) (a .0);
+      taken = omega (arith, leb-true (w .taken) 4611686018427387904 (b .0));
+      frames = omega (arith, leb-true (w .frames) 4611686018427387904 (b .1));
+    }
+
+-- ---- a read, by what comes next
+
+module _ (l : Link) (p : Part) (bytes lent : List ℕ) (n : ℕ) (part : l .part ≡ p) (wanted : n ≡ wantedOf l) (taken : lent ≡ take n bytes) where
+  pub read-by : (s text : List ℕ) (r : Link) (s′ text′ : List ℕ) → ReadBy p (l .left) (filledTo (l .walk) 0) s lent text r s′ text′ → ReadOn l s bytes text r s′ text′
+  unfolding ReadOn
+  read-by s text r s′ text′ x =
+      let q : lent ≡ take (wantedOf l) bytes = taken ∙ ap (λ (m : ℕ). take m bytes) wanted in
+      subst (λ (b : List ℕ). ReadBy (l .part) (l .left) (filledTo (l .walk) 0) s b text r s′ text′) q
+      (subst (λ (k : Part). ReadBy k (l .left) (filledTo (l .walk) 0) s lent text r s′ text′) (sym part) x)
+
+  pub bodies-few : p ≡ Bodies → length lent ≤ 16384
+  bodies-few e =
+      let m : n ≡ min (l .left) 16384 = wanted ∙ ap (λ (k : Part). wantedBy k (l .left)) (part ∙ e) in
+      omega (arith, ap length taken ∙ length-take n bytes)
+
+pub walk-read : (left : ℕ) (w : Walk) (s bytes text : List ℕ) (r : Link) (s′ text′ : List ℕ) (b : Bool) → ready w ≡ b → WalkRead b left w s bytes text r s′ text′ → WalkRead (ready w) left w s bytes text r s′ text′
+walk-read left w s bytes text r s′ text′ b e x = subst (λ (k : Bool). WalkRead k left w s bytes text r s′ text′) (sym e) x
+
+pub read-nothing : (left : ℕ) (w : Walk) (s bytes text : List ℕ) → ready w ≡ false → WalkRead (ready w) left w s bytes text (linkAt Ended 0 w) s text
+read-nothing left w s bytes text e = walk-read left w s bytes text (linkAt Ended 0 w) s text false e (record { link = refl; store = refl; kept = refl })
+
+-- ---- reading ends
+
+after-falls : (m : ℕ) (o : Outcome) (w : Walk) (r : Link) → r .left < 18446744073709551616 → r ≡ linkAfter o w
+    → ((p : Part) (left : ℕ) → o ≡ Goes p left → left < 18446744073709551616 → remainingBy p left < m) → 0 < m → remaining r < m
+after-falls m (Goes p left) w r h e f z =
+    let l : r .left ≡ left = ap (λ (x : Link). x .left) e in
+    rw e (f p left refl (rw l at h))
+after-falls m (Ends bad) w r h e f z = rw e z
+
+three : (a b c : Bool) (q p : Part) (n left : ℕ) → cond a (Ends true) (cond b (Ends true) (cond c (Ends false) (Goes q n))) ≡ Goes p left → q ≡ p
+three true b c q p n left e = absurd (let z : _≡_ {A = ℕ} 0 1 = cc in omega arith)
+three false true c q p n left e = absurd (let z : _≡_ {A = ℕ} 0 1 = cc in omega arith)
+three false false true q p n left e = absurd (let z : _≡_ {A = ℕ} 0 1 = cc in omega arith)
+three false false false q p n left e = cc
+
+two : (b c : Bool) (q p : Part) (n left : ℕ) → cond b (Ends true) (cond c (Ends false) (Goes q n)) ≡ Goes p left → q ≡ p
+two b c q p n left e = three false b c q p n left e
+
+bodies-fall : (left n : ℕ) (a b c : Bool) (p : Part) (m : ℕ) → ltb n (min left 16384) ≡ b → leb left n ≡ c → 0 < left
+    → cond a (Ends false) (cond b (Ends true) (cond c (Ends false) (Goes Bodies (left - n)))) ≡ Goes p m → remainingBy p m < left
+bodies-fall left n true b c p m eb ec h e = absurd (let z : _≡_ {A = ℕ} 0 1 = cc in omega arith)
+bodies-fall left n false true c p m eb ec h e = absurd (let z : _≡_ {A = ℕ} 0 1 = cc in omega arith)
+bodies-fall left n false false true p m eb ec h e = absurd (let z : _≡_ {A = ℕ} 0 1 = cc in omega arith)
+bodies-fall left n false false false p m eb ec h e =
+    let q : Bodies ≡ p = cc in
+    let k : left - n ≡ m = cc in
+    rw (← q, ← k) (omega (arith, ltb-false n (min left 16384) eb))
+
+falls-by : (p : Part) (left : ℕ) (w : Walk) (s bytes text : List ℕ) (r : Link) (s′ text′ : List ℕ) → ReadBy p left w s bytes text r s′ text′ → 0 < wantedBy p left → r .left < 18446744073709551616 → remaining r < remainingBy p left
+falls-by Count left w s bytes text r s′ text′ x h f =
+    after-falls _ (countOutcome bytes) _ r f (x .settled .link) (λ p n e g. rw (← (three (ltb (length bytes) 2) (ltb 512 (numberAt 2 0 bytes)) (eqb (numberAt 2 0 bytes) 0) Table p (numberAt 2 0 bytes) n e)) (omega arith)) (omega arith)
+falls-by Table left w s bytes text r s′ text′ x h f =
+    let k = min left 512 in
+    after-falls _ (tableOutcome k bytes) _ r f (x .settled .link) (λ p n e g. rw (← (two (ltb (length bytes) (4 * k)) (eqb (sumOf k bytes) 0) Bodies p (sumOf k bytes) n e)) g) (omega arith)
+falls-by Bodies left w s bytes text r s′ text′ x h f = go (ready w) x
+  where
+    go : (b : Bool) → WalkRead b left w s bytes text r s′ text′ → remaining r < left
+    go true y =
+        after-falls left (bodiesOutcome left (length bytes) (y .walk .refused)) _ r f (y .settled .link)
+        (λ p n e g. bodies-fall left (length bytes) (y .walk .refused) (ltb (length bytes) (min left 16384)) (leb left (length bytes)) p n refl refl (omega arith) e) (omega arith)
+    go false y = rw (y .link) (omega arith)
+falls-by Ended left w s bytes text r s′ text′ x h f = absurd (omega arith)
+
+pub falls : (l : Link) (s bytes text : List ℕ) (r : Link) (s′ text′ : List ℕ) → ReadOn l s bytes text r s′ text′ → 0 < wantedOf l → r .left < 18446744073709551616 → remaining r < remaining l
+unfolding ReadOn
+falls l s bytes text r s′ text′ x h f = falls-by (l .part) (l .left) (filledTo (l .walk) 0) s (take (wantedOf l) bytes) text r s′ text′ x h f
+
+pub wanted-few : (p : Part) (left : ℕ) → wantedBy p left ≤ 16384
+wanted-few Count left = omega arith
+wanted-few Table left = omega arith
+wanted-few Bodies left = omega arith
+wanted-few Ended left = omega arith

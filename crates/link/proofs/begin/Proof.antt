@@ -1,0 +1,17 @@
+use borrow.Author.Needs.{needs}
+use Rattle.link.proofs.begin.Statement.{statement}
+use Rattle.link.proofs.begin.Tie as tie
+use Rattle.link.proofs.begin.Reads as reads
+use Rattle.link.proofs.begin.Lts as lts
+use Rattle.receiver.proofs.start.Reads as start-reads
+
+-- src/lib.rt:70:9
+start-requires : tie.Need-start-requires
+start-requires c κs = search needs
+
+-- src/lib.rt:67:1
+returns : tie.Need-returns
+returns c = rw (c .before .start .ensures .state)
+
+pub begin-spec : {M : Type 1} → statement M
+begin-spec = tie.close (tie.spec start-requires returns)

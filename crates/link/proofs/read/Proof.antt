@@ -1,0 +1,133 @@
+use mathlib.Core.Path.{refl, sym, _∙_}
+use mathlib.Core.Bool.{true}
+use Rattle.link.specs.Reads.{filledTo}
+use Rattle.link.specs.declared.Part.the-variants.{Count, Table, Bodies, Ended}
+use Rattle.link.proofs.Outcomes.{read-by, bodies-few, walk-read, read-nothing}
+use borrow.Author.Needs.{needs}
+use Rattle.link.proofs.read.Statement.{statement}
+use Rattle.link.proofs.read.Tie as tie
+use Rattle.link.proofs.read.Reads as reads
+use Rattle.link.proofs.read.Lts as lts
+use Rattle.buffer.proofs.min.Reads as min-reads
+use Rattle.buffer.proofs.part.Reads as part-reads
+use Rattle.link.proofs.count_outcome.Reads as count-outcome-reads
+use Rattle.link.proofs.is_ready.Reads as is-ready-reads
+use Rattle.link.proofs.read_bodies.Reads as read-bodies-reads
+use Rattle.link.proofs.settle.Reads as settle-reads
+use Rattle.link.proofs.table_outcome.Reads as table-outcome-reads
+use Rattle.link.proofs.wanted.Reads as wanted-reads
+
+-- src/lib.rt:220:31
+wanted-requires : tie.Need-wanted-requires
+wanted-requires c κs = search needs
+
+-- src/lib.rt:220:9
+part-requires : tie.Need-part-requires
+part-requires c κs = search needs
+
+-- src/lib.rt:226:31
+enum-told : tie.Need-enum-told
+enum-told c = search needs
+
+-- src/lib.rt:226:31
+count-outcome-requires : tie.Need-count-outcome-requires
+count-outcome-requires c κs = search needs
+
+-- src/lib.rt:226:24
+settle-requires : tie.Need-settle-requires
+settle-requires c κs = search needs
+
+-- src/lib.rt:228:31
+enum-told-2 : tie.Need-enum-told-2
+enum-told-2 c = search needs
+
+-- src/lib.rt:228:27
+min-requires : tie.Need-min-requires
+min-requires c κs = search needs
+
+-- src/lib.rt:228:13
+table-outcome-requires : tie.Need-table-outcome-requires
+table-outcome-requires c κs = search needs
+
+-- src/lib.rt:227:24
+settle-requires-2 : tie.Need-settle-requires-2
+settle-requires-2 c κs = search needs
+
+-- src/lib.rt:233:16
+enum-told-3 : tie.Need-enum-told-3
+enum-told-3 c = search needs
+
+-- src/lib.rt:233:16
+is-ready-requires : tie.Need-is-ready-requires
+is-ready-requires c κs = search needs
+
+-- src/lib.rt:234:17
+read-bodies-requires : tie.Need-read-bodies-requires
+read-bodies-requires c κs = (sym (c .before .before .before .is-ready .ensures) ∙ c .before .before .if1 .taken, bodies-few (c .before .before .before .before .before .before .before .before .before .before .before .before .args .link) Bodies (c .before .before .before .before .before .before .before .before .before .before .before .before .args .bytes .now) _ (c .before .before .before .before .before .before .before .before .wanted .result) (c .before .before .before .before .enum-told3 .given .1) (c .before .before .before .before .before .before .before .before .wanted .ensures) (c .before .before .before .before .before .before .before .part .ensures) refl)
+
+-- src/lib.rt:234:17
+same-length : tie.Need-same-length
+same-length c = search needs
+
+-- src/lib.rt:234:17
+same-length-2 : tie.Need-same-length-2
+same-length-2 c = search needs
+
+-- src/lib.rt:234:17
+returns : tie.Need-returns
+returns c = read-by (c .before .before .before .before .before .before .before .before .before .before .before .before .before .before .before .before .before .args .link) Bodies (c .before .before .before .before .before .before .before .before .before .before .before .before .before .before .before .before .before .args .bytes .now) _ (c .before .before .before .before .before .before .before .before .before .before .before .before .before .wanted .result) (c .before .before .before .before .before .before .before .before .before .enum-told3 .given .1) (c .before .before .before .before .before .before .before .before .before .before .before .before .before .wanted .ensures) (c .before .before .before .before .before .before .before .before .before .before .before .before .part .ensures) _ _ _ _ _ (walk-read _ _ _ _ _ _ _ _ true (sym (c .before .before .before .before .before .before .before .before .is-ready .ensures) ∙ c .before .before .before .before .before .before .before .if1 .taken) (c .before .before .before .before .read-bodies .ensures))
+
+-- src/lib.rt:243:19
+enum-told-4 : tie.Need-enum-told-4
+enum-told-4 c = search needs
+
+-- src/lib.rt:217:1
+same-length-3 : tie.Need-same-length-3
+same-length-3 c = search needs
+
+-- src/lib.rt:217:1
+returns-2 : tie.Need-returns-2
+returns-2 c = read-by (c .before .before .before .before .before .before .before .before .before .before .before .before .before .args .link) Count (c .before .before .before .before .before .before .before .before .before .before .before .before .before .args .bytes .now) _ (c .before .before .before .before .before .before .before .before .before .wanted .result) (c .before .before .before .before .before .enum-told .given .1) (c .before .before .before .before .before .before .before .before .before .wanted .ensures) (c .before .before .before .before .before .before .before .before .part .ensures) _ _ _ _ _ (record { store = refl; settled = rw (c .before .before .before .before .count-outcome .ensures) at (c .before .before .settle .ensures) })
+
+-- src/lib.rt:217:1
+same-length-4 : tie.Need-same-length-4
+same-length-4 c = search needs
+
+-- src/lib.rt:217:1
+returns-3 : tie.Need-returns-3
+returns-3 c = read-by (c .before .before .before .before .before .before .before .before .before .before .before .before .before .before .args .link) Table (c .before .before .before .before .before .before .before .before .before .before .before .before .before .before .args .bytes .now) _ (c .before .before .before .before .before .before .before .before .before .before .wanted .result) (c .before .before .before .before .before .before .enum-told2 .given .1) (c .before .before .before .before .before .before .before .before .before .before .wanted .ensures) (c .before .before .before .before .before .before .before .before .before .part .ensures) _ _ _ _ _ (record { store = refl; settled = rw (c .before .before .before .before .table-outcome .ensures, c .before .before .before .before .before .min .ensures) at (c .before .before .settle2 .ensures) })
+
+-- src/lib.rt:217:1
+returns-4 : tie.Need-returns-4
+returns-4 c = read-by (c .before .before .before .before .before .before .before .before .before .before .args .link) Bodies (c .before .before .before .before .before .before .before .before .before .before .args .bytes .now) _ (c .before .before .before .before .before .before .wanted .result) (c .before .before .enum-told3 .given .1) (c .before .before .before .before .before .before .wanted .ensures) (c .before .before .before .before .before .part .ensures) _ _ _ _ _ (read-nothing (c .before .before .before .before .before .before .before .before .before .before .args .link .left) (filledTo (c .before .before .before .before .before .before .before .before .before .before .args .link .walk) 0) (c .before .before .before .before .before .before .before .before .before .before .args .store .now) (c .before .before .before .before .before .part .result .now) (c .before .before .before .before .before .before .before .before .before .before .args .text .now) (sym (c .before .is-ready .ensures) ∙ c .if1 .left))
+
+-- src/lib.rt:217:1
+returns-5 : tie.Need-returns-5
+returns-5 c = read-by (c .before .before .before .before .before .before .before .before .args .link) Ended (c .before .before .before .before .before .before .before .before .args .bytes .now) _ (c .before .before .before .before .wanted .result) (c .enum-told4 .given .1) (c .before .before .before .before .wanted .ensures) (c .before .before .before .part .ensures) _ _ _ _ _ (record { link = refl; store = refl; kept = refl })
+
+pub read-spec : {M : Type 1} → statement M
+read-spec =
+    tie.close
+    (tie.spec
+    wanted-requires
+    part-requires
+    enum-told
+    count-outcome-requires
+    settle-requires
+    enum-told-2
+    min-requires
+    table-outcome-requires
+    settle-requires-2
+    enum-told-3
+    is-ready-requires
+    read-bodies-requires
+    same-length
+    same-length-2
+    returns
+    enum-told-4
+    same-length-3
+    returns-2
+    same-length-4
+    returns-3
+    returns-4
+    returns-5)

@@ -1,0 +1,44 @@
+use Rattle.link.proofs.Outcomes.{ready-fits}
+use borrow.Author.Needs.{needs}
+use Rattle.link.proofs.read_bodies.Statement.{statement}
+use Rattle.link.proofs.read_bodies.Tie as tie
+use Rattle.link.proofs.read_bodies.Reads as reads
+use Rattle.link.proofs.read_bodies.Lts as lts
+use Rattle.link.proofs.bodies_outcome.Reads as bodies-outcome-reads
+use Rattle.link.proofs.settle.Reads as settle-reads
+use Rattle.link.proofs.steps.walk_bytes.Reads as walk-bytes-reads
+
+-- src/lib.rt:210:9
+walk-bytes-requires : tie.Need-walk-bytes-requires
+walk-bytes-requires c κs = ready-fits (c .before .before .before .before .before .args .w) _ (c .before .before .before .before .before .pre .0) (c .before .before .before .before .before .pre .1)
+
+-- src/lib.rt:211:9
+bodies-outcome-requires : tie.Need-bodies-outcome-requires
+bodies-outcome-requires c κs = search needs
+
+-- src/lib.rt:212:5
+settle-requires : tie.Need-settle-requires
+settle-requires c κs = search needs
+
+-- src/lib.rt:206:1
+same-length : tie.Need-same-length
+same-length c = search needs
+
+-- src/lib.rt:206:1
+same-length-2 : tie.Need-same-length-2
+same-length-2 c = search needs
+
+-- src/lib.rt:206:1
+returns : tie.Need-returns
+returns c = record { walk = c .before .before .before .before .before .before .before .before .before .walk-bytes .result; text₁ = _; walked = c .before .before .before .before .before .before .before .before .before .walk-bytes .ensures; settled = rw (c .before .before .before .before .bodies-outcome .ensures) at (c .before .before .settle .ensures) }
+
+pub read-bodies-spec : {M : Type 1} → statement M
+read-bodies-spec =
+    tie.close
+    (tie.spec
+    walk-bytes-requires
+    bodies-outcome-requires
+    settle-requires
+    same-length
+    same-length-2
+    returns)

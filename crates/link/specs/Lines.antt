@@ -1,0 +1,79 @@
+-- The lines of the link checker (02, K12): one for each banner, frame and drop of demand 3's list, and one for the end.
+use mathlib.Core.Bool.{Bool, cond}
+use mathlib.Core.List.{List, [], _∷_, _++_}
+use Prim.Native.Nat.{ℕ, _+_, _-_}
+use lib.Dec.{leb}
+use Rattle.refusal.specs.declared.Numbers.{Numbers}
+use Rattle.banner.specs.declared.Features.{Features}
+use Rattle.banner.specs.declared.Revision.{Revision}
+use Rattle.banner.specs.declared.Revision.the-variants.{Msgr20, Msgr21}
+use Rattle.preamble.specs.declared.Header.{Header}
+use Rattle.preamble.specs.Layout.{total}
+use Rattle.stream.specs.declared.Event.{Event}
+use Rattle.stream.specs.declared.Event.the-variants as event
+use Rattle.stream.specs.Stream.{Entry}
+use Rattle.receiver.specs.Calls.{passing}
+use Rattle.text.specs.Line.{Piece, raw, number, codes, word, newline, field}
+
+-- ---- lines
+
+-- revision 1 is msgr2.1, 0 msgr2.0
+abbrev pub revisionNumber : Revision → ℕ
+revisionNumber Msgr20 = 0
+revisionNumber Msgr21 = 1
+
+abbrev pub bannerLine : Features → Revision → List Piece
+bannerLine p r = field "banner supported" (p .supported) ++ field " required" (p .required) ++ field " revision" (revisionNumber r) ++ (newline ∷ [])
+
+-- a frame or a drop: its number, its fields, and T
+abbrev pub frameLine : List ℕ → ℕ → Header → List Piece
+frameLine letters k h = (raw letters ∷ number k ∷ []) ++ field " tag" (h .tag) ++ field " segments" (h .count) ++ field " bytes" (total h) ++ (newline ∷ [])
+
+-- k frames and drops came before. They are numbered together; an early report of segment 1 has no line, and a refusal, which ends the list, only the end's
+abbrev pub lineOf : ℕ → Event → List Piece
+lineOf k (event.Banner p r) = bannerLine p r
+lineOf k (event.First h) = []
+lineOf k (event.Frame h) = frameLine (codes "frame") (k + 1) h
+lineOf k (event.Dropped h) = frameLine (codes "drop") (k + 1) h
+lineOf k (event.Refused n) = []
+
+abbrev pub numbered : ℕ → Event → ℕ
+numbered k (event.Banner p r) = k
+numbered k (event.First h) = k
+numbered k (event.Frame h) = k + 1
+numbered k (event.Dropped h) = k + 1
+numbered k (event.Refused n) = k
+
+unfoldable pub linesOf : ℕ → List Entry → List Piece
+linesOf k [] = []
+linesOf k (e ∷ es) = lineOf k (e .event) ++ passing (e .event) (linesOf (numbered k (e .event)) es) (λ n. [])
+
+-- ---- the end
+
+pub data End : Type 0 where
+  ok : ℕ → End
+  cut : ℕ → End
+  refusedAt : ℕ → ℕ → End
+  badFile : End
+
+abbrev pub endLine : End → List Piece
+endLine (ok n) = field "end ok" n ++ (newline ∷ [])
+endLine (cut n) = field "end cut" n ++ (newline ∷ [])
+endLine (refusedAt r n) = field "end refused" r ++ field " at" n ++ (newline ∷ [])
+endLine badFile = word "end bad file\n" ∷ []
+
+-- no refusal among n bytes, of which the last banner, frame or drop ends at p: the rest is an unfinished banner or frame
+abbrev pub openEnd : Bool → ℕ → ℕ → End
+openEnd bad n p = cond bad badFile (cond (leb n p) (ok n) (cut (n - p)))
+
+-- by the next entry: where the unfinished part then begins, or the end
+abbrev pub endBy : Event → ℕ → ℕ → (ℕ → End) → End
+endBy (event.Banner p r) at from later = later at
+endBy (event.First h) at from later = later from
+endBy (event.Frame h) at from later = later at
+endBy (event.Dropped h) at from later = later at
+endBy (event.Refused n) at from later = refusedAt (n .number) at
+
+unfoldable pub endOf : Bool → ℕ → ℕ → List Entry → End
+endOf bad n p [] = openEnd bad n p
+endOf bad n p (e ∷ es) = endBy (e .event) (e .at) p (λ q. endOf bad n q es)
