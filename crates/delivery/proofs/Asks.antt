@@ -1,0 +1,60 @@
+-- What the functions that read a body need: bodies that are not one number, and a part of the store.
+use mathlib.Core.Path.{_≡_, refl}
+use mathlib.Core.List.{List, [], _∷_}
+use Prim.Native.Nat.{ℕ, _≤_, _<_, min}
+use native.Mathlib.Omega.{arith}
+use lib.ListN.{length, take}
+use lib.Seq.{take-all}
+use lib.Dec.{leb}
+use borrow.Author.Tests.{leb-true, leb-false}
+use mathlib.Core.Bool.{Bool, true, false}
+use types.Run.{OneOf, miss}
+use denote.Enum.Declared.{tagOf}
+use Rattle.preamble.specs.declared.Header.{Header}
+use Rattle.bodies.proofs.Body as declared-body
+use Rattle.bodies.specs.declared.Body.{Body}
+use Rattle.bodies.specs.declared.Body.the-variants as body
+use Rattle.bodies.specs.Read.{answerOf}
+use Rattle.stream.proofs.Event as declared-event
+use Rattle.stream.specs.declared.Event.{Event}
+use Rattle.stream.specs.declared.Event.the-variants as event
+use Rattle.delivery.specs.declared.Asked.the-variants as asked
+use Rattle.delivery.specs.Asked.{byBody, askedBy}
+
+-- bodies by the numbers of their cases: all but a number (7), a reset (8) and a refusal (10)
+abbrev pub others : List ℕ
+others = 0 ∷ 1 ∷ 2 ∷ 3 ∷ 4 ∷ 5 ∷ 6 ∷ 9 ∷ []
+
+pub no-number : (h : Header) (s : List ℕ) (b : Body) → OneOf others (tagOf declared-body.the-type b) → asked.Nothing ≡ byBody h (answerOf s b)
+no-number h s (body.Hello e a) k = refl
+no-number h s (body.AuthRequest m n p) k = refl
+no-number h s (body.BadMethod m e x y) k = refl
+no-number h s (body.More p) k = refl
+no-number h s (body.AuthDone i m p) k = refl
+no-number h s (body.Identity a b i) k = refl
+no-number h s (body.Resume a b r) k = refl
+no-number h s (body.Number n) k = absurd (miss others 7 tt k)
+no-number h s (body.Reset f) k = absurd (miss others 8 tt k)
+no-number h s (body.Stamp p) k = refl
+no-number h s (body.Refused r) k = absurd (miss others 10 tt k)
+
+-- events but for a frame (2)
+pub no-frame : (s : List ℕ) (e : Event) → OneOf (0 ∷ 1 ∷ 3 ∷ 4 ∷ []) (tagOf declared-event.the-type e) → asked.Nothing ≡ askedBy e s
+no-frame s (event.Banner p r) k = refl
+no-frame s (event.First h) k = refl
+no-frame s (event.Frame h) k = absurd (miss (0 ∷ 1 ∷ 3 ∷ 4 ∷ []) 2 tt k)
+no-frame s (event.Dropped h) k = refl
+no-frame s (event.Refused n) k = refl
+
+pub take-min : (n : ℕ) (l : List ℕ) → take (min n (length l)) l ≡ take n l
+take-min n l = go (leb n (length l)) refl
+  where
+    go : (t : Bool) → leb n (length l) ≡ t → take (min n (length l)) l ≡ take n l
+    go true e =
+        let h : n ≤ length l = leb-true n (length l) e in
+        let m : min n (length l) ≡ n = omega arith in
+        rw m
+    go false e =
+        let h : length l < n = leb-false n (length l) e in
+        let m : min n (length l) ≡ length l = omega arith in
+        rw (m, take-all n l (omega arith), take-all (length l) l (omega arith))

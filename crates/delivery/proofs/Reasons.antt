@@ -1,0 +1,232 @@
+-- Why a message is no longer held: from the fate that K13's claim gives it, back to the cause.
+use mathlib.Core.Path.{_≡_, refl, sym, ap, subst, _∙_}
+use mathlib.Core.Logic.{_⊎_, inl, inr}
+use mathlib.Core.List.{List, [], _∷_, _++_, List·Memᴰ, List·Memᴰ·head, List·Memᴰ·tail}
+use mathlib.Core.Bool.{Bool, true, false, cond, true≢false, _||_}
+use Prim.Native.Nat.{ℕ}
+use lib.ListN.{length, take}
+use lib.Dec.{leb, eqb}
+use borrow.Author.Tests.{leb-true, eqb-true}
+use Rattle.refusal.specs.declared.Numbers.{Numbers}
+use Rattle.refusal.specs.Refusals.{row}
+use Rattle.buffer.specs.Le.{numberAt}
+use Rattle.preamble.specs.declared.Header.{Header}
+use Rattle.preamble.specs.Judge.{segmentLimit}
+use Rattle.fields.specs.Field.{Field, number}
+use Rattle.fields.specs.declared.Cursor.{Cursor}
+use Rattle.bodies.specs.Table.{layoutIn}
+use Rattle.bodies.specs.Rows.{oneNumberOf, resetOf}
+use Rattle.bodies.specs.Read as read
+use Rattle.bodies.specs.Read.{Answer, whole, settled, readBody}
+use Rattle.stream.specs.declared.Event.{Event}
+use Rattle.stream.specs.declared.Event.the-variants as event
+use Rattle.stream.specs.Stream.{entry}
+use Rattle.session.specs.declared.Session.{Session}
+use Rattle.session.specs.declared.Message.{Message}
+use Rattle.session.specs.declared.Report.{Report}
+use Rattle.session.specs.declared.Report.the-variants as report
+use Rattle.session.specs.Calls.{message}
+use Rattle.session.specs.Laws as session
+use Rattle.session.specs.Laws.{callOf, eventOf}
+use Rattle.session.specs.History.{isHeld, fateOf, same, withFate, eventsOf, sessionBy}
+use Rattle.delivery.specs.declared.Asked.{Asked}
+use Rattle.delivery.specs.declared.Asked.the-variants as asked
+use Rattle.delivery.specs.Asked.{asking, byBody, bodyOf, askedByFrame, askedBy}
+use Rattle.delivery.specs.Calls.{Cause, sends, hands, receives, callsAsked, callsBy, callsDue, played, Reason, acknowledged, dropped, handedIn, Covered}
+use Rattle.delivery.specs.Calls as calls
+
+-- ---- bodies of one number
+
+-- a body that is read is whole, with these fields, or refused
+data Reads (fs : List Field) (a : Answer) : Type 0 where
+  is-whole : a ≡ whole fs → Reads fs a
+  is-refused : (n : Numbers) → a ≡ read.refused n → Reads fs a
+
+settles : (s : List ℕ) (c : Cursor) (fs : List Field) → Reads fs (settled s c (whole fs))
+unfolding settled
+settles s c fs = go (c .failed) (eqb (c .at) (length s))
+  where
+    go : (f e : Bool) → Reads fs (cond f (read.malformed (c .at)) (cond e (whole fs) (read.malformed (c .at))))
+    go true e = is-refused (row 20 (c .at) 0 0) refl
+    go false true = is-whole refl
+    go false false = is-refused (row 20 (c .at) 0 0) refl
+
+within : (fs : List Field) (b : Bool) (a : Answer) → Reads fs a → Reads fs (cond b a (read.malformed 0))
+within fs true a r = r
+within fs false a r = is-refused (row 20 0 0 0) refl
+
+reads-20 : (s : List ℕ) → Reads (oneNumberOf (numberAt 8 0 s)) (readBody 20 s)
+unfolding readBody layoutIn
+reads-20 s = within _ (leb (length s) segmentLimit) _ (settles s _ (oneNumberOf (numberAt 8 0 s)))
+
+reads-15 : (s : List ℕ) → Reads (oneNumberOf (numberAt 8 0 s)) (readBody 15 s)
+unfolding readBody layoutIn
+reads-15 s = within _ (leb (length s) segmentLimit) _ (settles s _ (oneNumberOf (numberAt 8 0 s)))
+
+reads-12 : (s : List ℕ) → Reads (resetOf (numberAt 1 0 s)) (readBody 12 s)
+unfolding readBody layoutIn
+reads-12 s = within _ (leb (length s) segmentLimit) _ (settles s _ (resetOf (numberAt 1 0 s)))
+
+-- ---- what a frame asks, and why
+
+data Asks (h : Header) (s : List ℕ) : Asked → Type 0 where
+  asks-nothing : Asks h s asked.Nothing
+  asks-bad : (n : Numbers) → Asks h s (asked.Malformed n)
+  asks-ack : (n : ℕ) → h .tag ≡ 20 → h .count ≡ 1 → bodyOf h s ≡ whole (oneNumberOf n) → Asks h s (asked.Ack n)
+  asks-reconnect : (n : ℕ) → h .tag ≡ 15 → h .count ≡ 1 → bodyOf h s ≡ whole (oneNumberOf n) → Asks h s (asked.Reconnect n)
+  asks-reset : (n : ℕ) → h .tag ≡ 12 → h .count ≡ 1 → bodyOf h s ≡ whole (resetOf n) → Asks h s (asked.Reset (eqb n 1))
+
+module _ (h : Header) (s : List ℕ) where
+  abbrev body : List ℕ
+  body = take (h .s1 .len) s
+
+  -- a body of one number, by what its tag asks
+  by-body : (w n : ℕ) (a : Asked) → asking (h .tag) n ≡ a → (h .count ≡ 1 → bodyOf h s ≡ whole (number w n ∷ []) → Asks h s a) → Reads (number w n ∷ []) (bodyOf h s) → Asks h s (byBody h (bodyOf h s))
+  by-body w n a e k (is-whole x) = rw x (go (eqb (h .count) 1) refl)
+    where
+      go : (b : Bool) → eqb (h .count) 1 ≡ b → Asks h s (cond b (asking (h .tag) n) (asked.Malformed (row 20 (h .s1 .len) 0 0)))
+      go true c = subst (λ (d : Asked). Asks h s d) (sym e) (k (eqb-true (h .count) 1 c) x)
+      go false c = asks-bad _
+  by-body w n a e k (is-refused r x) = rw x (asks-bad r)
+
+  by-20 : h .tag ≡ 20 → Asks h s (byBody h (bodyOf h s))
+  by-20 e =
+      let n = numberAt 8 0 body in
+      by-body 8 n (asked.Ack n) (ap (λ (t : ℕ). asking t n) e) (asks-ack n e) (subst (λ (t : ℕ). Reads (oneNumberOf n) (readBody t body)) (sym e) (reads-20 body))
+
+  by-15 : h .tag ≡ 15 → Asks h s (byBody h (bodyOf h s))
+  by-15 e =
+      let n = numberAt 8 0 body in
+      by-body 8 n (asked.Reconnect n) (ap (λ (t : ℕ). asking t n) e) (asks-reconnect n e) (subst (λ (t : ℕ). Reads (oneNumberOf n) (readBody t body)) (sym e) (reads-15 body))
+
+  by-12 : h .tag ≡ 12 → Asks h s (byBody h (bodyOf h s))
+  by-12 e =
+      let n = numberAt 1 0 body in
+      by-body 1 n (asked.Reset (eqb n 1)) (ap (λ (t : ℕ). asking t n) e) (asks-reset n e) (subst (λ (t : ℕ). Reads (resetOf n) (readBody t body)) (sym e) (reads-12 body))
+
+  frame-asks : Asks h s (askedByFrame h s)
+  unfolding askedByFrame
+  frame-asks = go (eqb (h .tag) 20) (eqb (h .tag) 15) (eqb (h .tag) 12) (λ e. by-20 (eqb-true (h .tag) 20 e)) (λ e. by-15 (eqb-true (h .tag) 15 e)) (λ e. by-12 (eqb-true (h .tag) 12 e))
+    where
+      go : (x y z : Bool) → (x ≡ true → Asks h s (byBody h (bodyOf h s))) → (y ≡ true → Asks h s (byBody h (bodyOf h s))) → (z ≡ true → Asks h s (byBody h (bodyOf h s)))
+          → Asks h s (cond (x || (y || z)) (byBody h (bodyOf h s)) asked.Nothing)
+      go true y z f g k = f refl
+      go false true z f g k = g refl
+      go false false true f g k = k refl
+      go false false false f g k = asks-nothing
+
+-- ---- reasons
+
+-- whether a call of the session releases the message m
+abbrev pub releases : ℕ → session.Call → Bool
+releases m (session.accept h) = false
+releases m (session.ack n) = leb m n
+releases m (session.reconnect n) = leb m n
+releases m (session.reset full) = full
+
+-- one of some calls does
+abbrev pub oneReleases : ℕ → List session.Call → Bool
+oneReleases m [] = false
+oneReleases m (c ∷ cs) = cond (releases m c) true (oneReleases m cs)
+
+either-way : (b : Bool) → cond b true false ≡ true → b ≡ true
+either-way true e = refl
+either-way false e = e
+
+frame-reason : (m : ℕ) (h : Header) (at : ℕ) (s : List ℕ) (a : Asked) → Asks h s a → oneReleases m (callsAsked a) ≡ true → Reason m (receives (entry (event.Frame h) at s))
+frame-reason m h at s a asks-nothing e = absurd (true≢false (sym e))
+frame-reason m h at s a (asks-bad n) e = absurd (true≢false (sym e))
+frame-reason m h at s a (asks-ack n t q b) e = acknowledged h at n s (inl t) q b (leb-true m n (either-way (leb m n) e))
+frame-reason m h at s a (asks-reconnect n t q b) e = acknowledged h at n s (inr t) q b (leb-true m n (either-way (leb m n) e))
+frame-reason m h at s a (asks-reset n t q b) e =
+    let f : n ≡ 1 = eqb-true n 1 (either-way (eqb n 1) e) in
+    dropped h at s t q (b ∙ ap (λ (k : ℕ). whole (resetOf k)) f)
+
+pub reason : (m : ℕ) (c : Cause) → oneReleases m (callsBy c) ≡ true → Reason m c
+reason m (sends h) e = absurd (true≢false (sym e))
+reason m (hands n) e = handedIn n (leb-true m n (either-way (leb m n) e))
+reason m (receives e) i = go (e .event) i
+  where
+    go : (w : Event) → oneReleases m (callsAsked (askedBy w (e .store))) ≡ true → Reason m (receives (entry w (e .at) (e .store)))
+    go (event.Banner p r) i = absurd (true≢false (sym i))
+    go (event.First h) i = absurd (true≢false (sym i))
+    go (event.Frame h) i = frame-reason m h (e .at) (e .store) (askedByFrame h (e .store)) (frame-asks h (e .store)) i
+    go (event.Dropped h) i = absurd (true≢false (sym i))
+    go (event.Refused n) i = absurd (true≢false (sym i))
+
+-- ---- fates
+
+-- a call that does not release the message leaves its fate to the later ones
+stays : (m : ℕ) (c : session.Call) (r : Report) (es : List session.Event) → releases m c ≡ false → fateOf m (eventOf c r ∷ es) ≡ fateOf m es
+unfolding fateOf
+stays m (session.accept h) (report.Accepted n) es e = refl
+stays m (session.accept h) report.Done es e = refl
+stays m (session.accept h) (report.Resend n) es e = refl
+stays m (session.accept h) (report.Refused n) es e = refl
+stays m (session.ack n) (report.Accepted k) es e = rw e
+stays m (session.ack n) report.Done es e = rw e
+stays m (session.ack n) (report.Resend k) es e = rw e
+stays m (session.ack n) (report.Refused k) es e = refl
+stays m (session.reconnect n) (report.Accepted k) es e = rw e
+stays m (session.reconnect n) report.Done es e = rw e
+stays m (session.reconnect n) (report.Resend k) es e = rw e
+stays m (session.reconnect n) (report.Refused k) es e = refl
+stays m (session.reset true) r es e = absurd (true≢false e)
+stays m (session.reset false) r es e = refl
+
+abbrev pub eventsFrom : Session → List session.Call → List session.Event
+eventsFrom s cs = eventsOf (played s cs)
+
+abbrev pub afterCalls : Session → List session.Call → Session
+afterCalls s cs = sessionBy s (played s cs)
+
+stay : (m : ℕ) (cs ds : List session.Call) (s : Session) → oneReleases m cs ≡ false → fateOf m (eventsFrom s (cs ++ ds)) ≡ fateOf m (eventsFrom (afterCalls s cs) ds)
+stay m [] ds s e = refl
+stay m (c ∷ cs) ds s e = go (releases m c) refl (stay m cs ds (callOf s c .session)) e
+  where
+    go : (b : Bool) → releases m c ≡ b → (oneReleases m cs ≡ false → fateOf m (eventsFrom (callOf s c .session) (cs ++ ds)) ≡ fateOf m (eventsFrom (afterCalls (callOf s c .session) cs) ds))
+        → cond b true (oneReleases m cs) ≡ false
+        → fateOf m (eventOf c (callOf s c .report) ∷ eventsFrom (callOf s c .session) (cs ++ ds)) ≡ fateOf m (eventsFrom (afterCalls (callOf s c .session) cs) ds)
+    go true q ih e = absurd (true≢false e)
+    go false q ih e = stays m c (callOf s c .report) (eventsFrom (callOf s c .session) (cs ++ ds)) q ∙ ih e
+
+-- a message is held, by what is done after it was sent, or there is a reason why it is not
+pub held-or-covered : (m : ℕ) (cs : List Cause) (s : Session) → (fateOf m (eventsFrom s (callsDue cs)) ≡ isHeld) ⊎ Covered m cs
+unfolding fateOf
+held-or-covered m [] s = inl refl
+held-or-covered m (c ∷ cs) s = go (oneReleases m (callsBy c)) refl (held-or-covered m cs (afterCalls s (callsBy c)))
+  where
+    go : (b : Bool) → oneReleases m (callsBy c) ≡ b → (fateOf m (eventsFrom (afterCalls s (callsBy c)) (callsDue cs)) ≡ isHeld) ⊎ Covered m cs
+        → (fateOf m (eventsFrom s (callsBy c ++ callsDue cs)) ≡ isHeld) ⊎ Covered m (c ∷ cs)
+    go true e ih = inr (calls.here (reason m c e))
+    go false e (inl f) = inl (stay m (callsBy c) (callsDue cs) s e ∙ f)
+    go false e (inr k) = inr (calls.later k)
+
+-- ---- and so it is among those held
+
+among : (x : Message) (es fs : List session.Event) → fateOf (x .number) fs ≡ isHeld → List·Memᴰ x (withFate isHeld (es ++ (session.accepted x ∷ fs)))
+unfolding withFate
+among x [] fs e = rw e (List·Memᴰ·head refl)
+among x (session.accepted y ∷ es) fs e = go (same isHeld (fateOf (y .number) (es ++ (session.accepted x ∷ fs)))) (among x es fs e)
+  where
+    go : (b : Bool) → List·Memᴰ x (withFate isHeld (es ++ (session.accepted x ∷ fs)))
+        → List·Memᴰ x (cond b (y ∷ withFate isHeld (es ++ (session.accepted x ∷ fs))) (withFate isHeld (es ++ (session.accepted x ∷ fs))))
+    go true k = List·Memᴰ·tail k
+    go false k = k
+among x (session.acknowledged n ∷ es) fs e = among x es fs e
+among x (session.dropped ∷ es) fs e = among x es fs e
+among x (session.nothing ∷ es) fs e = among x es fs e
+
+pub events-append : (s : Session) (cs ds : List session.Call) → eventsFrom s (cs ++ ds) ≡ eventsFrom s cs ++ eventsFrom (afterCalls s cs) ds
+events-append s [] ds = refl
+events-append s (c ∷ cs) ds = ap (λ (es : List session.Event). eventOf c (callOf s c .report) ∷ es) (events-append (callOf s c .session) cs ds)
+
+-- of a message that was sent behind the calls cs, where the causes since are known
+pub sent-held : (s : Session) (cs : List session.Call) (since : List Cause) (h m : ℕ) → callOf (afterCalls s cs) (session.accept h) .report ≡ report.Accepted m
+    → List·Memᴰ (message m h) (withFate isHeld (eventsFrom s (cs ++ (session.accept h ∷ callsDue since)))) ⊎ Covered m since
+sent-held s cs since h m e = go (held-or-covered m since (callOf (afterCalls s cs) (session.accept h) .session))
+  where
+    go : (fateOf m (eventsFrom (callOf (afterCalls s cs) (session.accept h) .session) (callsDue since)) ≡ isHeld) ⊎ Covered m since
+        → List·Memᴰ (message m h) (withFate isHeld (eventsFrom s (cs ++ (session.accept h ∷ callsDue since)))) ⊎ Covered m since
+    go (inr k) = inr k
+    go (inl f) = inl (rw (events-append s cs (session.accept h ∷ callsDue since), e) (among (message m h) (eventsFrom s cs) (eventsFrom (callOf (afterCalls s cs) (session.accept h) .session) (callsDue since)) f))

@@ -1,0 +1,20 @@
+use Rattle.delivery.proofs.Asks.{no-frame}
+use borrow.Author.Needs.{needs}
+use Rattle.delivery.proofs.asked_by_event.Statement.{statement}
+use Rattle.delivery.proofs.asked_by_event.Tie as tie
+
+enum-known-event : tie.Need-enum-known-event
+enum-known-event c = search needs
+
+asked-by-frame-requires : tie.Need-asked-by-frame-requires
+asked-by-frame-requires c κs = search needs
+
+returns : tie.Need-returns
+returns c = rw (c .before .before .event .given .1) (c .asked-by-frame .ensures)
+
+returns-2 : tie.Need-returns-2
+returns-2 c = no-frame (c .before .before .args .store .now) (c .before .before .args .event) (c .match .keys2)
+
+pub asked-by-event-spec : {M : Type 1} → statement M
+asked-by-event-spec =
+    tie.close (tie.spec enum-known-event asked-by-frame-requires returns returns-2)

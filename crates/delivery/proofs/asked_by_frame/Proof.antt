@@ -1,0 +1,59 @@
+use Prim.Native.Nat.{ℕ}
+use lib.ListN.{take}
+use borrow.Author.Tests.{not-false}
+use Rattle.bodies.specs.Read.{readBody}
+use Rattle.delivery.specs.Asked.{byBody}
+use Rattle.delivery.proofs.Asks.{take-min}
+use native.Mathlib.Omega.{arith}
+use lib.ListN.{length-take}
+use mathlib.Core.Path.{sym, ap, _∙_}
+use borrow.Author.Tests.{not-true}
+use Rattle.delivery.specs.Asked.{askedByFrame}
+use borrow.Author.Needs.{needs}
+use Rattle.delivery.proofs.asked_by_frame.Statement.{statement}
+use Rattle.delivery.proofs.asked_by_frame.Tie as tie
+
+for-session-requires : tie.Need-for-session-requires
+for-session-requires c κs = search needs
+
+returns : tie.Need-returns
+unfolding askedByFrame
+returns c = rw (sym (c .before .for-session .ensures) ∙ not-true _ (c .if1 .taken))
+
+cast-min : tie.Need-cast-min
+cast-min c = search needs
+
+min-requires : tie.Need-min-requires
+min-requires c κs = search needs
+
+slice-aggregate-read : tie.Need-slice-aggregate-read
+slice-aggregate-read c = simp length-take (omega (arith, c .before .min .ensures))
+
+read-requires : tie.Need-read-requires
+read-requires c κs = search needs
+
+asked-by-body-requires : tie.Need-asked-by-body-requires
+asked-by-body-requires c κs = search needs
+
+returns-2 : tie.Need-returns-2
+unfolding askedByFrame
+returns-2 c =
+    let h = c .before .before .before .before .before .before .before .before .before .args .h in
+    let s = c .before .before .before .before .before .before .before .before .before .args .store .now in
+    let e = sym (c .before .before .before .before .before .before .before .for-session .ensures) ∙ not-false _ (c .before .before .before .before .before .before .if1 .left) in
+    rw e
+    (c .asked-by-body .ensures (take (c .before .before .before .min .result) s)
+    ∙ ap (byBody h) (c .before .read .ensures .answer ∙ ap (λ (n : ℕ). readBody (h .tag) (take n s)) (c .before .before .before .min .ensures) ∙ ap (readBody (h .tag)) (take-min (h .s1 .len) s)))
+
+pub asked-by-frame-spec : {M : Type 1} → statement M
+asked-by-frame-spec =
+    tie.close
+    (tie.spec
+    for-session-requires
+    returns
+    cast-min
+    min-requires
+    slice-aggregate-read
+    read-requires
+    asked-by-body-requires
+    returns-2)

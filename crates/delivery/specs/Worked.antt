@@ -1,0 +1,140 @@
+-- Worked streams, computed from the definitions: what their entries ask of the session. First the fault that this is about: a receiver filled what was split
+-- over two reads up with bytes of the frame before, took the result for an acknowledgement, and released a message that had never been written.
+use mathlib.Core.Path.{_≡_}
+use mathlib.Core.List.{List, [], _∷_, _++_, map}
+use mathlib.Core.Bool.{true, false}
+use Prim.Native.Nat.{ℕ}
+use lib.ListN.{take, drop, set, replicate}
+use Rattle.refusal.specs.Refusals.{row}
+use Rattle.banner.specs.declared.Features.{Features}
+use Rattle.banner.specs.Banner.{bannerBytes}
+use Rattle.stream.specs.Stream.{Entry, traceOf}
+use Rattle.stream.specs.Rows.{Row, _⇒_, Holds, features}
+use Rattle.session.specs.declared.Session.{Session}
+use Rattle.session.specs.Laws as session
+use Rattle.session.specs.History.{sessionBy}
+use Rattle.delivery.specs.declared.Asked.{Asked}
+use Rattle.delivery.specs.declared.Asked.the-variants.{Nothing, Ack, Reconnect, Reset, Malformed}
+use Rattle.delivery.specs.declared.Connected.{Connected}
+use Rattle.delivery.specs.Asked.{askedBy, ConnectedWith}
+use Rattle.delivery.specs.Calls.{Call, piece, accepted, handed, Chained, sessionAfter, played}
+
+-- ---- what the rows are made of
+
+abbrev pub ours : Features
+ours = features 1 0
+
+abbrev pub store : List ℕ
+store = replicate 48 0xAA
+
+abbrev pub asksOf : Entry → Asked
+asksOf e = askedBy (e .event) (e .store)
+
+-- what each entry of a stream asks
+abbrev pub asks : List ℕ → List Asked
+asks stream = map asksOf (traceOf ours stream store .entries)
+
+-- a preamble with one segment, of a tag and a length, and its checksum
+abbrev preamble : ℕ → ℕ → List ℕ → List ℕ
+preamble tag len sum = tag ∷ 1 ∷ len ∷ 0 ∷ 0 ∷ 0 ∷ 8 ∷ 0 ∷ (replicate 20 0 ++ sum)
+
+-- a number of eight bytes
+abbrev seq : ℕ → List ℕ
+seq n = n ∷ replicate 7 0
+
+-- acknowledgements of 1 and of 3, as bytes of msgr2.1
+abbrev pub ack1 : List ℕ
+ack1 = preamble 20 8 (0x73 ∷ 0x74 ∷ 0xBC ∷ 0x5B ∷ []) ++ seq 1 ++ (0x52 ∷ 0x30 ∷ 0xEB ∷ 0x3A ∷ [])
+
+abbrev pub ack3 : List ℕ
+ack3 = preamble 20 8 (0x73 ∷ 0x74 ∷ 0xBC ∷ 0x5B ∷ []) ++ seq 3 ++ (0x1C ∷ 0xCA ∷ 0x93 ∷ 0xA8 ∷ [])
+
+-- a message whose last bytes happen to be the end of such a frame: 16 bytes, then what stands behind the first 16 bytes of an acknowledgement of 3
+abbrev pub message : List ℕ
+message = preamble 17 44 (0x9C ∷ 0x02 ∷ 0x10 ∷ 0x6B ∷ []) ++ replicate 16 0x2A ++ drop 16 ack3 ++ (0xA4 ∷ 0x27 ∷ 0x2A ∷ 0x75 ∷ [])
+
+-- behind the message, an acknowledgement of 1 that is split after 16 bytes
+abbrev pub firstHalf : List ℕ
+firstHalf = take 16 ack1
+
+-- filled up with bytes of the frame before, from the place on where the first half ends
+abbrev pub filledUp : List ℕ
+filledUp = firstHalf ++ take 28 (drop 48 message)
+
+-- the frames behind either banner
+abbrev behind21 : List ℕ → List Asked → Row (List Asked)
+behind21 frames wanted = asks (bannerBytes 1 0 ++ frames) ⇒ (Nothing ∷ wanted)
+
+abbrev behind20 : List ℕ → List Asked → Row (List Asked)
+behind20 frames wanted = asks (bannerBytes 0 0 ++ frames) ⇒ (Nothing ∷ wanted)
+
+-- ---- the fault
+
+unfoldable pub faultRows : List (Row (List Asked))
+faultRows =
+    -- what that receiver took the first half for: an acknowledgement of 3, with all its checksums right
+    behind21 filledUp (Ack 3 ∷ [])
+    -- what the definition has
+    ∷ behind21 (message ++ firstHalf) (Nothing ∷ [])
+    ∷ behind21 (message ++ ack1) (Nothing ∷ Ack 1 ∷ [])
+    ∷ []
+
+-- all but the last byte of the true acknowledgement
+abbrev pub split : List ℕ
+split = bannerBytes 1 0 ++ message ++ take 43 ack1
+
+-- the caller's own calls
+abbrev pub ownCalls : List Call → List session.Call
+ownCalls [] = []
+ownCalls (piece size r s ∷ cs) = ownCalls cs
+ownCalls (accepted h r ∷ cs) = session.accept h ∷ ownCalls cs
+ownCalls (handed n r ∷ cs) = session.ack n ∷ ownCalls cs
+
+-- read under every cutting, it releases nothing: the session is where the caller's own calls lead
+abbrev pub ReleasesNothing : List ℕ → Type 0
+ReleasesNothing stream =
+    (s : Session) (k : Connected) (cs : List Call) → ConnectedWith s ours k → Chained stream (k .state) store 0 cs
+    → sessionAfter s cs ≡ sessionBy s (played s (ownCalls cs))
+
+-- ---- other frames
+
+-- an acknowledgement of 1 in msgr2.0, by its late_flags; one with a second segment of one byte, up to that
+abbrev acked20 : ℕ → List ℕ
+acked20 late = take 40 ack1 ++ (late ∷ drop 40 ack1) ++ replicate 12 0
+
+abbrev twoSegments : List ℕ
+twoSegments = (0x14 ∷ 2 ∷ 8 ∷ 0 ∷ 0 ∷ 0 ∷ 8 ∷ 0 ∷ 1 ∷ 0 ∷ 0 ∷ 0 ∷ 8 ∷ 0 ∷ []) ++ replicate 14 0 ++ (0x09 ∷ 0x1B ∷ 0x59 ∷ 0x07 ∷ []) ++ drop 32 ack1
+
+unfoldable pub frameRows : List (Row (List Asked))
+frameRows =
+    -- a reconnect_ok
+    behind21 (preamble 15 8 (0x61 ∷ 0x82 ∷ 0x7C ∷ 0xBF ∷ []) ++ seq 2 ++ (0x3B ∷ 0xB7 ∷ 0xAF ∷ 0xE1 ∷ [])) (Reconnect 2 ∷ [])
+    -- resets: only 1 is full
+    ∷ behind21 (preamble 12 1 (0x4A ∷ 0xBB ∷ 0x98 ∷ 0x19 ∷ []) ++ (1 ∷ 0xAD ∷ 0x2F ∷ 0xE9 ∷ 0x5F ∷ [])) (Reset true ∷ [])
+    ∷ behind21 (preamble 12 1 (0x4A ∷ 0xBB ∷ 0x98 ∷ 0x19 ∷ []) ++ (0 ∷ 0xAE ∷ 0xAC ∷ 0x82 ∷ 0xAD ∷ [])) (Reset false ∷ [])
+    ∷ behind21 (preamble 12 1 (0x4A ∷ 0xBB ∷ 0x98 ∷ 0x19 ∷ []) ++ (2 ∷ 0x59 ∷ 0xDC ∷ 0xB9 ∷ 0x4C ∷ [])) (Reset false ∷ [])
+    -- a keepalive's ack is none
+    ∷ behind21 (preamble 19 8 (0xEC ∷ 0x5E ∷ 0xE0 ∷ 0x3B ∷ []) ++ seq 1 ++ (0x52 ∷ 0x30 ∷ 0xEB ∷ 0x3A ∷ [])) (Nothing ∷ [])
+    -- no body is read for another tag
+    ∷ behind21 (preamble 10 8 (0x67 ∷ 0xC8 ∷ 0xE7 ∷ 0x9E ∷ []) ++ seq 1 ++ (0x52 ∷ 0x30 ∷ 0xEB ∷ 0x3A ∷ [])) (Nothing ∷ [])
+    -- a reset without a byte, one with two, a reconnect_ok of seven bytes
+    ∷ behind21 (preamble 12 0 (0x45 ∷ 0x3F ∷ 0x36 ∷ 0x34 ∷ [])) (Malformed (row 20 0 0 0) ∷ [])
+    ∷ behind21 (preamble 12 2 (0x5B ∷ 0x37 ∷ 0x6B ∷ 0x6F ∷ []) ++ (1 ∷ 0 ∷ 0x5A ∷ 0x10 ∷ 0x3C ∷ 0x1D ∷ [])) (Malformed (row 20 1 0 0) ∷ [])
+    ∷ behind21 (preamble 15 7 (0xC5 ∷ 0x48 ∷ 0xAD ∷ 0x17 ∷ []) ++ take 7 (seq 2) ++ (0x02 ∷ 0xCC ∷ 0xC7 ∷ 0x94 ∷ [])) (Malformed (row 20 0 0 0) ∷ [])
+    -- bodies of seven and of nine bytes
+    ∷ behind21 (preamble 20 7 (0xD7 ∷ 0xBE ∷ 0x6D ∷ 0xF3 ∷ []) ++ take 7 (seq 1) ++ (0x5A ∷ 0xB9 ∷ 0xC2 ∷ 0x2C ∷ [])) (Malformed (row 20 0 0 0) ∷ [])
+    ∷ behind21 (preamble 20 9 (0x7C ∷ 0xF0 ∷ 0x12 ∷ 0x76 ∷ []) ++ seq 1 ++ (0 ∷ 0x14 ∷ 0x41 ∷ 0x24 ∷ 0xB0 ∷ [])) (Malformed (row 20 8 0 0) ∷ [])
+    -- a second segment, which is left over; and the same frame aborted
+    ∷ behind21 (twoSegments ++ (0x2A ∷ 0x0E ∷ 0x48 ∷ 0x0A ∷ 0xDD ∷ 0xE6 ∷ []) ++ replicate 8 0) (Nothing ∷ Malformed (row 20 8 0 0) ∷ [])
+    ∷ behind21 (twoSegments ++ (0x00 ∷ 0x01 ∷ 0xAE ∷ 0xAC ∷ 0x82 ∷ 0xAD ∷ []) ++ replicate 8 0) (Nothing ∷ Nothing ∷ [])
+    -- msgr2.0, whole and aborted
+    ∷ behind20 (acked20 0) (Ack 1 ∷ [])
+    ∷ behind20 (acked20 1) (Nothing ∷ [])
+    -- a byte of the body, and one of the preamble, that differs
+    ∷ behind21 (set ack1 32 3) (Nothing ∷ [])
+    ∷ behind21 (set ack1 0 15) (Nothing ∷ [])
+    ∷ []
+
+-- THE CLAIM
+unfoldable pub Worked : Type 0
+Worked = (filledUp ≡ ack3) × Holds faultRows × ReleasesNothing split × Holds frameRows
