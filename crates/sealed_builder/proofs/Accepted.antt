@@ -1,0 +1,43 @@
+-- What is known of a request that nothing is wrong with.
+use mathlib.Core.Path.{_≡_, refl, ap}
+use mathlib.Core.Bool.{Bool, true, false, cond}
+use Prim.Native.Nat.{ℕ, _+_, _≤_}
+use native.Mathlib.Omega.{arith}
+use borrow.Author.Tests.{leb-true, eqb-true}
+use lib.Dec.{leb, eqb}
+use Rattle.refusal.specs.declared.Refusal.the-variants.{SourceLength, NoRoom, NoncesSpent}
+use Rattle.refusal.specs.Refusals.{Judged, fine, refused, orElse}
+use Rattle.refusal.proofs.Judgements.{all-fine, passed}
+use Rattle.preamble.specs.declared.Header.{Header}
+use Rattle.preamble.specs.Layout.{total}
+use Rattle.secure.specs.Layout.{allNonces, sealedLength, partCount}
+use Rattle.sealed_builder.specs.declared.Sending.{Sending}
+use Rattle.sealed_builder.specs.Build.{spentOf, judgements, judgeEarlier, judgeNonces, judgeSealed}
+
+pub both-fine : (a b : Judged) → orElse a b ≡ fine → (a ≡ fine) × (b ≡ fine)
+both-fine fine b e = (refl, e)
+both-fine (refused n) b e = (e, cc)
+
+pub record Accepted (s : Sending) (h : Header) (source space queued : ℕ) : Type 0 where
+  pub whole : source ≡ total h
+  pub fits : queued + sealedLength h ≤ space
+  pub left : spentOf s + partCount h ≤ allNonces
+
+pub accepted : (s : Sending) (h : Header) (abort : Bool) (source space queued : ℕ) → judgeSealed s h abort source space queued ≡ fine → Accepted s h source space queued
+unfolding judgeSealed judgeEarlier
+accepted s h abort source space queued e =
+    let b = both-fine (judgeEarlier s h abort source space queued) (judgeNonces s (partCount h)) e in
+    let f = all-fine (judgements s h abort source space queued) (b .0) in
+    record {
+      whole = eqb-true source (total h) (passed (eqb source (total h)) SourceLength (f .1 .1 .1 .0));
+      fits = leb-true (queued + sealedLength h) space (passed (leb (queued + sealedLength h) space) (NoRoom (sealedLength h)) (f .1 .1 .1 .1 .1 .0));
+      left = leb-true (spentOf s + partCount h) allNonces (passed (leb (spentOf s + partCount h) allNonces) NoncesSpent (b .1));
+    }
+
+-- where nonces are left, the count is that of the spent ones
+pub counted : (s : Sending) (k : ℕ) → 1 ≤ k → spentOf s + k ≤ allNonces → s .spent + k ≤ allNonces
+counted s k h l = go (s .exhausted) refl
+  where
+    go : (b : Bool) → s .exhausted ≡ b → s .spent + k ≤ allNonces
+    go true e = let z : spentOf s ≡ allNonces = ap (λ (b : Bool). cond b allNonces (s .spent)) e in omega arith
+    go false e = let z : spentOf s ≡ s .spent = ap (λ (b : Bool). cond b allNonces (s .spent)) e in omega arith

@@ -1,0 +1,31 @@
+-- Nonces counted in 64 bits.
+use mathlib.Core.Path.{_≡_, refl, sym, ap, _∙_}
+use mathlib.Core.Bool.{Bool, true, false}
+use Prim.Native.Nat.{ℕ, _+_, _-_, _%_, _^_, _≤_}
+use native.Mathlib.Nat.{mod-eq-of-lt}
+use native.Mathlib.Omega.{arith}
+use borrow.Author.Tests.{leb-true, leb-false, le-leb, lt-leb, ne-eqb}
+use lib.Dec.{leb, eqb}
+use Rattle.secure.specs.Layout.{allNonces}
+
+-- k nonces are left, as code tests it without a sum that could wrap
+pub left-is : (n k : ℕ) → 1 ≤ k → k ≤ 3 → leb n (18446744073709551615 - (k - 1)) ≡ leb (n + k) allNonces
+left-is n k h₁ h₂ = go (leb n (18446744073709551615 - (k - 1))) refl
+  where
+    go : (b : Bool) → leb n (18446744073709551615 - (k - 1)) ≡ b → leb n (18446744073709551615 - (k - 1)) ≡ leb (n + k) allNonces
+    go true e = let l = leb-true n (18446744073709551615 - (k - 1)) e in e ∙ sym (le-leb (n + k) allNonces (omega arith))
+    go false e = let l = leb-false n (18446744073709551615 - (k - 1)) e in e ∙ sym (lt-leb (n + k) allNonces (omega arith))
+
+-- the count has come round to 0 exactly where all are spent
+pub came-round : (n k : ℕ) → 1 ≤ k → n + k ≤ allNonces → eqb ((n + k) % 2 ^ 64) 0 ≡ leb allNonces (n + k)
+came-round n k h₁ h₂ = go (leb allNonces (n + k)) refl
+  where
+    go : (b : Bool) → leb allNonces (n + k) ≡ b → eqb ((n + k) % 2 ^ 64) 0 ≡ leb allNonces (n + k)
+    go true e =
+        let l = leb-true allNonces (n + k) e in
+        let s : n + k ≡ 2 ^ 64 = omega arith in
+        ap (λ (m : ℕ). eqb (m % 2 ^ 64) 0) s ∙ sym e
+    go false e =
+        let l = leb-false allNonces (n + k) e in
+        let s : (n + k) % 2 ^ 64 ≡ n + k = mod-eq-of-lt l in
+        ap (λ (m : ℕ). eqb m 0) s ∙ ne-eqb (n + k) 0 (λ z. omega arith) ∙ sym e

@@ -1,0 +1,7 @@
+pub mod Counts
+pub mod Texts
+pub mod Seals
+pub mod Accepted
+pub mod Runs
+pub mod Once
+pub mod Eighteen

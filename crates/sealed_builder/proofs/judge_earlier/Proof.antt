@@ -1,0 +1,91 @@
+use mathlib.Core.Path.{_≡_, _∙_, refl, sym, ap₂}
+use Rattle.refusal.specs.Refusals.{judgedBy, orElse}
+use Rattle.refusal.proofs.Judgements.{or-else-last}
+use Rattle.preamble.specs.Layout.{total}
+use Rattle.builder.specs.Build.{judgeRoom, judgeSource}
+use Rattle.secure.specs.Layout.{sealedLength}
+use Rattle.sealed_builder.specs.Build.{judgeSending, judgeEarlier}
+use borrow.Author.Needs.{needs}
+use Rattle.sealed_builder.proofs.judge_earlier.Statement.{statement}
+use Rattle.sealed_builder.proofs.judge_earlier.Tie as tie
+
+sealed-length-requires : tie.Need-sealed-length-requires
+sealed-length-requires c κs = search needs
+
+room-requires : tie.Need-room-requires
+room-requires c κs = search needs
+
+unless-ok-requires : tie.Need-unless-ok-requires
+unless-ok-requires c κs = search needs
+
+judge-abort-requires : tie.Need-judge-abort-requires
+judge-abort-requires c κs = search needs
+
+or-else-requires : tie.Need-or-else-requires
+or-else-requires c κs = search needs
+
+total-of-requires : tie.Need-total-of-requires
+total-of-requires c κs = search needs
+
+unless-ok-requires-2 : tie.Need-unless-ok-requires-2
+unless-ok-requires-2 c κs = search needs
+
+or-else-requires-2 : tie.Need-or-else-requires-2
+or-else-requires-2 c κs = search needs
+
+judge-header-requires : tie.Need-judge-header-requires
+judge-header-requires c κs = search needs
+
+or-else-requires-3 : tie.Need-or-else-requires-3
+or-else-requires-3 c κs = search needs
+
+unless-ok-requires-3 : tie.Need-unless-ok-requires-3
+unless-ok-requires-3 c κs = search needs
+
+or-else-requires-4 : tie.Need-or-else-requires-4
+or-else-requires-4 c κs = search needs
+
+agrees-with-itself-requires : tie.Need-agrees-with-itself-requires
+agrees-with-itself-requires c κs = search needs
+
+unless-ok-requires-4 : tie.Need-unless-ok-requires-4
+unless-ok-requires-4 c κs = search needs
+
+or-else-requires-5 : tie.Need-or-else-requires-5
+or-else-requires-5 c κs = search needs
+
+returns : tie.Need-returns
+unfolding judgeEarlier
+returns c =
+    let a = c .before .before .before .before .before .before .before .before .before .before .before .before .before .before .before .before .args in
+    let room : judgedBy (c .before .before .before .before .before .before .before .before .before .before .before .before .before .unless-ok .result) ≡ judgeRoom (sealedLength (a .h)) (a .space) (a .queued) =
+    rw (c .before .before .before .before .before .before .before .before .before .before .before .before .before .before .room .ensures, c .before .before .before .before .before .before .before .before .before .before .before .before .before .before .before .sealed-length .ensures) at (c .before .before .before .before .before .before .before .before .before .before .before .before .before .unless-ok .ensures) in
+    let source : judgedBy (c .before .before .before .before .before .before .before .before .before .unless-ok2 .result) ≡ judgeSource (a .source) (total (a .h)) = rw (c .before .before .before .before .before .before .before .before .before .before .total-of .ensures) at (c .before .before .before .before .before .before .before .before .before .unless-ok2 .ensures) in
+    let state : judgedBy (c .before .unless-ok4 .result) ≡ judgeSending (a .s) = rw (c .before .before .agrees-with-itself .ensures) at (c .before .unless-ok4 .ensures) in
+    let last = sym (or-else-last (judgedBy (c .before .before .before .before .before .before .before .before .before .before .before .before .before .unless-ok .result))) ∙ ap₂ orElse room refl in
+    let v15 = c .before .before .before .before .before .before .before .before .before .before .before .or-else .ensures ∙ ap₂ orElse (c .before .before .before .before .before .before .before .before .before .before .before .before .judge-abort .ensures) last in
+    let v13 = c .before .before .before .before .before .before .before .before .or-else2 .ensures ∙ ap₂ orElse source v15 in
+    let v6 = c .before .before .before .before .before .before .or-else3 .ensures ∙ ap₂ orElse (c .before .before .before .before .before .before .before .judge-header .ensures) v13 in
+    let v27 = c .before .before .before .or-else4 .ensures ∙ ap₂ orElse (c .before .before .before .before .unless-ok3 .ensures) v6 in
+    c .or-else5 .ensures ∙ ap₂ orElse state v27
+
+pub judge-earlier-spec : {M : Type 1} → statement M
+judge-earlier-spec =
+    tie.close
+    (tie.spec
+    sealed-length-requires
+    room-requires
+    unless-ok-requires
+    judge-abort-requires
+    or-else-requires
+    total-of-requires
+    unless-ok-requires-2
+    or-else-requires-2
+    judge-header-requires
+    or-else-requires-3
+    unless-ok-requires-3
+    or-else-requires-4
+    agrees-with-itself-requires
+    unless-ok-requires-4
+    or-else-requires-5
+    returns)

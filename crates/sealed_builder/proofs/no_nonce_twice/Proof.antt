@@ -1,0 +1,16 @@
+use Rattle.sealed_builder.proofs.Once.{different, needs, unspent}
+use Rattle.sealed_builder.proofs.Eighteen.{exactly}
+use Rattle.sealed_builder.proofs.no_nonce_twice.Statement.{statement}
+use Rattle.sealed_builder.proofs.no_nonce_twice.Tie as tie
+
+returns : tie.Need-returns
+returns c =
+    record {
+      different = different;
+      needs = needs;
+      eighteen = exactly;
+      unspent = λ s b r m a. unspent s b m r a;
+    }
+
+pub no-nonce-twice-spec : {M : Type 1} → statement M
+no-nonce-twice-spec = tie.close (tie.spec returns)

@@ -1,0 +1,30 @@
+use mathlib.Core.Path.{ap}
+use native.Mathlib.Omega.{arith}
+use Rattle.banner.specs.declared.Revision.the-variants.{Msgr21}
+use Rattle.body.specs.Body.{lateByte}
+use Rattle.builder.proofs.Writes.{laid-as}
+use Rattle.secure.specs.Layout.{epilogue16}
+use borrow.Author.Needs.{needs}
+use Rattle.sealed_builder.proofs.put_epilogue.Statement.{statement}
+use Rattle.sealed_builder.proofs.put_epilogue.Tie as tie
+
+late-byte-requires : tie.Need-late-byte-requires
+late-byte-requires c κs = search needs
+
+slice-aggregate-put : tie.Need-slice-aggregate-put
+slice-aggregate-put c = search needs
+
+put-requires : tie.Need-put-requires
+put-requires c κs = search needs
+
+same-length : tie.Need-same-length
+same-length c = search needs
+
+returns : tie.Need-returns
+returns c =
+    let g = c .before .before .before .before .before .before .before .args in
+    laid-as _ (epilogue16 (lateByte Msgr21 (g .abort))) (g .out .now) _ (c .before .before .put .ensures) (ap epilogue16 (c .before .before .before .before .before .late-byte .ensures)) (omega (arith, c .before .before .before .before .before .before .before .pre))
+
+pub put-epilogue-spec : {M : Type 1} → statement M
+put-epilogue-spec =
+    tie.close (tie.spec late-byte-requires slice-aggregate-put put-requires same-length returns)

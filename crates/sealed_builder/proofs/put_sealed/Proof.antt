@@ -1,0 +1,93 @@
+use mathlib.Core.Path.{_≡_, ap, ap₂, _∙_}
+use mathlib.Core.List.{List}
+use Prim.Native.Nat.{ℕ, _+_, _-_}
+use native.Mathlib.Omega.{arith}
+use lib.ListN.{length, take, drop, length-drop}
+use lib.Seq.{length-take-le}
+use Rattle.buffer.specs.Splice.{replaceFront}
+use Rattle.buffer.proofs.Parts.{rest, length-rest, next}
+use Rattle.banner.specs.declared.Revision.the-variants.{Msgr21}
+use Rattle.body.specs.Body.{lateByte, restSent}
+use Rattle.gcm.specs.Gcm.{sealedBy}
+use Rattle.gcm.proofs.Placing.{sealed-length}
+use Rattle.secure.specs.Layout.{nextNonce, firstText, laterTexts, texts, partsFrom, sealedParts, sealedLength}
+use Rattle.sealed_builder.proofs.Texts.{length-first-text}
+use borrow.Author.Needs.{needs}
+use Rattle.sealed_builder.proofs.put_sealed.Statement.{statement}
+use Rattle.sealed_builder.proofs.put_sealed.Tie as tie
+
+cast-n : tie.Need-cast-n
+cast-n c = search needs
+
+part-requires : tie.Need-part-requires
+part-requires c κs = search needs
+
+behind-requires : tie.Need-behind-requires
+behind-requires c κs = search needs
+
+next-nonce-requires : tie.Need-next-nonce-requires
+next-nonce-requires c κs = search needs
+
+seal-first-requires : tie.Need-seal-first-requires
+unfolding sealedLength
+seal-first-requires c κs = omega (arith, c .before .before .before .before .before .before .before .pre .1)
+
+sub-seal-later : tie.Need-sub-seal-later
+unfolding sealedLength
+sub-seal-later c =
+    omega (arith, c .before .before .before .before .before .before .before .before .before .before .pre .1, c .before .before .seal-first .kept .0)
+
+part-seal-later-start : tie.Need-part-seal-later-start
+unfolding sealedLength
+part-seal-later-start c =
+    omega (arith, c .before .before .before .before .before .before .before .before .before .before .pre .1, c .before .before .seal-first .kept .0)
+
+part-seal-later-end : tie.Need-part-seal-later-end
+part-seal-later-end c = search needs
+
+seal-later-requires : tie.Need-seal-later-requires
+unfolding sealedLength
+seal-later-requires c κs =
+    let first : length (c .before .before .before .before .before .before .before .part .result .now) ≡ c .before .before .before .before .before .before .before .before .before .before .before .args .h .s1 .len = ap length (c .before .before .before .before .before .before .before .part .ensures) ∙ length-take-le (c .before .before .before .before .before .before .before .before .before .before .before .args .h .s1 .len) (c .before .before .before .before .before .before .before .before .before .before .before .args .source .now) (omega (arith, c .before .before .before .before .before .before .before .before .before .before .before .pre .0)) in
+    let l₁ : List ℕ = c .before .before .before .seal-first .last .0 in (
+      first,
+      omega (arith, first, c .before .before .before .before .before .before .before .before .struct-known .given),
+      ap length (c .before .before .before .before .before .before .behind .ensures) ∙ length-drop (c .before .before .before .before .before .before .before .before .before .before .before .args .h .s1 .len) (c .before .before .before .before .before .before .before .before .before .before .before .args .source .now) ∙ omega (arith, c .before .before .before .before .before .before .before .before .before .before .before .pre .0),
+      omega (arith, c .before .before .before .before .before .before .before .before .before .before .before .pre .1, c .before .before .before .seal-first .kept .0, length-rest l₁ 96),
+    )
+
+same-length : tie.Need-same-length
+same-length c = search needs
+
+returns : tie.Need-returns
+unfolding texts
+returns c =
+    let g = c .before .before .before .before .before .before .before .before .before .before .before .before .before .before .args in
+    let n : ℕ = g .h .s1 .len in
+    let l₁ : List ℕ = c .before .before .before .before .before .before .seal-first .last .0 in
+    let late : ℕ = lateByte Msgr21 (g .abort) in
+    let of : List ℕ → List ℕ → List ℕ → List ℕ = λ nonce first bytes. sealedParts (g .w .now) (partsFrom nonce (laterTexts (g .h) late first (restSent (g .abort) bytes))) in
+    let head : List ℕ → List ℕ = λ first. sealedBy (g .w .now) (g .nonce) (firstText (g .h) first) in
+    let first : List ℕ = take n (g .source .now) in
+    next (g .out .now) l₁ (head first) (of (nextNonce (g .nonce)) first (drop n (g .source .now))) (c .before .before .seal-later .last .0) 96
+    (sealed-length (g .w .now) (g .nonce) (firstText (g .h) first) ∙ ap (λ (k : ℕ). k + 16) (length-first-text (g .h) first))
+    (c .before .before .before .before .before .before .seal-first .ensures ∙ ap (λ (x : List ℕ). replaceFront (head x) (g .out .now)) (c .before .before .before .before .before .before .before .before .before .before .part .ensures))
+    (c .before .before .seal-later .ensures
+    ∙ ap (λ (x : List ℕ). replaceFront (of x (c .before .before .before .before .before .before .before .before .before .before .part .result .now) (c .before .before .before .before .before .before .before .before .before .behind .result .now)) (rest l₁ 96)) (c .before .before .before .before .before .before .before .before .next-nonce .ensures)
+    ∙ ap₂ (λ (x y : List ℕ). replaceFront (of (nextNonce (g .nonce)) x y) (rest l₁ 96)) (c .before .before .before .before .before .before .before .before .before .before .part .ensures) (c .before .before .before .before .before .before .before .before .before .behind .ensures))
+
+pub put-sealed-spec : {M : Type 1} → statement M
+put-sealed-spec =
+    tie.close
+    (tie.spec
+    cast-n
+    part-requires
+    behind-requires
+    next-nonce-requires
+    seal-first-requires
+    sub-seal-later
+    part-seal-later-start
+    part-seal-later-end
+    seal-later-requires
+    same-length
+    returns)

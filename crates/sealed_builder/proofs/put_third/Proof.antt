@@ -1,0 +1,79 @@
+use mathlib.Core.Path.{_≡_, ap, _∙_}
+use mathlib.Core.List.{List, [], _∷_}
+use Prim.Native.Nat.{ℕ, _+_, _-_}
+use native.Mathlib.Omega.{arith}
+use lib.ListN.{length, length-drop}
+use lib.Seq.{length-take-le}
+use Rattle.buffer.proofs.Parts.{rest, length-rest}
+use Rattle.banner.specs.declared.Revision.the-variants.{Msgr21}
+use Rattle.body.specs.Body.{lateByte}
+use Rattle.secure.specs.Layout.{roundUp, paddedFrom}
+use Rattle.sealed_builder.proofs.Texts.{padded-next}
+use borrow.Author.Needs.{needs}
+use Rattle.sealed_builder.proofs.put_third.Statement.{statement}
+use Rattle.sealed_builder.proofs.put_third.Tie as tie
+
+padding-requires : tie.Need-padding-requires
+padding-requires c κs = search needs
+
+add-e : tie.Need-add-e
+add-e c = search needs
+
+part-requires : tie.Need-part-requires
+part-requires c κs = search needs
+
+put-padded-requires : tie.Need-put-padded-requires
+put-padded-requires c κs =
+    let bytes : List ℕ = c .before .before .before .before .before .args .rest .now in
+    let n : ℕ = c .before .before .before .before .before .args .n in
+    let e : roundUp (length (c .part .result .now)) ≡ roundUp n = ap (λ (l : List ℕ). roundUp (length l)) (c .part .ensures) ∙ ap roundUp (length-take-le n bytes (omega (arith, c .before .before .before .before .before .pre .0))) in
+    omega (arith, e, c .before .before .before .before .before .pre .1)
+
+sub-put-fourth : tie.Need-sub-put-fourth
+sub-put-fourth c = search needs
+
+part-put-fourth-start : tie.Need-part-put-fourth-start
+part-put-fourth-start c = search needs
+
+part-put-fourth-end : tie.Need-part-put-fourth-end
+part-put-fourth-end c = search needs
+
+behind-requires : tie.Need-behind-requires
+behind-requires c κs = search needs
+
+put-fourth-requires : tie.Need-put-fourth-requires
+put-fourth-requires c κs =
+    let bytes : List ℕ = c .before .before .before .before .before .before .before .before .before .before .args .rest .now in
+    let n : ℕ = c .before .before .before .before .before .before .before .before .before .before .args .n in
+    let l₁ : List ℕ = c .before .before .before .before .put-padded .last .0 in
+    let d : length (c .behind .result .now) ≡ length bytes - n = ap length (c .behind .ensures) ∙ length-drop n bytes in
+    let r : length (rest l₁ (n + c .before .before .before .before .before .before .before .padding .result)) ≡ length l₁ - (n + c .before .before .before .before .before .before .before .padding .result) = length-rest l₁ (n + c .before .before .before .before .before .before .before .padding .result) in
+    let k : length l₁ ≡ length (c .before .before .before .before .before .before .before .before .before .before .args .out .now) = search needs in
+    (omega (arith, c .before .before .before .before .before .before .before .before .before .before .pre .0), omega (arith, c .before .before .before .before .before .before .before .padding .ensures .0, c .before .before .before .before .before .before .before .before .before .before .pre .1))
+
+same-length : tie.Need-same-length
+same-length c = search needs
+
+returns : tie.Need-returns
+returns c =
+    let g = c .before .before .before .before .before .before .before .before .before .before .before .before .before .args in
+    let bytes : List ℕ = g .rest .now in
+    padded-next (g .abort) (g .n) (g .n + c .before .before .before .before .before .before .before .before .before .before .padding .result) bytes (c .before .before .before .before .before .before .before .before .part .result .now) (c .before .before .before .behind .result .now) (g .out .now) (c .before .before .before .before .before .before .before .put-padded .last .0) (c .before .before .put-fourth .last .0)
+    (paddedFrom (g .n4 ∷ []) (lateByte Msgr21 (g .abort))) (omega (arith, c .before .before .before .before .before .before .before .before .before .before .before .before .before .pre .0)) (ap (λ (k : ℕ). g .n + k) (c .before .before .before .before .before .before .before .before .before .before .padding .ensures .0)) (c .before .before .before .before .before .before .before .before .part .ensures) (c .before .before .before .behind .ensures)
+    (c .before .before .before .before .before .before .before .put-padded .ensures) (c .before .before .put-fourth .ensures)
+
+pub put-third-spec : {M : Type 1} → statement M
+put-third-spec =
+    tie.close
+    (tie.spec
+    padding-requires
+    add-e
+    part-requires
+    put-padded-requires
+    sub-put-fourth
+    part-put-fourth-start
+    part-put-fourth-end
+    behind-requires
+    put-fourth-requires
+    same-length
+    returns)

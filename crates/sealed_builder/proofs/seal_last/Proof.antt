@@ -1,0 +1,71 @@
+use mathlib.Core.Path.{_≡_, sym, _∙_}
+use mathlib.Core.Bool.{false}
+use mathlib.Core.List.{List}
+use Prim.Native.Nat.{ℕ, _+_, _-_}
+use native.Mathlib.Omega.{arith}
+use lib.ListN.{length}
+use Rattle.buffer.proofs.Parts.{rest}
+use Rattle.banner.specs.declared.Revision.the-variants.{Msgr21}
+use Rattle.body.specs.Body.{lateByte, restSent}
+use Rattle.body.proofs.Laws.{length-sent}
+use Rattle.secure.specs.Layout.{noLast, lastText, lastPart}
+use Rattle.sealed_builder.proofs.Texts.{length-last-text}
+use Rattle.sealed_builder.proofs.Seals.{sealed-laid, last-none, last-there, last-length}
+use borrow.Author.Needs.{needs}
+use Rattle.sealed_builder.proofs.seal_last.Statement.{statement}
+use Rattle.sealed_builder.proofs.seal_last.Tie as tie
+
+no-last-requires : tie.Need-no-last-requires
+no-last-requires c κs = search needs
+
+returns : tie.Need-returns
+returns c =
+    last-none (c .before .before .before .before .args .w .now) (c .before .before .before .before .args .nonce) (c .before .before .before .before .args .h) (lastText (c .before .before .before .before .args .h) (lateByte Msgr21 (c .before .before .before .before .args .abort)) (restSent (c .before .before .before .before .args .abort) (c .before .before .before .before .args .rest .now))) (c .before .before .before .before .args .out .now) (sym (c .before .no-last .ensures) ∙ c .if1 .taken)
+
+last-part-length-requires : tie.Need-last-part-length-requires
+last-part-length-requires c κs = search needs
+
+sub-n : tie.Need-sub-n
+sub-n c =
+    let there : noLast (c .before .before .before .before .before .args .h) ≡ false = sym (c .before .before .no-last .ensures) ∙ c .before .if1 .left in
+    let n : c .last-part-length .result ≡ lastPart (c .before .before .before .before .before .args .h) = c .last-part-length .ensures .0 ∙ last-length (c .before .before .before .before .before .args .h) there in
+    omega arith
+
+put-last-requires : tie.Need-put-last-requires
+put-last-requires c κs =
+    let there : noLast (c .before .before .before .before .before .before .args .h) ≡ false = sym (c .before .before .before .no-last .ensures) ∙ c .before .before .if1 .left in
+    (c .before .before .before .before .before .before .pre .0, omega (arith, last-length (c .before .before .before .before .before .before .args .h) there, c .before .before .before .before .before .before .pre .1))
+
+seal-front-requires : tie.Need-seal-front-requires
+seal-front-requires c κs =
+    let there : noLast (c .before .before .before .before .before .before .before .before .before .before .args .h) ≡ false = sym (c .before .before .before .before .before .before .before .no-last .ensures) ∙ c .before .before .before .before .before .before .if1 .left in
+    let n : c .before .before .before .before .before .last-part-length .result ≡ lastPart (c .before .before .before .before .before .before .before .before .before .before .args .h) = c .before .before .before .before .before .last-part-length .ensures .0 ∙ last-length (c .before .before .before .before .before .before .before .before .before .before .args .h) there in
+    (omega (arith, last-length (c .before .before .before .before .before .before .before .before .before .before .args .h) there, c .before .before .before .before .before .before .before .before .before .before .pre .1, c .before .before .before .put-last .kept .0), omega (arith, c .before .before .before .before .before .last-part-length .ensures .1))
+
+same-length : tie.Need-same-length
+same-length c = search needs
+
+returns-2 : tie.Need-returns-2
+returns-2 c =
+    let g = c .before .before .before .before .before .before .before .before .before .before .before .before .before .args in
+    let there : noLast (c .before .before .before .before .before .before .before .before .before .before .before .before .before .args .h) ≡ false = sym (c .before .before .before .before .before .before .before .before .before .before .no-last .ensures) ∙ c .before .before .before .before .before .before .before .before .before .if1 .left in
+    let n : c .before .before .before .before .before .before .before .before .last-part-length .result ≡ lastPart (c .before .before .before .before .before .before .before .before .before .before .before .before .before .args .h) = c .before .before .before .before .before .before .before .before .last-part-length .ensures .0 ∙ last-length (c .before .before .before .before .before .before .before .before .before .before .before .before .before .args .h) there in
+    let bytes : List ℕ = restSent (g .abort) (g .rest .now) in
+    let text : List ℕ = lastText (g .h) (lateByte Msgr21 (g .abort)) bytes in
+    let len : length text + 16 ≡ lastPart (g .h) = length-last-text (g .h) (lateByte Msgr21 (g .abort)) bytes (length-sent (g .abort) (g .rest .now) ∙ c .before .before .before .before .before .before .before .before .before .before .before .before .before .pre .0) in
+    last-there (g .w .now) (g .nonce) (g .h) text (g .out .now) (c .before .before .seal-front .last .0) there
+    (sealed-laid (g .w .now) (g .nonce) text (g .out .now) (c .before .before .before .before .before .before .put-last .last .0) (c .before .before .seal-front .last .0) (c .before .before .before .before .before .before .before .before .last-part-length .result - 16)
+    (omega arith) (omega (arith, last-length (g .h) there, c .before .before .before .before .before .before .before .before .before .before .before .before .before .pre .1)) (c .before .before .before .before .before .before .put-last .ensures) (c .before .before .seal-front .ensures))
+
+pub seal-last-spec : {M : Type 1} → statement M
+seal-last-spec =
+    tie.close
+    (tie.spec
+    no-last-requires
+    returns
+    last-part-length-requires
+    sub-n
+    put-last-requires
+    seal-front-requires
+    same-length
+    returns-2)

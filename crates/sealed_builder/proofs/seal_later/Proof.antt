@@ -1,0 +1,112 @@
+use mathlib.Core.Path.{_≡_, sym, ap, _∙_}
+use mathlib.Core.Bool.{false}
+use mathlib.Core.List.{List}
+use Prim.Native.Nat.{ℕ, _+_, _-_}
+use native.Mathlib.Omega.{arith}
+use borrow.Author.Tests.{leb-false}
+use lib.ListN.{length, drop, length-drop}
+use Rattle.buffer.specs.Splice.{replaceFront}
+use Rattle.buffer.proofs.Parts.{rest, length-rest}
+use Rattle.banner.specs.declared.Revision.the-variants.{Msgr21}
+use Rattle.body.specs.Body.{lateByte, restSent}
+use Rattle.secure.specs.Layout.{padding, roundUp, noRest, noLast, unlessNone, restText, lastText, partsFrom, sealedParts}
+use Rattle.sealed_builder.proofs.Texts.{length-padded}
+use Rattle.sealed_builder.proofs.Seals.{rest-none, rest-there, rest-length}
+use borrow.Author.Needs.{needs}
+use Rattle.sealed_builder.proofs.seal_later.Statement.{statement}
+use Rattle.sealed_builder.proofs.seal_later.Tie as tie
+
+no-rest-requires : tie.Need-no-rest-requires
+no-rest-requires c κs = search needs
+
+seal-last-requires : tie.Need-seal-last-requires
+seal-last-requires c κs = search needs
+
+same-length : tie.Need-same-length
+same-length c = search needs
+
+returns : tie.Need-returns
+returns c =
+    rest-none (c .before .before .before .before .before .before .before .before .before .args .w .now) (c .before .before .before .before .before .before .before .before .before .args .nonce) (c .before .before .before .before .before .before .before .before .before .args .h) (lateByte Msgr21 (c .before .before .before .before .before .before .before .before .before .args .abort)) (c .before .before .before .before .before .before .before .before .before .args .first .now) (restSent (c .before .before .before .before .before .before .before .before .before .args .abort) (c .before .before .before .before .before .before .before .before .before .args .rest .now)) (c .before .before .before .before .before .before .before .before .before .args .out .now) (c .before .before .seal-last .last .0) (sym (c .before .before .before .before .before .no-rest .ensures) ∙ c .before .before .before .before .if1 .taken) (c .before .before .seal-last .ensures)
+
+sub-n : tie.Need-sub-n
+sub-n c =
+    let there : noRest (c .before .before .before .before .before .args .h) ≡ false = sym (c .before .no-rest .ensures) ∙ c .if1 .left in
+    omega (arith, leb-false (c .before .before .before .before .before .args .h .s1 .len) 48 there, c .before .before .before .before .before .pre .0)
+
+padding-requires : tie.Need-padding-requires
+padding-requires c κs = search needs
+
+add-a : tie.Need-add-a
+add-a c = search needs
+
+add-a-2 : tie.Need-add-a-2
+add-a-2 c = search needs
+
+next-nonce-requires : tie.Need-next-nonce-requires
+next-nonce-requires c κs = search needs
+
+seal-rest-requires : tie.Need-seal-rest-requires
+seal-rest-requires c κs =
+    let there : noRest (c .before .before .before .before .before .before .before .before .args .h) ≡ false = sym (c .before .before .before .before .no-rest .ensures) ∙ c .before .before .before .if1 .left in
+    let size : roundUp (length (c .before .before .before .before .before .before .before .before .args .first .now) - 48) ≡ roundUp (c .before .before .before .before .before .before .before .before .args .h .s1 .len - 48) = ap (λ (k : ℕ). roundUp (k - 48)) (c .before .before .before .before .before .before .before .before .pre .0) in
+    (omega (arith, rest-length (c .before .before .before .before .before .before .before .before .args .h) there, c .before .before .before .before .before .before .before .before .pre .3), c .before .before .before .before .before .before .before .before .pre .1)
+
+sub-seal-last : tie.Need-sub-seal-last
+sub-seal-last c =
+    let there : noRest (c .before .before .before .before .before .before .before .before .before .before .before .args .h) ≡ false = sym (c .before .before .before .before .before .before .before .no-rest .ensures) ∙ c .before .before .before .before .before .before .if1 .left in
+    let size : roundUp (length (c .before .before .before .before .before .before .before .before .before .before .before .args .first .now) - 48) ≡ roundUp (c .before .before .before .before .before .before .before .before .before .before .before .args .h .s1 .len - 48) = ap (λ (k : ℕ). roundUp (k - 48)) (c .before .before .before .before .before .before .before .before .before .before .before .pre .0) in
+    omega (arith, rest-length (c .before .before .before .before .before .before .before .before .before .before .before .args .h) there, c .before .before .before .before .before .before .before .before .before .before .before .pre .3, c .before .before .before .before .before .padding .ensures .0, c .before .before .seal-rest .kept .0)
+
+part-seal-last-start : tie.Need-part-seal-last-start
+part-seal-last-start c =
+    let there : noRest (c .before .before .before .before .before .before .before .before .before .before .before .args .h) ≡ false = sym (c .before .before .before .before .before .before .before .no-rest .ensures) ∙ c .before .before .before .before .before .before .if1 .left in
+    let size : roundUp (length (c .before .before .before .before .before .before .before .before .before .before .before .args .first .now) - 48) ≡ roundUp (c .before .before .before .before .before .before .before .before .before .before .before .args .h .s1 .len - 48) = ap (λ (k : ℕ). roundUp (k - 48)) (c .before .before .before .before .before .before .before .before .before .before .before .pre .0) in
+    omega (arith, rest-length (c .before .before .before .before .before .before .before .before .before .before .before .args .h) there, c .before .before .before .before .before .before .before .before .before .before .before .pre .3, c .before .before .before .before .before .padding .ensures .0, c .before .before .seal-rest .kept .0)
+
+part-seal-last-end : tie.Need-part-seal-last-end
+part-seal-last-end c = search needs
+
+seal-last-requires-2 : tie.Need-seal-last-requires-2
+seal-last-requires-2 c κs =
+    let there : noRest (c .before .before .before .before .before .before .before .before .before .before .before .before .args .h) ≡ false = sym (c .before .before .before .before .before .before .before .before .no-rest .ensures) ∙ c .before .before .before .before .before .before .before .if1 .left in
+    let size : roundUp (length (c .before .before .before .before .before .before .before .before .before .before .before .before .args .first .now) - 48) ≡ roundUp (c .before .before .before .before .before .before .before .before .before .before .before .before .args .h .s1 .len - 48) = ap (λ (k : ℕ). roundUp (k - 48)) (c .before .before .before .before .before .before .before .before .before .before .before .before .pre .0) in
+    let l₁ : List ℕ = c .before .before .before .seal-rest .last .0 in
+    let a : ℕ = length (c .before .before .before .before .before .before .before .before .before .before .before .before .args .first .now) - 48 + c .before .before .before .before .before .before .padding .result + 16 in
+    (c .before .before .before .before .before .before .before .before .before .before .before .before .pre .2, omega (arith, rest-length (c .before .before .before .before .before .before .before .before .before .before .before .before .args .h) there, c .before .before .before .before .before .before .before .before .before .before .before .before .pre .3, c .before .before .before .before .before .before .padding .ensures .0, c .before .before .before .seal-rest .kept .0, length-rest l₁ a))
+
+same-length-2 : tie.Need-same-length-2
+same-length-2 c = search needs
+
+returns-2 : tie.Need-returns-2
+returns-2 c =
+    let g = c .before .before .before .before .before .before .before .before .before .before .before .before .before .before .before .args in
+    let there : noRest (c .before .before .before .before .before .before .before .before .before .before .before .before .before .before .before .args .h) ≡ false = sym (c .before .before .before .before .before .before .before .before .before .before .before .no-rest .ensures) ∙ c .before .before .before .before .before .before .before .before .before .before .if1 .left in
+    let bytes : List ℕ = restSent (g .abort) (g .rest .now) in
+    let l₁ : List ℕ = c .before .before .before .before .before .before .seal-rest .last .0 in
+    let a : ℕ = length (g .first .now) - 48 + c .before .before .before .before .before .before .before .before .before .padding .result + 16 in
+    let len : length (restText (g .first .now)) + 16 ≡ a =
+    ap (λ (k : ℕ). k + 16) (length-padded (drop 48 (g .first .now)) ∙ ap roundUp (length-drop 48 (g .first .now))) ∙ omega (arith, c .before .before .before .before .before .before .before .before .before .padding .ensures .0) in
+    rest-there (g .w .now) (g .nonce) (g .h) (lateByte Msgr21 (g .abort)) a (g .first .now) bytes (g .out .now) l₁ (c .before .before .seal-last2 .last .0) there len (c .before .before .before .before .before .before .seal-rest .ensures)
+    (c .before .before .seal-last2 .ensures ∙ ap (λ (x : List ℕ). replaceFront (sealedParts (g .w .now) (partsFrom x (unlessNone (noLast (g .h)) (lastText (g .h) (lateByte Msgr21 (g .abort)) bytes)))) (rest l₁ a)) (c .before .before .before .before .before .before .before .before .next-nonce .ensures))
+
+pub seal-later-spec : {M : Type 1} → statement M
+seal-later-spec =
+    tie.close
+    (tie.spec
+    no-rest-requires
+    seal-last-requires
+    same-length
+    returns
+    sub-n
+    padding-requires
+    add-a
+    add-a-2
+    next-nonce-requires
+    seal-rest-requires
+    sub-seal-last
+    part-seal-last-start
+    part-seal-last-end
+    seal-last-requires-2
+    same-length-2
+    returns-2)

@@ -1,0 +1,4 @@
+pub mod Blocks
+pub mod Seals
+pub mod Rows
+pub mod Made

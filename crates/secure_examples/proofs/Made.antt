@@ -1,0 +1,75 @@
+-- Layout, sending states and builds computed.
+use mathlib.Core.Bool.{true, false}
+use mathlib.Core.List.{[], _∷_, _++_}
+use mathlib.Core.Path.{_≡_, refl, ap}
+use Rattle.buffer.specs.Le.{numberAt}
+use Rattle.crc32c.specs.Crc.{crcOf, steps, step}
+use Rattle.refusal.specs.Refusals.{row}
+use Rattle.preamble.specs.Layout.{preambleFront, preambleBytes}
+use Rattle.preamble.specs.Judge.{shapeFault, limitFault, judgeHeader}
+use Rattle.stream.specs.Rows.{Holds}
+use Rattle.aes.specs.Aes.{keyExpansion}
+use Rattle.builder.specs.Build.{wrote, turnedAway}
+use Rattle.secure.specs.Layout.{nextNonce, nonceAfter, sealedLength, partCount, needed, firstText, lastText, laterTexts, texts, sealedFrame}
+use Rattle.sealed_builder.specs.Build.{done, outcome, sendingState, freshSending, refusedSending, agrees, sentMore, judgeEarlier, judgeSealed, sealedDone}
+use Rattle.secure_examples.specs.Parts.{key, nonce0, two0, none0, two1, two2, aborted2}
+use Rattle.secure_examples.specs.Examples.{seg1, seg2, two, none}
+use Rattle.secure_examples.specs.Builds.{sending, nonce3, buffer, lengthRows, nonceRows, textRows, sealedRows, agreeRows, spendRows, orderRows, buildRows}
+use Rattle.secure_examples.proofs.Seals.{sealed-two0, sealed-none0, sealed-two1, sealed-two2, sealed-aborted2}
+use Rattle.secure_examples.proofs.Rows.{held}
+
+pub lengthRows-hold : Holds lengthRows
+unfolding lengthRows sealedLength partCount needed
+lengthRows-hold = refl
+
+pub nonceRows-hold : Holds nonceRows
+unfolding nonceRows nextNonce numberAt
+nonceRows-hold = refl
+
+pub textRows-hold : Holds textRows
+unfolding textRows numberAt crcOf steps step preambleFront preambleBytes firstText lastText laterTexts texts
+textRows-hold = refl
+
+-- ---- sealed
+
+whole-frame : sealedFrame (keyExpansion key) nonce0 two false (seg1 ++ seg2) ≡ two0 ++ two1 ++ two2
+unfolding numberAt crcOf steps step preambleFront preambleBytes nextNonce firstText lastText laterTexts texts sealedFrame
+whole-frame = rw (sealed-two0, sealed-two1, sealed-two2)
+
+aborted-frame : sealedFrame (keyExpansion key) nonce0 two true (seg1 ++ seg2) ≡ two0 ++ two1 ++ aborted2
+unfolding numberAt crcOf steps step preambleFront preambleBytes nextNonce firstText lastText laterTexts texts sealedFrame
+aborted-frame = rw (sealed-two0, sealed-two1, sealed-aborted2)
+
+empty-frame : sealedFrame (keyExpansion key) nonce0 none false [] ≡ none0
+unfolding numberAt crcOf steps step preambleFront preambleBytes nextNonce firstText lastText laterTexts texts sealedFrame
+empty-frame = rw sealed-none0
+
+pub sealedRows-hold : Holds sealedRows
+unfolding sealedRows
+sealedRows-hold = held whole-frame (held aborted-frame (held empty-frame refl))
+
+-- ---- builds
+
+pub agreeRows-hold : Holds agreeRows
+unfolding agreeRows freshSending refusedSending agrees
+agreeRows-hold = refl
+
+pub spendRows-hold : Holds spendRows
+unfolding spendRows nextNonce nonceAfter numberAt sentMore
+spendRows-hold = refl
+
+pub orderRows-hold : Holds orderRows
+unfolding orderRows freshSending refusedSending agrees shapeFault limitFault judgeHeader sealedLength partCount judgeEarlier judgeSealed
+orderRows-hold = refl
+
+built : sealedDone (sending 0 false false) two false (seg1 ++ seg2) buffer 2 ≡ done (wrote 176) (sendingState key nonce3 3 false false) ((0xbb ∷ 0xbb ∷ []) ++ (two0 ++ two1 ++ two2) ++ (0xbb ∷ 0xbb ∷ []))
+unfolding sealedFrame nextNonce nonceAfter numberAt sentMore agrees shapeFault limitFault judgeHeader sealedLength partCount judgeEarlier judgeSealed sealedDone
+built = ap (outcome (judgeSealed (sending 0 false false) two false 50 180 2) (sending 0 false false) two buffer 2) whole-frame
+
+refused-18 : sealedDone (sending 18446744073709551614 false false) two false (seg1 ++ seg2) buffer 2 ≡ done (turnedAway (row 18 0 0 0)) (sending 18446744073709551614 false false) buffer
+unfolding agrees shapeFault limitFault judgeHeader sealedLength partCount judgeEarlier judgeSealed sealedDone
+refused-18 = refl
+
+pub buildRows-hold : Holds buildRows
+unfolding buildRows
+buildRows-hold = held built (held refused-18 refl)

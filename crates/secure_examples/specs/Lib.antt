@@ -1,0 +1,4 @@
+pub mod Parts
+pub mod Examples
+pub mod Builds
+pub mod Worked
