@@ -1,7 +1,8 @@
--- 18 is given exactly when nothing earlier applies and too few nonces are left.
-use mathlib.Core.Path.{_≡_, refl, sym, ap, _∙_}
-use mathlib.Core.Bool.{Bool, true, false, not, _&&_}
-use Prim.Native.Nat.{ℕ, _+_, _-_, _≤_, _<_}
+-- 18 is given exactly when nothing earlier applies and too few nonces are left, and 26 exactly for a state that contradicts itself.
+use mathlib.Core.Path.{_≡_, refl, sym, ap, ap₂, _∙_}
+use mathlib.Core.Bool.{Bool, true, false, not, _&&_, _||_}
+use mathlib.Core.List.{List, [], _∷_}
+use Prim.Native.Nat.{ℕ, _+_, _-_, _%_, _^_, _≤_, _<_}
 use native.Mathlib.Omega.{arith}
 use borrow.Author.Tests.{leb-false, lt-leb}
 use lib.Dec.{leb, eqb}
@@ -9,8 +10,8 @@ use lib.ListN.{length}
 use Rattle.refusal.specs.declared.Numbers.{Numbers}
 use Rattle.refusal.specs.declared.Refusal.{Refusal}
 use Rattle.refusal.specs.declared.Refusal.the-variants as refusal
-use Rattle.refusal.specs.Refusals.{Judged, fine, refused, numbersOf, row, orElse, unless}
-use Rattle.refusal.proofs.Judgements.{by-judgement}
+use Rattle.refusal.specs.Refusals.{Judged, fine, refused, numbersOf, row, orElse, firstOf, unless}
+use Rattle.refusal.proofs.Judgements.{by-judgement, AllFine, all-fine, passed}
 use Rattle.banner.specs.declared.Revision.the-variants.{Msgr21}
 use Rattle.preamble.specs.declared.Header.{Header}
 use Rattle.preamble.specs.Layout.{total}
@@ -18,45 +19,61 @@ use Rattle.preamble.specs.Judge.{shapeFault, limitFault, judgeHeader, judgeShap
 use Rattle.builder.specs.Build.{turnedAway, answered, judgeSource, judgeAbort, judgeRoom}
 use Rattle.secure.specs.Layout.{allNonces, sealedLength, partCount}
 use Rattle.sealed_builder.specs.declared.Sending.{Sending}
-use Rattle.sealed_builder.specs.Build.{spentOf, agrees, judgeSending, judgeSwitched, judgeNonces, judgeEarlier, judgeSealed}
+use Rattle.sealed_builder.specs.Build.{Done, spentOf, agrees, sentMore, judgeSending, judgeSwitched, judgeNonces, judgeEarlier, judgements, judgeSealed}
+use Rattle.secure.specs.Reading.{allZero}
+use Rattle.sealed_builder.specs.States.{Sound}
 use Rattle.sealed_builder.specs.Nonces.{Build, Meets, left, Exactly}
-use Rattle.sealed_builder.proofs.Once.{some, judged, when-fine, when-refused}
+use Rattle.sealed_builder.proofs.Accepted.{accepted, both-fine, counted}
+use Rattle.sealed_builder.proofs.Counts.{came-round}
+use Rattle.sealed_builder.proofs.Once.{some, judged, came, when-fine, when-refused}
 
--- ---- no earlier judgement gives 18
+-- ---- which judgement gives a number
 
-abbrev Not18 : Judged → Type 0
-Not18 j = j ≡ refused (row 18 0 0 0) → ⊥
+-- those behind 26 and before 18
+abbrev behind26 : Sending → Header → Bool → ℕ → ℕ → ℕ → List Judged
+behind26 s h abort source space queued =
+    judgeSwitched s ∷ judgeHeader h ∷ judgeSource source (total h) ∷ judgeAbort Msgr21 (h .count) abort ∷ judgeRoom (sealedLength h) space queued ∷ []
 
-not-unless : (b : Bool) (r : Refusal) → (numbersOf r .number ≡ 18 → ⊥) → Not18 (unless b r)
-not-unless true r n e = let z : _≡_ {A = ℕ} 0 1 = cc in omega arith
-not-unless false r n e = n (ap (λ (m : Numbers). m .number) (row-of e))
-  where
-    row-of : refused (numbersOf r) ≡ refused (row 18 0 0 0) → numbersOf r ≡ row 18 0 0 0
-    row-of e = cc
+abbrev IsNot : ℕ → Judged → Type 0
+IsNot k j = j ≡ refused (row k 0 0 0) → ⊥
 
-not-or : (a b : Judged) → Not18 a → Not18 b → Not18 (orElse a b)
-not-or fine b na nb = nb
-not-or (refused n) b na nb = na
+module _ (k : ℕ) where
+  not-unless : (b : Bool) (r : Refusal) → (numbersOf r .number ≡ k → ⊥) → IsNot k (unless b r)
+  not-unless true r n e = let z : _≡_ {A = ℕ} 0 1 = cc in omega arith
+  not-unless false r n e = n (ap (λ (m : Numbers). m .number) (row-of e))
+    where
+      row-of : refused (numbersOf r) ≡ refused (row k 0 0 0) → numbersOf r ≡ row k 0 0 0
+      row-of e = cc
 
-not-fine : Not18 fine
-not-fine e = let z : _≡_ {A = ℕ} 0 1 = cc in omega arith
+  not-or : (a b : Judged) → IsNot k a → IsNot k b → IsNot k (orElse a b)
+  not-or fine b na nb = nb
+  not-or (refused n) b na nb = na
 
-not-header : (h : Header) → Not18 (judgeHeader h)
-unfolding judgeHeader
-not-header h =
-    not-or (judgeShape h) _ (not-unless (eqb (shapeFault h) 0) (refusal.Shape (shapeFault h)) (λ e. omega arith))
-    (not-or (judgeTag (h .tag)) _ (not-unless (leb 1 (h .tag) && leb (h .tag) 20) (refusal.Tag (h .tag)) (λ e. omega arith))
-    (not-or (judgeLimits h) fine (not-unless (eqb (limitFault h) 0) (refusal.Limit (limitFault h)) (λ e. omega arith)) not-fine))
+  not-fine : IsNot k fine
+  not-fine e = let z : _≡_ {A = ℕ} 0 1 = cc in omega arith
 
-not-earlier : (s : Sending) (h : Header) (abort : Bool) (source space queued : ℕ) → Not18 (judgeEarlier s h abort source space queued)
+  -- those of a header are below 16, and so are the others between 27 and 18
+  module _ (l : 15 < k) (n : k ≡ 27 → ⊥) where
+    not-header : (h : Header) → IsNot k (judgeHeader h)
+    unfolding judgeHeader
+    not-header h =
+        not-or (judgeShape h) _ (not-unless (eqb (shapeFault h) 0) (refusal.Shape (shapeFault h)) (λ e. omega arith))
+        (not-or (judgeTag (h .tag)) _ (not-unless (leb 1 (h .tag) && leb (h .tag) 20) (refusal.Tag (h .tag)) (λ e. omega arith))
+        (not-or (judgeLimits h) fine (not-unless (eqb (limitFault h) 0) (refusal.Limit (limitFault h)) (λ e. omega arith)) not-fine))
+
+    not-behind : (s : Sending) (h : Header) (abort : Bool) (source space queued : ℕ) → IsNot k (firstOf (behind26 s h abort source space queued))
+    not-behind s h abort source space queued =
+        not-or (judgeSwitched s) _ (not-unless (not (s .refused)) refusal.SwitchRefused (λ e. n (sym e)))
+        (not-or (judgeHeader h) _ (not-header h)
+        (not-or (judgeSource source (total h)) _ (not-unless (eqb source (total h)) refusal.SourceLength (λ e. omega arith))
+        (not-or (judgeAbort Msgr21 (h .count) abort) _ (not-unless (not (abort && eqb (h .count) 1)) refusal.AbortOneSegment (λ e. omega arith))
+        (not-or (judgeRoom (sealedLength h) space queued) fine (not-unless (leb (queued + sealedLength h) space) (refusal.NoRoom (sealedLength h)) (λ e. omega arith)) not-fine))))
+
+not-earlier : (s : Sending) (h : Header) (abort : Bool) (source space queued : ℕ) → IsNot 18 (judgeEarlier s h abort source space queued)
 unfolding judgeEarlier
 not-earlier s h abort source space queued =
-    not-or (judgeSending s) _ (not-unless (agrees s) refusal.StateContradicts (λ e. omega arith))
-    (not-or (judgeSwitched s) _ (not-unless (not (s .refused)) refusal.SwitchRefused (λ e. omega arith))
-    (not-or (judgeHeader h) _ (not-header h)
-    (not-or (judgeSource source (total h)) _ (not-unless (eqb source (total h)) refusal.SourceLength (λ e. omega arith))
-    (not-or (judgeAbort Msgr21 (h .count) abort) _ (not-unless (not (abort && eqb (h .count) 1)) refusal.AbortOneSegment (λ e. omega arith))
-    (not-or (judgeRoom (sealedLength h) space queued) fine (not-unless (leb (queued + sealedLength h) space) (refusal.NoRoom (sealedLength h)) (λ e. omega arith)) not-fine)))))
+    not-or 18 (judgeSending s) _ (not-unless 18 (agrees s) refusal.StateContradicts (λ e. omega arith))
+    (not-behind 18 (omega arith) (λ e. omega arith) s h abort source space queued)
 
 -- ---- and the last one does where nonces are missing
 
@@ -77,13 +94,13 @@ module _ (s : Sending) (b : Build) (m : Meets s b) where
   abbrev earlier : Judged
   earlier = judgeEarlier s (b .header) (b .abort) (length (b .source)) (length (b .buffer)) (b .queued)
 
-  said : answered (b .answer .built) ≡ turnedAway (row 18 0 0 0) → judged s b ≡ refused (row 18 0 0 0)
-  said a =
+  said : (k : ℕ) → answered (b .answer .built) ≡ turnedAway (row k 0 0 0) → judged s b ≡ refused (row k 0 0 0)
+  said k a =
       by-judgement (judged s b)
       (λ e. let w = when-fine s b m e .0 in let z : _≡_ {A = ℕ} 0 1 = cc in absurd (omega arith))
       (λ r e. let w = when-refused s b m r e .0 in e ∙ ap refused (same r (sym w ∙ a)))
     where
-      same : (r : Numbers) → turnedAway r ≡ turnedAway (row 18 0 0 0) → r ≡ row 18 0 0 0
+      same : (r : Numbers) → turnedAway r ≡ turnedAway (row k 0 0 0) → r ≡ row k 0 0 0
       same r e = cc
 
   last-one : (j : Judged) → earlier ≡ j → orElse j (judgeNonces s (partCount (b .header))) ≡ refused (row 18 0 0 0) → (earlier ≡ fine) × (left s < partCount (b .header))
@@ -94,6 +111,62 @@ module _ (s : Sending) (b : Build) (m : Meets s b) where
   unfolding judgeSealed
   exactly =
       record {
-        given = λ a. last-one earlier refl (said a);
+        given = λ a. last-one earlier refl (said 18 a);
         due = λ e l. when-refused s b m (row 18 0 0 0) (ap (λ (j : Judged). orElse j (judgeNonces s (partCount (b .header)))) e ∙ missing s (partCount (b .header)) l) .0;
+      }
+
+  -- ---- 26
+
+  abbrev rest : List Judged
+  rest = behind26 s (b .header) (b .abort) (length (b .source)) (length (b .buffer)) (b .queued)
+
+  by-state : (j : Judged) → judgeSending s ≡ j → judged s b ≡ orElse (orElse j (firstOf rest)) (judgeNonces s (partCount (b .header)))
+  unfolding judgeSealed judgeEarlier
+  by-state j e = ap (λ (x : Judged). orElse (orElse x (firstOf rest)) (judgeNonces s (partCount (b .header)))) e
+
+  contradicts : agrees s ≡ false → (answered (b .answer .built) ≡ turnedAway (row 26 0 0 0)) × (b .answer .sending ≡ s) × (b .after ≡ b .buffer)
+  contradicts e =
+      let j : judged s b ≡ refused (row 26 0 0 0) = by-state (refused (row 26 0 0 0)) (ap (λ (x : Bool). unless x refusal.StateContradicts) e) in
+      let w = when-refused s b m (row 26 0 0 0) j in
+      (w .0, w .1, ap (λ (d : Done). d .buffer) (came s b m (refused (row 26 0 0 0)) j))
+
+  never26 : agrees s ≡ true → answered (b .answer .built) ≡ turnedAway (row 26 0 0 0) → ⊥
+  never26 e a =
+      not-or 26 (firstOf rest) (judgeNonces s (partCount (b .header)))
+      (not-behind 26 (omega arith) (λ x. omega arith) s (b .header) (b .abort) (length (b .source)) (length (b .buffer)) (b .queued))
+      (not-unless 26 (leb (spentOf s + partCount (b .header)) allNonces) refusal.NoncesSpent (λ x. omega arith))
+      (sym (by-state fine (ap (λ (x : Bool). unless x refusal.StateContradicts) e)) ∙ said 26 a)
+
+  -- a build that writes has a state that no refused switch handed back
+  not-marked : judged s b ≡ fine → s .refused ≡ false
+  unfolding judgeSealed judgeEarlier
+  not-marked e = unmarked (s .refused) refl
+    where
+      f : AllFine (judgements s (b .header) (b .abort) (length (b .source)) (length (b .buffer)) (b .queued))
+      f = all-fine (judgements s (b .header) (b .abort) (length (b .source)) (length (b .buffer)) (b .queued)) (both-fine earlier (judgeNonces s (partCount (b .header))) e .0)
+
+      unmarked : (x : Bool) → s .refused ≡ x → s .refused ≡ false
+      unmarked true t = let z = passed (not (s .refused)) refusal.SwitchRefused (f .1 .0) in cc
+      unmarked false t = t
+
+  still-agrees : judged s b ≡ fine → agrees (sentMore s (partCount (b .header))) ≡ true
+  unfolding agrees sentMore
+  still-agrees e =
+      let c = accepted s (b .header) (b .abort) (length (b .source)) (length (b .buffer)) (b .queued) e in
+      let k : ℕ = partCount (b .header) in
+      let n : s .spent + k ≤ allNonces = counted s k (some (b .header)) (c .left) in
+      let t : Sending = sentMore s k in
+      ap₂ _&&_ (round (leb allNonces (s .spent + k)) (came-round (s .spent) k (some (b .header)) n))
+      (ap (λ (x : Bool). not x || (allZero (t .key) && (allZero (t .nonce) && (eqb (t .spent) 0 && not (t .exhausted))))) (not-marked e))
+    where
+      round : (x : Bool) → eqb ((s .spent + partCount (b .header)) % 2 ^ 64) 0 ≡ x → (not x || eqb ((s .spent + partCount (b .header)) % 2 ^ 64) 0) ≡ true
+      round true t = t
+      round false t = refl
+
+  pub sound : Sound s b
+  sound =
+      record {
+        contradicts = contradicts;
+        never26 = never26;
+        agreeing = λ e. by-judgement (judged s b) (λ j. ap agrees (when-fine s b m j .1) ∙ still-agrees j) (λ r j. ap agrees (when-refused s b m r j .1) ∙ e);
       }

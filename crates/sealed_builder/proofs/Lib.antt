@@ -5,3 +5,4 @@ pub mod Accepted
 pub mod Runs
 pub mod Once
 pub mod Eighteen
+pub mod Trip

@@ -49,7 +49,7 @@ abbrev pub judged : Sending → Build → Judged
 judged s b = judgeSealed s (b .header) (b .abort) (length (b .source)) (length (b .buffer)) (b .queued)
 
 module _ (s : Sending) (b : Build) (m : Meets s b) where
-  came : (j : Judged) → judged s b ≡ j
+  pub came : (j : Judged) → judged s b ≡ j
       → done (answered (b .answer .built)) (b .answer .sending) (b .after)
       ≡ outcome j s (b .header) (b .buffer) (b .queued) (sealedParts (keyExpansion (s .key)) (sentParts s (b .header) (b .abort) (b .source)))
   unfolding sealedDone

@@ -1,2 +1,4 @@
 pub mod Build
 pub mod Nonces
+pub mod States
+pub mod Trip

@@ -46,6 +46,8 @@ ghost use Rattle.gcm.specs.Calls.{limit};
 ghost use Rattle.secure.specs.Layout.{allNonces, nonceAfter, roundUp, padded, inlined, epilogue16, firstText, restText, paddedFrom, lastText, lastPart, noLast, restPartLength, lastPartLength, laterTexts, unlessNone, partsFrom, sealedParts, frameParts, sealedLength};
 ghost use Rattle.sealed_builder.specs.Build.{spentOf, freshSending, refusedSending, agrees, sentMore, judgeEarlier, judgeSealed, BuiltSealed};
 ghost use Rattle.sealed_builder.specs.Nonces.{NoNonceTwice};
+ghost use Rattle.sealed_builder.specs.States.{EveryBuild};
+ghost use Rattle.sealed_builder.specs.Trip.{SentBack};
 
 // What a sender of sealed frames is between two builds.
 pub struct Sending {
@@ -402,7 +404,17 @@ pub fn build_sealed(
     }
 }
 
-// No nonce is used twice. The body does nothing: the promise is a theorem about any builds that keep the promise above.
+// What holds of every build. The body does nothing: the promise is a theorem about any build that keeps the promise above.
+pub fn every_build()
+    ensures { λ _. ⌜ EveryBuild ⌝ }
+{}
+
+// No nonce is used twice: a theorem too.
 pub fn no_nonce_twice()
     ensures { λ _. ⌜ NoNonceTwice ⌝ }
+{}
+
+// What is built comes back: a theorem too.
+pub fn sent_back()
+    ensures { λ _. ⌜ SentBack ⌝ }
 {}

@@ -1,2 +1,4 @@
 pub mod Zeros
 pub mod Opening
+pub mod Lengths
+pub mod Trip

@@ -73,7 +73,7 @@ lastLengths h = h .s2 .len ∷ h .s3 .len ∷ h .s4 .len ∷ []
 unfoldable pub lastText : Header → ℕ → List ℕ → List ℕ
 lastText h late rest = paddedFrom (lastLengths h) late rest
 
--- the second and the last part are there where they have something to say
+-- there is no second part where segment 1 fits into the inline buffer, and no last part where there is one segment only
 abbrev pub noRest : Header → Bool
 noRest h = leb (h .s1 .len) inlineLength
 

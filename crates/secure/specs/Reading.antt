@@ -85,7 +85,7 @@ holding h payload store = replaceFront (payload ++ replicate (needed h - length 
 
 -- ---- parts
 
--- a part at its last byte: 18 in place of opening it, 17, or its text and what follows. In `store` a refusal leaves the store
+-- a part at its last byte: 18 in place of opening it, 17, or its text and what follows. store is what a refusal leaves
 abbrev pub byOpening : Opened → ℕ → List ℕ → (List ℕ → Trace) → Trace
 byOpening (plain text) at store next = next text
 byOpening fail at store next = refusedAt (numbersOf refusal.AuthTag) at store

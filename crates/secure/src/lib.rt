@@ -7,6 +7,7 @@ ghost use mathlib.Core.Path.{_≡_};
 ghost use mathlib.Core.Bool.{cond};
 ghost use Prim.Native.Nat.{_+_, _-_, _<_, _≤_};
 ghost use Rattle.secure.specs.Reading.{allZero};
+ghost use Rattle.secure.specs.Trip.{SealedTrip};
 ghost use Rattle.secure.specs.Layout.{nonceOf, nextNonce, padding, roundUp, noRest, noLast, restPartLength, lastPartLength, sealedLength, partCount};
 
 // ---- nonces
@@ -127,3 +128,8 @@ pub fn part_count(h: Header) -> u64
 {
     1 + one_unless(no_rest(h)) + one_unless(no_last(h))
 }
+
+// Reading what was sealed gives it back. The body does nothing: the promise is a theorem about the definitions.
+pub fn round_trip()
+    ensures { λ _. ⌜ SealedTrip ⌝ }
+{}

@@ -11,7 +11,7 @@ use Rattle.body.specs.Body.{lateByte, restSent}
 use Rattle.gcm.specs.Gcm.{sealedBy}
 use Rattle.gcm.proofs.Placing.{sealed-length}
 use Rattle.secure.specs.Layout.{nextNonce, firstText, laterTexts, texts, partsFrom, sealedParts, sealedLength}
-use Rattle.sealed_builder.proofs.Texts.{length-first-text}
+use Rattle.secure.proofs.Lengths.{length-first-text}
 use borrow.Author.Needs.{needs}
 use Rattle.sealed_builder.proofs.put_sealed.Statement.{statement}
 use Rattle.sealed_builder.proofs.put_sealed.Tie as tie

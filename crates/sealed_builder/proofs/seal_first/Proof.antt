@@ -1,6 +1,6 @@
 use native.Mathlib.Omega.{arith}
 use Rattle.secure.specs.Layout.{firstText}
-use Rattle.sealed_builder.proofs.Texts.{length-first-text}
+use Rattle.secure.proofs.Lengths.{length-first-text}
 use Rattle.sealed_builder.proofs.Seals.{sealed-laid}
 use borrow.Author.Needs.{needs}
 use Rattle.sealed_builder.proofs.seal_first.Statement.{statement}

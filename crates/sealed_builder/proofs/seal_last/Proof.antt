@@ -9,7 +9,7 @@ use Rattle.banner.specs.declared.Revision.the-variants.{Msgr21}
 use Rattle.body.specs.Body.{lateByte, restSent}
 use Rattle.body.proofs.Laws.{length-sent}
 use Rattle.secure.specs.Layout.{noLast, lastText, lastPart}
-use Rattle.sealed_builder.proofs.Texts.{length-last-text}
+use Rattle.secure.proofs.Lengths.{length-last-text}
 use Rattle.sealed_builder.proofs.Seals.{sealed-laid, last-none, last-there, last-length}
 use borrow.Author.Needs.{needs}
 use Rattle.sealed_builder.proofs.seal_last.Statement.{statement}

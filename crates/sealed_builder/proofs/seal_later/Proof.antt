@@ -10,7 +10,7 @@ use Rattle.buffer.proofs.Parts.{rest, length-rest}
 use Rattle.banner.specs.declared.Revision.the-variants.{Msgr21}
 use Rattle.body.specs.Body.{lateByte, restSent}
 use Rattle.secure.specs.Layout.{padding, roundUp, noRest, noLast, unlessNone, restText, lastText, partsFrom, sealedParts}
-use Rattle.sealed_builder.proofs.Texts.{length-padded}
+use Rattle.secure.proofs.Lengths.{length-padded}
 use Rattle.sealed_builder.proofs.Seals.{rest-none, rest-there, rest-length}
 use borrow.Author.Needs.{needs}
 use Rattle.sealed_builder.proofs.seal_later.Statement.{statement}

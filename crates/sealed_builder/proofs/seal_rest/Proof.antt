@@ -5,7 +5,7 @@ use native.Mathlib.Omega.{arith}
 use lib.ListN.{length, drop, length-drop}
 use Rattle.buffer.specs.Splice.{replaceFront}
 use Rattle.secure.specs.Layout.{padding, roundUp, padded, restText}
-use Rattle.sealed_builder.proofs.Texts.{length-padded}
+use Rattle.secure.proofs.Lengths.{length-padded}
 use Rattle.sealed_builder.proofs.Seals.{sealed-laid}
 use borrow.Author.Needs.{needs}
 use Rattle.sealed_builder.proofs.seal_rest.Statement.{statement}
