@@ -1,11 +1,15 @@
 //! The program's commands, each named by its words.
 
 use crate::records::Record;
-use crate::{fixed, generate, recordings, run, session};
+use crate::{fixed, generate, link, recordings, run, session};
+use std::fs;
 use std::io::{self, Read, Write};
 use std::path::Path;
 
 const USAGE: &str = "usage: second run
+       second link
+       second link-file FILE
+       second generate-l SEED
        second generate SEED COUNT
        second generate-r SEED COUNT
        second generate-h SEED COUNT
@@ -33,6 +37,12 @@ fn run_standard_input(out: &mut impl Write) -> io::Result<()> {
     let mut bytes = Vec::new();
     io::stdin().lock().read_to_end(&mut bytes)?;
     run::run(&bytes, out)
+}
+
+fn check_standard_input(out: &mut impl Write) -> io::Result<()> {
+    let mut bytes = Vec::new();
+    io::stdin().lock().read_to_end(&mut bytes)?;
+    link::check(&bytes, out)
 }
 
 /// The named fixed case file, or an error that says the name is unknown.
@@ -91,6 +101,9 @@ fn write_records(
 pub fn command(words: &[&str], out: &mut impl Write) -> io::Result<()> {
     match words {
         ["run"] => run_standard_input(out),
+        ["link"] => check_standard_input(out),
+        ["link-file", file] => out.write_all(&link::file(&[&fs::read(file)?])),
+        ["generate-l", seed] => out.write_all(&generate::checker::link_file(number(seed)?)),
         ["generate", seed, count] => {
             write_records(generate::records(number(seed)?, number(count)?), out)
         }

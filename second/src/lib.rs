@@ -19,6 +19,7 @@ pub mod gcm;
 pub mod generate;
 pub mod handshake;
 pub mod input;
+pub mod link;
 pub mod random;
 pub mod receiver;
 pub mod recordings;
