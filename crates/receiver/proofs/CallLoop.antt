@@ -14,7 +14,7 @@ use Rattle.receiver.specs.declared.Received.{Received}
 use Rattle.receiver.specs.State.{agrees, isRefused}
 use Rattle.receiver.specs.Step.{neededBy, shortStore, contradiction, answer, feed, refuseUnchanged, refusedState, Answered}
 use Rattle.receiver.specs.Calls.{Call, pieceAt, Chained, takenBy, stateBy, storeBy, sizesOf}
-use Rattle.receiver.proofs.Scan.{feed-scan}
+use Rattle.receiver.proofs.Scan.{feed-within}
 
 -- no call takes more than its piece
 answer-least : (st : State) (s piece : List ℕ) → answer st s piece .received .taken ≤ length piece
@@ -25,7 +25,7 @@ answer-least st s piece = go (agrees st) (isRefused (st .position .stage)) (ltb 
     go false b c = zero-le
     go true true c = zero-le
     go true false true = zero-le
-    go true false false = feed-scan st s piece 0 .le
+    go true false false = feed-within st s piece
 
 -- what stands after i calls, from the state st₀
 pub record Called (stream cuts store₀ store : List ℕ) (st₀ st : State) (t i : ℕ) : Type 0 where

@@ -15,7 +15,8 @@ use Rattle.receiver.specs.declared.Place.{Place}
 use Rattle.receiver.specs.declared.Place.the-variants as place
 use Rattle.receiver.specs.State.{placeOf}
 use Rattle.receiver.specs.Step.{blockWith, storeWith, absorbed, stored, size, Stepped, chunk, onByte, Answer, answered, onward, feed}
-use Rattle.receiver.proofs.Scan.{scan, with, scan-one}
+use Rattle.receiver.proofs.Machine.{with, scan-one}
+use Rattle.receiver.proofs.Scan.{byteStep, scan}
 
 sets-append : (l : List ℕ) (i : ℕ) (xs ys : List ℕ) → sets (sets l i xs) (i + length xs) ys ≡ sets l i (xs ++ ys)
 sets-append l i [] ys = rw add-zero
@@ -54,12 +55,12 @@ inside st s b h = rw (lt-ltb (st .position .got + 1) (size st) h)
 pub scan-chunk : (st : State) (s : List ℕ) (P b : ℕ) (bs ys : List ℕ) → st .position .got + length (b ∷ bs) ≤ size st
     → scan st s P (b ∷ bs ++ ys) ≡ (let x = chunk st s (b ∷ bs) in with (x .report) (P + length (b ∷ bs)) (x .store) (scan (x .state) (x .store) (P + length (b ∷ bs)) ys))
 unfolding onByte
-scan-chunk st s P b [] ys h = scan-one st s P b ys ∙ rw (add-one P)
+scan-chunk st s P b [] ys h = scan-one byteStep st s P b ys ∙ rw (add-one P)
 scan-chunk st s P b (c ∷ cs) ys h =
     let k : st .position .got + 1 < size st = omega arith in
     let ih = scan-chunk (absorbed st (b ∷ [])) (stored st s (b ∷ [])) (suc P) c cs ys (omega arith) in
     let p : suc P + length (c ∷ cs) ≡ P + length (b ∷ c ∷ cs) = omega arith in
-    scan-one st s P b (c ∷ cs ++ ys) ∙ rw (inside st s b k) (ih ∙ rw (p, chunk-append st s (b ∷ []) (c ∷ cs)))
+    scan-one byteStep st s P b (c ∷ cs ++ ys) ∙ rw (inside st s b k) (ih ∙ rw (p, chunk-append st s (b ∷ []) (c ∷ cs)))
 
 -- ---- a piece
 

@@ -8,7 +8,6 @@ use lib.ListN.{length}
 use lib.Dec.{ltb}
 use borrow.Author.Tests.{ltb-true, ltb-false, lt-ltb, le-ltb}
 use Rattle.refusal.specs.declared.Numbers.{Numbers}
-use Rattle.stream.specs.declared.Event.{Event}
 use Rattle.stream.specs.declared.Event.the-variants as event
 use Rattle.receiver.specs.declared.State.{State}
 use Rattle.receiver.specs.declared.Report.{Report}
@@ -18,7 +17,7 @@ use Rattle.receiver.specs.State.{isRefused, given, agrees}
 use Rattle.receiver.specs.Step.{refusedState, Stepped, onByte, Answer, onward, feed, refuseUnchanged, contradiction, shortStore, neededBy, answer, Answered, Running}
 use Rattle.receiver.specs.Every.{Refuses, Sound}
 use Rattle.refusal.proofs.Booleans.{wrong}
-use Rattle.receiver.proofs.Live.{Gone, After, AfterEvent, feed-after, after-agrees, refused-gone, agree-own}
+use Rattle.receiver.proofs.Live.{Gone, feed-after, after-agrees, refused-gone, agree-own}
 
 -- ---- the kinds of answer
 
@@ -61,17 +60,6 @@ not26 n g e =
     let f : given contradiction ≡ true = rw k at g in
     wrong f
 
-refused-only : (e : Event) (n : Numbers) (st : State) (s : List ℕ) → AfterEvent e st s → report.Event e ≡ report.Event (event.Refused n) → Gone n st
-refused-only (event.Banner p r) n st s a q = absurd (let z : _≡_ {A = ℕ} 0 1 = cc in omega arith)
-refused-only (event.First h) n st s a q = absurd (let z : _≡_ {A = ℕ} 0 1 = cc in omega arith)
-refused-only (event.Frame h) n st s a q = absurd (let z : _≡_ {A = ℕ} 0 1 = cc in omega arith)
-refused-only (event.Dropped h) n st s a q = absurd (let z : _≡_ {A = ℕ} 0 1 = cc in omega arith)
-refused-only (event.Refused m) n st s a q = (let k : m ≡ n = cc in rw k at a)
-
-pub gone-after : (r : Report) (n : Numbers) (st : State) (s : List ℕ) → After r st s → r ≡ report.Event (event.Refused n) → Gone n st
-gone-after report.More n st s a q = absurd (let z : _≡_ {A = ℕ} 0 1 = cc in omega arith)
-gone-after (report.Event e) n st s a q = refused-only e n st s a q
-
 record Well (x : Answer) : Type 0 where
   agree : agrees (x .received .state) ≡ true
   gone : (n : Numbers) → x .received .report ≡ report.Event (event.Refused n) → Gone n (x .received .state)
@@ -91,7 +79,7 @@ well st s piece e = go (isRefused (st .position .stage)) refl (ltb (length s) (n
         let l : Running st s = record { agree = e; live = r; fits = ltb-false (length s) (neededBy st) u } in
         let f = feed st s piece in
         let a = feed-after st s piece l in
-        rw (feeding st s piece l) (record { agree = after-agrees (f .received .report) (f .received .state) (f .store) a; gone = λ n q. gone-after (f .received .report) n (f .received .state) (f .store) a q })
+        rw (feeding st s piece l) (record { agree = after-agrees (f .received .report) (f .received .state) (f .store) a; gone = λ n q. rw q at a })
 
 -- ---- a piece is begun
 

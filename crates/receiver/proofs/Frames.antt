@@ -6,7 +6,7 @@ use mathlib.Core.Bool.{Bool, true, false, not, cond}
 use native.Mathlib.Omega.{arith}
 use native.Mathlib.Nat.{add-zero, zero-add}
 use lib.ListN.{length, take, drop, replicate, length-append, length-drop, length-replicate, drop-of-length-le}
-use lib.Seq.{sets, take-all, take-nil, take-add, drop-drop, getD-take, length-take-le}
+use lib.Seq.{sets, take-all, take-nil, take-add, drop-drop, length-take-le}
 use lib.Dec.{lit<, lit≤, ltb, eqb}
 use borrow.Author.Tests.{lt-ltb, le-ltb, ltb-true, ltb-false, le-leb, lt-leb, eqb-false}
 use Rattle.buffer.specs.Le.{numberAt}

@@ -1,11 +1,14 @@
 pub mod Zeros
+pub mod Entries
+pub mod Machine
+pub mod Lists
 pub mod Scan
 pub mod Chunks
 pub mod Placed
 pub mod Stages
 pub mod Frames
 pub mod Streams
-pub mod Due
+pub mod Allowed
 pub mod Live
 pub mod Bounds
 pub mod Every

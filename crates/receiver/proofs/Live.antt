@@ -1,7 +1,7 @@
 -- What the step keeps: a receiver that is not refused has its fields in order, and a refusal leaves it refused.
-use Prim.Native.Nat.{ℕ, suc, _+_, _-_, _≤_, _<_, zero-le}
+use Prim.Native.Nat.{ℕ, suc, _+_, _≤_, _<_, zero-le}
 use mathlib.Core.List.{List, [], _∷_}
-use mathlib.Core.Path.{_≡_, refl, sym, ap, _∙_}
+use mathlib.Core.Path.{_≡_, refl, ap, _∙_}
 use mathlib.Core.Bool.{Bool, true, false, not, cond, _&&_, _||_}
 use native.Mathlib.Omega.{arith}
 use lib.ListN.{length, take, drop, getD}
@@ -12,7 +12,7 @@ use Rattle.buffer.specs.Le.{numberAt}
 use Rattle.crc32c.specs.Crc.{crcOf}
 use Rattle.refusal.specs.declared.Numbers.{Numbers}
 use Rattle.refusal.specs.declared.Refusal.the-variants as refusal
-use Rattle.refusal.specs.Refusals.{Judged, fine, refused, row, orElse, unless, isFine}
+use Rattle.refusal.specs.Refusals.{Judged, fine, refused, row, unless, isFine}
 use Rattle.banner.specs.declared.Features.{Features}
 use Rattle.banner.specs.declared.Revision.{Revision}
 use Rattle.banner.specs.declared.Revision.the-variants.{Msgr20, Msgr21}
@@ -26,8 +26,7 @@ use Rattle.body.specs.declared.Late.{Late}
 use Rattle.body.specs.declared.Late.the-variants as late
 use Rattle.body.specs.Body.{segmentSum, segments, epilogueFrom, inEpilogue, noFirstSum, noEpilogue}
 use Rattle.body.specs.End as ended
-use Rattle.body.specs.End.{Ended, whole, dropped, turnedAway, compareFrom, compared, unusedFrom, judgeSpelling, endedBy, byLate, unlessTurnedAway, lateOf, ending}
-use Rattle.stream.specs.declared.Event.{Event}
+use Rattle.body.specs.End.{Ended, whole, dropped, turnedAway, compareFrom, compared, unusedFrom, judgeSpelling, byLate, unlessTurnedAway, lateOf, ending}
 use Rattle.stream.specs.declared.Event.the-variants as event
 use Rattle.stream.specs.Stream.{zeroed}
 use Rattle.receiver.specs.declared.Stage.{Stage}
@@ -39,12 +38,14 @@ use Rattle.receiver.specs.declared.State.{State}
 use Rattle.receiver.specs.declared.Report.{Report}
 use Rattle.receiver.specs.declared.Report.the-variants as report
 use Rattle.receiver.specs.State.{sizeOf, placeOf, isRefused, inBody, needed, blank, noRefusal, sameRevision, hasFirstSum, given, ownRule, payloadRule, peerRule, revisionRule, headerRule, firstRule, markRule, refusalRule, rules, leastOf, countRule, isZeros, inBlock, blockRule, agreesAt, agrees}
-use Rattle.receiver.specs.Step.{at, onlyOwn, withPayload, withPeer, withRevision, withHeader, withFirst, nextFrame, refusedState, blockWith, storeWith, absorbed, stored, size, Stepped, silent, refuse, unlessRefused, endBanner, endFrame, beginEpilogue, beginRest, beginBody, reportFirst, behindFirstSum, reached, chunk, finish, onByte, onward, feed, Running}
+use Rattle.receiver.specs.Step.{at, onlyOwn, withPayload, withPeer, withRevision, withHeader, withFirst, nextFrame, refusedState, blockWith, storeWith, absorbed, stored, size, Stepped, silent, refuse, unlessRefused, endBanner, endFrame, beginEpilogue, beginRest, beginBody, reportFirst, behindFirstSum, reached, chunk, finish, onByte, feed, Running}
 use Rattle.refusal.proofs.Booleans.{wrong, both-left, both-right}
 use Rattle.receiver.proofs.Zeros.{zeros-later, drop-sets}
+use Rattle.receiver.proofs.Allowed.{Allowed, AllowedEnd, allowed-fine, allowed-cond, allowed-or, end-whole, end-dropped, end-turned, end-by, end-or}
 use Rattle.body.proofs.Ends.{has-length}
 use Rattle.receiver.proofs.Frames.{first-some, not-so, rest-silent}
-use Rattle.receiver.proofs.Due.{Passes}
+use Rattle.receiver.proofs.Machine as machine
+use Rattle.receiver.proofs.Scan.{byteStep, plain-feed}
 
 -- ---- refusals that a receiver gives
 
@@ -52,91 +53,66 @@ use Rattle.receiver.proofs.Due.{Passes}
 abbrev pub ofBytes : Numbers → Bool
 ofBytes n = given n && not (eqb (n .number) 16)
 
-pub record Given (j : Judged) : Type 0 where
-  pub gives : (n : Numbers) → j ≡ refused n → ofBytes n ≡ true
-
-given-cond : (b : Bool) (n : Numbers) → ofBytes n ≡ true → Given (cond b fine (refused n))
-given-cond true n g = record { gives = λ m e. absurd (let z : _≡_ {A = ℕ} 0 1 = cc in omega arith) }
-given-cond false n g = record { gives = λ m e. (let k : n ≡ m = cc in rw k at g) }
-
-given-or : {a b : Judged} → Given a → Given b → Given (orElse a b)
-given-or {a} {b} ka kb = go a ka
-  where
-    go : (j : Judged) → Given j → Given (orElse j b)
-    go fine k = kb
-    go (refused n) k = k
-
-given-fine : Given fine
-given-fine = record { gives = λ m e. absurd (let z : _≡_ {A = ℕ} 0 1 = cc in omega arith) }
+abbrev Given : Judged → Type 0
+Given = Allowed ofBytes
 
 given-features : (a b c d : ℕ) → Given (judgeFeatures a b c d)
 unfolding judgeFeatures
 given-features a b c d =
-    let k3 : Given (judgeMissing refusal.PeerRequires (missing 64 d a)) = given-cond (eqb (missing 64 d a) 0) (row 3 (missing 64 d a) (lowestBit 64 (missing 64 d a)) (bitCount 64 (missing 64 d a))) refl in
-    let k4 : Given (judgeMissing refusal.PeerLacks (missing 64 b c)) = given-cond (eqb (missing 64 b c) 0) (row 4 (missing 64 b c) (lowestBit 64 (missing 64 b c)) (bitCount 64 (missing 64 b c))) refl in
-    given-or k3 (given-or k4 given-fine)
+    let k3 : Given (judgeMissing refusal.PeerRequires (missing 64 d a)) = allowed-cond ofBytes (eqb (missing 64 d a) 0) (row 3 (missing 64 d a) (lowestBit 64 (missing 64 d a)) (bitCount 64 (missing 64 d a))) refl in
+    let k4 : Given (judgeMissing refusal.PeerLacks (missing 64 b c)) = allowed-cond ofBytes (eqb (missing 64 b c) 0) (row 4 (missing 64 b c) (lowestBit 64 (missing 64 b c)) (bitCount 64 (missing 64 b c))) refl in
+    allowed-or ofBytes k3 (allowed-or ofBytes k4 (allowed-fine ofBytes))
 
 given-preamble : (bs : List ℕ) (n : ℕ) → Given (judgePreamble bs n)
 unfolding judgePreamble judgeFields
 given-preamble bs n =
     let h = headerOf bs in
-    let k5 : Given (judgeChecksum bs) = given-cond (eqb (crcOf 0 (take 28 bs)) (numberAt 4 28 bs)) (row 5 28 0 0) refl in
-    let k6 : Given (judgeShape h) = given-cond (eqb (shapeFault h) 0) (row 6 (shapeFault h) 0 0) refl in
-    let k7 : Given (judgeFlags (getD bs 26 0) (getD bs 27 0)) = given-cond (eqb (flagFault (getD bs 26 0) (getD bs 27 0)) 0) (row 7 (flagFault (getD bs 26 0) (getD bs 27 0)) 0 0) refl in
-    let k8 : Given (judgeTag (h .tag)) = given-cond (leb 1 (h .tag) && leb (h .tag) 20) (row 8 (h .tag) 0 0) refl in
-    let k9 : Given (judgeLimits h) = given-cond (eqb (limitFault h) 0) (row 9 (limitFault h) 0 0) refl in
-    let k10 : Given (judgeStore (total h) n) = given-cond (leb (total h) n) (row 10 (total h) 0 0) refl in
-    given-or k5 (given-or k6 (given-or k7 (given-or k8 (given-or k9 (given-or k10 given-fine)))))
+    let k5 : Given (judgeChecksum bs) = allowed-cond ofBytes (eqb (crcOf 0 (take 28 bs)) (numberAt 4 28 bs)) (row 5 28 0 0) refl in
+    let k6 : Given (judgeShape h) = allowed-cond ofBytes (eqb (shapeFault h) 0) (row 6 (shapeFault h) 0 0) refl in
+    let k7 : Given (judgeFlags (getD bs 26 0) (getD bs 27 0)) = allowed-cond ofBytes (eqb (flagFault (getD bs 26 0) (getD bs 27 0)) 0) (row 7 (flagFault (getD bs 26 0) (getD bs 27 0)) 0 0) refl in
+    let k8 : Given (judgeTag (h .tag)) = allowed-cond ofBytes (leb 1 (h .tag) && leb (h .tag) 20) (row 8 (h .tag) 0 0) refl in
+    let k9 : Given (judgeLimits h) = allowed-cond ofBytes (eqb (limitFault h) 0) (row 9 (limitFault h) 0 0) refl in
+    let k10 : Given (judgeStore (total h) n) = allowed-cond ofBytes (leb (total h) n) (row 10 (total h) 0 0) refl in
+    allowed-or ofBytes k5 (allowed-or ofBytes k6 (allowed-or ofBytes k7 (allowed-or ofBytes k8 (allowed-or ofBytes k9 (allowed-or ofBytes k10 (allowed-fine ofBytes))))))
 
 given-compare : (count k : ℕ) (fs : List ℕ) (ss : List (List ℕ)) → Given (compareFrom count k fs ss)
-given-compare count k [] ss = given-fine
+given-compare count k [] ss = allowed-fine ofBytes
 given-compare count k (f ∷ fs) ss =
-    let one : Given (unless (ltb count k || eqb f (segmentSum (getD ss 0 []))) (refusal.SegmentChecksum k)) = given-cond (ltb count k || eqb f (segmentSum (getD ss 0 []))) (row 11 k 0 0) refl in
-    given-or one (given-compare count (suc k) fs (drop 1 ss))
+    let one : Given (unless (ltb count k || eqb f (segmentSum (getD ss 0 []))) (refusal.SegmentChecksum k)) = allowed-cond ofBytes (ltb count k || eqb f (segmentSum (getD ss 0 []))) (row 11 k 0 0) refl in
+    allowed-or ofBytes one (given-compare count (suc k) fs (drop 1 ss))
 
 given-unused : (count k : ℕ) (fs : List ℕ) → Given (unusedFrom count k fs)
-given-unused count k [] = given-fine
+given-unused count k [] = allowed-fine ofBytes
 given-unused count k (f ∷ fs) =
-    let one : Given (unless (leb k count || eqb f 0) (refusal.NonCanonical k)) = given-cond (leb k count || eqb f 0) (row 24 k 0 0) refl in
-    given-or one (given-unused count (suc k) fs)
+    let one : Given (unless (leb k count || eqb f 0) (refusal.NonCanonical k)) = allowed-cond ofBytes (leb k count || eqb f 0) (row 24 k 0 0) refl in
+    allowed-or ofBytes one (given-unused count (suc k) fs)
 
 given-flags : (revision : Revision) (b : ℕ) → Given (ended.judgeLateFlags revision b)
-given-flags Msgr20 b = given-cond (ltb b 2) (row 24 0 0 0) refl
-given-flags Msgr21 b = given-fine
+given-flags Msgr20 b = allowed-cond ofBytes (ltb b 2) (row 24 0 0 0) refl
+given-flags Msgr21 b = allowed-fine ofBytes
 
 given-spelling : (revision : Revision) (h : Header) (e : List ℕ) → Given (judgeSpelling revision h e)
-given-spelling revision h e = given-or (given-unused (h .count) (epilogueFrom revision) (ended.stored revision e)) (given-flags revision (getD e 0 0))
+given-spelling revision h e = allowed-or ofBytes (given-unused (h .count) (epilogueFrom revision) (ended.stored revision e)) (given-flags revision (getD e 0 0))
 
 given-compared : (revision : Revision) (h : Header) (e p : List ℕ) → Given (compared revision h e p)
 given-compared revision h e p =
     given-compare (h .count) (epilogueFrom revision) (ended.stored revision e) (inEpilogue revision (segments h (take (h .s1 .len) p) (drop (h .s1 .len) p)))
 
-pub record GivenEnd (x : Ended) : Type 0 where
-  pub gives : (n : Numbers) → x ≡ turnedAway n → ofBytes n ≡ true
-
-end-whole : GivenEnd whole
-end-whole = record { gives = λ m e. absurd (let z : _≡_ {A = ℕ} 0 1 = cc in omega arith) }
+abbrev GivenEnd : Ended → Type 0
+GivenEnd = AllowedEnd ofBytes
 
 end-of : (x : Late) (b : ℕ) {j : Judged} → Given j → GivenEnd (byLate x b j)
-end-of late.Wrong b k = record { gives = λ m e. (let i : row 12 b 0 0 ≡ m = cc in ap ofBytes (sym i)) }
-end-of late.Aborted b k = record { gives = λ m e. absurd (let z : _≡_ {A = ℕ} 0 1 = cc in omega arith) }
-end-of late.Complete b {j} k = go j k
-  where
-    go : (j : Judged) → Given j → GivenEnd (endedBy j)
-    go fine k = end-whole
-    go (refused n) k = record { gives = λ m e. k .gives m (let i : n ≡ m = cc in ap refused i) }
-
-turned-or : (j : Judged) {x : Ended} → Given j → GivenEnd x → GivenEnd (unlessTurnedAway j x)
-turned-or fine k l = l
-turned-or (refused n) k l = record { gives = λ m e. k .gives m (let i : n ≡ m = cc in ap refused i) }
+end-of late.Wrong b k = end-turned ofBytes (row 12 b 0 0) refl
+end-of late.Aborted b k = end-dropped ofBytes
+end-of late.Complete b {j} k = end-by ofBytes j k
 
 given-ending : (revision : Revision) (h : Header) (e p : List ℕ) → GivenEnd (ending revision h e p)
 unfolding ending
 given-ending revision h e p = go (noEpilogue revision h)
   where
     go : (b : Bool) → GivenEnd (cond b whole (unlessTurnedAway (judgeSpelling revision h e) (byLate (lateOf revision (getD e 0 0)) (getD e 0 0) (compared revision h e p))))
-    go true = end-whole
-    go false = turned-or (judgeSpelling revision h e) (given-spelling revision h e) (end-of (lateOf revision (getD e 0 0)) (getD e 0 0) (given-compared revision h e p))
+    go true = end-whole ofBytes
+    go false = end-or ofBytes (judgeSpelling revision h e) (given-spelling revision h e) (end-of (lateOf revision (getD e 0 0)) (getD e 0 0) (given-compared revision h e p))
 
 -- ---- the rules, one by one
 
@@ -211,16 +187,8 @@ pub record Gone (n : Numbers) (st : State) : Type 0 where
   pub agree : agrees st ≡ true
   pub gives : given n ≡ true
 
-abbrev pub AfterEvent : Event → State → List ℕ → Type 0
-AfterEvent (event.Banner p r) st s = Running st s
-AfterEvent (event.First h) st s = Running st s
-AfterEvent (event.Frame h) st s = Running st s
-AfterEvent (event.Dropped h) st s = Running st s
-AfterEvent (event.Refused n) st s = Gone n st
-
 abbrev pub After : Report → State → List ℕ → Type 0
-After report.More st s = Running st s
-After (report.Event e) st s = AfterEvent e st s
+After = machine.After Running Gone
 
 abbrev AfterStep : Stepped → Type 0
 AfterStep x = After (x .report) (x .state) (x .store)
@@ -305,7 +273,7 @@ module _ (v : Known) (s : List ℕ) (f : Framed v) (m : markRule stage.Rest v �
   epilogue-after = go (noEpilogue (v .revision) (v .header)) refl
     where
       go : (b : Bool) → noEpilogue (v .revision) (v .header) ≡ b → AfterStep (cond b (endFrame whole v s) (silent (at stage.Epilogue 0 v) s))
-      go true e = frame-after whole v s f end-whole
+      go true e = frame-after whole v s f (end-whole ofBytes)
       go false e =
           running-at stage.Epilogue 0 v s refl (record { own = f .own; payload = f .payload; peer = refl; revision = f .revision; header = f .header; first = refl; mark = m; refusal = f .refusal }) zero-le (has-length (v .revision) (v .header) e .0) fits refl
 
@@ -354,10 +322,10 @@ framed-by stage.Refused v i r = wrong i
 finish-after : (k : Stage) (b : List ℕ) (v : Known) (s : List ℕ) → Rules k v → isRefused k ≡ false → needed k v ≤ length s → AfterStep (finish k b v s)
 unfolding finish
 finish-after stage.Magic b v s r o f =
-    judged-after (judgeMagic (take 8 b)) v s _ (r .own) (given-cond (sameFrom 0 magic (take 8 b)) (row 1 0 0 0) refl)
+    judged-after (judgeMagic (take 8 b)) v s _ (r .own) (allowed-cond ofBytes (sameFrom 0 magic (take 8 b)) (row 1 0 0 0) refl)
     (λ _. running-at stage.Length 0 v s refl (record { own = r .own; payload = r .payload; peer = r .peer; revision = r .revision; header = r .header; first = refl; mark = r .mark; refusal = r .refusal }) zero-le (lit< tt) zero-le refl)
 finish-after stage.Length b v s r o f =
-    judged-after (judgeLength (numberAt 2 0 b)) v s _ (r .own) (given-cond (leb 16 (numberAt 2 0 b) && leb (numberAt 2 0 b) 1024) (row 2 (numberAt 2 0 b) 0 0) refl)
+    judged-after (judgeLength (numberAt 2 0 b)) v s _ (r .own) (allowed-cond ofBytes (leb 16 (numberAt 2 0 b) && leb (numberAt 2 0 b) 1024) (row 2 (numberAt 2 0 b) 0 0) refl)
     (λ e. running-at stage.Payload 0 (withPayload v (numberAt 2 0 b)) s refl (record { own = r .own; payload = fine-true e; peer = r .peer; revision = r .revision; header = r .header; first = refl; mark = r .mark; refusal = r .refusal }) zero-le (lit< tt) zero-le refl)
 finish-after stage.Payload b v s r o f = go (leb (v .payload) 16) refl
   where
@@ -424,29 +392,22 @@ chunk-after st s xs r = go (ltb (st .position .got + length xs) (size st)) refl
         }
     go false e = finish-after (st .position .stage) _ (st .known) (stored st s xs) (live r .rule) (r .live) (rw (length-stored st s xs) (r .fits))
 
+pub byte-after : (st : State) (s : List ℕ) (b : ℕ) → Running st s → AfterStep (onByte st s b)
+unfolding onByte
+byte-after st s b = chunk-after st s (b ∷ [])
+
 pub feed-after : (st : State) (s piece : List ℕ) → Running st s → After (feed st s piece .received .report) (feed st s piece .received .state) (feed st s piece .store)
-unfolding feed onByte
-feed-after st s [] r = r
-feed-after st s (b ∷ bs) r = by-report (chunk st s (b ∷ []) .report) (chunk st s (b ∷ [])) (chunk-after st s (b ∷ []) r) (feed-after (chunk st s (b ∷ []) .state) (chunk st s (b ∷ []) .store) bs)
-  where
-    by-report : (r : Report) (x : Stepped) → After r (x .state) (x .store)
-        → (Running (x .state) (x .store) → After (feed (x .state) (x .store) bs .received .report) (feed (x .state) (x .store) bs .received .state) (feed (x .state) (x .store) bs .store))
-        → (let a = onward r 1 x (feed (x .state) (x .store) bs) in After (a .received .report) (a .received .state) (a .store))
-    by-report report.More x a ih = ih a
-    by-report (report.Event e) x a ih = a
+feed-after st s piece r = rw (← (plain-feed st s piece)) at (machine.feed-after Running Gone byteStep byte-after st s piece r)
 
 -- ---- and so a state that a call hands back agrees with itself
 
-event-agrees : (e : Event) (st : State) (s : List ℕ) → AfterEvent e st s → agrees st ≡ true
-event-agrees (event.Banner p r) st s a = a .agree
-event-agrees (event.First h) st s a = a .agree
-event-agrees (event.Frame h) st s a = a .agree
-event-agrees (event.Dropped h) st s a = a .agree
-event-agrees (event.Refused n) st s a = a .agree
-
 pub after-agrees : (r : Report) (st : State) (s : List ℕ) → After r st s → agrees st ≡ true
 after-agrees report.More st s a = a .agree
-after-agrees (report.Event e) st s a = event-agrees e st s a
+after-agrees (report.Event (event.Banner p r)) st s a = a .agree
+after-agrees (report.Event (event.First h)) st s a = a .agree
+after-agrees (report.Event (event.Frame h)) st s a = a .agree
+after-agrees (report.Event (event.Dropped h)) st s a = a .agree
+after-agrees (report.Event (event.Refused n)) st s a = a .agree
 
 -- ---- refused states
 
@@ -489,11 +450,3 @@ start-gone own n e = go (ltb (own .supported) 2 && ltb (own .required) 2 && eqb 
     go : (b : Bool) → cond b fine (refused (row 16 0 0 0)) ≡ refused n → Gone n (at stage.Refused 0 (onlyOwn own n))
     go true q = absurd (let z : _≡_ {A = ℕ} 0 1 = cc in omega arith)
     go false q = (let k : row 16 0 0 0 ≡ n = cc in rw k at (gone-at own (row 16 0 0 0) refl refl))
-
--- an event that is passed leaves a live receiver
-pub passed-live : (w : Event) (st : State) (s : List ℕ) → Passes w → AfterEvent w st s → Running st s
-passed-live (event.Banner p r) st s q a = a
-passed-live (event.First h) st s q a = a
-passed-live (event.Frame h) st s q a = a
-passed-live (event.Dropped h) st s q a = a
-passed-live (event.Refused n) st s q a = wrong (sym (q .passes Bool false (λ m. true)))

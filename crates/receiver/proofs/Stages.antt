@@ -1,5 +1,5 @@
 -- A scan over the bytes of one stage: they end within it, or fill it.
-use Prim.Native.Nat.{ℕ, suc, _+_, _-_, _≤_, _<_, zero-le}
+use Prim.Native.Nat.{ℕ, _+_, _-_, _≤_, _<_, zero-le}
 use mathlib.Core.List.{List, [], _∷_, _++_, append-nil}
 use mathlib.Core.Path.{_≡_, refl, sym, ap, _∙_}
 use mathlib.Core.Bool.{Bool}
@@ -16,7 +16,8 @@ use Rattle.receiver.specs.declared.Place.{Place}
 use Rattle.receiver.specs.declared.Place.the-variants as place
 use Rattle.receiver.specs.State.{placeOf}
 use Rattle.receiver.specs.Step.{at, absorbed, storeWith, stored, size, Stepped, reached, chunk, finish, onByte}
-use Rattle.receiver.proofs.Scan.{Scanned, scan, with, scan-none, scan-one}
+use Rattle.receiver.proofs.Machine.{with, Silent, scan-none, scan-silent}
+use Rattle.receiver.proofs.Scan.{byteStep, Scanned, scan}
 use Rattle.receiver.proofs.Chunks.{scan-chunk}
 
 abbrev pub traceBy : Scanned → Trace
@@ -52,11 +53,11 @@ chunk-trace st s P b bs ys h =
 
 -- the stream ends within the stage
 pub short : (st : State) (s : List ℕ) (P : ℕ) (ys : List ℕ) → st .position .got + length ys < size st → traceBy (scan st s P ys) ≡ ended (stored st s ys)
-short st s P [] h = ap traceBy (scan-none st s P) ∙ ap ended (stored-none (placeOf (st .position .stage)) (st .position .got) s)
+short st s P [] h = ap traceBy (scan-none byteStep st s P) ∙ ap ended (stored-none (placeOf (st .position .stage)) (st .position .got) s)
 short st s P (b ∷ bs) h =
     ap (λ (l : List ℕ). traceBy (scan st s P l)) (sym (append-nil (b ∷ bs)))
     ∙ chunk-trace st s P b bs [] (omega arith)
-    ∙ rw (lt-ltb (st .position .got + length (b ∷ bs)) (size st) h) (ap traceBy (scan-none (absorbed st (b ∷ bs)) (stored st s (b ∷ bs)) (P + length (b ∷ bs))))
+    ∙ rw (lt-ltb (st .position .got + length (b ∷ bs)) (size st) h) (ap traceBy (scan-none byteStep (absorbed st (b ∷ bs)) (stored st s (b ∷ bs)) (P + length (b ∷ bs))))
 
 -- the stage is filled by n bytes
 filled : (st : State) (s : List ℕ) (P : ℕ) (xs ys : List ℕ) → 0 < length xs → st .position .got + length xs ≡ size st
@@ -75,13 +76,13 @@ full st s P n ys h e l =
     ∙ ap (λ (m : ℕ). run (finishing (absorbed st (take n ys)) (stored st s (take n ys))) (P + m) (drop n ys)) k
 
 -- a refused receiver is silent
-gone-byte : (st : State) (s : List ℕ) (b : ℕ) → st .position .stage ≡ stage.Refused → onByte st s b ≡ record { state = at stage.Refused 0 (st .known); store = s; report = report.More }
+gone-byte : (st : State) (s : List ℕ) (b : ℕ) → st .position .stage ≡ stage.Refused → Silent (λ st. st .position .stage ≡ stage.Refused) s (byteStep st s b)
 unfolding onByte finish
-gone-byte st s b e = rw (e, le-ltb (st .position .got + 1) 0 zero-le)
+gone-byte st s b e =
+    let l = le-ltb (st .position .got + 1) 0 zero-le in
+    record { state = rw (e, l); store = rw (e, l); report = rw (e, l) }
 
 pub gone : (st : State) (s : List ℕ) (P : ℕ) (bs : List ℕ) → st .position .stage ≡ stage.Refused → traceBy (scan st s P bs) ≡ ended s
-gone st s P [] e = ap traceBy (scan-none st s P)
-gone st s P (b ∷ bs) e =
-    ap traceBy (scan-one st s P b bs)
-    ∙ ap (λ (x : Stepped). traceBy (with (x .report) (suc P) (x .store) (scan (x .state) (x .store) (suc P) bs))) (gone-byte st s b e)
-    ∙ gone (at stage.Refused 0 (st .known)) s (suc P) bs refl
+gone st s P bs e =
+    let z = scan-silent byteStep (λ st. st .position .stage ≡ stage.Refused) gone-byte st s P bs e in
+    rw (z .0, z .1)

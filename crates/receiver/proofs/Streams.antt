@@ -28,7 +28,8 @@ use Rattle.receiver.specs.declared.State.{State}
 use Rattle.receiver.specs.State.{blank, noHeader, noRefusal}
 use Rattle.receiver.specs.Step.{Stepped, at, onlyOwn, refusedState, withPayload, withPeer, withRevision, withHeader, silent, unlessRefused, endBanner, beginBody, finish}
 use Rattle.refusal.proofs.Booleans.{both-left}
-use Rattle.receiver.proofs.Scan.{scan, scan-none}
+use Rattle.receiver.proofs.Machine.{scan-none}
+use Rattle.receiver.proofs.Scan.{byteStep, scan}
 use Rattle.receiver.proofs.Placed.{sets-whole, take-sets}
 use Rattle.buffer.proofs.Numbers.{number-take, number-drop}
 use Rattle.receiver.proofs.Stages.{traceBy, run, short, full, gone}
@@ -92,7 +93,7 @@ frame-trace f ih v P rest s h false c =
 
 pub frames-trace : (f : ℕ) → Below f
 unfolding frames
-frames-trace zero v P [] s h = ap traceBy (scan-none (at stage.Preamble 0 v) s P)
+frames-trace zero v P [] s h = ap traceBy (scan-none byteStep (at stage.Preamble 0 v) s P)
 frames-trace zero v P (b ∷ bs) s h = absurd (omega arith)
 frames-trace (suc f) v P rest s h = frame-trace f (frames-trace f) v P rest s h (ltb (length rest) 32) refl
 

@@ -4,7 +4,6 @@ use mathlib.Core.List.{List, [], _∷_}
 use lib.ListN.{set}
 use Rattle.refusal.specs.Refusals.{row}
 use Rattle.banner.specs.declared.Revision.the-variants.{Msgr20, Msgr21}
-use Rattle.preamble.specs.declared.Header.{Header}
 use Rattle.stream.specs.Rows.{Row, _⇒_, Holds, features, sized, header, segment}
 use Rattle.receiver.specs.declared.Stage.the-variants as stage
 use Rattle.receiver.specs.declared.Known.{Known}

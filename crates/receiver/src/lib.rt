@@ -1,6 +1,6 @@
 // Receives a stream that may be cut anywhere: a call takes bytes up to and including the one that completes a report.
 mod pieces;
-mod states;
+pub mod states;
 mod transitions;
 
 use banner::Features;

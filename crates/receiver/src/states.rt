@@ -159,7 +159,7 @@ pub(crate) fn next_frame(v: Known) -> State
 
 // ---- stages
 
-pub(crate) fn rank(stage: Stage) -> u8
+pub fn rank(stage: Stage) -> u8
     ensures { λ r. ⌜ r ≡ rank stage ⌝ }
 {
     match stage {
@@ -262,7 +262,7 @@ fn pick(test: bool, a: bool, b: bool) -> bool
     if test { a } else { b }
 }
 
-pub(crate) fn is_msgr21(revision: Revision) -> bool
+pub fn is_msgr21(revision: Revision) -> bool
     ensures { λ r. ⌜ r ≡ isMsgr21 revision ⌝ }
 {
     match revision {
@@ -292,7 +292,7 @@ fn is_no_segment(s: Segment) -> bool
     both(s.len == 0, s.align == 0)
 }
 
-fn is_no_header(h: Header) -> bool
+pub fn is_no_header(h: Header) -> bool
     ensures { λ r. ⌜ r ≡ isNoHeader h ⌝ }
 {
     let last = both(is_no_segment(h.s3), is_no_segment(h.s4));
@@ -300,7 +300,7 @@ fn is_no_header(h: Header) -> bool
     both(both(h.tag == 0, h.count == 0), segments)
 }
 
-fn is_no_refusal(n: Numbers) -> bool
+pub fn is_no_refusal(n: Numbers) -> bool
     ensures { λ r. ⌜ r ≡ isNoRefusal n ⌝ }
 {
     let details = both(n.second == 0, n.third == 0);
@@ -458,7 +458,7 @@ fn rules_hold(stage: Stage, v: Known) -> bool
 }
 
 // The fields agree: what refusal 26 asks.
-pub(crate) fn agrees_with_itself(st: State) -> bool
+pub fn agrees_with_itself(st: State) -> bool
     ensures { λ r. ⌜ r ≡ agrees st ⌝ }
 {
     let position = st.position;

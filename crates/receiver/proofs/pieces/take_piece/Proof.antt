@@ -1,5 +1,4 @@
 use native.Mathlib.Omega.{arith}
-use mathlib.Core.Path.{_∙_, sym}
 use Rattle.receiver.proofs.Live.{inside-of}
 use borrow.Author.Needs.{needs}
 use Rattle.receiver.proofs.pieces.take_piece.Statement.{statement}

@@ -1,0 +1,116 @@
+-- What is due of a list of entries: those that are passed do not count for what is due later, and a refusal that is passed ends it.
+use Prim.Native.Nat.{ℕ, suc, _+_, _≤_, _<_}
+use mathlib.Core.List.{List, [], _∷_, _++_, append-assoc, append-nil}
+use mathlib.Core.Path.{_≡_, refl, _∙_}
+use mathlib.Core.Bool.{Bool, true, false}
+use native.Mathlib.Omega.{arith}
+use borrow.Author.Tests.{le-leb, lt-leb}
+use Rattle.refusal.specs.declared.Numbers.{Numbers}
+use Rattle.stream.specs.declared.Event.{Event}
+use Rattle.stream.specs.declared.Event.the-variants as event
+use Rattle.stream.specs.Stream.{Entry, entry}
+use Rattle.receiver.specs.declared.Report.{Report}
+use Rattle.receiver.specs.declared.Report.the-variants as report
+use Rattle.receiver.specs.Calls.{entered, dueTaken, dueReport, passing, refusedIn}
+
+-- the entries of a report, before later ones
+abbrev pub noted : Report → ℕ → List ℕ → List Entry → List Entry
+noted report.More at s es = es
+noted (report.Event e) at s es = entry e at s ∷ es
+
+pub noted-append : (r : Report) (at : ℕ) (s : List ℕ) (es fs : List Entry) → noted r at s (es ++ fs) ≡ noted r at s es ++ fs
+noted-append report.More at s es fs = refl
+noted-append (report.Event e) at s es fs = refl
+
+-- ---- the next entry
+
+-- entries lie behind t
+abbrev pub Behind : ℕ → List Entry → Type 0
+Behind t [] = Unit {0}
+Behind t (e ∷ es) = t < e .at
+
+pub behind-noted : (r : Report) (t : ℕ) (s : List ℕ) (es : List Entry) → Behind (suc t) es → Behind t (noted r (suc t) s es)
+behind-noted report.More t s [] h = tt
+behind-noted report.More t s (e ∷ es) h = omega arith
+behind-noted (report.Event e) t s es h = omega arith
+
+-- of a piece of n bytes k are taken: all without a report, else those up to and including the report's
+abbrev pub Fills : Report → ℕ → ℕ → Type 0
+Fills report.More k n = k ≡ n
+Fills (report.Event e) k n = 0 < k
+
+pub next-due : (r : Report) (t k n : ℕ) (s : List ℕ) (es : List Entry) → k ≤ n → Fills r k n → Behind (t + k) es
+    → (k ≡ dueTaken (noted r (t + k) s es) t n) × (r ≡ dueReport (noted r (t + k) s es) t n)
+unfolding dueTaken dueReport
+next-due report.More t k n s [] l f h = (f, refl)
+next-due report.More t k n s (e ∷ es) l f h =
+    let a : t < e .at = omega arith in
+    let b : t + n < e .at = omega arith in
+    (rw (lt-leb (e .at) t a) (omega arith), rw (lt-leb (e .at) t a, lt-leb (e .at) (t + n) b))
+next-due (report.Event e) t k n s es l f h =
+    let a : t < t + k = omega arith in
+    let b : t + k ≤ t + n = omega arith in
+    (rw (lt-leb (t + k) t a) (omega arith), rw (lt-leb (t + k) t a, le-leb (t + k) (t + n) b))
+
+-- ---- entries that are passed
+
+unfoldable pub Skips : ℕ → List Entry → Type 0
+Skips t es = (t′ k : ℕ) (fs : List Entry) → t ≤ t′ → (dueTaken (es ++ fs) t′ k ≡ dueTaken fs t′ k) × (dueReport (es ++ fs) t′ k ≡ dueReport fs t′ k)
+
+unfoldable pub Stops : Numbers → ℕ → List Entry → Type 0
+Stops n t es = (t′ k : ℕ) (fs : List Entry) → t ≤ t′ → (dueTaken (es ++ fs) t′ k ≡ 0) × (dueReport (es ++ fs) t′ k ≡ report.Event (event.Refused n))
+
+pub skips-none : (t : ℕ) → Skips t []
+unfolding Skips
+skips-none t t′ k fs h = (refl, refl)
+
+-- no refusal
+abbrev pub Passes : Report → Type 1
+Passes report.More = Unit {1}
+Passes (report.Event w) = (A : Type 0) (a : A) (f : Numbers → A) → passing w a f ≡ a
+
+-- a report is a refusal, or is passed
+pub data Kind (r : Report) : Type 1 where
+  goesOn : Passes r → Kind r
+  ends : (n : Numbers) → r ≡ report.Event (event.Refused n) → Kind r
+
+pub kind : (r : Report) → Kind r
+kind report.More = goesOn tt
+kind (report.Event (event.Banner p r)) = goesOn (λ A a f. refl)
+kind (report.Event (event.First h)) = goesOn (λ A a f. refl)
+kind (report.Event (event.Frame h)) = goesOn (λ A a f. refl)
+kind (report.Event (event.Dropped h)) = goesOn (λ A a f. refl)
+kind (report.Event (event.Refused n)) = ends n refl
+
+pub enters : (r : Report) (t : ℕ) (s : List ℕ) (es : List Entry) → Passes r → entered r t s es ≡ noted r t s [] ++ es
+enters report.More t s es p = refl
+enters (report.Event w) t s es p = rw (p (List Entry) es (λ n. []))
+
+pub skips-noted : (r : Report) (t a : ℕ) (s : List ℕ) (es : List Entry) → Passes r → t ≤ a → Skips t es → Skips a (es ++ noted r a s [])
+unfolding Skips dueTaken dueReport
+skips-noted report.More t a s es p l sk t′ k fs h = rw append-nil (sk t′ k fs (omega arith))
+skips-noted (report.Event w) t a s es p l sk t′ k fs h =
+    let r = sk t′ k (entry w a s ∷ fs) (omega arith) in (
+      rw append-assoc (r .0 ∙ rw (le-leb a t′ h) (p ℕ (dueTaken fs t′ k) (λ n. 0))),
+      rw append-assoc (r .1 ∙ rw (le-leb a t′ h) (p Report (dueReport fs t′ k) (λ n. report.Event (event.Refused n)))),
+    )
+
+pub stops-refusal : (t a : ℕ) (n : Numbers) (s : List ℕ) (es : List Entry) → t ≤ a → Skips t es → Stops n a (es ++ (entry (event.Refused n) a s ∷ []))
+unfolding Skips Stops dueTaken dueReport
+stops-refusal t a n s es l sk t′ k fs h =
+    let r = sk t′ k (entry (event.Refused n) a s ∷ fs) (omega arith) in
+    (rw append-assoc (r .0 ∙ rw (le-leb a t′ h)), rw append-assoc (r .1 ∙ rw (le-leb a t′ h)))
+
+-- and no refusal is among them
+clean-before : (e : Event) (b c : Bool) → (b ≡ false → c ≡ false) → passing e b (λ n. true) ≡ false → passing e c (λ n. true) ≡ false
+clean-before (event.Banner p r) b c f q = f q
+clean-before (event.First h) b c f q = f q
+clean-before (event.Frame h) b c f q = f q
+clean-before (event.Dropped h) b c f q = f q
+clean-before (event.Refused n) b c f q = q
+
+pub clean-noted : (r : Report) (t : ℕ) (s : List ℕ) (es : List Entry) → Passes r → refusedIn es ≡ false → refusedIn (es ++ noted r t s []) ≡ false
+clean-noted report.More t s es p e = rw append-nil e
+clean-noted (report.Event w) t s [] p e = p Bool false (λ n. true)
+clean-noted (report.Event w) t s (x ∷ es) p e =
+    clean-before (x .event) (refusedIn es) (refusedIn (es ++ (entry w t s ∷ []))) (clean-noted (report.Event w) t s es p) e
