@@ -82,11 +82,11 @@ early-joined : (c : Bool) (P : ℕ) (X s : List ℕ) (t u : Trace) → joined (b
 early-joined true P X s t u = refl
 early-joined false P X s t u = refl
 
-early-store : (c : Bool) (P : ℕ) (X s : List ℕ) (t : Trace) → behindEarly c P X s t .store ≡ t .store
+pub early-store : (c : Bool) (P : ℕ) (X s : List ℕ) (t : Trace) → behindEarly c P X s t .store ≡ t .store
 early-store true P X s t = refl
 early-store false P X s t = refl
 
-early-up : (c : Bool) (n P : ℕ) (X s : List ℕ) (t : Trace) → FramesUpTo n P (behindEarly c P X s t .entries) → FramesUpTo n P (t .entries)
+pub early-up : (c : Bool) (n P : ℕ) (X s : List ℕ) (t : Trace) → FramesUpTo n P (behindEarly c P X s t .entries) → FramesUpTo n P (t .entries)
 early-up true n P X s t u = u
 early-up false n P X s t u = u
 

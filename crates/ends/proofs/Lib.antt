@@ -1,10 +1,10 @@
-mod Locality
-mod Concatenation
-mod Banners
-mod Checks
-mod Written
-mod Handover
-mod ReadBack
-mod Builds
-mod Trips
-mod Spelled
+pub mod Locality
+pub mod Concatenation
+pub mod Banners
+pub mod Checks
+pub mod Written
+pub mod Handover
+pub mod ReadBack
+pub mod Builds
+pub mod Trips
+pub mod Spelled

@@ -1,11 +1,11 @@
 -- A frame is judged by its own bytes, whatever follows it.
 use Prim.Native.Nat.{ℕ, suc, _+_, _-_, _≤_}
 use mathlib.Core.List.{List, _++_}
-use mathlib.Core.Path.{_≡_, refl, sym, ap, ap₂, _∙_}
+use mathlib.Core.Path.{_≡_, refl, sym, ap₂, _∙_}
 use mathlib.Core.Bool.{Bool, true, false, not, cond, _&&_}
 use native.Mathlib.Omega.{arith}
-use lib.ListN.{length, take, drop, length-append, length-drop, List·getD-append}
-use lib.Seq.{take-append-le, drop-append-le, length-take-le}
+use lib.ListN.{length, take, drop, length-append, length-drop}
+use lib.Seq.{take-append-le, drop-append-le}
 use lib.Dec.{leb, ltb}
 use borrow.Author.Tests.{le-ltb, ltb-false, le-leb, leb-true}
 use Rattle.buffer.proofs.Numbers.{number-append}
@@ -14,15 +14,14 @@ use Rattle.refusal.specs.declared.Numbers.{Numbers}
 use Rattle.refusal.specs.declared.Refusal.the-variants as refusal
 use Rattle.refusal.specs.Refusals.{Judged, fine, refused, numbersOf}
 use Rattle.banner.specs.declared.Revision.{Revision}
-use Rattle.banner.specs.declared.Revision.the-variants.{Msgr20, Msgr21}
 use Rattle.preamble.specs.declared.Header.{Header}
 use Rattle.preamble.specs.Layout.{total}
 use Rattle.preamble.specs.Judge.{judgePreamble}
-use Rattle.body.specs.Body.{restLength, noFirstSum, firstSumLength, epilogueLength, bodyLength, wireLength}
+use Rattle.body.specs.Body.{noFirstSum, firstSumLength, bodyLength, wireLength}
 use Rattle.body.specs.End.{Ended, whole, dropped, turnedAway, segmentBytes, ending}
 use Rattle.stream.specs.Stream.{Trace, ended, refusedAt, zeroed, firstWrong, firstReported, reportedFirst, atEnd, frames}
 use Rattle.refusal.proofs.Booleans.{wrong}
-use Rattle.body.proofs.Ends.{segments-own, length-segments, ending-append}
+use Rattle.body.proofs.Ends.{segments-own, ending-append}
 use Rattle.ends.specs.Handed.{headerIn, isEarly}
 
 first-own : (r : Revision) (h : Header) (b y : List ℕ) → bodyLength r h ≤ length b → firstWrong r h (b ++ y) ≡ firstWrong r h b

@@ -1,38 +1,25 @@
 -- One frame, one spelling: the bytes of a frame that is read are those that its fields and segments are written as.
 use Prim.Native.Nat.{ℕ, suc, _+_}
-use mathlib.Core.List.{List, [], _∷_, _++_}
-use mathlib.Core.Path.{_≡_, refl, sym, ap, ap₂, _∙_}
-use mathlib.Core.Bool.{Bool, true, false, _||_}
+use mathlib.Core.List.{List, [], _∷_}
+use mathlib.Core.Path.{_≡_, sym, ap, ap₂, _∙_}
+use mathlib.Core.Bool.{true, false}
 use native.Mathlib.Omega.{arith}
-use native.Mathlib.Nat.{add-zero}
-use lib.ListN.{length, take, drop, getD, length-drop, take-append-drop}
-use lib.Seq.{take-at, getD-take, getD-drop, length-take-le}
-use lib.Dec.{lit<, leb, ltb, eqb}
-use borrow.Author.Tests.{eqb-true}
-use Rattle.buffer.specs.Le.{numberAt, Bytes}
+use lib.ListN.{length, take, drop}
+use lib.Seq.{take-at}
 use Rattle.buffer.specs.Splice.{replaceFront}
-use Rattle.buffer.proofs.Numbers.{bytes-take, bytes-drop}
-use Rattle.crc32c.specs.Crc.{crcOf}
-use Rattle.refusal.specs.declared.Refusal.the-variants as refusal
-use Rattle.refusal.proofs.Judgements.{passed}
 use Rattle.banner.specs.declared.Revision.{Revision}
-use Rattle.banner.specs.declared.Revision.the-variants.{Msgr20, Msgr21}
 use Rattle.preamble.specs.declared.Header.{Header}
-use Rattle.preamble.specs.Layout.{total, preambleBytes}
-use Rattle.preamble.specs.Judge.{headerOf}
-use Rattle.preamble.proofs.Laws.{accepted-preamble}
-use Rattle.preamble.proofs.Spelling.{flags-zero, preamble-again}
-use Rattle.body.specs.Body.{noFirstSum, firstSumLength, noEpilogue, bodyLength, wireLength, lateByte, body, frameBytes}
+use Rattle.preamble.specs.Layout.{total}
+use Rattle.body.specs.Body.{wireLength, frameBytes}
 use Rattle.body.specs.End.{whole, segmentBytes}
 use Rattle.body.proofs.Ends.{length-segments}
-use Rattle.body.proofs.Spelling.{lateAgain, body-again}
 use Rattle.stream.specs.declared.Event.{Event}
 use Rattle.stream.specs.declared.Event.the-variants.{Frame}
 use Rattle.stream.specs.Stream.{Entry, entry, frames}
 use Rattle.ends.specs.Handed.{headerIn, zeroNibble, isFrame, firstIs, behindFirst}
 use Rattle.ends.specs.Spelling.{ReadAs, OneSpelling}
 use Rattle.ends.proofs.Locality.{Judges}
-use Rattle.ends.proofs.Checks.{checked-whole, first-holds, first-room}
+use Rattle.ends.proofs.Checks.{checked-whole}
 use Rattle.ends.proofs.Written.{spelled-so}
 use Rattle.ends.proofs.Handover.{exactly}
 

@@ -79,7 +79,7 @@ round-trip own front store r up buf queued b p room behind cs ch t =
 
 -- ---- many builds
 
-kept-length : (b : Build) (s : List ℕ) → length (b .source) ≡ total (b .header) → total (b .header) ≤ length s → length (storeAfter b s) ≡ length s
+pub kept-length : (b : Build) (s : List ℕ) → length (b .source) ≡ total (b .header) → total (b .header) ≤ length s → length (storeAfter b s) ≡ length s
 kept-length b s e h = go (b .abort)
   where
     go : (c : Bool) → length (cond c (zeroed (b .header) s) (replaceFront (b .source) s)) ≡ length s
@@ -164,40 +164,72 @@ banner-trace own f Y s ours e fit =
 
 -- ---- the two ends
 
-sent-is : (r : Revision) (l : Link) → Linked r l → sentBy l ≡ bannerBytes (l .features .supported) (l .features .required) ++ allBytes r (l .builds)
-sent-is r l k =
-    let B : List ℕ = bannerBytes (l .features .supported) (l .features .required) in
-    let Y : List ℕ = allBytes r (l .builds) in
-    let b = bannered (l .features .supported) (l .features .required) (l .space) (l .queued) (l .written) (l .buffer) (k .banner) in
-    let c = b .count in
-    let o = b .room in
-    let lb : length (l .buffer) ≡ length (l .space) = ap length (b .buffer) ∙ length-splice (l .space) (l .queued) B (omega arith) in
-    let q = queued-up r (l .buffer) (l .queued + l .written) (l .builds) (omega arith) (k .builds) in
-    let e : bufferBy (l .buffer) (l .builds) ≡ splice (l .space) (l .queued) (B ++ Y)
-    = q .buffer
-    ∙ ap₂ (λ (t : List ℕ) (m : ℕ). splice t (l .queued + m) Y) (b .buffer) c
-    ∙ splice-next (l .space) (l .queued) B Y (omega arith) in
-    let a = length-append B Y in
-    let n : length (B ++ Y) ≡ queuedBy (l .queued + l .written) (l .builds) - l .queued = (let z = q .queue in omega arith) in
-    ap (λ (t : List ℕ). take (queuedBy (l .queued + l .written) (l .builds) - l .queued) (drop (l .queued) t)) e
-    ∙ written (l .space) (l .queued) (B ++ Y) (queuedBy (l .queued + l .written) (l .builds) - l .queued) n (omega arith)
+module _ (r : Revision) (l : Link) (k : Linked r l) where
+  abbrev B : List ℕ
+  B = bannerBytes (l .features .supported) (l .features .required)
 
-pub two-ends : TwoEnds
-unfolding TwoEnds
-two-ends own store l k ours fit fits behind cs ch t =
+  abbrev Y : List ℕ
+  Y = allBytes r (l .builds)
+
+  abbrev count : ℕ
+  count = queuedBy (l .queued + l .written) (l .builds) - l .queued
+
+  -- the buffer that they leave
+  record Sent : Type 0 where
+    buffer : bufferBy (l .buffer) (l .builds) ≡ splice (l .space) (l .queued) (B ++ Y)
+    size : length (B ++ Y) ≡ count
+    room : l .queued ≤ length (l .space)
+
+  all-sent : Sent
+  all-sent =
+      let b = bannered (l .features .supported) (l .features .required) (l .space) (l .queued) (l .written) (l .buffer) (k .banner) in
+      let c = b .count in
+      let o = b .room in
+      let lb : length (l .buffer) ≡ length (l .space) = ap length (b .buffer) ∙ length-splice (l .space) (l .queued) B (omega arith) in
+      let q = queued-up r (l .buffer) (l .queued + l .written) (l .builds) (omega arith) (k .builds) in
+      let a = length-append B Y in
+      record {
+        buffer = q .buffer
+            ∙ ap₂ (λ (t : List ℕ) (m : ℕ). splice t (l .queued + m) Y) (b .buffer) c
+            ∙ splice-next (l .space) (l .queued) B Y (omega arith);
+        size = (let z = q .queue in omega arith);
+        room = omega arith;
+      }
+
+  pub sent-is : sentBy l ≡ bannerBytes (l .features .supported) (l .features .required) ++ allBytes r (l .builds)
+  sent-is =
+      let s = all-sent in
+      ap (λ (t : List ℕ). take count (drop (l .queued) t)) (s .buffer) ∙ written (l .space) (l .queued) (B ++ Y) count (s .size) (s .room)
+
+  pub sent-length : length (sentBy l) ≡ queuedBy (l .queued + l .written) (l .builds) - l .queued
+  sent-length = ap length sent-is ∙ all-sent .size
+
+-- the definition's entries of what was sent, with Y behind it
+pub sent-entries : (own : Features) (store : List ℕ) (l : Link) → Linked (revisionOf (own .supported) (l .features .supported)) l
+    → judgeOwn (own .supported) (own .required) ≡ fine
+    → judgeFeatures (own .supported) (own .required) (l .features .supported) (l .features .required) ≡ fine
+    → Fitting (length store) (l .builds) → (Y : List ℕ)
+    → traceOf own (sentBy l ++ Y) store .entries
+    ≡ entry (Banner (l .features) (revisionOf (own .supported) (l .features .supported))) bannerLength store
+    ∷ (allEntries (revisionOf (own .supported) (l .features .supported)) bannerLength store (l .builds)
+    ++ frames (length Y) (revisionOf (own .supported) (l .features .supported)) (length (sentBy l)) Y (storeAfterAll (l .builds) store) .entries)
+sent-entries own store l k ours fit fits Y =
     let f = l .features in
     let r = revisionOf (own .supported) (f .supported) in
     let B : List ℕ = bannerBytes (f .supported) (f .required) in
     let A : List ℕ = allBytes r (l .builds) in
-    let Y : List ℕ = take (takenBy 0 cs - length (sentBy l)) behind in
     let b = bannered (f .supported) (f .required) (l .space) (l .queued) (l .written) (l .buffer) (k .banner) in
     let e = sent-is r l k in
     let a = length-append A Y in
     let a₂ = length-append B (A ++ Y) in
     let place : bannerLength + length A ≡ length (sentBy l) = sym (ap length e ∙ length-append B A) in
-    reported own (sentBy l) behind store cs ch t
-    ∙ ap (λ (x : List ℕ). traceOf own x store .entries) (ap (λ (x : List ℕ). x ++ Y) e ∙ append-assoc B A Y)
+    ap (λ (x : List ℕ). traceOf own x store .entries) (ap (λ (x : List ℕ). x ++ Y) e ∙ append-assoc B A Y)
     ∙ ap (λ (u : Trace). u .entries) (banner-trace own f (A ++ Y) store ours (b .ours) fit)
     ∙ ap (λ (es : List Entry). entry (Banner f r) bannerLength store ∷ es)
     (builds-entries (length (B ++ (A ++ Y))) (length Y) r bannerLength (l .buffer) (l .queued + l .written) (l .builds) Y store (k .builds) fits (omega arith) (omega arith)
     ∙ ap (λ (x : ℕ). allEntries r bannerLength store (l .builds) ++ frames (length Y) r x Y (storeAfterAll (l .builds) store) .entries) place)
+
+pub two-ends : TwoEnds
+unfolding TwoEnds
+two-ends own store l k ours fit fits behind cs ch t =
+    reported own (sentBy l) behind store cs ch t ∙ sent-entries own store l k ours fit fits (take (takenBy 0 cs - length (sentBy l)) behind)

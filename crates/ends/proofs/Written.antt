@@ -1,16 +1,15 @@
 -- The bytes of a frame that passes its checks are those that its fields and segments are written as.
 use Prim.Native.Nat.{ℕ, _+_, _≤_, _<_}
-use mathlib.Core.List.{List, [], _∷_, _++_}
+use mathlib.Core.List.{List, _++_}
 use mathlib.Core.Path.{_≡_, refl, sym, ap, ap₂, subst, _∙_}
 use mathlib.Core.Bool.{Bool, true, false, _||_}
 use native.Mathlib.Omega.{arith}
 use native.Mathlib.Nat.{add-zero}
 use lib.ListN.{length, take, drop, getD, length-drop, take-append-drop, List·getD-append}
 use lib.Seq.{take-take, take-at, getD-drop, length-take-le}
-use lib.Dec.{lit<, leb, ltb, eqb}
+use lib.Dec.{leb, ltb, eqb}
 use borrow.Author.Tests.{eqb-true}
 use Rattle.buffer.specs.Le.{numberAt, Bytes}
-use Rattle.buffer.specs.Splice.{replaceFront}
 use Rattle.buffer.proofs.Numbers.{bytes-take, bytes-drop}
 use Rattle.crc32c.specs.Crc.{crcOf}
 use Rattle.refusal.specs.declared.Refusal.the-variants as refusal
@@ -18,17 +17,14 @@ use Rattle.refusal.proofs.Judgements.{passed}
 use Rattle.banner.specs.declared.Revision.{Revision}
 use Rattle.banner.specs.declared.Revision.the-variants.{Msgr20, Msgr21}
 use Rattle.preamble.specs.declared.Header.{Header}
-use Rattle.preamble.specs.Layout.{total, preambleBytes}
+use Rattle.preamble.specs.Layout.{preambleBytes}
 use Rattle.preamble.specs.Judge.{headerOf}
 use Rattle.preamble.proofs.Laws.{accepted-preamble}
 use Rattle.preamble.proofs.Spelling.{flags-zero, preamble-again}
-use Rattle.body.specs.Body.{noFirstSum, firstSumLength, noEpilogue, bodyLength, wireLength, lateByte, body, frameBytes}
+use Rattle.body.specs.Body.{noEpilogue, bodyLength, wireLength, lateByte, body, frameBytes}
 use Rattle.body.specs.End.{whole, segmentBytes}
 use Rattle.body.proofs.Ends.{segments-own, has-length}
 use Rattle.body.proofs.Spelling.{lateAgain, body-again}
-use Rattle.stream.specs.declared.Event.{Event}
-use Rattle.stream.specs.declared.Event.the-variants.{Frame}
-use Rattle.stream.specs.Stream.{Entry, entry, frames}
 use Rattle.ends.specs.Handed.{headerIn, latePlace, zeroNibble}
 use Rattle.ends.proofs.Locality.{Judges, front-own, body-own, restricts}
 use Rattle.ends.proofs.Checks.{first-holds, first-room}

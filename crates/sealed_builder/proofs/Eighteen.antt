@@ -24,7 +24,7 @@ use Rattle.secure.specs.Reading.{allZero}
 use Rattle.sealed_builder.specs.States.{Sound}
 use Rattle.sealed_builder.specs.Nonces.{Build, Meets, left, Exactly}
 use Rattle.sealed_builder.proofs.Accepted.{accepted, both-fine, counted}
-use Rattle.sealed_builder.proofs.Counts.{came-round}
+use Rattle.secure.proofs.Counts.{came-round}
 use Rattle.sealed_builder.proofs.Once.{some, judged, came, when-fine, when-refused}
 
 -- ---- which judgement gives a number

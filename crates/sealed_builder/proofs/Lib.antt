@@ -1,4 +1,3 @@
-pub mod Counts
 pub mod Texts
 pub mod Seals
 pub mod Accepted

@@ -69,7 +69,7 @@ module _ (s : Sending) (b : Build) (m : Meets s b) where
 
 -- ---- the count
 
-spent-more : (s : Sending) (k : ℕ) → 1 ≤ k → spentOf s + k ≤ allNonces → spentOf (sentMore s k) ≡ spentOf s + k
+pub spent-more : (s : Sending) (k : ℕ) → 1 ≤ k → spentOf s + k ≤ allNonces → spentOf (sentMore s k) ≡ spentOf s + k
 unfolding sentMore
 spent-more s k h l =
     let n : s .spent + k ≤ allNonces = counted s k h l in
@@ -87,10 +87,10 @@ spent-more s k h l =
 
 -- ---- a chain uses nonces one behind the other
 
-record Line (s : Sending) (nonces : List (List ℕ)) : Type 0 where
-  count : ℕ
-  is : nonces ≡ run count (s .nonce)
-  fits : spentOf s + count ≤ allNonces
+pub record Line (s : Sending) (nonces : List (List ℕ)) : Type 0 where
+  pub count : ℕ
+  pub is : nonces ≡ run count (s .nonce)
+  pub fits : spentOf s + count ≤ allNonces
 
 module _ (s : Sending) (b : Build) (m : Meets s b) (later : List (List ℕ)) where
   on-refused : (r : Numbers) → judged s b ≡ refused r → Line (b .answer .sending) later → Line s (usedBy s b ++ later)
@@ -117,7 +117,7 @@ module _ (s : Sending) (b : Build) (m : Meets s b) (later : List (List ℕ)) whe
         fits = omega (arith, spent, l .fits);
       }
 
-line : (s : Sending) (bs : List Build) → Chained s bs → spentOf s ≤ allNonces → Line s (used s bs)
+pub line : (s : Sending) (bs : List Build) → Chained s bs → spentOf s ≤ allNonces → Line s (used s bs)
 line s [] c h = record { count = 0; is = refl; fits = omega arith }
 line s (b ∷ bs) c h =
     by-judgement (judged s b)

@@ -30,19 +30,19 @@ run-on (suc k) m nonce = ap (λ (l : List (List ℕ)). nonce ∷ l) (run-on k m 
 
 -- ---- counters
 
-counter : List ℕ → ℕ
+abbrev pub counter : List ℕ → ℕ
 counter nonce = numberAt 8 4 nonce
 
 counter-next : (nonce : List ℕ) → counter (nextNonce nonce) ≡ (counter nonce + 1) % 2 ^ 64
-unfolding counter nextNonce numberAt
+unfolding nextNonce numberAt
 counter-next nonce = leOf-le 8 ((numberAt 8 4 nonce + 1) % 2 ^ 64) (mod-lt (numberAt 8 4 nonce + 1) {m = 2 ^ 64} (omega arith))
 
-after-next : (j : ℕ) (nonce : List ℕ) → nonceAfter (suc j) nonce ≡ nextNonce (nonceAfter j nonce)
+pub after-next : (j : ℕ) (nonce : List ℕ) → nonceAfter (suc j) nonce ≡ nextNonce (nonceAfter j nonce)
 unfolding nonceAfter
 after-next zero nonce = refl
 after-next (suc j) nonce = after-next j (nextNonce nonce)
 
-counter-after : (j : ℕ) (nonce : List ℕ) → counter (nonceAfter (suc j) nonce) ≡ (counter nonce + suc j) % 2 ^ 64
+pub counter-after : (j : ℕ) (nonce : List ℕ) → counter (nonceAfter (suc j) nonce) ≡ (counter nonce + suc j) % 2 ^ 64
 unfolding nonceAfter
 counter-after zero nonce = counter-next nonce
 counter-after (suc j) nonce =

@@ -1,4 +1,5 @@
 pub mod Zeros
+pub mod Counts
 pub mod Opening
 pub mod Lengths
 pub mod Trip

@@ -324,7 +324,7 @@ module _ (h : Header) (payload xs store : List ℕ) (p : length payload ≤ need
       let l : length (payload ++ zs) ≡ needed h = length-append payload zs ∙ omega (arith, length-replicate {A = ℕ} (needed h - length payload) 0) in
       over-front xs (payload ++ zs) store (omega arith)
 
-  at-end-same : (o : Ended) (at : ℕ) (next : List ℕ → Trace) → atEnd o h at payload (replaceFront xs store) next ≡ atEnd o h at payload store next
+  pub at-end-same : (o : Ended) (at : ℕ) (next : List ℕ → Trace) → atEnd o h at payload (replaceFront xs store) next ≡ atEnd o h at payload store next
   at-end-same whole at next = ap (λ (s : List ℕ). after (Frame h) at s (next s)) holding-same
   at-end-same dropped at next = ap (λ (s : List ℕ). after (Dropped h) at s (next s)) zeroed-same
   at-end-same (turnedAway n) at next = ap (refusedAt n at) zeroed-same
@@ -335,7 +335,7 @@ room-for : (h : Header) (l m k : ℕ) → l ≡ h .s1 .len → k ≡ l + (paddin
 unfolding needed
 room-for h l m k e f = omega (arith, mod-lt (16 - m % 16) {m = 16} (omega arith))
 
-without-rest : (w : List State) (h : Header) (nonce : List ℕ) (n P : ℕ) (bytes first store : List ℕ) (next : Next) → noRest h ≡ true
+pub without-rest : (w : List State) (h : Header) (nonce : List ℕ) (n P : ℕ) (bytes first store : List ℕ) (next : Next) → noRest h ≡ true
     → restTrace w h nonce n P bytes first store next ≡ lastTrace w h nonce n P bytes first (replaceFront first store) next
 without-rest w h nonce n P bytes first store next e = simp e
 
@@ -399,11 +399,11 @@ module _ (w : List State) (h : Header) (late : ℕ) (first bytes tail store : Li
 
 -- ---- a header with one segment has no others
 
-first-zero : (a b : ℕ) → judge.first a b ≡ 0 → (a ≡ 0) × (b ≡ 0)
+pub first-zero : (a b : ℕ) → judge.first a b ≡ 0 → (a ≡ 0) × (b ≡ 0)
 first-zero zero b e = (refl, e)
 first-zero (suc a) b e = absurd (omega arith)
 
-no-fault : (b : Bool) (p : ℕ) → cond b (suc p) 0 ≡ 0 → b ≡ false
+pub no-fault : (b : Bool) (p : ℕ) → cond b (suc p) 0 ≡ 0 → b ≡ false
 no-fault true p e = absurd (omega arith)
 no-fault false p e = refl
 
@@ -422,7 +422,7 @@ unused count k p s h e =
         never : true ≡ false → ⊥
         never e = let z : _≡_ {A = ℕ} 0 1 = cc in omega arith
 
-one-segment : (h : Header) → judgeHeader h ≡ fine → noLast h ≡ true → restLength h ≡ 0
+pub one-segment : (h : Header) → judgeHeader h ≡ fine → noLast h ≡ true → restLength h ≡ 0
 unfolding judgeHeader shapeFault
 one-segment h j e =
     let a = all-fine (judgeShape h ∷ judgeTag (h .tag) ∷ judgeLimits h ∷ []) j in

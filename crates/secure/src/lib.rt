@@ -8,7 +8,7 @@ ghost use mathlib.Core.Bool.{cond};
 ghost use Prim.Native.Nat.{_+_, _-_, _<_, _≤_};
 ghost use Rattle.secure.specs.Reading.{allZero};
 ghost use Rattle.secure.specs.Trip.{SealedTrip};
-ghost use Rattle.secure.specs.Layout.{nonceOf, nextNonce, padding, roundUp, noRest, noLast, restPartLength, lastPartLength, sealedLength, partCount};
+ghost use Rattle.secure.specs.Layout.{nonceOf, nextNonce, padding, roundUp, noRest, noLast, restPartLength, lastPartLength, sealedLength, partCount, needed};
 
 // ---- nonces
 
@@ -114,6 +114,17 @@ pub fn sealed_length(h: Header) -> u64
     ensures { λ r. ⌜ r ≡ sealedLength h ⌝ }
 {
     96 + rest_part_length(h) + last_part_length(h)
+}
+
+// The bytes of a reader's store that it needs.
+pub fn needed_of(h: Header) -> u64
+    ensures { λ r. ⌜ (r ≡ needed h) × (r < 17179869376) ⌝ }
+{
+    let a = rounded(h.s1.len);
+    let b = rounded(h.s2.len);
+    let c = rounded(h.s3.len);
+    let d = rounded(h.s4.len);
+    a + b + c + d + 32
 }
 
 fn one_unless(none: bool) -> u64

@@ -5,7 +5,7 @@ use native.Mathlib.Omega.{arith}
 use borrow.Author.Tests.{lt-leb}
 use lib.Dec.{leb}
 use Rattle.secure.specs.Layout.{allNonces}
-use Rattle.sealed_builder.proofs.Counts.{left-is}
+use Rattle.secure.proofs.Counts.{left-is}
 use borrow.Author.Needs.{needs}
 use Rattle.sealed_builder.proofs.nonces_left.Statement.{statement}
 use Rattle.sealed_builder.proofs.nonces_left.Tie as tie

@@ -5,7 +5,7 @@ use Prim.Native.Nat.{ℕ, _+_, _%_, _^_}
 use lib.Dec.{eqb}
 use Rattle.secure.specs.Layout.{nonceAfter}
 use Rattle.sealed_builder.specs.Build.{sendingState, sentMore}
-use Rattle.sealed_builder.proofs.Counts.{came-round}
+use Rattle.secure.proofs.Counts.{came-round}
 use borrow.Author.Needs.{needs}
 use Rattle.sealed_builder.proofs.sent_more.Statement.{statement}
 use Rattle.sealed_builder.proofs.sent_more.Tie as tie

@@ -1,0 +1,72 @@
+-- What the calls return, one law a return, over plain values.
+use mathlib.Core.List.{List}
+use mathlib.Core.Path.{_≡_, refl, sym, ap, _∙_}
+use mathlib.Core.Bool.{Bool, true, false, not, cond, _&&_}
+use Prim.Native.Nat.{ℕ}
+use Rattle.refusal.specs.declared.Numbers.{Numbers}
+use Rattle.refusal.specs.declared.Refusal.the-variants as refusal
+use Rattle.refusal.specs.Refusals.{numbersOf, orElse, unless}
+use Rattle.refusal.proofs.Judgements.{or-else-last}
+use Rattle.stream.specs.declared.Event.the-variants as event
+use Rattle.receiver.specs.declared.Report.the-variants as report
+use Rattle.receiver.specs.declared.Received as crc-received
+use Rattle.receiver.specs.Step as crc
+use Rattle.sealed_receiver.specs.declared.Received as sealed-received
+use Rattle.sealed_receiver.specs.Step as sealed
+use Rattle.connection.specs.declared.State.{State}
+use Rattle.connection.specs.declared.Received.{Received}
+use Rattle.connection.specs.Step.{isSecure, readyAfter, readyRule, agreesInUse, agrees, mayBeSwitched, judgeSwitch, Answer, answered, byCrc, bySecure, byMode, answer, Gave, Answered}
+
+pub crc-gave : (st : State) (a : crc.Answer) (r : crc-received.Received) (ready : Bool) → r ≡ a .received → ready ≡ readyAfter (st .ready) (r .taken) (r .report)
+    → record { state = record { mode = st .mode; ready = ready; crc = r .state; secure = st .secure }; taken = r .taken; report = r .report } ≡ byCrc st a .received
+crc-gave st a r ready e q =
+    ap (λ (b : Bool). record { state = record { mode = st .mode; ready = b; crc = r .state; secure = st .secure }; taken = r .taken; report = r .report }) q
+    ∙ ap (λ (x : crc-received.Received). record { state = record { mode = st .mode; ready = readyAfter (st .ready) (x .taken) (x .report); crc = x .state; secure = st .secure }; taken = x .taken; report = x .report }) e
+
+pub secure-gave : (st : State) (a : sealed.Answer) (r : sealed-received.Received) → r ≡ a .received
+    → record { state = record { mode = st .mode; ready = st .ready; crc = st .crc; secure = r .state }; taken = r .taken; report = r .report } ≡ bySecure st a .received
+secure-gave st a r e =
+    ap (λ (x : sealed-received.Received). record { state = record { mode = st .mode; ready = st .ready; crc = st .crc; secure = x .state }; taken = x .taken; report = x .report }) e
+
+module _ (st : State) (s piece : List ℕ) where
+  abbrev contradicts : Answer
+  contradicts = answered st 0 (report.Event (event.Refused (numbersOf refusal.StateContradicts))) s
+
+  by-rule : (b : Bool) → readyRule st ≡ b → answer st s piece ≡ cond b (byMode st s piece) contradicts
+  unfolding answer
+  by-rule b e = ap (λ (x : Bool). cond x (byMode st s piece) contradicts) e
+
+  pub contradicted : (n : Numbers) → readyRule st ≡ false → n ≡ numbersOf refusal.StateContradicts
+      → Answered st s piece (record { state = st; taken = 0; report = report.Event (event.Refused n) }) s
+  contradicted n e q =
+      let z = by-rule false e in
+      record {
+        received = ap (λ (m : Numbers). record { state = st; taken = 0; report = report.Event (event.Refused m) }) q ∙ sym (ap (λ (a : Answer). a .received) z);
+        store = sym (ap (λ (a : Answer). a .store) z);
+      }
+
+  gave : (a : Answer) (r : Received) (s′ : List ℕ) → answer st s piece ≡ a → Gave a r s′ → Answered st s piece r s′
+  gave a r s′ e g = record { received = g .received ∙ sym (ap (λ (x : Answer). x .received) e); store = g .store ∙ sym (ap (λ (x : Answer). x .store) e) }
+
+  mode-is : (b : Bool) → readyRule st ≡ true → isSecure (st .mode) ≡ b
+      → answer st s piece ≡ cond b (bySecure st (sealed.answer (st .secure) s piece)) (byCrc st (crc.answer (st .crc) s piece))
+  mode-is b e m = by-rule true e ∙ ap (λ (x : Bool). cond x (bySecure st (sealed.answer (st .secure) s piece)) (byCrc st (crc.answer (st .crc) s piece))) m
+
+  pub secure-answered : (r : Received) (s′ : List ℕ) → readyRule st ≡ true → isSecure (st .mode) ≡ true → Gave (bySecure st (sealed.answer (st .secure) s piece)) r s′ → Answered st s piece r s′
+  secure-answered r s′ e m g = gave (bySecure st (sealed.answer (st .secure) s piece)) r s′ (mode-is true e m) g
+
+  pub crc-answered : (r : Received) (s′ : List ℕ) → readyRule st ≡ true → isSecure (st .mode) ≡ false → Gave (byCrc st (crc.answer (st .crc) s piece)) r s′ → Answered st s piece r s′
+  crc-answered r s′ e m g = gave (byCrc st (crc.answer (st .crc) s piece)) r s′ (mode-is false e m) g
+
+pub switch-judged : (st : State) → orElse (unless (readyRule st && agreesInUse st) refusal.StateContradicts) (unless (mayBeSwitched st) refusal.SwitchRefused) ≡ judgeSwitch st
+unfolding judgeSwitch agrees
+switch-judged st =
+    ap (orElse (unless (readyRule st && agreesInUse st) refusal.StateContradicts)) (sym (or-else-last (unless (mayBeSwitched st) refusal.SwitchRefused)))
+
+pub negated : (b : Bool) → not b ≡ true → b ≡ false
+negated true e = sym e
+negated false e = refl
+
+pub affirmed : (b : Bool) → not b ≡ false → b ≡ true
+affirmed true e = refl
+affirmed false e = sym e

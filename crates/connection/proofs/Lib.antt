@@ -1,0 +1,6 @@
+pub mod Machines
+pub mod Scans
+pub mod Splices
+pub mod Parted
+pub mod Chain
+pub mod Laws

@@ -1,0 +1,350 @@
+-- The receiving side as a machine (Machine), before a switch and behind it: its byte step is that of the receiver in use.
+use Prim.Native.Nat.{ℕ, suc, _+_, zero-le}
+use mathlib.Core.List.{List, [], _∷_}
+use mathlib.Core.Path.{_≡_, refl, ap, _∙_}
+use mathlib.Core.Bool.{Bool, true, false, not, cond, _&&_, _||_}
+use native.Mathlib.Numerals.{one-add}
+use native.Mathlib.Omega.{arith}
+use lib.Dec.{eqb, leb, ltb}
+use lib.ListN.{length, take}
+use borrow.Author.Tests.{le-ltb, ne-eqb}
+use Rattle.refusal.specs.declared.Numbers.{Numbers}
+use Rattle.refusal.specs.declared.Refusal.the-variants as refusal
+use Rattle.refusal.specs.Refusals.{Judged, fine, refused, numbersOf}
+use Rattle.refusal.proofs.Booleans.{wrong}
+use Rattle.buffer.specs.Le.{numberAt}
+use Rattle.banner.specs.Banner.{judgeFeatures, judgeMagic, judgeLength, revisionOf, featuresOf}
+use Rattle.preamble.specs.declared.Header.{Header}
+use Rattle.preamble.specs.Layout.{total}
+use Rattle.preamble.specs.Judge.{headerOf, judgePreamble}
+use Rattle.body.specs.Body.{segmentSum, noEpilogue}
+use Rattle.body.specs.End.{Ended, whole, dropped, turnedAway, ending}
+use Rattle.stream.specs.Stream.{zeroed}
+use Rattle.stream.specs.declared.Event.{Event}
+use Rattle.stream.specs.declared.Event.the-variants as event
+use Rattle.receiver.specs.declared.Report.{Report}
+use Rattle.receiver.specs.declared.Report.the-variants as report
+use Rattle.receiver.specs.declared.Known.{Known}
+use Rattle.receiver.specs.declared.Stage.{Stage}
+use Rattle.receiver.specs.declared.Stage.the-variants as stage
+use Rattle.receiver.specs.declared.State as crc-state
+use Rattle.receiver.specs.State.{rank, hasFirstSum}
+use Rattle.receiver.specs.Step as crc
+use Rattle.receiver.proofs.Zeros.{and-true}
+use Rattle.receiver.proofs.Machine.{Machine, After, Silent, refusedAgain, scan-silent}
+use Rattle.receiver.proofs.Machine as machine
+use Rattle.receiver.proofs.Live as crc-live
+use Rattle.receiver.proofs.Every as crc-every
+use Rattle.sealed_receiver.specs.declared.State as sealed-state
+use Rattle.sealed_receiver.specs.declared.Stage.the-variants as part
+use Rattle.sealed_receiver.specs.Step as sealed
+use Rattle.sealed_receiver.proofs.Gathers as gathers
+use Rattle.sealed_receiver.proofs.Gathered as gathered
+use Rattle.sealed_receiver.proofs.Traces as traces
+use Rattle.sealed_receiver.proofs.Live as sealed-live
+use Rattle.sealed_receiver.proofs.Every as sealed-every
+use Rattle.connection.specs.declared.Mode.{Mode}
+use Rattle.connection.specs.declared.Mode.the-variants as mode
+use Rattle.connection.specs.declared.State.{State}
+use Rattle.connection.specs.Switched.{closes}
+use Rattle.connection.specs.Step.{isSecure, closing, readyAfter, readyRule, Answer, answered, byCrc, bySecure, byMode, answer, Answered}
+use Rattle.connection.specs.Calls.{Piece}
+
+-- ---- a frame's end leaves the receiver before the next preamble
+
+abbrev pub before : crc-state.State → Bool
+before st = eqb (rank (st .position .stage)) 4 && eqb (st .position .got) 0
+
+record Lands (x : crc.Stepped) : Type 0 where
+  there : closing (x .report) ≡ true → before (x .state) ≡ true
+
+lands-unless : (j : Judged) (v : Known) (s : List ℕ) (x : crc.Stepped) → Lands x → Lands (crc.unlessRefused j v s x)
+lands-unless fine v s x l = l
+lands-unless (refused n) v s x l = record { there = λ e. wrong e }
+
+lands-cond : (b : Bool) (x y : crc.Stepped) → Lands x → Lands y → Lands (cond b x y)
+lands-cond true x y l m = l
+lands-cond false x y l m = m
+
+lands-end : (e : Ended) (v : Known) (s : List ℕ) → Lands (crc.endFrame e v s)
+lands-end whole v s = record { there = λ e. refl }
+lands-end dropped v s = record { there = λ e. refl }
+lands-end (turnedAway n) v s = record { there = λ e. wrong e }
+
+lands-silent : (st : crc-state.State) (s : List ℕ) → Lands (crc.silent st s)
+lands-silent st s = record { there = λ e. wrong e }
+
+lands-banner : (v : Known) (s : List ℕ) → Lands (crc.endBanner v s)
+lands-banner v s =
+    let r = revisionOf (v .own .supported) (v .peer .supported) in
+    lands-unless (judgeFeatures (v .own .supported) (v .own .required) (v .peer .supported) (v .peer .required)) v s
+    (crc.stepped (crc.at stage.Preamble 0 (crc.withRevision v r)) s (report.Event (event.Banner (v .peer) r))) (record { there = λ e. wrong e })
+
+lands-epilogue : (v : Known) (s : List ℕ) → Lands (crc.beginEpilogue v s)
+lands-epilogue v s =
+    lands-cond (noEpilogue (v .revision) (v .header)) (crc.endFrame whole v s) (crc.silent (crc.at stage.Epilogue 0 v) s)
+    (lands-end whole v s) (lands-silent (crc.at stage.Epilogue 0 v) s)
+
+lands-rest : (v : Known) (got : ℕ) (s : List ℕ) → Lands (crc.beginRest v got s)
+lands-rest v got s =
+    lands-cond (ltb got (total (v .header))) (crc.silent (crc.at stage.Rest got v) s) (crc.beginEpilogue v s)
+    (lands-silent (crc.at stage.Rest got v) s) (lands-epilogue v s)
+
+lands-body : (v : Known) (s : List ℕ) → Lands (crc.beginBody v s)
+lands-body v s =
+    lands-cond (hasFirstSum v) (crc.silent (crc.at stage.First 0 v) s) (crc.beginRest v 0 s) (lands-silent (crc.at stage.First 0 v) s) (lands-rest v 0 s)
+
+lands-first : (b : Bool) (h : Header) (x : crc.Stepped) → Lands x → Lands (crc.reportFirst b h x)
+lands-first true h x l = record { there = λ e. wrong e }
+lands-first false h x l = l
+
+lands-finish : (k : Stage) (b : List ℕ) (v : Known) (s : List ℕ) → Lands (crc.finish k b v s)
+unfolding crc.finish
+lands-finish stage.Magic b v s =
+    lands-unless (judgeMagic (take 8 b)) v s (crc.silent (crc.at stage.Length 0 v) s) (lands-silent (crc.at stage.Length 0 v) s)
+lands-finish stage.Length b v s =
+    let st = crc.at stage.Payload 0 (crc.withPayload v (numberAt 2 0 b)) in
+    lands-unless (judgeLength (numberAt 2 0 b)) v s (crc.silent st s) (lands-silent st s)
+lands-finish stage.Payload b v s =
+    let w = crc.withPeer v (featuresOf (take 16 b)) in
+    lands-cond (leb (v .payload) 16) (crc.endBanner w s) (crc.silent (crc.at stage.Skip 0 w) s) (lands-banner w s) (lands-silent (crc.at stage.Skip 0 w) s)
+lands-finish stage.Skip b v s = lands-banner v s
+lands-finish stage.Preamble b v s =
+    let w = crc.withHeader v (headerOf b) in
+    lands-unless (judgePreamble b (length s)) v s (crc.beginBody w s) (lands-body w s)
+lands-finish stage.First b v s = lands-silent (crc.at stage.FirstSum 0 v) s
+lands-finish stage.FirstSum b v s =
+    let n = v .header .s1 .len in
+    lands-cond (eqb (numberAt 4 0 b) (segmentSum (take n s))) (crc.behindFirstSum v s) (crc.refuse v (numbersOf (refusal.SegmentChecksum 1)) (zeroed (v .header) s))
+    (lands-first (ltb 1 (v .header .count)) (v .header) (crc.beginRest (crc.withFirst v) n s) (lands-rest (crc.withFirst v) n s))
+    (record { there = λ e. wrong e })
+lands-finish stage.Rest b v s = lands-epilogue v s
+lands-finish stage.Epilogue b v s = lands-end (ending (v .revision) (v .header) b (take (total (v .header)) s)) v s
+lands-finish stage.Refused b v s = lands-silent (crc.at stage.Refused 0 v) s
+
+lands-reached : (st : crc-state.State) (s : List ℕ) (t : Bool) → Lands (crc.reached st s t)
+lands-reached st s true = lands-silent st s
+lands-reached st s false = lands-finish (st .position .stage) (st .position .block) (st .known) s
+
+lands-byte : (st : crc-state.State) (s : List ℕ) (b : ℕ) → Lands (crc.onByte st s b)
+unfolding crc.onByte
+lands-byte st s b = lands-reached (crc.absorbed st (b ∷ [])) (crc.stored st s (b ∷ [])) (ltb (st .position .got + 1) (crc.size st))
+
+-- ---- crc frames
+
+abbrev pub crcByte : State → List ℕ → ℕ → machine.Stepped State
+crcByte st s b = record {
+  state = record { mode = st .mode; ready = closing (crc.onByte (st .crc) s b .report); crc = crc.onByte (st .crc) s b .state; secure = st .secure };
+  store = crc.onByte (st .crc) s b .store;
+  report = crc.onByte (st .crc) s b .report;
+}
+
+pub record CrcRunning (st : State) (s : List ℕ) : Type 0 where
+  pub mode : st .mode ≡ mode.Crc
+  pub rule : readyRule st ≡ true
+  pub live : crc.Running (st .crc) s
+
+pub record CrcGone (n : Numbers) (st : State) : Type 0 where
+  pub mode : st .mode ≡ mode.Crc
+  pub rule : readyRule st ≡ true
+  pub gone : crc-live.Gone n (st .crc)
+
+rule-after : (c a : Bool) (m : Mode) → m ≡ mode.Crc → (c ≡ true → a ≡ true) → cond c (not (isSecure m) && a) true ≡ true
+rule-after true a m e l = rw (e, l refl)
+rule-after false a m e l = refl
+
+crc-after : (r : Report) (st : State) (s : List ℕ) → st .mode ≡ mode.Crc → readyRule st ≡ true → After crc.Running crc-live.Gone r (st .crc) s → After CrcRunning CrcGone r st s
+crc-after report.More st s m q a = record { mode = m; rule = q; live = a }
+crc-after (report.Event (event.Banner p r)) st s m q a = record { mode = m; rule = q; live = a }
+crc-after (report.Event (event.First h)) st s m q a = record { mode = m; rule = q; live = a }
+crc-after (report.Event (event.Frame h)) st s m q a = record { mode = m; rule = q; live = a }
+crc-after (report.Event (event.Dropped h)) st s m q a = record { mode = m; rule = q; live = a }
+crc-after (report.Event (event.Refused n)) st s m q a = record { mode = m; rule = q; gone = a }
+
+pub crc-keeps : (st : State) (s : List ℕ) (b : ℕ) → CrcRunning st s → After CrcRunning CrcGone (crcByte st s b .report) (crcByte st s b .state) (crcByte st s b .store)
+crc-keeps st s b r =
+    let y = crcByte st s b in
+    crc-after (y .report) (y .state) (y .store) (r .mode)
+    (rule-after (closing (y .report)) (before (crc.onByte (st .crc) s b .state)) (st .mode) (r .mode) (lands-byte (st .crc) s b .there))
+    (crc-live.byte-after (st .crc) s b (r .live))
+
+pub crc-silent-byte : (st : State) (s : List ℕ) (b : ℕ) → st .crc .position .stage ≡ stage.Refused → Silent {State = State} (λ x. x .crc .position .stage ≡ stage.Refused) s (crcByte st s b)
+unfolding crc.onByte crc.finish
+crc-silent-byte st s b e = rw (e, le-ltb (st .crc .position .got + 1) 0 zero-le) (record { state = refl; store = refl; report = refl })
+
+-- a piece
+abbrev pub crcLifted : State → crc.Answer → machine.Answer State
+crcLifted st a = record {
+  state = record { mode = st .mode; ready = readyAfter (st .ready) (a .received .taken) (a .received .report); crc = a .received .state; secure = st .secure };
+  taken = a .received .taken;
+  report = a .received .report;
+  store = a .store;
+}
+
+or-false : (a b : Bool) → b ≡ false → (a || b) ≡ a
+or-false true b e = refl
+or-false false b e = e
+
+and-false : (a : Bool) → (a && false) ≡ false
+and-false true = refl
+and-false false = refl
+
+-- a report behind the first byte does not ask what was before
+later-ready : (a : Bool) (n : ℕ) (r : Report) → readyAfter a (1 + n) r ≡ readyAfter false n r
+later-ready a n r = ap (λ (b : Bool). closing r || b) (ap (λ (m : ℕ). a && eqb m 0) (one-add n) ∙ ap (λ (b : Bool). a && b) (ne-eqb (suc n) 0 (λ z. absurd (omega arith))) ∙ and-false a)
+
+crc-onward : (st : State) (r : Report) (x : crc.Stepped) (a : crc.Answer) → x .report ≡ r
+    → crcLifted st (crc.onward r 1 x a)
+    ≡ machine.onward r (record { state = record { mode = st .mode; ready = closing r; crc = x .state; secure = st .secure }; store = x .store; report = x .report })
+    (crcLifted (record { mode = st .mode; ready = closing r; crc = x .state; secure = st .secure }) a)
+crc-onward st report.More x a e =
+    ap (λ (b : Bool). record { state = record { mode = st .mode; ready = b; crc = a .received .state; secure = st .secure }; taken = 1 + a .received .taken; report = a .received .report; store = a .store })
+    (later-ready (st .ready) (a .received .taken) (a .received .report))
+crc-onward st (report.Event v) x a e =
+    ap (λ (b : Bool). record { state = record { mode = st .mode; ready = b; crc = x .state; secure = st .secure }; taken = 1; report = report.Event v; store = x .store })
+    (or-false (closes v) (st .ready && false) (and-false (st .ready)))
+
+crc-feed : (st : State) (s piece : List ℕ) → crcLifted st (crc.feed (st .crc) s piece) ≡ machine.feed crcByte st s piece
+unfolding crc.feed machine.feed
+crc-feed st s [] =
+    ap (λ (b : Bool). record { state = record { mode = st .mode; ready = b; crc = st .crc; secure = st .secure }; taken = 0; report = report.More; store = s }) (and-true (st .ready))
+crc-feed st s (b ∷ bs) =
+    let x = crc.onByte (st .crc) s b in
+    crc-onward st (x .report) x (crc.feed (x .state) (x .store) bs) refl
+    ∙ ap (machine.onward (x .report) (crcByte st s b)) (crc-feed (crcByte st s b .state) (x .store) bs)
+
+-- what a call answers
+abbrev pub plain : Answer → machine.Answer State
+plain a = record { state = a .received .state; taken = a .received .taken; report = a .received .report; store = a .store }
+
+told : {st : State} {s piece : List ℕ} (c : Piece) → Answered st s piece (c .received) (c .store) → record { received = c .received; store = c .store } ≡ answer st s piece
+told c a = rw (a .received, a .store)
+
+abbrev contradicts : State → List ℕ → Answer
+contradicts st s = answered st 0 (report.Event (event.Refused (numbersOf refusal.StateContradicts))) s
+
+crc-answer : (st : State) (s piece : List ℕ) → st .mode ≡ mode.Crc → readyRule st ≡ true → answer st s piece ≡ byCrc st (crc.answer (st .crc) s piece)
+unfolding answer
+crc-answer st s piece m q =
+    ap (λ (b : Bool). cond b (byMode st s piece) (contradicts st s)) q
+    ∙ ap (λ (k : Mode). cond (isSecure k) (bySecure st (sealed.answer (st .secure) s piece)) (byCrc st (crc.answer (st .crc) s piece))) m
+
+pub crc-feeds : (st : State) (s piece : List ℕ) (c : Piece) → CrcRunning st s → Answered st s piece (c .received) (c .store)
+    → plain (record { received = c .received; store = c .store }) ≡ machine.feed crcByte st s piece
+crc-feeds st s piece c r a =
+    ap plain (told c a ∙ crc-answer st s piece (r .mode) (r .rule) ∙ ap (byCrc st) (crc-every.feeding (st .crc) s piece (r .live))) ∙ crc-feed st s piece
+
+pub crc-repeats : (n : Numbers) (st : State) (s piece : List ℕ) (c : Piece) → CrcGone n st → Answered st s piece (c .received) (c .store)
+    → plain (record { received = c .received; store = c .store }) ≡ refusedAgain n st s
+crc-repeats n st s piece c g a =
+    ap plain (told c a ∙ crc-answer st s piece (g .mode) (g .rule) ∙ ap (byCrc st) (crc-every.gone-answer (st .crc) s piece (g .gone)))
+    ∙ ap (λ (b : Bool). record { state = record { mode = st .mode; ready = b; crc = st .crc; secure = st .secure }; taken = 0; report = report.Event (event.Refused n); store = s }) (and-true (st .ready))
+
+abbrev pub crcSide : Machine
+crcSide = record {
+  State = State;
+  onByte = crcByte;
+  Running = CrcRunning;
+  Gone = CrcGone;
+  Call = Piece;
+  size = λ c. c .size;
+  answer = λ c. plain (record { received = c .received; store = c .store });
+  Answered = λ st s piece c. Answered st s piece (c .received) (c .store);
+  keeps = crc-keeps;
+  silent = λ n st s P bs g. scan-silent crcByte (λ x. x .crc .position .stage ≡ stage.Refused) crc-silent-byte st s P bs (g .gone .stage);
+  feeds = crc-feeds;
+  repeats = crc-repeats;
+}
+
+-- ---- sealed frames
+
+abbrev sealedByte : sealed-state.State → List ℕ → ℕ → machine.Stepped sealed-state.State
+sealedByte = gathers.byteStep gathered.parts
+
+abbrev pub secureByte : State → List ℕ → ℕ → machine.Stepped State
+secureByte st s b = record {
+  state = record { mode = st .mode; ready = st .ready; crc = st .crc; secure = gathers.byteStep gathered.parts (st .secure) s b .state };
+  store = gathers.byteStep gathered.parts (st .secure) s b .store;
+  report = gathers.byteStep gathered.parts (st .secure) s b .report;
+}
+
+pub record SecureRunning (st : State) (s : List ℕ) : Type 0 where
+  pub mode : st .mode ≡ mode.Secure
+  pub rule : st .ready ≡ false
+  pub live : sealed.Running (st .secure) s
+
+pub record SecureGone (n : Numbers) (st : State) : Type 0 where
+  pub mode : st .mode ≡ mode.Secure
+  pub rule : st .ready ≡ false
+  pub gone : sealed-live.Gone n (st .secure)
+
+secure-after : (r : Report) (st : State) (s : List ℕ) → st .mode ≡ mode.Secure → st .ready ≡ false → After sealed.Running sealed-live.Gone r (st .secure) s → After SecureRunning SecureGone r st s
+secure-after report.More st s m q a = record { mode = m; rule = q; live = a }
+secure-after (report.Event (event.Banner p r)) st s m q a = record { mode = m; rule = q; live = a }
+secure-after (report.Event (event.First h)) st s m q a = record { mode = m; rule = q; live = a }
+secure-after (report.Event (event.Frame h)) st s m q a = record { mode = m; rule = q; live = a }
+secure-after (report.Event (event.Dropped h)) st s m q a = record { mode = m; rule = q; live = a }
+secure-after (report.Event (event.Refused n)) st s m q a = record { mode = m; rule = q; gone = a }
+
+pub secure-keeps : (st : State) (s : List ℕ) (b : ℕ) → SecureRunning st s → After SecureRunning SecureGone (secureByte st s b .report) (secureByte st s b .state) (secureByte st s b .store)
+secure-keeps st s b r =
+    let y = secureByte st s b in
+    secure-after (y .report) (y .state) (y .store) (r .mode) (r .rule) (gathered.chunk-keeps (st .secure) s (b ∷ []) (r .live))
+
+pub secure-silent-byte : (st : State) (s : List ℕ) (b : ℕ) → st .secure .position .stage ≡ part.Refused
+    → Silent {State = State} (λ x. x .secure .position .stage ≡ part.Refused) s (secureByte st s b)
+secure-silent-byte st s b e = let z = traces.gone-byte (st .secure) s b e in record { state = z .state; store = z .store; report = z .report }
+
+abbrev secureLifted : State → machine.Answer sealed-state.State → machine.Answer State
+secureLifted st a = record { state = record { mode = st .mode; ready = st .ready; crc = st .crc; secure = a .state }; taken = a .taken; report = a .report; store = a .store }
+
+secure-onward : (st : State) (r : Report) (x : machine.Stepped sealed-state.State) (a : machine.Answer sealed-state.State)
+    → secureLifted st (machine.onward r x a)
+    ≡ machine.onward r (record { state = record { mode = st .mode; ready = st .ready; crc = st .crc; secure = x .state }; store = x .store; report = x .report })
+    (secureLifted (record { mode = st .mode; ready = st .ready; crc = st .crc; secure = x .state }) a)
+secure-onward st report.More x a = refl
+secure-onward st (report.Event v) x a = refl
+
+secure-feed : (st : State) (s piece : List ℕ) → secureLifted st (machine.feed sealedByte (st .secure) s piece) ≡ machine.feed secureByte st s piece
+unfolding machine.feed
+secure-feed st s [] = refl
+secure-feed st s (b ∷ bs) =
+    let x = sealedByte (st .secure) s b in
+    secure-onward st (x .report) x (machine.feed sealedByte (x .state) (x .store) bs)
+    ∙ ap (machine.onward (x .report) (secureByte st s b)) (secure-feed (secureByte st s b .state) (x .store) bs)
+
+secure-rule : (st : State) → st .ready ≡ false → readyRule st ≡ true
+secure-rule st e = ap (λ (b : Bool). cond b (not (isSecure (st .mode)) && before (st .crc)) true) e
+
+secure-answer : (st : State) (s piece : List ℕ) → st .mode ≡ mode.Secure → st .ready ≡ false → answer st s piece ≡ bySecure st (sealed.answer (st .secure) s piece)
+unfolding answer
+secure-answer st s piece m q =
+    ap (λ (b : Bool). cond b (byMode st s piece) (contradicts st s)) (secure-rule st q)
+    ∙ ap (λ (k : Mode). cond (isSecure k) (bySecure st (sealed.answer (st .secure) s piece)) (byCrc st (crc.answer (st .crc) s piece))) m
+
+pub secure-feeds : (st : State) (s piece : List ℕ) (c : Piece) → SecureRunning st s → Answered st s piece (c .received) (c .store)
+    → plain (record { received = c .received; store = c .store }) ≡ machine.feed secureByte st s piece
+secure-feeds st s piece c r a =
+    ap plain (told c a ∙ secure-answer st s piece (r .mode) (r .rule) ∙ ap (bySecure st) (sealed-every.feeding (st .secure) s piece (r .live)))
+    ∙ ap (secureLifted st) (gathered.plain-feed (st .secure) s piece)
+    ∙ secure-feed st s piece
+
+pub secure-repeats : (n : Numbers) (st : State) (s piece : List ℕ) (c : Piece) → SecureGone n st → Answered st s piece (c .received) (c .store)
+    → plain (record { received = c .received; store = c .store }) ≡ refusedAgain n st s
+secure-repeats n st s piece c g a = ap plain (told c a ∙ secure-answer st s piece (g .mode) (g .rule) ∙ ap (bySecure st) (sealed-every.gone-answer (st .secure) s piece (g .gone)))
+
+abbrev pub secureSide : Machine
+secureSide = record {
+  State = State;
+  onByte = secureByte;
+  Running = SecureRunning;
+  Gone = SecureGone;
+  Call = Piece;
+  size = λ c. c .size;
+  answer = λ c. plain (record { received = c .received; store = c .store });
+  Answered = λ st s piece c. Answered st s piece (c .received) (c .store);
+  keeps = secure-keeps;
+  silent = λ n st s P bs g. scan-silent secureByte (λ x. x .secure .position .stage ≡ part.Refused) secure-silent-byte st s P bs (g .gone .stage);
+  feeds = secure-feeds;
+  repeats = secure-repeats;
+}

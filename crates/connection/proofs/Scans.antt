@@ -1,0 +1,107 @@
+-- What the bytes come to on either side of a switch: the entries and the stores are those of the definitions, and a receiving side that is ready has just reported a frame.
+use Prim.Native.Nat.{ℕ, suc, _+_, _-_}
+use mathlib.Core.List.{List, [], _∷_}
+use mathlib.Core.Path.{_≡_, refl, ap, _∙_}
+use mathlib.Core.Bool.{Bool, true}
+use native.Mathlib.Omega.{arith}
+use native.Mathlib.Numerals.{add-one}
+use lib.ListN.{length}
+use Rattle.refusal.specs.Refusals.{fine}
+use Rattle.refusal.proofs.Booleans.{wrong}
+use Rattle.banner.specs.declared.Features.{Features}
+use Rattle.banner.specs.Banner.{judgeOwn}
+use Rattle.stream.specs.Stream.{Entry, Trace, traceOf}
+use Rattle.receiver.specs.declared.Report.{Report}
+use Rattle.receiver.specs.declared.Report.the-variants as report
+use Rattle.receiver.specs.declared.Stage.the-variants as stage
+use Rattle.receiver.specs.declared.State as crc-state
+use Rattle.receiver.specs.State.{noRefusal}
+use Rattle.receiver.specs.Step as crc
+use Rattle.receiver.proofs.Entries.{noted}
+use Rattle.receiver.proofs.Machine.{Scanned}
+use Rattle.receiver.proofs.Machine as machine
+use Rattle.receiver.proofs.Scan as crc-scan
+use Rattle.receiver.proofs.Streams.{stream-trace}
+use Rattle.sealed_receiver.specs.declared.State as sealed-state
+use Rattle.sealed_receiver.specs.Step as sealed
+use Rattle.sealed_receiver.proofs.Gathers as gathers
+use Rattle.sealed_receiver.proofs.Gathered as gathered
+use Rattle.sealed_receiver.proofs.Traces.{sealed-trace}
+use Rattle.secure.specs.Reading.{sealedTrace}
+use Rattle.connection.specs.declared.State.{State}
+use Rattle.connection.specs.Switched.{closes}
+use Rattle.connection.specs.Step.{closing}
+use Rattle.connection.proofs.Machines.{crcByte, secureByte}
+
+abbrev pub trace : {A : Type 0} → Scanned A → Trace
+trace c = record { entries = c .entries; store = c .store }
+
+-- ---- crc frames
+
+abbrev crcScanned : Scanned State → Scanned crc-state.State
+crcScanned c = record { entries = c .entries; state = c .state .crc; store = c .store }
+
+pub crc-scanned : (st : State) (s : List ℕ) (P : ℕ) (bs : List ℕ) → crcScanned (machine.scan crcByte st s P bs) ≡ crc-scan.scan (st .crc) s P bs
+unfolding machine.scan
+crc-scanned st s P [] = refl
+crc-scanned st s P (b ∷ bs) =
+    let y = crcByte st s b in
+    ap (machine.with (y .report) (suc P) (y .store)) (crc-scanned (y .state) (y .store) (suc P) bs)
+
+-- from a start
+pub crc-trace : (own : Features) (st : State) (store bytes : List ℕ) → judgeOwn (own .supported) (own .required) ≡ fine → st .crc ≡ crc.at stage.Magic 0 (crc.onlyOwn own noRefusal)
+    → trace (machine.scan crcByte st store 0 bytes) ≡ traceOf own bytes store
+unfolding traceOf
+crc-trace own st store bytes ok e =
+    ap trace (crc-scanned st store 0 bytes) ∙ ap (λ (x : crc-state.State). trace (crc-scan.scan x store 0 bytes)) e ∙ stream-trace own bytes store ∙ rw ok
+
+-- the last entry is a frame or a drop, at a byte and with a store
+abbrev pub LastCloses : List Entry → ℕ → List ℕ → Type 0
+LastCloses [] t s = ⊥
+LastCloses (e ∷ []) t s = (closes (e .event) ≡ true) × (e .at ≡ t) × (e .store ≡ s)
+LastCloses (e ∷ f ∷ es) t s = LastCloses (f ∷ es) t s
+
+-- what is ready has just reported one, or took no byte
+abbrev pub Just : Bool → List ℕ → List Entry → ℕ → List ℕ → Type 0
+Just ready [] es t s = ready ≡ true
+Just ready (b ∷ bs) es t s = LastCloses es t s
+
+last-noted : (r : Report) (at : ℕ) (s : List ℕ) (es : List Entry) (t : ℕ) (u : List ℕ) → LastCloses es t u → LastCloses (noted r at s es) t u
+last-noted report.More at s es t u l = l
+last-noted (report.Event e) at s [] t u l = absurd l
+last-noted (report.Event e) at s (f ∷ es) t u l = l
+
+last-here : (r : Report) (at : ℕ) (s : List ℕ) → closing r ≡ true → LastCloses (noted r at s []) at s
+last-here report.More at s e = wrong e
+last-here (report.Event v) at s e = (e, refl, refl)
+
+pub ready-just : (st : State) (s : List ℕ) (P : ℕ) (bs : List ℕ) → machine.scan crcByte st s P bs .state .ready ≡ true
+    → (let c = machine.scan crcByte st s P bs in Just (st .ready) bs (c .entries) (P + length bs) (c .store))
+unfolding machine.scan
+ready-just st s P [] e = e
+ready-just st s P (b ∷ []) e = rw (add-one P) (last-here (crcByte st s b .report) (suc P) (crcByte st s b .store) e)
+ready-just st s P (b ∷ c ∷ cs) e =
+    let y = crcByte st s b in
+    let z = machine.scan crcByte (y .state) (y .store) (suc P) (c ∷ cs) in
+    let n : suc P + length (c ∷ cs) ≡ P + length (b ∷ c ∷ cs) = omega arith in
+    last-noted (y .report) (suc P) (y .store) (z .entries) (P + length (b ∷ c ∷ cs)) (z .store) (rw n at (ready-just (y .state) (y .store) (suc P) (c ∷ cs) e))
+
+-- ---- sealed frames
+
+abbrev secureScanned : Scanned State → Scanned sealed-state.State
+secureScanned c = record { entries = c .entries; state = c .state .secure; store = c .store }
+
+secure-scanned : (st : State) (s : List ℕ) (P : ℕ) (bs : List ℕ) → secureScanned (machine.scan secureByte st s P bs) ≡ machine.scan (gathers.byteStep gathered.parts) (st .secure) s P bs
+unfolding machine.scan
+secure-scanned st s P [] = refl
+secure-scanned st s P (b ∷ bs) =
+    let y = secureByte st s b in
+    ap (machine.with (y .report) (suc P) (y .store)) (secure-scanned (y .state) (y .store) (suc P) bs)
+
+-- from a switch
+pub secure-trace : (key nonce : List ℕ) (st : State) (s : List ℕ) (P : ℕ) (bytes : List ℕ) → st .secure ≡ sealed.switched key nonce
+    → trace (machine.scan secureByte st s P bytes) ≡ sealedTrace key nonce 0 P bytes s
+secure-trace key nonce st s P bytes e =
+    ap trace (secure-scanned st s P bytes)
+    ∙ ap (λ (x : sealed-state.State). trace (machine.scan (gathers.byteStep gathered.parts) x s P bytes)) e
+    ∙ sealed-trace key nonce P bytes s

@@ -1,0 +1,107 @@
+-- Entries up to a frame: what is spliced behind them, and what is due before and behind it.
+use Prim.Native.Nat.{ℕ, suc, _+_, _-_, _≤_, _<_, min}
+use mathlib.Core.List.{List, [], _∷_, _++_}
+use mathlib.Core.Path.{_≡_, refl, sym, ap, ap₂, _∙_}
+use mathlib.Core.Bool.{Bool, true, false, cond, _&&_}
+use native.Mathlib.Omega.{arith}
+use lib.Dec.{leb, eqb}
+use borrow.Author.Tests.{le-leb, lt-leb, ne-eqb}
+use Rattle.refusal.specs.declared.Numbers.{Numbers}
+use Rattle.refusal.proofs.Booleans.{wrong}
+use Rattle.stream.specs.declared.Event.{Event}
+use Rattle.stream.specs.declared.Event.the-variants as event
+use Rattle.stream.specs.Stream.{Entry, Trace}
+use Rattle.receiver.specs.declared.Report.{Report}
+use Rattle.receiver.specs.declared.Report.the-variants as report
+use Rattle.receiver.specs.Calls.{dueTaken, dueReport, passing, refusedIn}
+use Rattle.receiver.proofs.Entries.{Behind}
+use Rattle.connection.specs.Switched.{closes, entered, spliced}
+use Rattle.connection.proofs.Scans.{LastCloses}
+
+-- how many frames and drops there are
+abbrev pub closings : List Entry → ℕ
+closings [] = 0
+closings (e ∷ es) = cond (closes (e .event)) (suc (closings es)) (closings es)
+
+some-closing : (es : List Entry) (t : ℕ) (s : List ℕ) → LastCloses es t s → 0 < closings es
+some-closing [] t s l = absurd l
+some-closing (e ∷ []) t s l = rw (l .0) (omega arith)
+some-closing (e ∷ f ∷ es) t s l = go (closes (e .event)) (some-closing (f ∷ es) t s l)
+  where
+    go : (b : Bool) → 0 < closings (f ∷ es) → 0 < cond b (suc (closings (f ∷ es))) (closings (f ∷ es))
+    go true h = omega arith
+    go false h = h
+
+module _ (next : ℕ → List ℕ → Trace) (later : List Entry) (store : List ℕ) where
+  abbrev put : List Entry → ℕ → List ℕ → Trace
+  put es t s = record { entries = es ++ next t s .entries; store = next t s .store }
+
+  -- the splice is behind the entries up to a frame, by their number of frames
+  pub spliced-there : (es : List Entry) (t : ℕ) (s : List ℕ) → LastCloses es t s → spliced (closings es) next (es ++ later) store ≡ put es t s
+  unfolding spliced
+  spliced-there [] t s l = absurd l
+  spliced-there (e ∷ []) t s l = rw (l .0) (ap₂ (λ (a : ℕ) (u : List ℕ). entered e (next a u)) (l .1) (l .2))
+  spliced-there (e ∷ f ∷ es) t s l = go (closes (e .event)) (closings (f ∷ es)) refl (some-closing (f ∷ es) t s l) (spliced-there (f ∷ es) t s l)
+    where
+      go : (b : Bool) (n : ℕ) → closings (f ∷ es) ≡ n → 0 < n → spliced (closings (f ∷ es)) next (f ∷ es ++ later) store ≡ put (f ∷ es) t s
+          → entered e (cond (b && eqb (cond b (suc n) n) 1) (next (e .at) (e .store)) (spliced (cond b (cond b (suc n) n - 1) (cond b (suc n) n)) next (f ∷ es ++ later) store)) ≡ put (e ∷ f ∷ es) t s
+      go true n q h ih =
+          let k : suc n - 1 ≡ closings (f ∷ es) = omega arith in
+          rw (ne-eqb (suc n) 1 (λ z. absurd (omega arith)), k) (ap (entered e) ih)
+      go false n q h ih = rw (← q) (ap (entered e) ih)
+
+-- ---- what is due
+
+-- all entries lie at or before a byte
+abbrev pub AllBy : ℕ → List Entry → Type 0
+AllBy t [] = Unit {0}
+AllBy t (e ∷ es) = (e .at ≤ t) × AllBy t es
+
+pub passed-not : (w : Event) (b : Bool) → passing w b (λ n. true) ≡ false → (A : Type 0) (a : A) (f : Numbers → A) → passing w a f ≡ a
+passed-not (event.Banner p r) b e A a f = refl
+passed-not (event.First h) b e A a f = refl
+passed-not (event.Frame h) b e A a f = refl
+passed-not (event.Dropped h) b e A a f = refl
+passed-not (event.Refused n) b e A a f = wrong (sym e)
+
+clean-rest : (e : Entry) (es : List Entry) → refusedIn (e ∷ es) ≡ false → refusedIn es ≡ false
+clean-rest e es c = sym (passed-not (e .event) (refusedIn es) c Bool (refusedIn es) (λ n. true)) ∙ c
+
+-- those that lie before do not count, where none is a refusal
+pub skipped : (es fs : List Entry) (t k : ℕ) → AllBy t es → refusedIn es ≡ false → (dueTaken (es ++ fs) t k ≡ dueTaken fs t k) × (dueReport (es ++ fs) t k ≡ dueReport fs t k)
+unfolding dueTaken dueReport
+skipped [] fs t k a c = (refl, refl)
+skipped (e ∷ es) fs t k a c =
+    let ih = skipped es fs t k (a .1) (clean-rest e es c) in
+    let p = passed-not (e .event) (refusedIn es) c in (
+      rw (le-leb (e .at) t (a .0)) (p ℕ (dueTaken (es ++ fs) t k) (λ n. 0) ∙ ih .0),
+      rw (le-leb (e .at) t (a .0)) (p Report (dueReport (es ++ fs) t k) (λ n. report.Event (event.Refused n)) ∙ ih .1),
+    )
+
+-- where one of them lies ahead, later ones do not count
+pub ahead-only : (es fs gs : List Entry) (t t₁ k : ℕ) (s : List ℕ) → LastCloses es t₁ s → t < t₁
+    → (dueTaken (es ++ fs) t k ≡ dueTaken (es ++ gs) t k) × (dueReport (es ++ fs) t k ≡ dueReport (es ++ gs) t k)
+unfolding dueTaken dueReport
+ahead-only [] fs gs t t₁ k s l h = absurd l
+ahead-only (e ∷ []) fs gs t t₁ k s l h =
+    let b : t < e .at = omega (arith, l .1) in
+    (rw (lt-leb (e .at) t b), rw (lt-leb (e .at) t b))
+ahead-only (e ∷ f ∷ es) fs gs t t₁ k s l h =
+    let ih = ahead-only (f ∷ es) fs gs t t₁ k s l h in (
+      ap (λ (n : ℕ). cond (leb (e .at) t) (passing (e .event) n (λ m. 0)) (min k (e .at - t))) (ih .0),
+      ap (λ (r : Report). cond (leb (e .at) t) (passing (e .event) r (λ m. report.Event (event.Refused m))) (cond (leb (e .at) (t + k)) (report.Event (e .event)) report.More)) (ih .1),
+    )
+
+-- entries behind a byte make a call there take a byte of what it is lent
+pub takes-some : (es : List Entry) (t k : ℕ) → Behind t es → dueTaken es t k ≡ 0 → k ≡ 0
+unfolding dueTaken
+takes-some [] t k h e = e
+takes-some (x ∷ es) t k h e = let q : min k (x .at - t) ≡ 0 = rw (lt-leb (x .at) t h) at e in omega (arith, q)
+
+-- and a call that is lent nothing takes nothing and reports nothing
+pub lent-nothing : (es : List Entry) (t : ℕ) → Behind t es → (dueTaken es t 0 ≡ 0) × (dueReport es t 0 ≡ report.More)
+unfolding dueTaken dueReport
+lent-nothing [] t h = (refl, refl)
+lent-nothing (x ∷ es) t h =
+    let z : t + 0 < x .at = omega arith in
+    (rw (lt-leb (x .at) t h) (omega arith), rw (lt-leb (x .at) t h, lt-leb (x .at) (t + 0) z))

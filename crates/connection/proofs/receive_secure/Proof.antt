@@ -1,0 +1,24 @@
+use Rattle.connection.proofs.Laws.{secure-gave}
+use denote.Ref.{now}
+use Rattle.sealed_receiver.specs.Step as sealed
+use borrow.Author.Needs.{needs}
+use Rattle.connection.proofs.receive_secure.Statement.{statement}
+use Rattle.connection.proofs.receive_secure.Tie as tie
+
+receive-requires : tie.Need-receive-requires
+receive-requires c κs = search needs
+
+same-length : tie.Need-same-length
+same-length c = search needs
+
+returns : tie.Need-returns
+returns c =
+    let a = c .before .before .before .before .receive .ensures in
+    let z = c .before .before .before .before .before .before .before .before .args in
+    record {
+      received = secure-gave (z .st) (sealed.answer (z .st .secure) (now (z .store)) (now (z .piece))) _ (a .received);
+      store = a .store;
+    }
+
+pub receive-secure-spec : {M : Type 1} → statement M
+receive-secure-spec = tie.close (tie.spec receive-requires same-length returns)

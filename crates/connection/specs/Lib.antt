@@ -1,0 +1,4 @@
+pub mod Switched
+pub mod Step
+pub mod Calls
+pub mod Worked

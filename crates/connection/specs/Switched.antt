@@ -1,0 +1,40 @@
+-- Demand 3's definition for a stream with a switch to secure (02, K4): up to and including the frame behind which it is made the entries are those of the
+-- definition as it stood, and behind it those of sealed frames. No receiver, no state and no call is in sight.
+use mathlib.Core.List.{List, [], _∷_}
+use mathlib.Core.Bool.{Bool, true, false, cond, _&&_}
+use Prim.Native.Nat.{ℕ, _-_}
+use lib.ListN.{drop}
+use lib.Dec.{eqb}
+use Rattle.banner.specs.declared.Features.{Features}
+use Rattle.stream.specs.declared.Event.{Event}
+use Rattle.stream.specs.declared.Event.the-variants as event
+use Rattle.stream.specs.Stream.{Entry, Trace, ended, traceOf}
+use Rattle.secure.specs.Reading.{sealedTrace}
+
+-- no switch, or the frame behind which it is made, by its number among frames and drops, the first being 1; the key, and the nonce of the peer's first part
+pub data Switch : Type 0 where
+  none : Switch
+  behind : ℕ → List ℕ → List ℕ → Switch
+
+-- a frame or a drop
+abbrev pub closes : Event → Bool
+closes (event.Banner p r) = false
+closes (event.First h) = false
+closes (event.Frame h) = true
+closes (event.Dropped h) = true
+closes (event.Refused n) = false
+
+abbrev pub entered : Entry → Trace → Trace
+entered e t = record { entries = e ∷ t .entries; store = t .store }
+
+-- the entries up to the n-th frame or drop, and there what its byte and its store lead to; all of them where there are fewer
+unfoldable pub spliced : ℕ → (ℕ → List ℕ → Trace) → List Entry → List ℕ → Trace
+spliced n next [] store = ended store
+spliced n next (e ∷ es) store =
+    entered e (cond (closes (e .event) && eqb n 1) (next (e .at) (e .store)) (spliced (cond (closes (e .event)) (n - 1) n) next es store))
+
+-- THE DEFINITION
+abbrev pub traceWith : Switch → Features → List ℕ → List ℕ → Trace
+traceWith none own stream store = traceOf own stream store
+traceWith (behind n key nonce) own stream store =
+    spliced n (λ at s. sealedTrace key nonce 0 at (drop at stream) s) (traceOf own stream store .entries) (traceOf own stream store .store)

@@ -1,0 +1,279 @@
+// The receiving side of a connection: crc frames as they come, and sealed frames from a switch on (02, K4).
+use banner::Features;
+use receiver::Report;
+use receiver::start;
+use receiver::states::agrees_with_itself;
+use receiver::states::is_msgr21;
+use receiver::states::rank;
+use refusal::Refusal;
+use refusal::Verdict;
+use refusal::both;
+use refusal::either;
+use refusal::in_numbers;
+use refusal::or_else;
+use refusal::unless_ok;
+use sealed_builder::Sending;
+use sealed_builder::fresh_sending;
+use sealed_builder::refused_sending;
+use sealed_receiver::switch_on;
+use stream::Event;
+ghost use mathlib.Core.Path.{_≡_};
+ghost use mathlib.Core.Bool.{_&&_};
+ghost use lib.Dec.{eqb};
+ghost use Rattle.refusal.specs.Refusals.{fine, judgedBy};
+ghost use Rattle.receiver.specs.State.{rank};
+ghost use Rattle.receiver.specs.Step as crc;
+ghost use Rattle.sealed_receiver.specs.Step as sealed;
+ghost use Rattle.connection.specs.Switched.{closes};
+ghost use Rattle.connection.specs.Step.{isSecure, noSecure, closing, readyRule, agreesInUse, byCrc, bySecure, mayBeSwitched, judgeSwitch, switchedState, Gave, BegunWith, Answered, SwitchedWith};
+ghost use Rattle.connection.specs.Calls.{SwitchedDemand3};
+ghost use Rattle.connection.specs.Worked.{WorkedSwitches};
+
+// Which frames come next.
+pub enum Mode {
+    Crc,
+    Secure,
+}
+
+// What the receiving side is between two calls. It goes in by value and comes back.
+pub struct State {
+    pub mode: Mode,
+    // A frame was reported or dropped, and no byte came since.
+    pub ready: bool,
+    pub crc: receiver::State,
+    pub secure: sealed_receiver::State,
+}
+
+// What a start gives: a state, and whether our own features were refused, which the state then repeats.
+pub struct Begun {
+    pub state: State,
+    pub verdict: Verdict,
+}
+
+// What a call answers.
+pub struct Received {
+    pub state: State,
+    pub taken: usize,
+    pub report: Report,
+}
+
+// What a switch answers: the state, what the builder of sealed frames is given, and whether it was refused.
+pub struct Switched {
+    pub state: State,
+    pub sending: Sending,
+    pub verdict: Verdict,
+}
+
+// ---- states
+
+fn is_secure(mode: Mode) -> bool
+    ensures { λ r. ⌜ r ≡ isSecure mode ⌝ }
+{
+    match mode {
+        Mode::Crc => false,
+        Mode::Secure => true,
+    }
+}
+
+fn no_secure() -> sealed_receiver::State
+    ensures { λ r. ⌜ r ≡ noSecure ⌝ }
+{
+    switch_on([0u8; 16], [0u8; 12])
+}
+
+// A receiving side with our own features.
+pub fn begin(own: Features) -> Begun
+    ensures { λ r. ⌜ BegunWith own r ⌝ }
+{
+    let first = start(own);
+    let crc = first.state;
+    let verdict = first.verdict;
+    Begun {
+        state: State {
+            mode: Mode::Crc,
+            ready: false,
+            crc: crc,
+            secure: no_secure(),
+        },
+        verdict: verdict,
+    }
+}
+
+fn closes(event: Event) -> bool
+    ensures { λ r. ⌜ r ≡ closes event ⌝ }
+{
+    match event {
+        Event::Banner(_, _) => false,
+        Event::First(_) => false,
+        Event::Frame(_) => true,
+        Event::Dropped(_) => true,
+        Event::Refused(_) => false,
+    }
+}
+
+fn closing(report: Report) -> bool
+    ensures { λ r. ⌜ r ≡ closing report ⌝ }
+{
+    match report {
+        Report::More => false,
+        Report::Event(e) => closes(e),
+    }
+}
+
+// Before the next preamble's first byte.
+fn at_preamble(st: receiver::State) -> bool
+    ensures { λ r. ⌜ r ≡ (eqb (rank (st .position .stage)) 4 && eqb (st .position .got) 0) ⌝ }
+{
+    let position = st.position;
+    let stage = position.stage;
+    both(rank(stage) == 4, position.got == 0)
+}
+
+// ---- what refusal 26 asks
+
+fn ready_rule(st: State) -> bool
+    ensures { λ r. ⌜ r ≡ readyRule st ⌝ }
+{
+    if st.ready {
+        let mode = st.mode;
+        return both(!is_secure(mode), at_preamble(st.crc));
+    }
+    true
+}
+
+fn agrees_in_use(st: State) -> bool
+    ensures { λ r. ⌜ r ≡ agreesInUse st ⌝ }
+{
+    let mode = st.mode;
+    if is_secure(mode) {
+        return sealed_receiver::states::agrees_with_itself(st.secure);
+    }
+    agrees_with_itself(st.crc)
+}
+
+// ---- a call
+
+fn receive_crc(st: State, piece: &[u8], store: &mut [u8]) -> Received
+    ensures { λ r. ⌜ Gave (byCrc st (crc.answer (st .crc) (now (store .entry)) (now (piece .entry)))) r (now (store .exit)) ⌝ }
+{
+    let o = receiver::receive(st.crc, piece, store);
+    let crc = o.state;
+    let taken = o.taken;
+    let report = o.report;
+    let mode = st.mode;
+    let secure = st.secure;
+    let ready = either(closing(report), both(st.ready, taken == 0));
+    Received {
+        state: State {
+            mode: mode,
+            ready: ready,
+            crc: crc,
+            secure: secure,
+        },
+        taken: taken,
+        report: report,
+    }
+}
+
+fn receive_secure(st: State, piece: &[u8], store: &mut [u8]) -> Received
+    ensures { λ r. ⌜ Gave (bySecure st (sealed.answer (st .secure) (now (store .entry)) (now (piece .entry)))) r (now (store .exit)) ⌝ }
+{
+    let o = sealed_receiver::receive(st.secure, piece, store);
+    let secure = o.state;
+    let taken = o.taken;
+    let report = o.report;
+    let mode = st.mode;
+    let crc = st.crc;
+    Received {
+        state: State {
+            mode: mode,
+            ready: st.ready,
+            crc: crc,
+            secure: secure,
+        },
+        taken: taken,
+        report: report,
+    }
+}
+
+// A call: takes bytes of the piece up to and including the one that completes a report.
+pub fn receive(state: State, piece: &[u8], store: &mut [u8]) -> Received
+    ensures { λ r. ⌜ Answered state (now (store .entry)) (now (piece .entry)) r (now (store .exit)) ⌝ }
+{
+    if !ready_rule(state) {
+        let n = in_numbers(Refusal::StateContradicts);
+        return Received {
+            state: state,
+            taken: 0,
+            report: Report::Event(Event::Refused(n)),
+        };
+    }
+    let mode = state.mode;
+    if is_secure(mode) {
+        return receive_secure(state, piece, store);
+    }
+    receive_crc(state, piece, store)
+}
+
+// ---- a switch
+
+fn may_be_switched(st: State) -> bool
+    ensures { λ r. ⌜ r ≡ mayBeSwitched st ⌝ }
+{
+    let crc = st.crc;
+    let known = crc.known;
+    let revision = known.revision;
+    both(st.ready, is_msgr21(revision))
+}
+
+fn judge_switch(st: State) -> Verdict
+    ensures { λ r. ⌜ judgedBy r ≡ judgeSwitch st ⌝ }
+{
+    let agree = both(ready_rule(st), agrees_in_use(st));
+    let first = unless_ok(agree, Refusal::StateContradicts);
+    let second = unless_ok(may_be_switched(st), Refusal::SwitchRefused);
+    or_else(first, second)
+}
+
+fn secure_from(st: State, key: [u8; 16], nonce: [u8; 12]) -> State
+    ensures { λ r. ⌜ r ≡ switchedState fine st key nonce ⌝ }
+{
+    let crc = st.crc;
+    State {
+        mode: Mode::Secure,
+        ready: false,
+        crc: crc,
+        secure: switch_on(key, nonce),
+    }
+}
+
+// Switches to secure, behind a reported or dropped frame and before any byte of the next, with one key and the nonce of each direction's first part.
+// Refused, it changes nothing, and nothing can be built with what it hands back.
+pub fn switch(state: State, key: [u8; 16], receiving: [u8; 12], sending: [u8; 12]) -> Switched
+    ensures { λ r. ⌜ SwitchedWith state key receiving sending r ⌝ }
+{
+    let verdict = judge_switch(state);
+    match verdict {
+        Verdict::Fine => Switched {
+            state: secure_from(state, key, receiving),
+            sending: fresh_sending(key, sending),
+            verdict: Verdict::Fine,
+        },
+        Verdict::Refused(why) => Switched {
+            state: state,
+            sending: refused_sending(),
+            verdict: Verdict::Refused(why),
+        },
+    }
+}
+
+// DEMAND 3 of connections, as a promise: it holds of every start, stream and store, and of every list of calls and tries to switch. The body does nothing:
+// the promise is a theorem.
+pub fn every_cutting()
+    ensures { λ _. ⌜ SwitchedDemand3 ⌝ }
+{}
+
+// Behind which frame sealed frames begin, and which states may be switched, by worked examples.
+pub fn worked_switches()
+    ensures { λ _. ⌜ WorkedSwitches ⌝ }
+{}

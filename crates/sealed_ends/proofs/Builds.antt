@@ -1,0 +1,112 @@
+-- What a sealed build that was not refused leaves: its bytes behind the queued ones; and builds one behind the other.
+use mathlib.Core.Path.{_≡_, sym, ap, ap₂, _∙_}
+use mathlib.Core.List.{List, [], _∷_, _++_, append-nil}
+use Prim.Native.Nat.{ℕ, _+_, _-_, _≤_}
+use native.Mathlib.Nat.{add-zero}
+use native.Mathlib.Omega.{arith}
+use lib.ListN.{length, take, drop, length-append, length-drop, take-append-drop}
+use lib.Seq.{take-at, drop-append-le, length-take-le}
+use Rattle.buffer.specs.Splice.{splice}
+use Rattle.buffer.proofs.Parts.{length-splice, splice-next}
+use Rattle.refusal.specs.Refusals.{fine}
+use Rattle.refusal.proofs.Judgements.{by-judgement}
+use Rattle.aes.specs.Aes.{keyExpansion}
+use Rattle.builder.specs.Build.{wrote}
+use Rattle.secure.specs.Layout.{sealedFrame, sealedLength, partCount}
+use Rattle.secure.proofs.Lengths.{length-frame}
+use Rattle.sealed_receiver.proofs.Lists.{drop-take}
+use Rattle.sealed_builder.specs.declared.Sending.{Sending}
+use Rattle.sealed_builder.specs.Build.{Done, sentMore}
+use Rattle.sealed_builder.specs.Nonces.{Build}
+use Rattle.sealed_builder.proofs.Accepted.{Accepted, accepted}
+use Rattle.sealed_builder.proofs.Once.{judged, came, when-fine, when-refused}
+use Rattle.ends.proofs.Builds.{written}
+use Rattle.sealed_ends.specs.Trip.{writtenBy, bytesOf, Accepts}
+use Rattle.sealed_ends.specs.Ends.{Queued, bufferBy, queuedBy}
+
+-- one build
+pub record Appended (s : Sending) (b : Build) : Type 0 where
+  pub request : Accepted s (b .header) (b .abort) (length (b .source)) (length (b .buffer)) (b .queued)
+  pub wire : writtenBy b ≡ sealedLength (b .header)
+  pub length-bytes : length (bytesOf b) ≡ writtenBy b
+  pub buffer : b .after ≡ splice (b .buffer) (b .queued) (bytesOf b)
+  pub room : b .queued + writtenBy b ≤ length (b .buffer)
+  pub sending : b .answer .sending ≡ sentMore s (partCount (b .header))
+
+pub appended : (s : Sending) (b : Build) → Accepts s b → Appended s b
+unfolding sealedFrame
+appended s b p =
+    by-judgement (judged s b) (λ e. when-written e)
+    (λ r e. let v = when-refused s b (p .promised) r e .0 in let u = p .wrote in let z : _≡_ {A = ℕ} 0 1 = cc in absurd (omega arith))
+  where
+    same : (k j : ℕ) → wrote k ≡ wrote j → k ≡ j
+    same k j e = cc
+
+    when-written : judged s b ≡ fine → Appended s b
+    when-written e =
+        let h = b .header in
+        let c = accepted s h (b .abort) (length (b .source)) (length (b .buffer)) (b .queued) e in
+        let v = when-fine s b (p .promised) e in
+        let xs : List ℕ = sealedFrame (keyExpansion (s .key)) (s .nonce) h (b .abort) (b .source) in
+        let size : length xs ≡ sealedLength h = length-frame (keyExpansion (s .key)) (s .nonce) h (b .abort) (b .source) (c .whole) in
+        let count : writtenBy b ≡ sealedLength h = same (writtenBy b) (sealedLength h) (sym (p .wrote) ∙ v .0) in
+        let after : b .after ≡ splice (b .buffer) (b .queued) xs = ap (λ (d : Done). d .buffer) (came s b (p .promised) fine e) in
+        let there : bytesOf b ≡ xs = ap (λ (x : List ℕ). take (writtenBy b) (drop (b .queued) x)) after ∙ written (b .buffer) (b .queued) xs (writtenBy b) (size ∙ sym count) (omega (arith, c .fits)) in
+        record {
+          request = c;
+          wire = count;
+          length-bytes = ap length there ∙ size ∙ sym count;
+          buffer = after ∙ ap (splice (b .buffer) (b .queued)) (sym there);
+          room = omega (arith, c .fits, count);
+          sending = v .1;
+        }
+
+-- ---- builds one behind the other
+
+abbrev pub allBytes : List Build → List ℕ
+allBytes [] = []
+allBytes (b ∷ bs) = bytesOf b ++ allBytes bs
+
+pub record Queue (buf : List ℕ) (queued : ℕ) (bs : List Build) : Type 0 where
+  pub buffer : bufferBy buf bs ≡ splice buf queued (allBytes bs)
+  pub queue : queuedBy queued bs ≡ queued + length (allBytes bs)
+  pub room : queued + length (allBytes bs) ≤ length buf
+
+pub queued-up : (s : Sending) (buf : List ℕ) (queued : ℕ) (bs : List Build) → queued ≤ length buf → Queued s buf queued bs → Queue buf queued bs
+queued-up s buf queued [] l q = record {
+  buffer = sym (ap₂ (λ (x : List ℕ) (k : ℕ). x ++ drop k buf) (append-nil (take queued buf)) (add-zero queued) ∙ take-append-drop queued buf);
+  queue = sym (add-zero queued);
+  room = omega arith;
+}
+queued-up s buf queued (b ∷ bs) l q =
+    let a = appended s b (q .0) in
+    let xs : List ℕ = bytesOf b in
+    let ys : List ℕ = allBytes bs in
+    let after : b .after ≡ splice buf queued xs = a .buffer ∙ ap₂ (λ (x : List ℕ) (k : ℕ). splice x k xs) (q .1) (q .2) in
+    let room : queued + writtenBy b ≤ length buf = rw (q .1, q .2) at (a .room) in
+    let n : length (splice buf queued xs) ≡ length buf = length-splice buf queued xs (omega (arith, a .length-bytes)) in
+    let na : length (b .after) ≡ length buf = ap length after ∙ n in
+    let r = queued-up (b .answer .sending) (b .after) (queued + writtenBy b) bs (omega arith) (q .3) in
+    let j = length-append xs ys in
+    record {
+      buffer = r .buffer
+          ∙ ap₂ (λ (x : List ℕ) (k : ℕ). splice x k ys) after (ap (λ (k : ℕ). queued + k) (sym (a .length-bytes)))
+          ∙ splice-next buf queued xs ys l;
+      queue = r .queue ∙ omega (arith, a .length-bytes);
+      room = omega (arith, a .length-bytes, r .room);
+    }
+
+-- what stands from q on, and behind it what was put at Q
+pub put-behind : (buf : List ℕ) (q Q : ℕ) (A : List ℕ) → q ≤ Q → Q + length A ≤ length buf
+    → take (Q + length A - q) (drop q (splice buf Q A)) ≡ take (Q - q) (drop q buf) ++ A
+put-behind buf q Q A h l =
+    let R : List ℕ = drop (Q + length A) buf in
+    let t : length (take Q buf) ≡ Q = length-take-le Q buf (omega arith) in
+    let a = length-append (take Q buf) A in
+    let e : q + (Q - q) ≡ Q = omega arith in
+    let front : drop q (take Q buf) ≡ take (Q - q) (drop q buf) = ap (λ (k : ℕ). drop q (take k buf)) (sym e) ∙ drop-take q (Q - q) buf in
+    let d : length (drop q (take Q buf)) ≡ Q - q = (let z = length-drop q (take Q buf) in omega arith) in
+    let n : length (drop q (take Q buf) ++ A) ≡ Q + length A - q = (let z = length-append (drop q (take Q buf)) A in omega arith) in
+    ap (take (Q + length A - q)) (drop-append-le q (take Q buf ++ A) R (omega arith) ∙ ap (λ (x : List ℕ). x ++ R) (drop-append-le q (take Q buf) A (omega arith)))
+    ∙ take-at (drop q (take Q buf) ++ A) R (Q + length A - q) n
+    ∙ ap (λ (x : List ℕ). x ++ A) front

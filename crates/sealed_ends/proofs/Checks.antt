@@ -1,0 +1,382 @@
+-- The judgements of a sealed frame, one after the other, hold exactly when its checks do.
+use mathlib.Core.Path.{_≡_, refl, sym, ap, ap₂, _∙_}
+use mathlib.Core.Bool.{Bool, true, false, cond, _&&_}
+use mathlib.Core.List.{List, [], _∷_, _++_}
+use Prim.Native.Nat.{ℕ, zero, suc, _+_, _-_, _≤_, _<_}
+use native.Mathlib.Nat.{zero-add, add-zero}
+use native.Mathlib.Numerals.{add-one}
+use native.Mathlib.Omega.{arith}
+use borrow.Author.Tests.{ltb-true, lt-ltb, eqb-true, eq-eqb}
+use lib.Dec.{lit<, ltb, eqb}
+use lib.ListN.{length, take, drop, getD, length-drop}
+use lib.Seq.{drop-drop, getD-drop, getD-take, length-take-le}
+use Rattle.buffer.specs.Le.{numberAt}
+use Rattle.crc32c.specs.Crc.{crcOf}
+use Rattle.refusal.specs.declared.Refusal.the-variants as refusal
+use Rattle.refusal.specs.Refusals.{Judged, fine, refused, unless}
+use Rattle.refusal.proofs.Booleans.{wrong, both-left, both-right, both-true}
+use Rattle.refusal.proofs.Judgements.{all-fine, fine-all, passed}
+use Rattle.banner.specs.declared.Revision.the-variants.{Msgr21}
+use Rattle.preamble.specs.declared.Header.{Header}
+use Rattle.preamble.specs.Judge.{headerOf, judgeChecksum, judgeShape, judgeFlags, judgeTag, judgeLimits, judgeStore}
+use Rattle.body.specs.declared.Late.{Late}
+use Rattle.body.specs.declared.Late.the-variants as late
+use Rattle.body.specs.End.{Ended, whole, dropped, lateOf}
+use Rattle.aes.specs.Aes.{State}
+use Rattle.gcm.specs.Gcm.{plain, openedBy}
+use Rattle.secure.specs.Layout.{allNonces, nextNonce, roundUp, padding, inlineLength, lastLengths, firstLength, noRest, noLast, restPart, restPartLength, lastPart, lastPartLength, sealedLength, partCount, needed}
+use Rattle.secure.specs.Reading.{judgeNonce, allZero, judgePadding, judgeFirst, paddingOf, lateIn, byLateStatus, lastEnded}
+use Rattle.sealed_receiver.specs.Step.{textOf}
+use Rattle.sealed_receiver.proofs.Lists.{zeros-append}
+use Rattle.sealed_ends.specs.Handed.{textIn, Opens, firstBytes, firstIn, headerIn, restBytes, restIn, lastBytes, lastNonce, lastIn, lengthAt, placeAt, lateBy, ZerosAt, CheckedPreamble, CheckedSealed}
+use Rattle.sealed_ends.proofs.Judging.{PartReads, plain-length, JudgesAt, least, first-length}
+
+-- ---- zeros
+
+zeros-each : (l : List ℕ) → allZero l ≡ true → (k : ℕ) → getD l k 0 ≡ 0
+zeros-each [] e k = refl
+zeros-each (x ∷ l) e zero = eqb-true x 0 (both-left (eqb x 0) (allZero l) e)
+zeros-each (x ∷ l) e (suc k) = zeros-each l (both-right (eqb x 0) (allZero l) e) k
+
+each-zeros : (l : List ℕ) → ((k : ℕ) → k < length l → getD l k 0 ≡ 0) → allZero l ≡ true
+each-zeros [] e = refl
+each-zeros (x ∷ l) e = both-true (eqb x 0) (allZero l) (eq-eqb x 0 (e 0 (omega arith))) (each-zeros l (λ k h. e (suc k) (omega arith)))
+
+-- of a text from one place on
+module _ (i : ℕ) (l : List ℕ) where
+  zeros-from : allZero (drop i l) ≡ true → ZerosAt i (length l) l
+  zeros-from e j h k =
+      let n : i + (j - i) ≡ j = omega arith in
+      ap (λ (m : ℕ). getD l m 0) (sym n) ∙ sym (getD-drop i l (j - i) 0) ∙ zeros-each (drop i l) e (j - i)
+
+  from-zeros : ZerosAt i (length l) l → allZero (drop i l) ≡ true
+  from-zeros z = each-zeros (drop i l) (λ k h. getD-drop i l k 0 ∙ z (i + k) (omega arith) (let d = length-drop i l in omega arith))
+
+-- and of bytes n to r behind a place p
+module _ (n r p : ℕ) (l : List ℕ) (fits : p + r ≤ length l) where
+  abbrev piece : List ℕ
+  piece = drop n (take r (drop p l))
+
+  piece-at : (k : ℕ) → n + k < r → getD (drop n (take r (drop p l))) k 0 ≡ getD l (p + (n + k)) 0
+  piece-at k h = getD-drop n (take r (drop p l)) k 0 ∙ getD-take r (drop p l) (n + k) 0 h ∙ getD-drop p l (n + k) 0
+
+  piece-length : length (drop n (take r (drop p l))) ≡ r - n
+  piece-length = length-drop n (take r (drop p l)) ∙ ap (λ (k : ℕ). k - n) (length-take-le r (drop p l) (let d = length-drop p l in omega arith))
+
+  zeros-piece : allZero (drop n (take r (drop p l))) ≡ true → ZerosAt (p + n) (p + r) l
+  zeros-piece e j h k =
+      let m : p + (n + (j - (p + n))) ≡ j = omega arith in
+      ap (λ (i : ℕ). getD l i 0) (sym m) ∙ sym (piece-at (j - (p + n)) (omega arith)) ∙ zeros-each (drop n (take r (drop p l))) e (j - (p + n))
+
+  piece-zeros : ZerosAt (p + n) (p + r) l → allZero (drop n (take r (drop p l))) ≡ true
+  piece-zeros z =
+      each-zeros (drop n (take r (drop p l)))
+      (λ k h. let d = piece-length in piece-at k (omega arith) ∙ z (p + (n + k)) (omega arith) (omega arith))
+
+padding-fine : (bytes : List ℕ) → judgePadding bytes ≡ fine → allZero bytes ≡ true
+padding-fine bytes e = passed (allZero bytes) refusal.Padding e
+
+fine-padding : (bytes : List ℕ) → allZero bytes ≡ true → judgePadding bytes ≡ fine
+fine-padding bytes e = ap (λ (b : Bool). unless b refusal.Padding) e
+
+-- ---- the first part
+
+module _ (text : List ℕ) (store : ℕ) (size : length text ≡ 80) where
+  abbrev h₁ : Header
+  h₁ = headerOf text
+
+  abbrev judgements : List Judged
+  judgements =
+      judgeChecksum text
+      ∷ judgeShape h₁
+      ∷ judgeFlags (getD text 26 0) (getD text 27 0)
+      ∷ judgeTag (h₁ .tag)
+      ∷ judgeLimits h₁
+      ∷ judgeStore (needed h₁) store
+      ∷ judgePadding (drop (32 + h₁ .s1 .len) text)
+      ∷ []
+
+  first-checks : judgeFirst text store ≡ fine → CheckedPreamble text store × ZerosAt (32 + headerOf text .s1 .len) (32 + inlineLength) text
+  unfolding judgeFirst
+  first-checks e =
+      let f = all-fine judgements e in (
+        record {
+          checksum = eqb-true (crcOf 0 (take 28 text)) (numberAt 4 28 text) (passed (eqb (crcOf 0 (take 28 text)) (numberAt 4 28 text)) refusal.PreambleChecksum (f .0));
+          shape = f .1 .0;
+          flags = f .1 .1 .0;
+          tag = f .1 .1 .1 .0;
+          limits = f .1 .1 .1 .1 .0;
+          room = f .1 .1 .1 .1 .1 .0;
+        },
+        λ j a b. zeros-from (32 + h₁ .s1 .len) text (padding-fine (drop (32 + h₁ .s1 .len) text) (f .1 .1 .1 .1 .1 .1 .0)) j a (omega arith),
+      )
+
+  checks-first : CheckedPreamble text store → ZerosAt (32 + headerOf text .s1 .len) (32 + inlineLength) text → judgeFirst text store ≡ fine
+  unfolding judgeFirst
+  checks-first c z =
+      let sum : judgeChecksum text ≡ fine =
+      ap (λ (b : Bool). unless b refusal.PreambleChecksum) (eq-eqb (crcOf 0 (take 28 text)) (numberAt 4 28 text) (c .checksum)) in
+      let pad : judgePadding (drop (32 + h₁ .s1 .len) text) ≡ fine =
+      fine-padding (drop (32 + h₁ .s1 .len) text) (from-zeros (32 + h₁ .s1 .len) text (λ j a b. z j a (omega arith))) in
+      fine-all judgements (sum, (c .shape, (c .flags, (c .tag, (c .limits, (c .room, (pad, tt)))))))
+
+-- ---- the last part
+
+-- its segments' places, as they are read one behind the other
+module _ (h : Header) (text : List ℕ) where
+  abbrev r₂ : ℕ
+  r₂ = roundUp (h .s2 .len)
+
+  abbrev r₃ : ℕ
+  r₃ = roundUp (h .s3 .len)
+
+  abbrev r₄ : ℕ
+  r₄ = roundUp (h .s4 .len)
+
+  place₁ : drop r₂ text ≡ drop (placeAt h 1) text
+  place₁ = ap (λ (k : ℕ). drop k text) (sym (zero-add r₂))
+
+  place₂ : drop r₃ (drop r₂ text) ≡ drop (placeAt h 2) text
+  place₂ = drop-drop r₃ r₂ text ∙ ap (λ (k : ℕ). drop (k + r₃) text) (sym (zero-add r₂))
+
+  place₃ : drop r₄ (drop r₃ (drop r₂ text)) ≡ drop (placeAt h 3) text
+  place₃ = ap (drop r₄) place₂ ∙ drop-drop r₄ (placeAt h 2) text
+
+  late-is : lateIn (lastLengths h) text ≡ getD text (placeAt h 3) 0
+  late-is = ap (λ (l : List ℕ). getD l 0 0) place₃ ∙ getD-drop (placeAt h 3) text 0 0 ∙ ap (λ (k : ℕ). getD text k 0) (add-zero (placeAt h 3))
+
+  abbrev pads : ℕ → List ℕ
+  pads k = drop (lengthAt h k) (take (roundUp (lengthAt h k)) (drop (placeAt h k) text))
+
+  abbrev behindLate : List ℕ
+  behindLate = drop 1 (drop (placeAt h 3) text)
+
+  paddings-are : paddingOf (lastLengths h) text ≡ pads 0 ++ (pads 1 ++ (pads 2 ++ behindLate))
+  paddings-are =
+      ap₂ (λ (x y : List ℕ). pads 0 ++ (drop (h .s3 .len) (take r₃ x) ++ (drop (h .s4 .len) (take r₄ y) ++ drop 1 (drop r₄ y)))) place₁ place₂
+      ∙ ap (λ (x : List ℕ). pads 0 ++ (pads 1 ++ (pads 2 ++ drop 1 x))) (drop-drop r₄ (placeAt h 2) text)
+
+  abbrev both : Bool
+  both = allZero (pads 0) && (allZero (pads 1) && (allZero (pads 2) && allZero behindLate))
+
+  paddings-zero : allZero (paddingOf (lastLengths h) text) ≡ (allZero (pads 0) && (allZero (pads 1) && (allZero (pads 2) && allZero behindLate)))
+  paddings-zero =
+      ap allZero paddings-are
+      ∙ zeros-append (pads 0) (pads 1 ++ (pads 2 ++ behindLate))
+      ∙ ap (λ (b : Bool). allZero (pads 0) && b)
+      (zeros-append (pads 1) (pads 2 ++ behindLate) ∙ ap (λ (b : Bool). allZero (pads 1) && b) (zeros-append (pads 2) behindLate))
+
+  -- its text is as long as its segments and the epilogue
+  module _ (size : length text ≡ placeAt h 3 + 16) where
+    within : (k : ℕ) → k < 3 → placeAt h k + roundUp (lengthAt h k) ≤ length text
+    within zero l = omega arith
+    within (suc zero) l = omega arith
+    within (suc (suc zero)) l = omega arith
+    within (suc (suc (suc k))) l = absurd (omega arith)
+
+    segments-padded : allZero (paddingOf (lastLengths h) text) ≡ true → (k : ℕ) → k < 3 → ZerosAt (placeAt h k + lengthAt h k) (placeAt h (suc k)) text
+    segments-padded e k l = zeros-piece (lengthAt h k) (roundUp (lengthAt h k)) (placeAt h k) text (within k l) (one k l)
+      where
+        a : (allZero (pads 1) && (allZero (pads 2) && allZero behindLate)) ≡ true
+        a = both-right (allZero (pads 0)) (allZero (pads 1) && (allZero (pads 2) && allZero behindLate)) (sym paddings-zero ∙ e)
+
+        one : (k : ℕ) → k < 3 → allZero (pads k) ≡ true
+        one zero l = both-left (allZero (pads 0)) (allZero (pads 1) && (allZero (pads 2) && allZero behindLate)) (sym paddings-zero ∙ e)
+        one (suc zero) l = both-left (allZero (pads 1)) (allZero (pads 2) && allZero behindLate) a
+        one (suc (suc zero)) l = both-left (allZero (pads 2)) (allZero behindLate) (both-right (allZero (pads 1)) (allZero (pads 2) && allZero behindLate) a)
+        one (suc (suc (suc k))) l = absurd (omega arith)
+
+    late-padded : allZero (paddingOf (lastLengths h) text) ≡ true → ZerosAt (placeAt h 3 + 1) (placeAt h 3 + 16) text
+    late-padded e j x y =
+        let a = both-right (allZero (pads 0)) (allZero (pads 1) && (allZero (pads 2) && allZero behindLate)) (sym paddings-zero ∙ e) in
+        let b = both-right (allZero (pads 2)) (allZero behindLate) (both-right (allZero (pads 1)) (allZero (pads 2) && allZero behindLate) a) in
+        zeros-from (placeAt h 3 + 1) text (ap allZero (sym (drop-drop 1 (placeAt h 3) text)) ∙ b) j x (omega arith)
+
+    padded-back : ((k : ℕ) → k < 3 → ZerosAt (placeAt h k + lengthAt h k) (placeAt h (suc k)) text) → ZerosAt (placeAt h 3 + 1) (placeAt h 3 + 16) text
+        → allZero (paddingOf (lastLengths h) text) ≡ true
+    padded-back z u =
+        let one : (k : ℕ) → k < 3 → allZero (pads k) ≡ true = λ k l. piece-zeros (lengthAt h k) (roundUp (lengthAt h k)) (placeAt h k) text (within k l) (z k l) in
+        let b : allZero behindLate ≡ true = ap allZero (drop-drop 1 (placeAt h 3) text) ∙ from-zeros (placeAt h 3 + 1) text (λ j x y. u j x (omega arith)) in
+        paddings-zero
+        ∙ both-true (allZero (pads 0)) (allZero (pads 1) && (allZero (pads 2) && allZero behindLate)) (one 0 (lit< tt))
+        (both-true (allZero (pads 1)) (allZero (pads 2) && allZero behindLate) (one 1 (lit< tt)) (both-true (allZero (pads 2)) (allZero behindLate) (one 2 (lit< tt)) b))
+
+-- ---- how a frame ends
+
+-- c: there is no last part; l: what its late status says; j: its padding
+abbrev endBy : Bool → Late → ℕ → Judged → Ended
+endBy c l b j = cond c whole (byLateStatus l b j)
+
+end-whole : (c : Bool) (l : Late) (b : ℕ) (j : Judged) → endBy c l b j ≡ whole → (cond c late.Complete l ≡ late.Complete) × (c ≡ false → j ≡ fine)
+end-whole true l b j e = (refl, λ f. wrong (sym f))
+end-whole false late.Complete b fine e = (refl, λ f. refl)
+end-whole false late.Complete b (refused n) e = (refl, λ f. cc)
+end-whole false late.Aborted b fine e = (cc, λ f. refl)
+end-whole false late.Aborted b (refused n) e = (cc, λ f. cc)
+end-whole false late.Wrong b j e = (cc, λ f. cc)
+
+whole-end : (c : Bool) (l : Late) (b : ℕ) (j : Judged) → cond c late.Complete l ≡ late.Complete → (c ≡ false → j ≡ fine) → endBy c l b j ≡ whole
+whole-end true l b j e f = refl
+whole-end false l b j e f = rw (e, f refl)
+
+end-dropped : (c : Bool) (l : Late) (b : ℕ) (j : Judged) → endBy c l b j ≡ dropped → (cond c late.Complete l ≡ late.Aborted) × (c ≡ false → j ≡ fine)
+end-dropped true l b j e = (cc, λ f. wrong (sym f))
+end-dropped false late.Complete b fine e = (cc, λ f. refl)
+end-dropped false late.Complete b (refused n) e = (cc, λ f. cc)
+end-dropped false late.Aborted b fine e = (refl, λ f. refl)
+end-dropped false late.Aborted b (refused n) e = (refl, λ f. cc)
+end-dropped false late.Wrong b j e = (cc, λ f. cc)
+
+dropped-end : (c : Bool) (l : Late) (b : ℕ) (j : Judged) → cond c late.Complete l ≡ late.Aborted → (c ≡ false → j ≡ fine) → endBy c l b j ≡ dropped
+dropped-end true l b j e f = cc
+dropped-end false l b j e f = rw (e, f refl)
+
+-- ---- nonces
+
+unspent : (n : ℕ) → judgeNonce n ≡ fine → n < allNonces
+unspent n j = ltb-true n allNonces (passed (ltb n allNonces) refusal.NoncesSpent j)
+
+judged-unspent : (n : ℕ) → n < allNonces → judgeNonce n ≡ fine
+judged-unspent n l = ap (λ (b : Bool). unless b refusal.NoncesSpent) (lt-ltb n allNonces l)
+
+each-unspent : (n k : ℕ) (a b : Bool) → k < 1 + cond a 0 1 + cond b 0 1 → n < allNonces → (a ≡ false → suc n < allNonces) → (b ≡ false → n + (1 + cond a 0 1) < allNonces) → n + k < allNonces
+each-unspent n k true true l f r e = omega arith
+each-unspent n k false true l f r e = (let x = r refl in omega arith)
+each-unspent n k true false l f r e = (let x = e refl in omega arith)
+each-unspent n k false false l f r e = (let x = e refl in omega arith)
+
+-- ---- the whole frame
+
+module _ (w : List State) (nonce : List ℕ) (n : ℕ) (X : List ℕ) (store : ℕ) where
+  abbrev h : Header
+  h = headerIn w nonce X
+
+  abbrev first : List ℕ
+  first = firstIn w nonce X
+
+  abbrev rest : List ℕ
+  rest = restIn w nonce h X
+
+  abbrev last : List ℕ
+  last = lastIn w nonce h X
+
+  -- lengths of texts
+  rest-length : sealedLength h ≤ length X → noRest h ≡ false → openedBy w (nextNonce nonce) (restBytes h X) ≡ plain rest → length rest ≡ roundUp (h .s1 .len - inlineLength)
+  unfolding sealedLength
+  rest-length l e o =
+      let d = length-drop firstLength X in
+      let t : length (restBytes h X) ≡ restPartLength h = length-take-le (restPartLength h) (drop firstLength X) (omega arith) in
+      let z : restPartLength h ≡ restPart h = ap (λ (b : Bool). cond b 0 (restPart h)) e in
+      plain-length w (nextNonce nonce) (restBytes h X) rest o ∙ omega arith
+
+  last-length : sealedLength h ≤ length X → noLast h ≡ false → openedBy w (lastNonce h nonce) (lastBytes h X) ≡ plain last → length last ≡ placeAt h 3 + 16
+  unfolding sealedLength
+  last-length l e o =
+      let k : ℕ = firstLength + restPartLength h in
+      let d = length-drop k X in
+      let t : length (lastBytes h X) ≡ lastPartLength h = length-take-le (lastPartLength h) (drop k X) (omega arith) in
+      let z : lastPartLength h ≡ lastPart h = ap (λ (b : Bool). cond b 0 (lastPart h)) e in
+      plain-length w (lastNonce h nonce) (lastBytes h X) last o ∙ omega arith
+
+  opened-text : (o bytes : List ℕ) → Opens w o bytes → openedBy w o bytes ≡ plain (textIn w o bytes)
+  opened-text o bytes e = e .1 ∙ ap plain (sym (ap textOf (e .1)))
+
+  first-parts : length first ≡ 80 → judgeFirst first store ≡ fine → CheckedPreamble first store × ZerosAt (32 + h .s1 .len) (32 + inlineLength) first
+  unfolding headerIn
+  first-parts l e = first-checks first store l e
+
+  parts-first : length first ≡ 80 → CheckedPreamble first store → ZerosAt (32 + h .s1 .len) (32 + inlineLength) first → judgeFirst first store ≡ fine
+  unfolding headerIn
+  parts-first l c z = checks-first first store l c z
+
+  -- what is judged of the padding and the late status
+  abbrev pads₃ : List ℕ
+  pads₃ = paddingOf (lastLengths h) last
+
+  abbrev late₃ : ℕ
+  late₃ = lateIn (lastLengths h) last
+
+  abbrev ending : Ended
+  ending = endBy (noLast h) (lateOf Msgr21 late₃) late₃ (judgePadding pads₃)
+
+  end-is : cond (noLast h) whole (lastEnded h last) ≡ ending
+  unfolding lastEnded
+  end-is = refl
+
+  late-said : cond (noLast h) late.Complete (lateOf Msgr21 late₃) ≡ lateBy h last
+  late-said = ap (λ (b : ℕ). cond (noLast h) late.Complete (lateOf Msgr21 b)) (late-is h last)
+
+  judged-checked : (x : Ended) (kind : Late) → JudgesAt x w nonce n X store → cond (noLast h) late.Complete (lateOf Msgr21 late₃) ≡ kind
+      → (noLast h ≡ false → judgePadding pads₃ ≡ fine) → CheckedSealed kind w nonce n X store
+  unfolding partCount
+  judged-checked x kind j said pad =
+      let g = j .judges in
+      let l₁ : firstLength ≤ length X = (let m = least h in omega (arith, j .long)) in
+      let p = first-parts (first-length w nonce n X l₁ (g .first)) (g .judged) in
+      record {
+        arrived = j .long;
+        nonces = λ k l. each-unspent n k (noRest h) (noLast h) l (unspent n (g .first .fresh)) (λ e. unspent (suc n) (g .rest e .fresh)) (λ e. unspent (n + (1 + cond (noRest h) 0 1)) (g .last e .fresh));
+        first = (first, g .first .opens);
+        rest = λ e. (rest, g .rest e .opens);
+        last = λ e. (last, g .last e .opens);
+        preamble = p .0;
+        padding = record {
+          inline = p .1;
+          behindRest = λ e. rest-zeros e (rest-length (j .long) e (g .rest e .opens)) (g .padded e);
+          segments = λ e. segments-padded h last (last-length (j .long) e (g .last e .opens)) (padding-fine pads₃ (pad e));
+          epilogue = λ e. late-padded h last (last-length (j .long) e (g .last e .opens)) (padding-fine pads₃ (pad e));
+        };
+        late = sym late-said ∙ said;
+      }
+    where
+      rest-zeros : noRest h ≡ false → length rest ≡ roundUp (h .s1 .len - inlineLength) → judgePadding (drop (h .s1 .len - inlineLength) rest) ≡ fine
+          → ZerosAt (h .s1 .len - inlineLength) (roundUp (h .s1 .len - inlineLength)) rest
+      rest-zeros e l q i a b = zeros-from (h .s1 .len - inlineLength) rest (padding-fine (drop (h .s1 .len - inlineLength) rest) q) i a (omega arith)
+
+  checked-judged : (x : Ended) (kind : Late) → CheckedSealed kind w nonce n X store
+      → ((noLast h ≡ false → judgePadding pads₃ ≡ fine) → cond (noLast h) late.Complete (lateOf Msgr21 late₃) ≡ kind → ending ≡ x)
+      → JudgesAt x w nonce n X store
+  unfolding partCount
+  checked-judged x kind c ends =
+      let l₁ : firstLength ≤ length X = (let m = least h in omega (arith, c .arrived)) in
+      let o₁ = opened-text nonce (firstBytes X) (c .first) in
+      let f : PartReads w nonce n (firstBytes X) = record { fresh = judged-unspent n (rw (add-zero n) at (c .nonces 0 (omega arith))); opens = o₁ } in
+      record {
+        long = c .arrived;
+        judges = record {
+          first = f;
+          judged = parts-first (first-length w nonce n X l₁ f) (c .preamble) (c .padding .inline);
+          rest = λ e. record { fresh = judged-unspent (suc n) (rest-unspent e (c .nonces)); opens = opened-text (nextNonce nonce) (restBytes h X) (c .rest e) };
+          padded = λ e. fine-padding (drop (h .s1 .len - inlineLength) rest)
+              (from-zeros (h .s1 .len - inlineLength) rest (λ i a b. let z = rest-length (c .arrived) e (opened-text (nextNonce nonce) (restBytes h X) (c .rest e)) in c .padding .behindRest e i a (omega arith)));
+          last = λ e. record { fresh = judged-unspent (n + (1 + cond (noRest h) 0 1)) (last-unspent e (c .nonces)); opens = opened-text (lastNonce h nonce) (lastBytes h X) (c .last e) };
+          end = end-is ∙ ends pads-fine (late-said ∙ c .late);
+        };
+      }
+    where
+      rest-unspent : noRest h ≡ false → ((k : ℕ) → k < 1 + cond (noRest h) 0 1 + cond (noLast h) 0 1 → n + k < allNonces) → suc n < allNonces
+      rest-unspent e u = rw (add-one n) at (u 1 (rw e (omega arith)))
+
+      last-unspent : noLast h ≡ false → ((k : ℕ) → k < 1 + cond (noRest h) 0 1 + cond (noLast h) 0 1 → n + k < allNonces) → n + (1 + cond (noRest h) 0 1) < allNonces
+      last-unspent e u = u (1 + cond (noRest h) 0 1) (rw e (omega arith))
+
+      pads-fine : noLast h ≡ false → judgePadding pads₃ ≡ fine
+      pads-fine e =
+          fine-padding pads₃
+          (padded-back h last (last-length (c .arrived) e (opened-text (lastNonce h nonce) (lastBytes h X) (c .last e))) (c .padding .segments e) (c .padding .epilogue e))
+
+  pub whole-checked : JudgesAt whole w nonce n X store → CheckedSealed late.Complete w nonce n X store
+  whole-checked j =
+      let e = end-whole (noLast h) (lateOf Msgr21 late₃) late₃ (judgePadding pads₃) (sym end-is ∙ j .judges .end) in
+      judged-checked whole late.Complete j (e .0) (e .1)
+
+  pub dropped-checked : JudgesAt dropped w nonce n X store → CheckedSealed late.Aborted w nonce n X store
+  dropped-checked j =
+      let e = end-dropped (noLast h) (lateOf Msgr21 late₃) late₃ (judgePadding pads₃) (sym end-is ∙ j .judges .end) in
+      judged-checked dropped late.Aborted j (e .0) (e .1)
+
+  pub checked-whole : CheckedSealed late.Complete w nonce n X store → JudgesAt whole w nonce n X store
+  checked-whole c = checked-judged whole late.Complete c (λ f e. whole-end (noLast h) (lateOf Msgr21 late₃) late₃ (judgePadding pads₃) e f)
+
+  pub checked-dropped : CheckedSealed late.Aborted w nonce n X store → JudgesAt dropped w nonce n X store
+  checked-dropped c = checked-judged dropped late.Aborted c (λ f e. dropped-end (noLast h) (lateOf Msgr21 late₃) late₃ (judgePadding pads₃) e f)

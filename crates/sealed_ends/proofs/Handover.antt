@@ -1,0 +1,157 @@
+-- A sealed frame is handed over exactly when its checks hold.
+use mathlib.Core.Path.{_≡_, refl, sym, ap, ap₂, subst, _∙_}
+use mathlib.Core.Bool.{true, true≢false}
+use mathlib.Core.List.{List, _++_}
+use Prim.Native.Nat.{ℕ, suc, _-_, _≤_}
+use native.Mathlib.Nat.{le-refl}
+use native.Mathlib.Omega.{arith}
+use lib.ListN.{length, take, drop, length-append, take-append-drop}
+use lib.Seq.{take-all, take-take, length-take-le}
+use Rattle.banner.specs.declared.Features.{Features}
+use Rattle.banner.specs.declared.Revision.{Revision}
+use Rattle.banner.specs.Banner.{judgeOwn}
+use Rattle.preamble.specs.Judge.{headerOf}
+use Rattle.body.specs.End.{whole, dropped}
+use Rattle.stream.specs.Stream.{Entry, Trace}
+use Rattle.aes.specs.Aes.{State, keyExpansion}
+use Rattle.secure.specs.Layout.{firstLength, sealedLength}
+use Rattle.secure.specs.Reading.{frames, sealedTrace}
+use Rattle.ends.specs.Handed.{isFrame, isDrop, firstIs}
+use Rattle.connection.specs.Switched.{Switch, traceWith}
+use Rattle.connection.specs.Step.{begun}
+use Rattle.connection.specs.Calls.{Call, Chained, takenBy, listOf, switchBy, SwitchedDemand3}
+use Rattle.connection.proofs.Chain.{switched-demand3}
+use Rattle.sealed_ends.specs.Fronts.{Front, bytesIn, sealedIn, switchIn, spentIn, nextIn, Begins}
+use Rattle.sealed_ends.specs.Handed.{textIn, headerIn, ExactlySealed, SealedBehind, headerBehind, Through, frame-taken, all-taken, refused, SealedHandedOver}
+use Rattle.sealed_ends.proofs.Judging.{JudgesAt, least, frame-trace}
+use Rattle.sealed_ends.proofs.Locality.{header-own, segments-own, extends, restricts, Seen, nothing, refuses, hands, drops, seen}
+use Rattle.sealed_ends.proofs.Concatenation.{fuel}
+use Rattle.sealed_ends.proofs.Fronts.{follows, reported}
+use Rattle.sealed_ends.proofs.Checks.{whole-checked, dropped-checked, checked-whole, checked-dropped}
+
+-- ---- the entries of the definition
+
+module _ (f : ℕ) (w : List State) (nonce : List ℕ) (n P : ℕ) (X s : List ℕ) where
+  abbrev es : List Entry
+  es = frames (suc f) w nonce n P X s .entries
+
+  by-frame : Seen w nonce n P X s → firstIs isFrame (frames (suc f) w nonce n P X s .entries) ≡ true → JudgesAt whole w nonce n X (length s)
+  by-frame (nothing t e) u = absurd (true≢false (sym u ∙ ap (λ (t : Trace). firstIs isFrame (t .entries)) (e f)))
+  by-frame (refuses m at t e) u = absurd (true≢false (sym u ∙ ap (λ (t : Trace). firstIs isFrame (t .entries)) (e f)))
+  by-frame (hands j) u = j
+  by-frame (drops j) u = absurd (true≢false (sym u ∙ ap (λ (t : Trace). firstIs isFrame (t .entries)) (frame-trace w nonce n P X s f j)))
+
+  by-drop : Seen w nonce n P X s → firstIs isDrop (frames (suc f) w nonce n P X s .entries) ≡ true → JudgesAt dropped w nonce n X (length s)
+  by-drop (nothing t e) u = absurd (true≢false (sym u ∙ ap (λ (t : Trace). firstIs isDrop (t .entries)) (e f)))
+  by-drop (refuses m at t e) u = absurd (true≢false (sym u ∙ ap (λ (t : Trace). firstIs isDrop (t .entries)) (e f)))
+  by-drop (hands j) u = absurd (true≢false (sym u ∙ ap (λ (t : Trace). firstIs isDrop (t .entries)) (frame-trace w nonce n P X s f j)))
+  by-drop (drops j) u = j
+
+  exactly : ExactlySealed w nonce n P X s (frames (suc f) w nonce n P X s .entries)
+  exactly = record {
+    handed = (
+      λ u. whole-checked w nonce n X (length s) (by-frame (seen w nonce n P X s) u),
+      λ c. ap (λ (t : Trace). firstIs isFrame (t .entries)) (frame-trace w nonce n P X s f (checked-whole w nonce n X (length s) c)),
+    );
+    frames = λ u. (_, ap (λ (t : Trace). t .entries) (frame-trace w nonce n P X s f (by-frame (seen w nonce n P X s) u)));
+    dropped = (
+      λ u. dropped-checked w nonce n X (length s) (by-drop (seen w nonce n P X s) u),
+      λ c. ap (λ (t : Trace). firstIs isDrop (t .entries)) (frame-trace w nonce n P X s f (checked-dropped w nonce n X (length s) c)),
+    );
+    drops = λ u. (_, ap (λ (t : Trace). t .entries) (frame-trace w nonce n P X s f (by-drop (seen w nonce n P X s) u)));
+  }
+
+anywhere : (key nonce : List ℕ) (n P : ℕ) (X s : List ℕ) → ExactlySealed (keyExpansion key) nonce n P X s (sealedTrace key nonce n P X s .entries)
+unfolding sealedTrace
+anywhere key nonce n P X s =
+    let w : List State = keyExpansion key in
+    let e : frames (suc (length X)) w nonce n P X s ≡ frames (length X) w nonce n P X s = fuel w (suc (length X)) (length X) nonce n P X s (omega arith) (le-refl (length X)) in
+    subst (λ (t : Trace). ExactlySealed w nonce n P X s (t .entries)) e (exactly (length X) w nonce n P X s)
+
+-- the same entries are exactly those of X with more bytes behind it, where all of its frame is there
+exactly-more : (w : List State) (nonce : List ℕ) (n P : ℕ) (X Y s : List ℕ) (es : List Entry) → sealedLength (headerIn w nonce X) ≤ length X
+    → ExactlySealed w nonce n P X s es → ExactlySealed w nonce n P (X ++ Y) s es
+exactly-more w nonce n P X Y s es l x =
+    let k = length s in
+    let hd = header-own w nonce X Y l in
+    record {
+      handed = (
+        λ u. whole-checked w nonce n (X ++ Y) k (extends w nonce X Y l (checked-whole w nonce n X k (x .handed .0 u))),
+        λ c. x .handed .1 (whole-checked w nonce n X k (restricts w nonce X Y l (checked-whole w nonce n (X ++ Y) k c))),
+      );
+      frames = rw (hd, segments-own w nonce X Y l) (x .frames);
+      dropped = (
+        λ u. dropped-checked w nonce n (X ++ Y) k (extends w nonce X Y l (checked-dropped w nonce n X k (x .dropped .0 u))),
+        λ c. x .dropped .1 (dropped-checked w nonce n X k (restricts w nonce X Y l (checked-dropped w nonce n (X ++ Y) k c))),
+      );
+      drops = rw hd (x .drops);
+    }
+
+header-front : (w : List State) (nonce : List ℕ) (m : ℕ) (X : List ℕ) → firstLength ≤ m → headerIn w nonce (take m X) ≡ headerIn w nonce X
+unfolding headerIn
+header-front w nonce m X l = ap (λ (a : List ℕ). headerOf (textIn w nonce a)) (take-take firstLength m X l)
+
+-- ---- the reports of calls
+
+module _ (own : Features) (store : List ℕ) (r : Revision) (F : Front) (X : List ℕ) (b : Begins own store r F) where
+  abbrev w : List State
+  w = keyExpansion (F .key)
+
+  abbrev nonce : List ℕ
+  nonce = nextIn own store F
+
+  abbrev P : ℕ
+  P = length (bytesIn F)
+
+  abbrev sw : Switch
+  sw = switchIn own store F
+
+  -- the definition's entries of what stands behind the front
+  goes-on : (Z : List ℕ) (all : List Entry) → all ≡ traceWith (switchIn own store F) own (bytesIn F ++ Z) store .entries → SealedBehind own store F Z all
+  goes-on Z all e = record {
+    later = frames (suc (length Z)) w nonce (spentIn own store F) P Z (sealedIn own store F .store) .entries;
+    entries = e ∙ ap (λ (t : Trace). t .entries) (follows own store r F b Z (suc (length Z)) (omega arith));
+    exactly = exactly (length Z) w nonce (spentIn own store F) P Z (sealedIn own store F .store);
+  }
+
+  by-taken : (cs : List Call) → Chained (bytesIn F ++ X) (begun own) store 0 cs → switchBy 0 cs ≡ switchIn own store F → length (bytesIn F) ≤ takenBy 0 cs
+      → SealedBehind own store F (take (takenBy 0 cs - length (bytesIn F)) X) (listOf (judgeOwn (own .supported) (own .required)) cs)
+  by-taken cs ch q l = goes-on (take (takenBy 0 cs - P) X) _ (reported own (bytesIn F) X store cs sw ch q l)
+
+  -- the bytes taken hold the whole frame
+  by-frame-taken : (m : ℕ) (all : List Entry) → m ≤ length X → sealedLength (headerBehind own store F X) ≤ m → SealedBehind own store F (take m X) all → SealedBehind own store F X all
+  by-frame-taken m all h l x =
+      let lt : length (take m X) ≡ m = length-take-le m X h in
+      let z = least (headerBehind own store F X) in
+      let hd : headerIn w nonce (take m X) ≡ headerIn w nonce X = header-front w nonce m X (omega arith) in
+      let l₂ : sealedLength (headerIn w nonce (take m X)) ≤ length (take m X) = rw hd (omega arith) in
+      record {
+        later = x .later;
+        entries = x .entries;
+        exactly = rw (take-append-drop m X) at (exactly-more w nonce (spentIn own store F) P (take m X) (drop m X) (sealedIn own store F .store) (x .later) l₂ (x .exactly));
+      }
+
+  through : (cs : List Call) → Chained (bytesIn F ++ X) (begun own) store 0 cs → switchBy 0 cs ≡ switchIn own store F → Through own store F X cs
+      → SealedBehind own store F X (listOf (judgeOwn (own .supported) (own .required)) cs)
+  unfolding SwitchedDemand3
+  through cs ch q (frame-taken l) =
+      let a = length-append (bytesIn F) X in
+      let i = switched-demand3 own (bytesIn F ++ X) store cs ch .within in
+      by-frame-taken (takenBy 0 cs - P) _ (omega arith) (omega arith) (by-taken cs ch q (omega arith))
+  through cs ch q (all-taken e) =
+      goes-on X _
+      (switched-demand3 own (bytesIn F ++ X) store cs ch .reports
+      ∙ ap₂ (λ (x : Switch) (l : List ℕ). traceWith x own l store .entries) q
+      (ap (λ (k : ℕ). take k (bytesIn F ++ X)) e ∙ take-all (length (bytesIn F ++ X)) (bytesIn F ++ X) (le-refl (length (bytesIn F ++ X)))))
+  through cs ch q (refused e) =
+      goes-on X _ (switched-demand3 own (bytesIn F ++ X) store cs ch .whole e .0 ∙ ap (λ (x : Switch). traceWith x own (bytesIn F ++ X) store .entries) q)
+
+pub handed-over : SealedHandedOver
+handed-over = record {
+  anywhere = anywhere;
+  behind = λ own store r F X b. record {
+    defined = goes-on own store r F X b X _ refl;
+    taken = by-taken own store r F X b;
+    reports = through own store r F X b;
+  };
+}

@@ -1,0 +1,10 @@
+pub mod Judging
+pub mod Locality
+pub mod Concatenation
+pub mod Fronts
+pub mod Builds
+pub mod Trips
+pub mod Checks
+pub mod Handover
+pub mod Openings
+pub mod Directions

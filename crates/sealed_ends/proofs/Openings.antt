@@ -1,0 +1,391 @@
+-- The parts that calls open have nonces one behind the other.
+use mathlib.Core.Path.{_≡_, refl, sym, ap, ap₂, subst, _∙_}
+use mathlib.Core.Bool.{Bool, true, false, cond, _&&_}
+use mathlib.Core.List.{List, [], _∷_, _++_, append-nil}
+use Prim.Native.Nat.{ℕ, _+_, _-_, _≤_}
+use native.Mathlib.Nat.{add-zero}
+use native.Mathlib.Numerals.{add-one}
+use native.Mathlib.Omega.{arith}
+use borrow.Author.Tests.{ltb-true}
+use lib.Dec.{ltb}
+use lib.ListN.{length, take, drop, replicate}
+use Rattle.buffer.specs.Splice.{replaceFront, splice}
+use Rattle.refusal.specs.declared.Numbers.{Numbers}
+use Rattle.refusal.specs.declared.Refusal.the-variants as refusal
+use Rattle.refusal.specs.Refusals.{Judged, fine, refused, numbersOf, orElse, firstOf, unless}
+use Rattle.refusal.proofs.Booleans.{wrong}
+use Rattle.refusal.proofs.Judgements.{passed}
+use Rattle.preamble.specs.declared.Header.{Header}
+use Rattle.preamble.specs.Judge.{headerOf}
+use Rattle.body.specs.End.{Ended, whole, dropped, turnedAway}
+use Rattle.receiver.specs.declared.Report.{Report}
+use Rattle.receiver.specs.declared.Report.the-variants as report
+use Rattle.receiver.specs.State.{isMsgr21}
+use Rattle.gcm.specs.Gcm.{Opened, plain, fail, opened}
+use Rattle.secure.specs.Layout.{allNonces, nonceAfter, padding, inlineLength, noRest, noLast, lastLengths}
+use Rattle.secure.specs.Reading.{judgeNonce, judgePadding, judgeFirst, unpadded, lastEnded, zeroed}
+use Rattle.sealed_receiver.specs.declared.Stage.{Stage}
+use Rattle.sealed_receiver.specs.declared.Stage.the-variants as stage
+use Rattle.sealed_receiver.specs.declared.Receiving.{Receiving}
+use Rattle.sealed_receiver.specs.declared.Known.{Known}
+use Rattle.sealed_receiver.specs.declared.State as sealed
+use Rattle.sealed_receiver.specs.State.{isRefused, openedOf, freshReceiving, openedMore}
+use Rattle.sealed_receiver.specs.State as sealed-states
+use Rattle.sealed_receiver.specs.Step as step
+use Rattle.sealed_receiver.specs.Step.{at, knowing, switched, Stepped, silent, refuse, unlessRefused, judgeOpened, textOf, judgePart, partText, endFrame, beginLast, beginRest, behindFirst, behindRest, behindLast, finish, absorbed, stored, reached, size, onByte, neededBy, feed}
+use Rattle.sealed_receiver.proofs.Traces.{opened-next}
+use Rattle.sealed_builder.specs.Nonces.{AllDifferent}
+use Rattle.sealed_builder.proofs.Runs.{run, run-on, all-different}
+use Rattle.connection.specs.declared.State.{State}
+use Rattle.connection.specs.declared.Received.{Received}
+use Rattle.connection.specs.declared.Mode.the-variants as mode
+use Rattle.connection.specs.Step.{agrees, Answer, answer, bySecure, Answered, judgeSwitch, switchedState, SwitchedWith}
+use Rattle.connection.specs.Calls.{Try}
+use Rattle.sealed_ends.proofs.Judging.{after-add}
+use Rattle.sealed_ends.specs.Openings.{Opening, partBytes, openingBy, openingAt, openingsOf, leftBy, behindBy, finishBy, reachedBy, outcomes, byteBy, unlessReported, openingsIn, openingsOn, openingsBy, Lent, Call, taking, switching, Chained, openings, noncesOf, Under, Made, NoNonceOpenedTwice}
+
+-- ---- what a step leaves: what opens the next part, or a refusal
+
+data Keeps (r : Receiving) (x : Stepped) : Type 0 where
+  kept : isRefused (x .state .position .stage) ≡ false → x .state .known .receiving ≡ r → Keeps r x
+  refusing : (n : Numbers) (t : List ℕ) → x ≡ refuse n t → Keeps r x
+
+keeps-unless : {r : Receiving} (j : Judged) (s : List ℕ) (x : Stepped) → Keeps r x → Keeps r (unlessRefused j s x)
+keeps-unless fine s x k = k
+keeps-unless (refused n) s x k = refusing n s refl
+
+keeps-end : (x : Ended) (r : Receiving) (h : Header) (p s : List ℕ) → Keeps r (endFrame x r h p s)
+keeps-end whole r h p s = kept refl refl
+keeps-end dropped r h p s = kept refl refl
+keeps-end (turnedAway n) r h p s = refusing n (zeroed h s) refl
+
+keeps-either : {r : Receiving} (b : Bool) (x y : Stepped) → Keeps r x → Keeps r y → Keeps r (cond b x y)
+keeps-either true x y k l = k
+keeps-either false x y k l = l
+
+keeps-last : (r : Receiving) (h : Header) (s : List ℕ) → Keeps r (beginLast r h s)
+keeps-last r h s = keeps-either (noLast h) (endFrame whole r h (take (h .s1 .len) s) s) (silent (at stage.Last (knowing r h)) s) (keeps-end whole r h (take (h .s1 .len) s) s) (kept refl refl)
+
+keeps-rest : (r : Receiving) (h : Header) (s : List ℕ) → Keeps r (beginRest r h s)
+keeps-rest r h s = keeps-either (noRest h) (beginLast r h s) (silent (at stage.Rest (knowing r h)) s) (keeps-last r h s) (kept refl refl)
+
+keeps-behind : (k : Stage) (r : Receiving) (h : Header) (text s : List ℕ) → Keeps r (behindBy k r h text s)
+unfolding behindFirst behindRest behindLast
+keeps-behind stage.First r h text s =
+    keeps-unless (judgeFirst text (length s)) s (beginRest r (headerOf text) (replaceFront (take (headerOf text .s1 .len) (drop 32 text)) s)) (keeps-rest r (headerOf text) _)
+keeps-behind stage.Rest r h text s =
+    let m : ℕ = h .s1 .len - inlineLength in
+    let t : List ℕ = splice s inlineLength (take m text ++ replicate (padding m + 16) 0) in
+    keeps-unless (judgePadding (drop m text)) (zeroed h s) (beginLast r h t) (keeps-last r h t)
+keeps-behind stage.Last r h text s = keeps-end (lastEnded h text) r h (take (h .s1 .len) s ++ unpadded (lastLengths h) text) s
+keeps-behind stage.Refused r h text s = refusing (numbersOf refusal.NoncesSpent) s refl
+
+-- ---- openings one behind the other, from what r opens on
+
+pub record Ran (r : Receiving) (os : List Opening) : Type 0 where
+  pub count : ℕ
+  pub is : noncesOf os ≡ run count (r .nonce)
+  pub under : Under (r .key) os
+  pub fits : openedOf r + count ≤ allNonces
+
+-- what opens the next part is then so many further on
+record On (r : Receiving) (k : ℕ) (y : sealed.State) : Type 0 where
+  live : isRefused (y .position .stage) ≡ false
+  key : y .known .receiving .key ≡ r .key
+  nonce : y .known .receiving .nonce ≡ nonceAfter k (r .nonce)
+  opened : openedOf (y .known .receiving) ≡ openedOf r + k
+
+nonces-two : (os ps : List Opening) → noncesOf (os ++ ps) ≡ noncesOf os ++ noncesOf ps
+nonces-two [] ps = refl
+nonces-two (o ∷ os) ps = ap (λ (l : List (List ℕ)). o .nonce ∷ l) (nonces-two os ps)
+
+under-two : (key : List ℕ) (os ps : List Opening) → Under key os → Under key ps → Under key (os ++ ps)
+under-two key [] ps u v = v
+under-two key (o ∷ os) ps u v = (u .0, under-two key os ps (u .1) v)
+
+ran-none : (r : Receiving) → openedOf r ≤ allNonces → Ran r []
+ran-none r l = record { count = 0; is = refl; under = tt; fits = omega arith }
+
+ran-two : (r : Receiving) (os ps : List Opening) (y : sealed.State) (a : Ran r os) → On r (a .count) y → Ran (y .known .receiving) ps → Ran r (os ++ ps)
+ran-two r os ps y a o b = record {
+  count = a .count + b .count;
+  is = nonces-two os ps ∙ ap₂ _++_ (a .is) (b .is ∙ ap (run (b .count)) (o .nonce)) ∙ run-on (a .count) (b .count) (r .nonce);
+  under = under-two (r .key) os ps (a .under) (subst (λ (k : List ℕ). Under k ps) (o .key) (b .under));
+  fits = omega (arith, b .fits, o .opened);
+}
+
+on-two : (r : Receiving) (j k : ℕ) (x y : sealed.State) → On r j x → On (x .known .receiving) k y → On r (j + k) y
+on-two r j k x y a b = record {
+  live = b .live;
+  key = b .key ∙ a .key;
+  nonce = b .nonce ∙ ap (nonceAfter k) (a .nonce) ∙ after-add j k (r .nonce);
+  opened = b .opened ∙ omega (arith, a .opened);
+}
+
+on-none : (y : sealed.State) → isRefused (y .position .stage) ≡ false → On (y .known .receiving) 0 y
+unfolding nonceAfter
+on-none y e = record { live = e; key = refl; nonce = refl; opened = sym (add-zero (openedOf (y .known .receiving))) }
+
+-- ---- one byte
+
+data Byte (r : Receiving) (os : List Opening) (x : Stepped) : Type 0 where
+  goes : (a : Ran r os) → On r (a .count) (x .state) → Byte r os x
+  stops : Ran r os → (n : Numbers) (t : List ℕ) → x ≡ refuse n t → Byte r os x
+
+one-opening : (r : Receiving) (bytes : List ℕ) → judgeNonce (openedOf r) ≡ fine → Ran r (openingBy fine r bytes)
+one-opening r bytes e =
+    let l = ltb-true (openedOf r) allNonces (passed (ltb (openedOf r) allNonces) refusal.NoncesSpent e) in
+    record { count = 1; is = refl; under = (refl, tt); fits = omega arith }
+
+module _ (r : Receiving) (bytes left : List ℕ) (next : List ℕ → Stepped) (keeps : (text : List ℕ) → Keeps (openedMore r) (next text)) (l : openedOf r ≤ allNonces) where
+  by-kept : judgeNonce (openedOf r) ≡ fine → judgePart r bytes ≡ fine → (x : Stepped) → Keeps (openedMore r) x → Byte r (openingBy fine r bytes) x
+  unfolding openedMore nonceAfter one-opening
+  by-kept e j x (kept live q) =
+      goes (one-opening r bytes e) (record {
+        live = live;
+        key = ap (λ (y : Receiving). y .key) q;
+        nonce = ap (λ (y : Receiving). y .nonce) q;
+        opened = ap openedOf q ∙ opened-next r bytes j ∙ sym (add-one (openedOf r));
+      })
+  by-kept e j x (refusing n t q) = stops (one-opening r bytes e) n t q
+
+  part-byte : Byte r (openingBy (judgeNonce (openedOf r)) r bytes) (unlessRefused (judgePart r bytes) left (next (partText r bytes)))
+  unfolding judgePart partText
+  part-byte = go (judgeNonce (openedOf r)) refl (opened (r .key) (r .nonce) bytes) refl
+    where
+      go : (j : Judged) → judgeNonce (openedOf r) ≡ j → (o : Opened) → opened (r .key) (r .nonce) bytes ≡ o
+          → Byte r (openingBy j r bytes) (unlessRefused (orElse j (judgeOpened o)) left (next (textOf o)))
+      go (refused n) e o q = stops (ran-none r l) n left refl
+      go fine e fail q = stops (one-opening r bytes e) (numbersOf refusal.AuthTag) left refl
+      go fine e (plain text) q = by-kept e (ap₂ (λ (j : Judged) (o : Opened). orElse j (judgeOpened o)) e q) (next text) (keeps text)
+
+finish-is : (k : Stage) (b : List ℕ) (v : Known) (s : List ℕ) → isRefused k ≡ false
+    → finish k b v s
+    ≡ unlessRefused (judgePart (v .receiving) (partBytes k b (v .header) s)) (leftBy k (v .header) s)
+    (behindBy k (openedMore (v .receiving)) (v .header) (partText (v .receiving) (partBytes k b (v .header) s)) s)
+unfolding finish
+finish-is stage.First b v s e = refl
+finish-is stage.Rest b v s e = refl
+finish-is stage.Last b v s e = refl
+finish-is stage.Refused b v s e = wrong (sym e)
+
+reached-byte : (c : Bool) (y : sealed.State) (s : List ℕ) → isRefused (y .position .stage) ≡ false → openedOf (y .known .receiving) ≤ allNonces
+    → Byte (y .known .receiving) (openingAt c y s) (reached y s c)
+unfolding ran-none
+reached-byte true y s e l = goes (ran-none (y .known .receiving) l) (on-none y e)
+reached-byte false y s e l =
+    let r = y .known .receiving in
+    let h = y .known .header in
+    let k = y .position .stage in
+    let bytes : List ℕ = partBytes k (y .position .block) h s in
+    subst (Byte r (openingBy (judgeNonce (openedOf r)) r bytes)) (sym (finish-is k (y .position .block) (y .known) s e))
+    (part-byte r bytes (leftBy k h s) (λ text. behindBy k (openedMore r) h text s) (λ text. keeps-behind k (openedMore r) h text s) l)
+
+byte-goes : (st : sealed.State) (s : List ℕ) (b : ℕ) → isRefused (st .position .stage) ≡ false → openedOf (st .known .receiving) ≤ allNonces
+    → Byte (st .known .receiving) (openingsOf st s b) (onByte st s b)
+unfolding openingsOf onByte
+byte-goes st s b e l = reached-byte (ltb (st .position .got + 1) (size st)) (absorbed st (b ∷ [])) (stored st s (b ∷ [])) e l
+
+-- what it comes to by the openings alone
+part-only : (r : Receiving) (bytes left : List ℕ) (next : List ℕ → Stepped) (by : List Opened → Stepped)
+    → by [] ≡ refuse (numbersOf refusal.NoncesSpent) left → ((o : Opened) → by (o ∷ []) ≡ unlessRefused (judgeOpened o) left (next (textOf o)))
+    → unlessRefused (judgePart r bytes) left (next (partText r bytes)) ≡ by (outcomes (openingBy (judgeNonce (openedOf r)) r bytes))
+unfolding judgePart partText
+part-only r bytes left next by none one = go (ltb (openedOf r) allNonces)
+  where
+    go : (c : Bool)
+        → unlessRefused (orElse (unless c refusal.NoncesSpent) (judgeOpened (opened (r .key) (r .nonce) bytes))) left (next (textOf (opened (r .key) (r .nonce) bytes)))
+        ≡ by (outcomes (openingBy (unless c refusal.NoncesSpent) r bytes))
+    go true = sym (one (opened (r .key) (r .nonce) bytes))
+    go false = sym none
+
+reached-only : (c : Bool) (y : sealed.State) (s : List ℕ) → isRefused (y .position .stage) ≡ false → reached y s c ≡ reachedBy (outcomes (openingAt c y s)) c y s
+reached-only true y s e = refl
+reached-only false y s e =
+    let r = y .known .receiving in
+    let h = y .known .header in
+    let k = y .position .stage in
+    let bytes : List ℕ = partBytes k (y .position .block) h s in
+    finish-is k (y .position .block) (y .known) s e
+    ∙ part-only r bytes (leftBy k h s) (λ text. behindBy k (openedMore r) h text s) (λ os. finishBy os k (y .known) s) refl (λ o. refl)
+
+only : (st : sealed.State) (s : List ℕ) (b : ℕ) → isRefused (st .position .stage) ≡ false → onByte st s b ≡ byteBy (outcomes (openingsOf st s b)) st s b
+unfolding openingsOf onByte byteBy
+only st s b e = reached-only (ltb (st .position .got + 1) (size st)) (absorbed st (b ∷ [])) (stored st s (b ∷ [])) e
+
+-- ---- a piece
+
+data Went (r : Receiving) (os : List Opening) (y : sealed.State) : Type 0 where
+  further : (a : Ran r os) → On r (a .count) y → Went r os y
+  over : Ran r os → isRefused (y .position .stage) ≡ true → Went r os y
+
+went-none : (y : sealed.State) → isRefused (y .position .stage) ≡ false → openedOf (y .known .receiving) ≤ allNonces → Went (y .known .receiving) [] y
+unfolding ran-none
+went-none y e l = further (ran-none (y .known .receiving) l) (on-none y e)
+
+-- behind openings that left x
+went-on : (r : Receiving) (os ps : List Opening) (x y : sealed.State) (a : Ran r os) → On r (a .count) x → Went (x .known .receiving) ps y → Went r (os ++ ps) y
+unfolding ran-two
+went-on r os ps x y a o (further b u) = further (ran-two r os ps x a o b) (on-two r (a .count) (b .count) x y o u)
+went-on r os ps x y a o (over b z) = over (ran-two r os ps x a o b) z
+
+fewer : (r : Receiving) (os : List Opening) (x : sealed.State) (a : Ran r os) → On r (a .count) x → openedOf (x .known .receiving) ≤ allNonces
+fewer r os x a o = omega (arith, a .fits, o .opened)
+
+module _ (r : Receiving) (os : List Opening) (later : sealed.State → List ℕ → List Opening) (rest : sealed.State → List ℕ → step.Answer)
+    (ih : (y : sealed.State) (s : List ℕ) → isRefused (y .position .stage) ≡ false → openedOf (y .known .receiving) ≤ allNonces → Went (y .known .receiving) (later y s) (rest y s .received .state)) where
+  by-report : (p : Report) (x : Stepped) (a : Ran r os) → On r (a .count) (x .state)
+      → Went r (os ++ unlessReported p (later (x .state) (x .store))) (step.onward p 1 x (rest (x .state) (x .store)) .received .state)
+  by-report report.More x a o =
+      went-on r os (later (x .state) (x .store)) (x .state) (rest (x .state) (x .store) .received .state) a o (ih (x .state) (x .store) (o .live) (fewer r os (x .state) a o))
+  by-report (report.Event e) x a o = subst (λ (l : List Opening). Went r l (x .state)) (sym (append-nil os)) (further a o)
+
+  by-byte : (x : Stepped) → Byte r os x
+      → Went r (os ++ unlessReported (x .report) (later (x .state) (x .store))) (step.onward (x .report) 1 x (rest (x .state) (x .store)) .received .state)
+  by-byte x (goes a o) = by-report (x .report) x a o
+  by-byte x (stops a n t q) =
+      subst (λ (z : Stepped). Went r (os ++ unlessReported (z .report) (later (z .state) (z .store))) (step.onward (z .report) 1 z (rest (z .state) (z .store)) .received .state)) (sym q)
+      (subst (λ (l : List Opening). Went r l (step.refusedState n)) (sym (append-nil os)) (over a refl))
+
+feed-went : (st : sealed.State) (s bs : List ℕ) → isRefused (st .position .stage) ≡ false → openedOf (st .known .receiving) ≤ allNonces
+    → Went (st .known .receiving) (openingsIn st s bs) (feed st s bs .received .state)
+unfolding feed openingsIn
+feed-went st s [] e l = went-none st e l
+feed-went st s (b ∷ bs) e l =
+    by-byte (st .known .receiving) (openingsOf st s b) (λ y t. openingsIn y t bs) (λ y t. feed y t bs) (λ y t. feed-went y t bs) (onByte st s b) (byte-goes st s b e l)
+
+-- ---- a call
+
+module _ (st : sealed.State) (s piece : List ℕ) where
+  -- by the tests of a call, in their order
+  abbrev answers : Bool → Bool → Bool → step.Answer
+  answers a r t =
+      cond a
+      (cond r (step.refuseUnchanged st (st .known .refusal) s)
+      (cond t (step.refuseUnchanged (step.refusedState (step.shortStore st)) (step.shortStore st) s) (feed st s piece)))
+      (step.refuseUnchanged st (numbersOf refusal.StateContradicts) s)
+
+  abbrev opens : Bool → Bool → Bool → List Opening
+  opens a r t = cond a (cond r [] (cond t [] (openingsIn st s piece))) []
+
+  call-went : isRefused (st .position .stage) ≡ false → openedOf (st .known .receiving) ≤ allNonces
+      → Went (st .known .receiving) (openingsOn st s piece) (step.answer st s piece .received .state)
+  unfolding step.answer
+  call-went e l =
+      subst (λ (r : Bool). Went (st .known .receiving) (opens (sealed-states.agrees st) r short) (answers (sealed-states.agrees st) r short .received .state)) (sym e)
+      (go (sealed-states.agrees st) short)
+    where
+      short : Bool
+      short = ltb (length s) (neededBy st)
+
+      go : (a t : Bool) → Went (st .known .receiving) (opens a false t) (answers a false t .received .state)
+      go false t = went-none st e l
+      go true true = over (ran-none (st .known .receiving) l) refl
+      go true false = feed-went st s piece e l
+
+  call-gone : isRefused (st .position .stage) ≡ true → (openingsOn st s piece ≡ []) × (isRefused (step.answer st s piece .received .state .position .stage) ≡ true)
+  unfolding step.answer
+  call-gone e =
+      subst (λ (r : Bool). (opens (sealed-states.agrees st) r short ≡ []) × (isRefused (answers (sealed-states.agrees st) r short .received .state .position .stage) ≡ true)) (sym e)
+      (go (sealed-states.agrees st) short)
+    where
+      short : Bool
+      short = ltb (length s) (neededBy st)
+
+      go : (a t : Bool) → (opens a true t ≡ []) × (isRefused (answers a true t .received .state .position .stage) ≡ true)
+      go false t = (refl, e)
+      go true t = (refl, e)
+
+-- ---- a connection behind its switch
+
+record Secured (st : State) : Type 0 where
+  mode : st .mode ≡ mode.Secure
+  ready : st .ready ≡ false
+
+secure-answer : (st : State) (s piece : List ℕ) → Secured st
+    → (answer st s piece ≡ bySecure st (step.answer (st .secure) s piece)) × (openingsBy st s piece ≡ openingsOn (st .secure) s piece)
+unfolding answer openingsBy
+secure-answer st s piece z = (rw (z .ready, z .mode), rw (z .ready, z .mode))
+
+-- a try to switch is refused and leaves everything as it is
+denied : (st : State) → st .ready ≡ false → (n : Numbers) × (judgeSwitch st ≡ refused n)
+unfolding judgeSwitch
+denied st e = go (agrees st) refl
+  where
+    tests : Bool → Bool → Judged
+    tests a q = firstOf (unless a refusal.StateContradicts ∷ unless (q && isMsgr21 (st .crc .known .revision)) refusal.SwitchRefused ∷ [])
+
+    go : (a : Bool) → agrees st ≡ a → (n : Numbers) × (tests (agrees st) (st .ready) ≡ refused n)
+    go true q = (numbersOf refusal.SwitchRefused, ap₂ tests q e)
+    go false q = (numbersOf refusal.StateContradicts, ap₂ tests q e)
+
+still : (st : State) (c : Try) → st .ready ≡ false → SwitchedWith st (c .key) (c .receiving) (c .sending) (c .switched) → c .switched .state ≡ st
+still st c e w = (let d = denied st e in w .state ∙ ap (λ (j : Judged). switchedState j st (c .key) (c .receiving)) (d .1))
+
+-- the state that a call hands back
+module _ (st : State) (c : Lent) (z : Secured st) (a : Answered st (c .store) (c .piece) (c .received) (c .after)) where
+  handed-back : c .received .state ≡ bySecure st (step.answer (st .secure) (c .store) (c .piece)) .received .state
+  handed-back = ap (λ (y : Received). y .state) (a .received ∙ ap (λ (y : Answer). y .received) (secure-answer st (c .store) (c .piece) z .0))
+
+  still-secured : Secured (c .received .state)
+  still-secured = record { mode = ap (λ (y : State). y .mode) handed-back ∙ z .mode; ready = ap (λ (y : State). y .ready) handed-back ∙ z .ready }
+
+  secured-went : isRefused (st .secure .position .stage) ≡ false → openedOf (st .secure .known .receiving) ≤ allNonces
+      → Went (st .secure .known .receiving) (openingsBy st (c .store) (c .piece)) (c .received .state .secure)
+  secured-went e l =
+      subst (λ (y : sealed.State). Went (st .secure .known .receiving) (openingsBy st (c .store) (c .piece)) y) (sym (ap (λ (y : State). y .secure) handed-back))
+      (subst (λ (os : List Opening). Went (st .secure .known .receiving) os (step.answer (st .secure) (c .store) (c .piece) .received .state)) (sym (secure-answer st (c .store) (c .piece) z .1))
+      (call-went (st .secure) (c .store) (c .piece) e l))
+
+  secured-gone : isRefused (st .secure .position .stage) ≡ true → (openingsBy st (c .store) (c .piece) ≡ []) × (isRefused (c .received .state .secure .position .stage) ≡ true)
+  secured-gone e =
+      let g = call-gone (st .secure) (c .store) (c .piece) e in
+      (secure-answer st (c .store) (c .piece) z .1 ∙ g .0, ap (λ (y : State). isRefused (y .secure .position .stage)) handed-back ∙ g .1)
+
+-- ---- lists of calls
+
+gone-list : (st : State) (cs : List Call) → Secured st → Chained st cs → isRefused (st .secure .position .stage) ≡ true → openings st cs ≡ []
+gone-list st [] z ch e = refl
+gone-list st (taking c ∷ cs) z ch e =
+    let g = secured-gone st c z (ch .0) e in
+    ap₂ (λ (os ps : List Opening). os ++ ps) (g .0) (gone-list (c .received .state) cs (still-secured st c z (ch .0)) (ch .1) (g .1))
+gone-list st (switching c ∷ cs) z ch e =
+    let q = still st c (z .ready) (ch .0) in
+    ap (λ (y : State). openings y cs) q ∙ gone-list st cs z (subst (λ (y : State). Chained y cs) q (ch .1)) e
+
+by-went : (r : Receiving) (os ps : List Opening) (y : sealed.State) → (isRefused (y .position .stage) ≡ false → openedOf (y .known .receiving) ≤ allNonces → Ran (y .known .receiving) ps)
+    → (isRefused (y .position .stage) ≡ true → ps ≡ []) → Went r os y → Ran r (os ++ ps)
+by-went r os ps y live gone (further a o) = ran-two r os ps y a o (live (o .live) (fewer r os y a o))
+by-went r os ps y live gone (over a e) = subst (Ran r) (sym (ap (λ (l : List Opening). os ++ l) (gone e) ∙ append-nil os)) a
+
+ran-list : (st : State) (cs : List Call) → Secured st → Chained st cs → isRefused (st .secure .position .stage) ≡ false → openedOf (st .secure .known .receiving) ≤ allNonces
+    → Ran (st .secure .known .receiving) (openings st cs)
+ran-list st [] z ch e l = ran-none (st .secure .known .receiving) l
+ran-list st (taking c ∷ cs) z ch e l =
+    let z′ = still-secured st c z (ch .0) in
+    by-went (st .secure .known .receiving) (openingsBy st (c .store) (c .piece)) (openings (c .received .state) cs) (c .received .state .secure)
+    (λ u v. ran-list (c .received .state) cs z′ (ch .1) u v) (λ u. gone-list (c .received .state) cs z′ (ch .1) u) (secured-went st c z (ch .0) e l)
+ran-list st (switching c ∷ cs) z ch e l =
+    let q = still st c (z .ready) (ch .0) in
+    subst (λ (y : State). Ran (st .secure .known .receiving) (openings y cs)) (sym q) (ran-list st cs z (subst (λ (y : State). Chained y cs) q (ch .1)) e l)
+
+-- from the switch on
+pub from-switch : (st : State) (c : Try) (cs : List Call) → Made st c → Chained (c .switched .state) cs → Ran (freshReceiving (c .key) (c .receiving)) (openings (c .switched .state) cs)
+unfolding switched freshReceiving
+from-switch st c cs m ch =
+    let S : State = switchedState fine st (c .key) (c .receiving) in
+    let w = m .switched in
+    let q : c .switched .state ≡ S = w .state ∙ ap (λ (j : Judged). switchedState j st (c .key) (c .receiving)) (sym (w .verdict) ∙ m .verdict) in
+    let z : Secured S = record { mode = refl; ready = refl } in
+    subst (λ (y : State). Ran (freshReceiving (c .key) (c .receiving)) (openings y cs)) (sym q) (ran-list S cs z (subst (λ (y : State). Chained y cs) q ch) refl (omega arith))
+
+different : (st : State) (c : Try) (cs : List Call) → Made st c → Chained (c .switched .state) cs → AllDifferent (noncesOf (openings (c .switched .state) cs))
+unfolding freshReceiving
+different st c cs m ch = (let a = from-switch st c cs m ch in rw (a .is) (all-different (a .count) (c .receiving) (omega (arith, a .fits))))
+
+one-key : (st : State) (c : Try) (cs : List Call) → Made st c → Chained (c .switched .state) cs → Under (c .key) (openings (c .switched .state) cs)
+unfolding freshReceiving
+one-key st c cs m ch = from-switch st c cs m ch .under
+
+pub no-nonce-opened-twice : NoNonceOpenedTwice
+no-nonce-opened-twice = record { different = different; oneKey = one-key; only = only }

@@ -1,0 +1,100 @@
+-- The receiver gathers the bytes of a part (Gathers): a piece, fed byte by byte, is the machine's.
+use Prim.Native.Nat.{ℕ, _+_}
+use mathlib.Core.List.{List, [], _∷_, _++_}
+use mathlib.Core.Path.{_≡_, refl, sym, ap, subst, _∙_}
+use mathlib.Core.Bool.{Bool, true, false}
+use native.Mathlib.Nat.{add-assoc}
+use lib.ListN.{length, length-append}
+use lib.Seq.{sets}
+use lib.Dec.{ltb}
+use Rattle.receiver.specs.declared.Report.{Report}
+use Rattle.receiver.specs.declared.Report.the-variants as report
+use Rattle.receiver.proofs.Machine as machine
+use Rattle.sealed_receiver.specs.declared.State.{State}
+use Rattle.sealed_receiver.specs.State.{isFirst, inFrame, placeOf}
+use Rattle.sealed_receiver.specs.Step.{Stepped, finish, blockWith, storeWith, absorbed, stored, reached, size, chunk, onByte, Answer, onward, feed, Running}
+use Rattle.sealed_receiver.proofs.Gathers.{sets-append, Gathering, byteStep}
+use Rattle.sealed_receiver.proofs.Gathers as gathers
+use Rattle.sealed_receiver.proofs.Live.{Gone, After, inside-of, chunk-leaves}
+use Rattle.sealed_receiver.proofs.Feeding.{Lasting}
+
+abbrev pub bare : Stepped → machine.Stepped State
+bare y = record { state = y .state; store = y .store; report = y .report }
+
+block-append : (first : Bool) (got : ℕ) (b xs ys : List ℕ)
+    → blockWith first (got + length xs) (blockWith first got b xs) ys ≡ blockWith first got b (xs ++ ys)
+block-append true got b xs ys = sets-append b got xs ys
+block-append false got b xs ys = refl
+
+pub store-append : (later : Bool) (place got : ℕ) (s xs ys : List ℕ)
+    → storeWith later (place + (got + length xs)) (storeWith later (place + got) s xs) ys ≡ storeWith later (place + got) s (xs ++ ys)
+store-append true place got s xs ys =
+    ap (λ (n : ℕ). sets (sets s (place + got) xs) n ys) (sym (add-assoc place got (length xs))) ∙ sets-append s (place + got) xs ys
+store-append false place got s xs ys = refl
+
+pub store-none : (later : Bool) (place : ℕ) (s : List ℕ) → storeWith later place s [] ≡ s
+store-none true place s = refl
+store-none false place s = refl
+
+pub absorbed-twice : (st : State) (xs ys : List ℕ) → absorbed (absorbed st xs) ys ≡ absorbed st (xs ++ ys)
+absorbed-twice st xs ys =
+    let p = st .position in
+    let n : (p .got + length xs) + length ys ≡ p .got + length (xs ++ ys) =
+    add-assoc (p .got) (length xs) (length ys) ∙ ap (λ (k : ℕ). p .got + k) (sym (length-append xs ys))
+    in
+    rw (n, block-append (isFirst (p .stage)) (p .got) (p .block) xs ys)
+
+abbrev pub parts : Gathering
+parts = record {
+  State = State;
+  got = λ st. st .position .got;
+  size = size;
+  absorbed = absorbed;
+  stored = stored;
+  finishing = λ st s. bare (finish (st .position .stage) (st .position .block) (st .known) s);
+  got-absorbed = λ st xs. refl;
+  size-absorbed = λ st xs. refl;
+  absorbed-append = absorbed-twice;
+  stored-append = λ st.
+      store-append (inFrame (st .position .stage)) (placeOf (st .position .stage) (st .known .header)) (st .position .got);
+  stored-none = λ st s. store-none (inFrame (st .position .stage)) (placeOf (st .position .stage) (st .known .header) + st .position .got) s;
+}
+
+-- its chunks are the gathered ones
+bare-reached : (st : State) (s : List ℕ) (t : Bool) → bare (reached st s t) ≡ gathers.reached parts st s t
+bare-reached st s true = refl
+bare-reached st s false = refl
+
+pub bare-chunk : (st : State) (s xs : List ℕ) → bare (chunk st s xs) ≡ gathers.chunk parts st s xs
+bare-chunk st s xs = bare-reached (absorbed st xs) (stored st s xs) (ltb (st .position .got + length xs) (size st))
+
+pub chunk-keeps : (st : State) (s xs : List ℕ) → Running st s → (let y = gathers.chunk parts st s xs in After (y .report) (y .state) (y .store))
+chunk-keeps st s xs r =
+    subst (λ (y : machine.Stepped State). After (y .report) (y .state) (y .store)) (bare-chunk st s xs) (chunk-leaves st s xs r .after)
+
+abbrev pub lasting : Lasting parts
+lasting = record { Running = Running; Gone = Gone; unfilled = inside-of; keeps = chunk-keeps }
+
+-- and an answer of the receiver is one of the machine
+abbrev pub plain : Answer → machine.Answer State
+plain a = record { state = a .received .state; taken = a .received .taken; report = a .received .report; store = a .store }
+
+plain-onward : (r : Report) (x : Stepped) (a : Answer) → plain (onward r 1 x a) ≡ machine.onward r (bare x) (plain a)
+plain-onward report.More x a = refl
+plain-onward (report.Event e) x a = refl
+
+pub plain-feed : (st : State) (s piece : List ℕ) → plain (feed st s piece) ≡ machine.feed (byteStep parts) st s piece
+unfolding feed machine.feed onByte
+plain-feed st s [] = refl
+plain-feed st s (b ∷ bs) =
+    let x = chunk st s (b ∷ []) in
+    plain-onward (x .report) x (feed (x .state) (x .store) bs)
+    ∙ ap (machine.onward (x .report) (bare x)) (plain-feed (x .state) (x .store) bs)
+    ∙ ap (λ (y : machine.Stepped State). machine.onward (y .report) y (machine.feed (byteStep parts) (y .state) (y .store) bs))
+    (bare-chunk st s (b ∷ []))
+
+pub feed-after : (st : State) (s piece : List ℕ) → Running st s
+    → After (feed st s piece .received .report) (feed st s piece .received .state) (feed st s piece .store)
+feed-after st s piece r =
+    subst (λ (a : machine.Answer State). After (a .report) (a .state) (a .store)) (sym (plain-feed st s piece))
+    (machine.feed-after Running Gone (byteStep parts) (λ x t b q. chunk-keeps x t (b ∷ []) q) st s piece r)

@@ -1,0 +1,268 @@
+-- The last part: its segments and what pads them, its end, and its segments one behind the other.
+use mathlib.Core.Path.{_≡_, refl, sym, ap, ap₂, _∙_}
+use mathlib.Core.List.{List, [], _∷_, _++_, append-assoc, append-nil}
+use mathlib.Core.Bool.{Bool, false, _&&_}
+use Prim.Native.Nat.{ℕ, _+_, _-_, _≤_}
+use native.Mathlib.Nat.{add-zero}
+use native.Mathlib.Omega.{arith}
+use lib.ListN.{length, take, drop, getD, length-append, length-take, length-drop}
+use lib.Seq.{take-take, take-add, drop-drop, getD-drop, length-take-le}
+use Rattle.buffer.specs.Splice.{splice}
+use Rattle.buffer.proofs.Parts.{splice-next}
+use Rattle.refusal.specs.declared.Numbers.{Numbers}
+use Rattle.refusal.specs.declared.Refusal.the-variants as refusal
+use Rattle.refusal.specs.Refusals.{fine, refused, unless}
+use Rattle.preamble.specs.declared.Header.{Header}
+use Rattle.preamble.specs.Layout.{total}
+use Rattle.banner.specs.declared.Revision.the-variants.{Msgr21}
+use Rattle.body.specs.End.{Ended, whole, lateOf}
+use Rattle.secure.specs.Layout.{padding, roundUp, noLast, lastLengths, lastPart, lastPartLength, needed}
+use Rattle.secure.specs.Reading.{allZero, unpadded, paddingOf, lateIn, byLateStatus, lastEnded, zeroed}
+use Rattle.sealed_receiver.specs.declared.Stage.the-variants as stage
+use Rattle.sealed_receiver.specs.declared.Receiving.{Receiving}
+use Rattle.sealed_receiver.specs.declared.Known.{Known}
+use Rattle.sealed_receiver.specs.State.{openedMore}
+use Rattle.sealed_receiver.specs.Step.{Stepped, refuse, judgePart, partText, endFrame, behindLast, finish, ClosedUp}
+use Rattle.sealed_receiver.proofs.Lists.{drop-take, splice-upto, splice-behind, and-assoc, zeros-append}
+use Rattle.sealed_receiver.proofs.Regions.{end-same, after, after-length, after-before, after-behind, part-refused, part-opened}
+use Rattle.sealed_receiver.proofs.Rooms.{segments-fit, moves-fit, round-up, last-size, last-fits}
+
+-- ---- padded segments
+
+abbrev rounds : List ℕ → ℕ
+rounds [] = 0
+rounds (n ∷ ns) = roundUp n + rounds ns
+
+-- what pads n bytes, of which the first stands at a place
+pub pads : (text : List ℕ) (at n pad : ℕ) → pad ≡ padding n → take pad (drop (at + n) text) ≡ drop n (take (roundUp n) (drop at text))
+pads text at n pad e =
+    ap (take pad) (sym (drop-drop n at text))
+    ∙ sym (drop-take n pad (drop at text))
+    ∙ ap (λ (k : ℕ). drop n (take (n + k) (drop at text))) e
+
+-- the segments are in the text's front
+unpadded-front : (ns : List ℕ) (m : ℕ) (l : List ℕ) → rounds ns ≤ m → unpadded ns (take m l) ≡ unpadded ns l
+unpadded-front [] m l h = refl
+unpadded-front (n ∷ ns) m l h =
+    let r : ℕ = roundUp n in
+    let e : r + (m - r) ≡ m = omega arith in
+    ap₂ (λ (x y : List ℕ). x ++ y) (take-take n m l (omega arith))
+    (ap (unpadded ns) (ap (λ (k : ℕ). drop r (take k l)) (sym e) ∙ drop-take r (m - r) l) ∙ unpadded-front ns (m - r) (drop r l) (omega arith))
+
+unpadded-length : (ns text : List ℕ) → length (unpadded ns text) ≤ rounds ns
+unpadded-length [] text = omega arith
+unpadded-length (n ∷ ns) text =
+    let ih = unpadded-length ns (drop (roundUp n) text) in
+    omega (arith, length-append (take n text) (unpadded ns (drop (roundUp n) text)), length-take n text, ih)
+
+module _ (h : Header) (s text : List ℕ) where
+  abbrev pub payload : List ℕ
+  payload = take (h .s1 .len) s ++ unpadded (lastLengths h) text
+
+  pub payload-fits : length payload ≤ needed h
+  payload-fits =
+      let first : List ℕ = take (h .s1 .len) s in
+      let others : List ℕ = unpadded (lastLengths h) text in
+      omega (arith, length-append first others, length-take (h .s1 .len) s, unpadded-length (lastLengths h) text, last-fits h)
+
+-- ---- how it ends
+
+module _ (h : Header) (text : List ℕ) (r₂ r₃ r₄ : ℕ)
+    (e₂ : r₂ ≡ roundUp (h .s2 .len)) (e₃ : r₃ ≡ roundUp (h .s3 .len)) (e₄ : r₄ ≡ roundUp (h .s4 .len)) where
+  abbrev t₃ : List ℕ
+  t₃ = drop (roundUp (h .s2 .len)) text
+
+  abbrev t₄ : List ℕ
+  t₄ = drop (roundUp (h .s3 .len)) t₃
+
+  abbrev t₅ : List ℕ
+  t₅ = drop (roundUp (h .s4 .len)) t₄
+
+  from-third : drop r₂ text ≡ t₃
+  from-third = ap (λ (k : ℕ). drop k text) e₂
+
+  from-fourth : drop (r₂ + r₃) text ≡ t₄
+  from-fourth = sym (drop-drop r₃ r₂ text) ∙ ap₂ (λ (k : ℕ) (t : List ℕ). drop k t) e₃ from-third
+
+  from-epilogue : drop (r₂ + r₃ + r₄) text ≡ t₅
+  from-epilogue = sym (drop-drop r₄ (r₂ + r₃) text) ∙ ap₂ (λ (k : ℕ) (t : List ℕ). drop k t) e₄ from-fourth
+
+  late-is : getD text (r₂ + r₃ + r₄) 0 ≡ lateIn (lastLengths h) text
+  late-is =
+      ap (λ (k : ℕ). getD text k 0) (sym (add-zero (r₂ + r₃ + r₄)))
+      ∙ sym (getD-drop (r₂ + r₃ + r₄) text 0 0)
+      ∙ ap (λ (t : List ℕ). getD t 0 0) from-epilogue
+
+  abbrev pads₂ : List ℕ
+  pads₂ = drop (h .s2 .len) (take (roundUp (h .s2 .len)) text)
+
+  abbrev pads₃ : List ℕ → List ℕ
+  pads₃ t = drop (h .s3 .len) (take (roundUp (h .s3 .len)) t)
+
+  abbrev pads₄ : List ℕ → List ℕ
+  pads₄ t = drop (h .s4 .len) (take (roundUp (h .s4 .len)) t)
+
+  abbrev zeros₄ : Bool
+  zeros₄ = allZero (pads₄ (drop (r₂ + r₃) text)) && allZero (drop (r₂ + r₃ + r₄ + 1) text)
+
+  abbrev zeros₂ : Bool
+  zeros₂ = allZero pads₂ && allZero (pads₃ (drop r₂ text)) && zeros₄
+
+  padded-is : zeros₂ ≡ allZero (paddingOf (lastLengths h) text)
+  padded-is =
+      let tail : drop (r₂ + r₃ + r₄ + 1) text ≡ drop 1 t₅ = sym (drop-drop 1 (r₂ + r₃ + r₄) text) ∙ ap (drop 1) from-epilogue in
+      let back : zeros₄ ≡ allZero (pads₄ t₄ ++ drop 1 t₅) =
+      ap₂ (λ (x y : List ℕ). allZero (pads₄ x) && allZero y) from-fourth tail ∙ sym (zeros-append (pads₄ t₄) (drop 1 t₅)) in
+      let rest : (allZero (pads₃ (drop r₂ text)) && zeros₄) ≡ allZero (pads₃ t₃ ++ (pads₄ t₄ ++ drop 1 t₅)) =
+      ap₂ (λ (x : List ℕ) (b : Bool). allZero (pads₃ x) && b) from-third back ∙ sym (zeros-append (pads₃ t₃) (pads₄ t₄ ++ drop 1 t₅)) in
+      and-assoc (allZero pads₂) (allZero (pads₃ (drop r₂ text))) zeros₄
+      ∙ ap (λ (b : Bool). allZero pads₂ && b) rest
+      ∙ sym (zeros-append pads₂ (pads₃ t₃ ++ (pads₄ t₄ ++ drop 1 t₅)))
+
+  pub last-ended : (late : ℕ) (padded : Bool) → late ≡ getD text (r₂ + r₃ + r₄) 0 → padded ≡ zeros₂
+      → byLateStatus (lateOf Msgr21 late) late (unless padded refusal.Padding) ≡ lastEnded h text
+  unfolding lastEnded
+  last-ended late padded el ep =
+      ap₂ (λ (b : ℕ) (p : Bool). byLateStatus (lateOf Msgr21 b) b (unless p refusal.Padding)) (el ∙ late-is) (ep ∙ padded-is)
+
+-- ---- segments 3 and 4 moved behind those before them
+
+module _ (h : Header) (s s₁ s₂ : List ℕ) (r₂ r₃ : ℕ)
+    (room : needed h ≤ length s) (e₂ : r₂ ≡ roundUp (h .s2 .len)) (e₃ : r₃ ≡ roundUp (h .s3 .len)) where
+  abbrev n₁ : ℕ
+  n₁ = h .s1 .len
+
+  abbrev n₂ : ℕ
+  n₂ = h .s2 .len
+
+  abbrev n₃ : ℕ
+  n₃ = h .s3 .len
+
+  abbrev n₄ : ℕ
+  n₄ = h .s4 .len
+
+  pub third-fits : (n₁ + n₂ ≤ n₁ + r₂) × (n₁ + r₂ + n₃ ≤ length s)
+  third-fits = let m = moves-fit h r₂ r₃ e₂ e₃ in let a = round-up n₂ r₂ e₂ in let b = round-up n₃ r₃ e₃ in (omega arith, omega arith)
+
+  pub fourth-fits : length s₁ ≡ length s → (n₁ + n₂ + n₃ ≤ n₁ + r₂ + r₃) × (n₁ + r₂ + r₃ + n₄ ≤ length s₁)
+  fourth-fits l = let m = moves-fit h r₂ r₃ e₂ e₃ in let a = round-up n₂ r₂ e₂ in let b = round-up n₃ r₃ e₃ in (omega arith, omega arith)
+
+  abbrev x₃ : List ℕ
+  x₃ = take n₃ (drop (n₁ + r₂) s)
+
+  abbrev x₄ : List ℕ
+  x₄ = take n₄ (drop (n₁ + r₂ + r₃) s)
+
+  third-length : length x₃ ≡ n₃
+  third-length = length-take-le n₃ (drop (n₁ + r₂) s) (omega (arith, length-drop (n₁ + r₂) s, third-fits .1))
+
+  fourth-length : length x₄ ≡ n₄
+  fourth-length =
+      length-take-le n₄ (drop (n₁ + r₂ + r₃) s) (omega (arith, length-drop (n₁ + r₂ + r₃) s, moves-fit h r₂ r₃ e₂ e₃))
+
+  up-to-third : n₁ + n₂ ≤ length s
+  up-to-third = omega (arith, third-fits .0, third-fits .1)
+
+  module _ (m₁ : s₁ ≡ splice s (n₁ + n₂) x₃) (m₂ : s₂ ≡ splice s₁ (n₁ + n₂ + n₃) (take n₄ (drop (n₁ + r₂ + r₃) s₁))) where
+    both-moved : s₂ ≡ splice s (n₁ + n₂) (x₃ ++ x₄)
+    both-moved =
+        let far : n₁ + n₂ + length x₃ ≤ n₁ + r₂ + r₃ = omega (arith, third-length, round-up n₂ r₂ e₂, round-up n₃ r₃ e₃) in
+        let unmoved : drop (n₁ + r₂ + r₃) s₁ ≡ drop (n₁ + r₂ + r₃) s =
+        ap (drop (n₁ + r₂ + r₃)) m₁ ∙ splice-behind s (n₁ + n₂) x₃ up-to-third (n₁ + r₂ + r₃) far in
+        m₂
+        ∙ ap₂ (λ (a b : List ℕ). splice a (n₁ + n₂ + n₃) (take n₄ b)) m₁ unmoved
+        ∙ ap (λ (k : ℕ). splice (splice s (n₁ + n₂) x₃) (n₁ + n₂ + k) x₄) (sym third-length)
+        ∙ splice-next s (n₁ + n₂) x₃ x₄ up-to-third
+
+    moved-length : length (x₃ ++ x₄) ≡ n₃ + n₄
+    moved-length = length-append x₃ x₄ ∙ ap₂ _+_ third-length fourth-length
+
+    segments-are : take n₂ (drop n₁ s) ++ (x₃ ++ x₄) ≡ unpadded (lastLengths h) (drop n₁ s)
+    segments-are =
+        let third : drop (n₁ + r₂) s ≡ drop (roundUp n₂) (drop n₁ s) = sym (drop-drop r₂ n₁ s) ∙ ap (λ (k : ℕ). drop k (drop n₁ s)) e₂ in
+        let fourth : drop (n₁ + r₂ + r₃) s ≡ drop (roundUp n₃) (drop (roundUp n₂) (drop n₁ s)) =
+        sym (drop-drop r₃ (n₁ + r₂) s) ∙ ap₂ (λ (k : ℕ) (t : List ℕ). drop k t) e₃ third in
+        ap₂ (λ (a b : List ℕ). take n₂ (drop n₁ s) ++ (take n₃ a ++ b)) third (sym (append-nil x₄) ∙ ap (λ (t : List ℕ). take n₄ t ++ []) fourth)
+
+    pub closed-up : ClosedUp h s s₂
+    closed-up =
+        let size : total h ≡ n₁ + n₂ + length (x₃ ++ x₄) = omega (arith, moved-length) in
+        record {
+          segments =
+              ap₂ take size both-moved
+              ∙ splice-upto s (n₁ + n₂) (x₃ ++ x₄) up-to-third
+              ∙ ap (λ (t : List ℕ). t ++ (x₃ ++ x₄)) (take-add n₁ n₂ s)
+              ∙ append-assoc (take n₁ s) (take n₂ (drop n₁ s)) (x₃ ++ x₄)
+              ∙ ap (λ (t : List ℕ). take n₁ s ++ t) segments-are;
+          behind =
+              ap (drop (needed h)) both-moved
+              ∙ splice-behind s (n₁ + n₂) (x₃ ++ x₄) up-to-third (needed h) (omega (arith, size, segments-fit h));
+        }
+
+-- ---- the frame's end: the text stands in the store, behind segment 1
+
+module _ (r : Receiving) (h : Header) (s : List ℕ) (m : ℕ) (em : m ≡ lastPart h - 16) where
+  abbrev text : List ℕ
+  text = take (lastPart h - 16) (drop (h .s1 .len) s)
+
+  read-is : take m (drop (h .s1 .len) s) ≡ text
+  read-is = ap (λ (k : ℕ). take k (drop (h .s1 .len) s)) em
+
+  module _ (o : Ended) (eo : o ≡ lastEnded h (take m (drop (h .s1 .len) s))) where
+    pub last-ends : (x : Ended) → o ≡ x → endFrame x r h (payload h s text) s ≡ behindLast r h text s
+    unfolding behindLast
+    last-ends x e = ap (λ (y : Ended). endFrame y r h (payload h s text) s) (sym e ∙ eo ∙ ap (lastEnded h) read-is)
+
+    pub last-whole : (s₁ : List ℕ) → o ≡ whole → ClosedUp h s s₁ → endFrame whole r h (take (total h) s₁) s₁ ≡ behindLast r h text s
+    last-whole s₁ e closed =
+        let all : rounds (lastLengths h) ≤ lastPart h - 16 = omega arith in
+        let front : unpadded (lastLengths h) (drop (h .s1 .len) s) ≡ unpadded (lastLengths h) text =
+        sym (unpadded-front (lastLengths h) (lastPart h - 16) (drop (h .s1 .len) s) all) in
+        ap (λ (p : List ℕ). endFrame whole r h p s₁) (closed .segments ∙ ap (λ (t : List ℕ). take (h .s1 .len) s ++ t) front)
+        ∙ end-same h s s₁ (closed .behind) whole r (payload h s text) (payload-fits h s text)
+        ∙ last-ends whole e
+
+-- ---- opened where it stands
+
+module _ (v : Known) (s ys : List ℕ) (m : ℕ) (em : m ≡ lastPartLength (v .header)) (e : noLast (v .header) ≡ false)
+    (room : needed (v .header) ≤ length s) (kept : length ys ≡ length (take m (drop (v .header .s1 .len) s))) where
+  abbrev g : Header
+  g = v .header
+
+  abbrev r : Receiving
+  r = v .receiving
+
+  abbrev place : ℕ
+  place = v .header .s1 .len
+
+  abbrev left : List ℕ
+  left = after s place m ys
+
+  abbrev next : List ℕ → List ℕ → Stepped
+  next = behindLast (openedMore (v .receiving)) (v .header)
+
+  size : m ≡ lastPart g - 16 + 16
+  size = em ∙ last-size g e ∙ omega arith
+
+  inside : place + m ≤ needed g
+  inside = omega (arith, last-fits g, size)
+
+  pub last-left : needed g ≤ length left
+  last-left = omega (arith, after-length g s ys place m inside room kept)
+
+  last-same : (text : List ℕ) → length text ≡ lastPart g - 16 → next text left ≡ next text s
+  unfolding behindLast
+  last-same text l =
+      ap (λ (t : List ℕ). endFrame (lastEnded g text) (openedMore r) g (t ++ unpadded (lastLengths g) text) left)
+      (after-before g s ys place m inside room kept)
+      ∙ end-same g s left (after-behind g s ys place m inside room kept) (lastEnded g text) (openedMore r) (payload g s text) (payload-fits g s text)
+
+  pub last-refused : (b : List ℕ) (n : Numbers) → judgePart r (take m (drop place s)) ≡ refused n → refuse n (zeroed g left) ≡ finish stage.Last b v s
+  unfolding finish
+  last-refused b n j = part-refused g s ys place m inside room kept r (lastPartLength g) em next n j
+
+  pub last-opened : (b : List ℕ) → judgePart r (take m (drop place s)) ≡ fine
+      → ys ≡ partText r (take m (drop place s)) ++ drop (length (take m (drop place s)) - 16) (take m (drop place s))
+      → next (take (lastPart g - 16) (drop place left)) left ≡ finish stage.Last b v s
+  unfolding finish
+  last-opened b j t = part-opened g s ys place m inside room kept r (lastPartLength g) em next (lastPart g - 16) size last-same j t

@@ -1,0 +1,16 @@
+pub mod Lists
+pub mod Rooms
+pub mod Openings
+pub mod Regions
+pub mod FirstPart
+pub mod RestPart
+pub mod LastPart
+pub mod Live
+pub mod Bounds
+pub mod Gathers
+pub mod Feeding
+pub mod Gathered
+pub mod FeedLoop
+pub mod Every
+pub mod Stores
+pub mod Traces

@@ -1,0 +1,357 @@
+-- What the step keeps: a receiver that is not refused has its fields in order, a refusal leaves it refused, and the store stays as long as it was.
+use Prim.Native.Nat.{ℕ, _+_, _-_, _≤_, _<_, zero-le}
+use mathlib.Core.List.{List, [], _∷_, _++_}
+use mathlib.Core.Path.{_≡_, refl, sym, ap, _∙_}
+use mathlib.Core.Bool.{Bool, true, false, not, cond, _&&_, _||_}
+use native.Mathlib.Omega.{arith}
+use lib.ListN.{length, take, drop, getD, replicate, length-take, length-append, length-replicate}
+use lib.Seq.{length-sets}
+use lib.Dec.{lit<, leb, ltb, eqb}
+use borrow.Author.Tests.{lt-ltb, ltb-true}
+use Rattle.buffer.specs.Le.{numberAt}
+use Rattle.buffer.specs.Splice.{replaceFront, splice}
+use Rattle.buffer.proofs.Parts.{length-replaceFront, length-splice}
+use Rattle.crc32c.specs.Crc.{crcOf}
+use Rattle.refusal.specs.declared.Numbers.{Numbers}
+use Rattle.refusal.specs.declared.Refusal.the-variants as refusal
+use Rattle.refusal.specs.Refusals.{Judged, fine, refused, row, isFine}
+use Rattle.refusal.proofs.Booleans.{wrong, both-left, both-right}
+use Rattle.refusal.proofs.Judgements.{both-fine, passed}
+use Rattle.preamble.specs.declared.Header.{Header}
+use Rattle.preamble.specs.Judge.{shapeFault, flagFault, limitFault, headerOf, judgeChecksum, judgeShape, judgeFlags, judgeTag, judgeLimits, judgeStore, judgeHeader}
+use Rattle.body.specs.declared.Late.{Late}
+use Rattle.body.specs.declared.Late.the-variants as late
+use Rattle.banner.specs.declared.Revision.the-variants.{Msgr21}
+use Rattle.body.specs.End.{Ended, whole, dropped, turnedAway, lateOf}
+use Rattle.receiver.specs.declared.Report.{Report}
+use Rattle.receiver.specs.State.{noHeader}
+use Rattle.receiver.proofs.Zeros.{zeros-later, drop-sets}
+use Rattle.receiver.proofs.Allowed.{Allowed, AllowedEnd, allowed-fine, allowed-refused, allowed-cond, allowed-or, end-whole, end-dropped, end-turned, end-by}
+use Rattle.receiver.proofs.Machine as machine
+use Rattle.gcm.specs.Gcm.{Opened, plain, fail, opened}
+use Rattle.secure.specs.Layout.{allNonces, padding, noRest, noLast, lastLengths, restPart, lastPart}
+use Rattle.secure.specs.Layout as layout
+use Rattle.secure.specs.Reading.{allZero, judgeNonce, judgePadding, judgeFirst, unpadded, paddingOf, lateIn, byLateStatus, droppedBy, lastEnded, zeroed, holding}
+use Rattle.secure.proofs.Counts.{came-round}
+use Rattle.sealed_receiver.specs.declared.Stage.{Stage}
+use Rattle.sealed_receiver.specs.declared.Stage.the-variants as stage
+use Rattle.sealed_receiver.specs.declared.Receiving.{Receiving}
+use Rattle.sealed_receiver.specs.declared.Known.{Known}
+use Rattle.sealed_receiver.specs.declared.State.{State}
+use Rattle.sealed_receiver.specs.State.{isFirst, isRefused, inFrame, sizeOf, needed, openedOf, freshReceiving, openedMore, noReceiving, receivingRule, headerRule, given, refusalRule, rules, countRule, blockRule, agreesAt, agrees}
+use Rattle.sealed_receiver.specs.Step.{blank, at, knowing, nextFrame, switched, refusedState, Stepped, silent, refuse, unlessRefused, judgeOpened, judgePart, partText, endFrame, beginLast, beginRest, behindFirst, behindRest, behindLast, sealedIn, finish, blockWith, storeWith, absorbed, stored, reached, size, chunk, onByte, Running}
+use Rattle.sealed_receiver.proofs.Rooms.{there, segments-fit, rest-beyond, pads-fit}
+use Rattle.sealed_receiver.proofs.FirstPart.{first-fits, first-header}
+use Rattle.sealed_receiver.proofs.LastPart.{payload-fits}
+
+-- ---- refusals that a receiver of sealed frames gives
+
+given-padding : (bytes : List ℕ) → Allowed given (judgePadding bytes)
+given-padding bytes = allowed-cond given (allZero bytes) (row 19 0 0 0) refl
+
+given-opened : (o : Opened) → Allowed given (judgeOpened o)
+given-opened (plain text) = allowed-fine given
+given-opened fail = allowed-refused given (row 17 0 0 0) refl
+
+given-part : (r : Receiving) (bytes : List ℕ) → Allowed given (judgePart r bytes)
+unfolding judgePart
+given-part r bytes =
+    let k18 : Allowed given (judgeNonce (openedOf r)) = allowed-cond given (ltb (openedOf r) allNonces) (row 18 0 0 0) refl in
+    allowed-or given k18 (given-opened (opened (r .key) (r .nonce) bytes))
+
+given-first : (text : List ℕ) (n : ℕ) → Allowed given (judgeFirst text n)
+unfolding judgeFirst
+given-first text n =
+    let h = headerOf text in
+    let k5 : Allowed given (judgeChecksum text) = allowed-cond given (eqb (crcOf 0 (take 28 text)) (numberAt 4 28 text)) (row 5 28 0 0) refl in
+    let k6 : Allowed given (judgeShape h) = allowed-cond given (eqb (shapeFault h) 0) (row 6 (shapeFault h) 0 0) refl in
+    let flags = flagFault (getD text 26 0) (getD text 27 0) in
+    let k7 : Allowed given (judgeFlags (getD text 26 0) (getD text 27 0)) = allowed-cond given (eqb flags 0) (row 7 flags 0 0) refl in
+    let k8 : Allowed given (judgeTag (h .tag)) = allowed-cond given (leb 1 (h .tag) && leb (h .tag) 20) (row 8 (h .tag) 0 0) refl in
+    let k9 : Allowed given (judgeLimits h) = allowed-cond given (eqb (limitFault h) 0) (row 9 (limitFault h) 0 0) refl in
+    let k10 : Allowed given (judgeStore (layout.needed h) n) = allowed-cond given (leb (layout.needed h) n) (row 10 (layout.needed h) 0 0) refl in
+    let k19 = given-padding (drop (32 + h .s1 .len) text) in
+    let last = allowed-or given k9 (allowed-or given k10 (allowed-or given k19 (allowed-fine given))) in
+    allowed-or given k5 (allowed-or given k6 (allowed-or given k7 (allowed-or given k8 last)))
+
+given-late : (x : Late) (b : ℕ) (j : Judged) → Allowed given j → AllowedEnd given (byLateStatus x b j)
+given-late late.Wrong b j k = end-turned given (row 12 b 0 0) refl
+given-late late.Aborted b j k = by-judged j k
+  where
+    by-judged : (j : Judged) → Allowed given j → AllowedEnd given (droppedBy j)
+    by-judged fine k = end-dropped given
+    by-judged (refused n) k = end-turned given n (k .gives n refl)
+given-late late.Complete b j k = end-by given j k
+
+given-last : (h : Header) (text : List ℕ) → AllowedEnd given (lastEnded h text)
+unfolding lastEnded
+given-last h text =
+    let b = lateIn (lastLengths h) text in
+    given-late (lateOf Msgr21 b) b (judgePadding (paddingOf (lastLengths h) text)) (given-padding (paddingOf (lastLengths h) text))
+
+-- ---- what an accepted part tells
+
+-- the rule of what opens the next part, while nothing is refused
+abbrev Opens : Receiving → Type 0
+Opens r = (not (r .exhausted) || eqb (r .opened) 0) ≡ true
+
+-- a part is opened where a nonce is left, and so the count comes round to 0 exactly where all are used
+opened-opens : (r : Receiving) (bytes : List ℕ) → judgePart r bytes ≡ fine → Opens (openedMore r)
+unfolding judgePart openedMore
+opened-opens r bytes e =
+    let f : judgeNonce (openedOf r) ≡ fine = both-fine (judgeNonce (openedOf r)) (judgeOpened (opened (r .key) (r .nonce) bytes)) e .0 in
+    let l : openedOf r < allNonces = ltb-true (openedOf r) allNonces (passed (ltb (openedOf r) allNonces) refusal.NoncesSpent f) in
+    ap (λ (b : Bool). not (leb allNonces (r .opened + 1)) || b) (came-round (r .opened) 1 (omega arith) (left (r .exhausted) l))
+    ∙ either-way (leb allNonces (r .opened + 1))
+  where
+    left : (b : Bool) → cond b allNonces (r .opened) < allNonces → r .opened + 1 ≤ allNonces
+    left true l = absurd (omega arith)
+    left false l = omega arith
+
+    either-way : (b : Bool) → (not b || b) ≡ true
+    either-way true = refl
+    either-way false = refl
+
+-- ---- the rules, one by one
+
+pub record Rules (k : Stage) (v : Known) : Type 0 where
+  pub receiving : receivingRule k (v .receiving) ≡ true
+  pub header : headerRule k (v .header) ≡ true
+  pub refusal : refusalRule k (v .refusal) ≡ true
+
+rules-of : (k : Stage) (v : Known) → rules k v ≡ true → Rules k v
+rules-of k v e =
+    let b = both-right (receivingRule k (v .receiving)) (headerRule k (v .header) && refusalRule k (v .refusal)) e in
+    record {
+      receiving = both-left (receivingRule k (v .receiving)) (headerRule k (v .header) && refusalRule k (v .refusal)) e;
+      header = both-left (headerRule k (v .header)) (refusalRule k (v .refusal)) b;
+      refusal = both-right (headerRule k (v .header)) (refusalRule k (v .refusal)) b;
+    }
+
+pub rules-agreed : (st : State) → agrees st ≡ true → Rules (st .position .stage) (st .known)
+unfolding agreesAt
+rules-agreed st e =
+    let p = st .position in
+    let k = p .stage in
+    let v = st .known in
+    let a = both-left (rules k v && countRule k (v .header) (p .got)) (blockRule k (p .got) (p .block)) e in
+    rules-of k v (both-left (rules k v) (countRule k (v .header) (p .got)) a)
+
+-- ---- what holds of a live state, whatever the store
+
+pub record Live (k : Stage) (got : ℕ) (block : List ℕ) (v : Known) : Type 0 where
+  pub rule : Rules k v
+  pub inside : got < sizeOf k (v .header)
+  pub zeros : blockRule k got block ≡ true
+
+agree-live : (k : Stage) (got : ℕ) (b : List ℕ) (v : Known) → isRefused k ≡ false → Live k got b v → agreesAt k got b v ≡ true
+unfolding agreesAt
+agree-live k got b v o l = rw (l .rule .receiving, l .rule .header, l .rule .refusal, o, lt-ltb got (sizeOf k (v .header)) (l .inside), l .zeros)
+
+pub live : {st : State} {s : List ℕ} → Running st s → Live (st .position .stage) (st .position .got) (st .position .block) (st .known)
+unfolding agreesAt
+live {st} r =
+    let p = st .position in
+    let k = p .stage in
+    let v = st .known in
+    let a = both-left (rules k v && countRule k (v .header) (p .got)) (blockRule k (p .got) (p .block)) (r .agree) in
+    let n : ltb (p .got) (sizeOf k (v .header)) ≡ true = rw (r .live) at (both-right (rules k v) (countRule k (v .header) (p .got)) a) in
+    record {
+      rule = rules-agreed st (r .agree);
+      inside = ltb-true (p .got) (sizeOf k (v .header)) n;
+      zeros = both-right (rules k v && countRule k (v .header) (p .got)) (blockRule k (p .got) (p .block)) (r .agree);
+    }
+
+pub inside-of : {st : State} {s : List ℕ} → Running st s → st .position .got < size st
+inside-of r = live r .inside
+
+pub header-of : {st : State} {s : List ℕ} → Running st s → inFrame (st .position .stage) ≡ true → isFine (judgeHeader (st .known .header)) ≡ true
+header-of r e = rw e at (live r .rule .header)
+
+-- ---- states
+
+pub record Gone (n : Numbers) (st : State) : Type 0 where
+  pub stage : st .position .stage ≡ stage.Refused
+  pub why : st .known .refusal ≡ n
+  pub agree : agrees st ≡ true
+  pub gives : given n ≡ true
+
+pub gone-at : (n : Numbers) → given n ≡ true → Gone n (refusedState n)
+unfolding agreesAt noReceiving
+gone-at n g = record { stage = refl; why = refl; agree = rw g; gives = g }
+
+blank-zeros : (k : Stage) → blockRule k 0 blank ≡ true
+blank-zeros stage.First = refl
+blank-zeros stage.Rest = refl
+blank-zeros stage.Last = refl
+blank-zeros stage.Refused = refl
+
+running-at : (k : Stage) (v : Known) (s : List ℕ) → isRefused k ≡ false → Rules k v → 0 < sizeOf k (v .header) → needed k (v .header) ≤ length s
+    → Running (at k v) s
+running-at k v s o r i f = record { agree = agree-live k 0 blank v o (record { rule = r; inside = i; zeros = blank-zeros k }); live = o; fits = f }
+
+-- between two frames
+between : (r : Receiving) (s : List ℕ) → Opens r → Running (nextFrame r) s
+between r s o = running-at stage.First (knowing r noHeader) s refl (record { receiving = o; header = refl; refusal = refl }) (lit< tt) zero-le
+
+pub switched-running : (key nonce s : List ℕ) → Running (switched key nonce) s
+unfolding switched freshReceiving
+switched-running key nonce s = between (freshReceiving key nonce) s refl
+
+-- ---- what a step leaves
+
+abbrev pub After : Report → State → List ℕ → Type 0
+After = machine.After Running Gone
+
+-- by its report a receiver that runs, or one that is refused; and a store of so many bytes
+pub record Leaves (n : ℕ) (x : Stepped) : Type 0 where
+  pub after : After (x .report) (x .state) (x .store)
+  pub same : length (x .store) ≡ n
+
+refuse-leaves : (n : Numbers) (s : List ℕ) → given n ≡ true → Leaves (length s) (refuse n s)
+refuse-leaves n s g = record { after = gone-at n g; same = refl }
+
+judged-leaves : (j : Judged) (s : List ℕ) (x : Stepped) (m : ℕ) → Allowed given j → length s ≡ m → (j ≡ fine → Leaves m x) → Leaves m (unlessRefused j s x)
+judged-leaves fine s x m k e f = f refl
+judged-leaves (refused n) s x m k e f = rw e at (refuse-leaves n s (k .gives n refl))
+
+-- ---- the store's length
+
+taken-most : (n : ℕ) (l : List ℕ) → length (take n l) ≤ n
+taken-most n l = omega (arith, length-take n l)
+
+length-zeroed : (h : Header) (s : List ℕ) → layout.needed h ≤ length s → length (zeroed h s) ≡ length s
+length-zeroed h s l =
+    let e = length-replicate {A = ℕ} (layout.needed h) 0 in
+    length-replaceFront (replicate (layout.needed h) 0) s (omega arith)
+
+length-holding : (h : Header) (p s : List ℕ) → length p ≤ layout.needed h → layout.needed h ≤ length s → length (holding h p s) ≡ length s
+length-holding h p s k l =
+    let e = length-replicate {A = ℕ} (layout.needed h - length p) 0 in
+    let a = length-append p (replicate (layout.needed h - length p) 0) in
+    length-replaceFront (p ++ replicate (layout.needed h - length p) 0) s (omega arith)
+
+-- ---- the end of a frame, and its later parts
+
+frame-leaves : (x : Ended) (r : Receiving) (h : Header) (p s : List ℕ) → Opens r → AllowedEnd given x → length p ≤ layout.needed h
+    → layout.needed h ≤ length s → Leaves (length s) (endFrame x r h p s)
+frame-leaves whole r h p s o k l f = record { after = between r (holding h p s) o; same = length-holding h p s l f }
+frame-leaves dropped r h p s o k l f = record { after = between r (zeroed h s) o; same = length-zeroed h s f }
+frame-leaves (turnedAway n) r h p s o k l f = record { after = gone-at n (k .gives n refl); same = length-zeroed h s f }
+
+module _ (r : Receiving) (h : Header) (s : List ℕ) (o : Opens r) (e : isFine (judgeHeader h) ≡ true) (f : layout.needed h ≤ length s) where
+  last-leaves : Leaves (length s) (beginLast r h s)
+  last-leaves = go (noLast h) refl
+    where
+      go : (b : Bool) → noLast h ≡ b → Leaves (length s) (cond b (endFrame whole r h (take (h .s1 .len) s) s) (silent (at stage.Last (knowing r h)) s))
+      go true z = frame-leaves whole r h (take (h .s1 .len) s) s o (end-whole given) (omega (arith, taken-most (h .s1 .len) s, segments-fit h)) f
+      go false z =
+          let i : 0 < cond (noLast h) 0 (lastPart h) = rw z (omega arith) in
+          record { after = running-at stage.Last (knowing r h) s refl (record { receiving = o; header = e; refusal = refl }) i f; same = refl }
+
+  rest-leaves : Leaves (length s) (beginRest r h s)
+  rest-leaves = go (noRest h) refl
+    where
+      go : (b : Bool) → noRest h ≡ b → Leaves (length s) (cond b (beginLast r h s) (silent (at stage.Rest (knowing r h)) s))
+      go true z = last-leaves
+      go false z =
+          let i : 0 < cond (noRest h) 0 (restPart h) = rw z (omega arith) in
+          record { after = running-at stage.Rest (knowing r h) s refl (record { receiving = o; header = e; refusal = refl }) i f; same = refl }
+
+-- ---- behind an opened part
+
+first-leaves : (r : Receiving) (text s : List ℕ) → Opens r → Leaves (length s) (behindFirst r text s)
+unfolding behindFirst
+first-leaves r text s o =
+    judged-leaves (judgeFirst text (length s)) s _ (length s) (given-first text (length s)) refl
+    (λ e.
+    let h = headerOf text in
+    let f = first-fits text (length s) e in
+    let xs = take (h .s1 .len) (drop 32 text) in
+    let l : length (replaceFront xs s) ≡ length s = length-replaceFront xs s (omega (arith, taken-most (h .s1 .len) (drop 32 text), segments-fit h)) in
+    rw l at (rest-leaves r h (replaceFront xs s) o (ap isFine (first-header text (length s) e)) (rw l f)))
+
+later-leaves : (r : Receiving) (h : Header) (text s : List ℕ) → Opens r → isFine (judgeHeader h) ≡ true → layout.needed h ≤ length s → noRest h ≡ false
+    → Leaves (length s) (behindRest r h text s)
+unfolding behindRest
+later-leaves r h text s o e f some =
+    let n = h .s1 .len - 48 in
+    judged-leaves (judgePadding (drop n text)) (zeroed h s) _ (length s) (given-padding (drop n text)) (length-zeroed h s f)
+    (λ _.
+    let zs : List ℕ = replicate (padding n + 16) 0 in
+    let k : length (take n text ++ zs) ≡ length (take n text) + (padding n + 16) =
+    length-append (take n text) zs ∙ ap (λ (i : ℕ). length (take n text) + i) (length-replicate (padding n + 16) 0)
+    in
+    let l : length (splice s 48 (take n text ++ zs)) ≡ length s =
+    length-splice s 48 (take n text ++ zs) (omega (arith, k, taken-most n text, rest-beyond h some, pads-fit h some (padding n) refl))
+    in
+    rw l at (last-leaves r h (splice s 48 (take n text ++ zs)) o e (rw l f)))
+
+ended-leaves : (r : Receiving) (h : Header) (text s : List ℕ) → Opens r → layout.needed h ≤ length s → Leaves (length s) (behindLast r h text s)
+unfolding behindLast
+ended-leaves r h text s o f =
+    frame-leaves (lastEnded h text) r h (take (h .s1 .len) s ++ unpadded (lastLengths h) text) s o (given-last h text) (payload-fits h s text) f
+
+finish-leaves : (k : Stage) (b : List ℕ) (v : Known) (s : List ℕ) → Rules k v → isRefused k ≡ false → 0 < sizeOf k (v .header)
+    → needed k (v .header) ≤ length s → Leaves (length s) (finish k b v s)
+unfolding finish
+finish-leaves stage.First b v s r o i f =
+    judged-leaves (judgePart (v .receiving) b) s _ (length s) (given-part (v .receiving) b) refl
+    (λ e. first-leaves (openedMore (v .receiving)) (partText (v .receiving) b) s (opened-opens (v .receiving) b e))
+finish-leaves stage.Rest b v s r o i f =
+    let h = v .header in
+    let bytes = sealedIn stage.Rest h s in
+    judged-leaves (judgePart (v .receiving) bytes) (zeroed h s) _ (length s) (given-part (v .receiving) bytes) (length-zeroed h s f)
+    (λ e.
+    later-leaves (openedMore (v .receiving)) h (partText (v .receiving) bytes) s (opened-opens (v .receiving) bytes e) (r .header) f
+    (there (noRest h) (restPart h) i))
+finish-leaves stage.Last b v s r o i f =
+    let h = v .header in
+    let bytes = sealedIn stage.Last h s in
+    judged-leaves (judgePart (v .receiving) bytes) (zeroed h s) _ (length s) (given-part (v .receiving) bytes) (length-zeroed h s f)
+    (λ e. ended-leaves (openedMore (v .receiving)) h (partText (v .receiving) bytes) s (opened-opens (v .receiving) bytes e) f)
+finish-leaves stage.Refused b v s r o i f = wrong (sym o)
+
+-- ---- bytes of a part leave the rest as it was
+
+block-kept : (first : Bool) (got : ℕ) (b xs : List ℕ) → allZero (drop (cond first got 0) b) ≡ true
+    → allZero (drop (cond first (got + length xs) 0) (blockWith first got b xs)) ≡ true
+block-kept true got b xs e = ap allZero (drop-sets b got xs) ∙ zeros-later b got (length xs) e
+block-kept false got b xs e = e
+
+length-with : (later : Bool) (place : ℕ) (s xs : List ℕ) → length (storeWith later place s xs) ≡ length s
+length-with true place s xs = length-sets s place xs
+length-with false place s xs = refl
+
+pub length-stored : (st : State) (s xs : List ℕ) → length (stored st s xs) ≡ length s
+length-stored st s xs = length-with (inFrame (st .position .stage)) _ s xs
+
+pub chunk-leaves : (st : State) (s xs : List ℕ) → Running st s → Leaves (length s) (chunk st s xs)
+chunk-leaves st s xs r = go (ltb (st .position .got + length xs) (size st)) refl
+  where
+    l : Live (st .position .stage) (st .position .got) (st .position .block) (st .known)
+    l = live r
+
+    n : length (stored st s xs) ≡ length s
+    n = length-stored st s xs
+
+    go : (t : Bool) → ltb (st .position .got + length xs) (size st) ≡ t → Leaves (length s) (reached (absorbed st xs) (stored st s xs) t)
+    go true e = record {
+      after = record {
+        agree = agree-live (st .position .stage) (st .position .got + length xs) _ (st .known) (r .live) (record {
+          rule = l .rule;
+          inside = ltb-true (st .position .got + length xs) (size st) e;
+          zeros = block-kept (isFirst (st .position .stage)) (st .position .got) (st .position .block) xs (l .zeros);
+        });
+        live = r .live;
+        fits = rw n (r .fits);
+      };
+      same = n;
+    }
+    go false e =
+        let b = blockWith (isFirst (st .position .stage)) (st .position .got) (st .position .block) xs in
+        rw n at (finish-leaves (st .position .stage) b (st .known) (stored st s xs) (l .rule) (r .live) (omega (arith, l .inside)) (rw n (r .fits)))
+
+pub byte-leaves : (st : State) (s : List ℕ) (b : ℕ) → Running st s → Leaves (length s) (onByte st s b)
+unfolding onByte
+byte-leaves st s b r = chunk-leaves st s (b ∷ []) r

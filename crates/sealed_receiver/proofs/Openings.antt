@@ -1,0 +1,107 @@
+-- A part that is opened where it stands.
+use mathlib.Core.Path.{_≡_, refl, sym, ap, ap₂, _∙_}
+use mathlib.Core.List.{List, _++_}
+use mathlib.Core.Bool.{Bool, true, false, cond, _&&_}
+use Prim.Native.Nat.{ℕ, _+_, _-_, _≤_, _<_}
+use native.Mathlib.Omega.{arith}
+use borrow.Author.Tests.{le-leb, lt-ltb}
+use lib.Dec.{leb}
+use lib.ListN.{length, take, drop}
+use lib.Seq.{length-take-le}
+use Rattle.refusal.specs.declared.Numbers.{Numbers}
+use Rattle.refusal.specs.declared.Refusal.the-variants as refusal
+use Rattle.refusal.specs.declared.Verdict.{Verdict}
+use Rattle.refusal.specs.declared.Verdict.the-variants as verdict
+use Rattle.refusal.specs.Refusals.{Judged, fine, refused, numbersOf, refusedWith, judgedBy, orElse, unless}
+use Rattle.refusal.proofs.Judgements.{both-fine}
+use Rattle.aes.specs.Aes.{State, keyExpansion}
+use Rattle.aes.specs.Counter.{gctr}
+use Rattle.aes.proofs.Counters.{gctr-length}
+use Rattle.gcm.specs.Gcm.{Opened, plain, fail, tagFits, openedBy, opened}
+use Rattle.gcm.specs.Calls as calls
+use Rattle.gcm.specs.Calls.{wrote, Done, done, answered, limit, judgeOpen, byTag, byBoth, openDone, Opening}
+use Rattle.gcm.specs.declared.Outcome.{Outcome}
+use Rattle.gcm.specs.declared.Outcome.the-variants as outcome
+use Rattle.secure.specs.Layout.{allNonces}
+use Rattle.secure.specs.Reading.{judgeNonce}
+use Rattle.sealed_receiver.specs.declared.Receiving.{Receiving}
+use Rattle.sealed_receiver.specs.State.{openedOf}
+use Rattle.sealed_receiver.specs.Step.{judgeOpened, textOf, judgePart, partText, judgedAs, OpenedPart}
+
+differ : {A : Type 0} {n : Numbers} → refused n ≡ fine → A
+differ e = let z : _≡_ {A = ℕ} 0 1 = cc in absurd (omega arith)
+
+-- ---- an opened text is its tag shorter
+
+text-of : (b : Bool) (x text : List ℕ) → cond b (plain x) fail ≡ plain text → x ≡ text
+text-of true x text e = cc
+text-of false x text e = cc
+
+text-length : (w : List State) (nonce s text : List ℕ) → openedBy w nonce s ≡ plain text → length text ≡ length s - 16
+unfolding openedBy
+text-length w nonce s text e =
+    let x : List ℕ = gctr w nonce (take (length s - 16) s) in
+    sym (ap length (text-of (leb 16 (length s) && tagFits w nonce (length s - 16) s) x text e))
+    ∙ gctr-length w nonce 0 (take (length s - 16) s)
+    ∙ length-take-le (length s - 16) s (omega arith)
+
+text-if : (w : List State) (nonce s : List ℕ) (j : Judged) (o : Opened) → openedBy w nonce s ≡ o → orElse j (judgeOpened o) ≡ fine
+    → length (textOf o) ≡ length s - 16
+text-if w nonce s j (plain text) e f = text-length w nonce s text e
+text-if w nonce s j fail e f = differ (both-fine j (judgeOpened fail) f .1)
+
+pub part-text-length : (r : Receiving) (bytes : List ℕ) → judgePart r bytes ≡ fine → length (partText r bytes) ≡ length bytes - 16
+unfolding judgePart partText
+part-text-length r bytes f = text-if (keyExpansion (r .key)) (r .nonce) bytes (judgeNonce (openedOf r)) (opened (r .key) (r .nonce) bytes) refl f
+
+-- ---- no nonce is left
+
+pub none-left : (r : Receiving) (bytes after : List ℕ) → r .exhausted ≡ true → OpenedPart r bytes (verdict.Refused refusal.NoncesSpent) after
+unfolding judgePart
+none-left r bytes after e =
+    let j : judgePart r bytes ≡ refusedWith refusal.NoncesSpent =
+    ap (λ (b : Bool). orElse (judgeNonce (cond b allNonces (r .opened))) (judgeOpened (opened (r .key) (r .nonce) bytes))) e in
+    record { judged = sym j; text = λ f. differ (sym j ∙ f) }
+
+-- ---- the answers of an opening
+
+wrote-is : (o : Outcome) (n : ℕ) → answered o ≡ wrote n → judgedAs o ≡ fine
+wrote-is (outcome.Wrote m) n e = refl
+wrote-is (outcome.Refused x) n e = cc
+
+refused-is : (o : Outcome) (n : Numbers) → answered o ≡ calls.refusedWith n → judgedAs o ≡ refused n
+refused-is (outcome.Wrote m) n e = cc
+refused-is (outcome.Refused x) n e = cc
+
+in-place : (w : List State) (nonce s : List ℕ) → 16 ≤ length s → length s ≤ limit + 16
+    → openDone w nonce s s ≡ byTag (openedBy w nonce s) (length s - 16) s
+unfolding openDone
+in-place w nonce s h k =
+    let j : judgeOpen (length s) (length s) ≡ fine =
+    simp (le-leb 16 (length s) h, le-leb (length s - 16) limit (omega arith), le-leb (length s - 16) (length s) (omega arith)) in
+    ap (λ (x : Judged). byBoth x (openedBy w nonce s) (length s - 16) s) j
+
+module _ (r : Receiving) (bytes after : List ℕ) (v : Verdict) (o : Outcome) (ev : judgedBy v ≡ judgedAs o) where
+  by-opened : (x : Opened) → opened (r .key) (r .nonce) bytes ≡ x → judgePart r bytes ≡ judgeOpened x → partText r bytes ≡ textOf x
+      → done (answered o) after ≡ byTag x (length bytes - 16) bytes → OpenedPart r bytes v after
+  by-opened (plain text) ex j t d =
+      let n : length text ≡ length bytes - 16 = text-length (keyExpansion (r .key)) (r .nonce) bytes text ex in
+      record {
+        judged = ev ∙ wrote-is o (length bytes - 16) (ap (λ (x : Done). x .answer) d) ∙ sym j;
+        text = λ f. ap (λ (x : Done). x .buffer) d ∙ ap₂ (λ (y : List ℕ) (k : ℕ). y ++ drop k bytes) (sym t) n;
+      }
+  by-opened fail ex j t d =
+      record {
+        judged = ev ∙ refused-is o (numbersOf refusal.AuthTag) (ap (λ (x : Done). x .answer) d) ∙ sym j;
+        text = λ f. differ (sym j ∙ f);
+      }
+
+  pub opened-part : r .exhausted ≡ false → r .opened < allNonces → 16 ≤ length bytes → length bytes ≤ limit + 16
+      → Opening (keyExpansion (r .key)) (r .nonce) bytes bytes o after → OpenedPart r bytes v after
+  unfolding judgePart partText
+  opened-part e l h k opening =
+      let x : Opened = opened (r .key) (r .nonce) bytes in
+      let j : judgePart r bytes ≡ judgeOpened x =
+      ap (λ (b : Bool). orElse (judgeNonce (cond b allNonces (r .opened))) (judgeOpened x)) e
+      ∙ ap (λ (b : Bool). orElse (unless b refusal.NoncesSpent) (judgeOpened x)) (lt-ltb (r .opened) allNonces l) in
+      by-opened x refl j refl (opening .is ∙ in-place (keyExpansion (r .key)) (r .nonce) bytes h k)

@@ -1,0 +1,129 @@
+-- A part in the store of a frame: what is opened where it stands changes nothing before it, and nothing behind what the frame needs.
+use mathlib.Core.Path.{_≡_, sym, ap, _∙_}
+use mathlib.Core.List.{List, _++_, append-assoc}
+use Prim.Native.Nat.{ℕ, _+_, _-_, _≤_}
+use native.Mathlib.Omega.{arith}
+use lib.ListN.{length, take, drop, replicate, length-append, length-drop, length-replicate, take-append-drop}
+use lib.Seq.{take-at, length-take-le}
+use Rattle.buffer.specs.Splice.{replaceFront, splice, overwrite}
+use Rattle.buffer.proofs.Parts.{rest, back, length-splice, overwrite-fits, next-overwrite}
+use Rattle.refusal.specs.declared.Numbers.{Numbers}
+use Rattle.refusal.specs.Refusals.{Judged, fine, refused}
+use Rattle.preamble.specs.declared.Header.{Header}
+use Rattle.preamble.specs.Layout.{total}
+use Rattle.body.specs.End.{Ended, whole, dropped, turnedAway}
+use Rattle.stream.specs.declared.Event.the-variants as event
+use Rattle.receiver.specs.declared.Report.the-variants as report
+use Rattle.secure.specs.Layout.{needed}
+use Rattle.secure.specs.Reading.{zeroed, holding}
+use Rattle.sealed_receiver.specs.declared.Receiving.{Receiving}
+use Rattle.sealed_receiver.specs.Step.{Stepped, stepped, refuse, unlessRefused, judgePart, partText, nextFrame, endFrame}
+use Rattle.sealed_receiver.proofs.Lists.{splice-before, splice-from, splice-behind, splice-again, given-back}
+use Rattle.sealed_receiver.proofs.Openings.{part-text-length}
+use Rattle.sealed_receiver.proofs.Rooms.{segments-fit}
+
+-- ---- what a frame's end leaves
+
+front-same : (xs s s′ : List ℕ) (n : ℕ) → length xs ≡ n → drop n s′ ≡ drop n s → replaceFront xs s′ ≡ replaceFront xs s
+front-same xs s s′ n e d =
+    ap (λ (t : List ℕ). xs ++ t) (ap (λ (k : ℕ). drop k s′) e ∙ d ∙ ap (λ (k : ℕ). drop k s) (sym e))
+
+module _ (h : Header) (s s′ : List ℕ) (d : drop (needed h) s′ ≡ drop (needed h) s) where
+  pub zeroed-same : zeroed h s′ ≡ zeroed h s
+  zeroed-same = front-same (replicate (needed h) 0) s s′ (needed h) (length-replicate (needed h) 0) d
+
+  holding-same : (payload : List ℕ) → length payload ≤ needed h → holding h payload s′ ≡ holding h payload s
+  holding-same payload l =
+      let zeros : List ℕ = replicate (needed h - length payload) 0 in
+      front-same (payload ++ zeros) s s′ (needed h)
+      (length-append payload zeros ∙ omega (arith, length-replicate {A = ℕ} (needed h - length payload) 0)) d
+
+  pub end-same : (o : Ended) (r : Receiving) (payload : List ℕ) → length payload ≤ needed h → endFrame o r h payload s′ ≡ endFrame o r h payload s
+  end-same whole r payload l = ap (λ (t : List ℕ). stepped (nextFrame r) t (report.Event (event.Frame h))) (holding-same payload l)
+  end-same dropped r payload l = ap (λ (t : List ℕ). stepped (nextFrame r) t (report.Event (event.Dropped h))) zeroed-same
+  end-same (turnedAway n) r payload l = ap (refuse n) zeroed-same
+
+-- zeros over all that the frame needs
+pub zeros-over : (h : Header) (s zs : List ℕ) (n : ℕ) → n ≡ needed h → needed h ≤ length s → zs ≡ overwrite (replicate n 0) s → zs ≡ zeroed h s
+zeros-over h s zs n en room e =
+    e ∙ ap (λ (k : ℕ). overwrite (replicate k 0) s) en
+    ∙ overwrite-fits (replicate (needed h) 0) s (omega (arith, length-replicate {A = ℕ} (needed h) 0))
+
+-- and behind the segments, which stand at the front
+pub zeros-behind : (h : Header) (s zs : List ℕ) (n m : ℕ) → n ≡ total h → m ≡ needed h → needed h ≤ length s
+    → zs ≡ overwrite (replicate (m - n) 0) (rest s n) → back s n zs ≡ holding h (take (total h) s) s
+zeros-behind h s zs n m en em room e =
+    let f : total h ≤ needed h = segments-fit h in
+    let l : length (take n s) ≡ n = length-take-le n s (omega arith) in
+    let l′ : length (take (total h) s) ≡ total h = length-take-le (total h) s (omega arith) in
+    let self : s ≡ replaceFront (take n s) s = sym (take-append-drop n s) ∙ ap (λ (k : ℕ). take n s ++ drop k s) (sym l) in
+    let left : m - n ≡ needed h - length (take (total h) s) = omega arith in
+    next-overwrite s s (take n s) (replicate (m - n) 0) zs n l (omega (arith, length-replicate {A = ℕ} (m - n) 0)) self e
+    ∙ ap (λ (k : ℕ). replaceFront (take k s ++ replicate (m - n) 0) s) en
+    ∙ ap (λ (k : ℕ). replaceFront (take (total h) s ++ replicate k 0) s) left
+
+-- ---- the m bytes from i on, which were lent, came back as ys
+
+abbrev pub after : List ℕ → ℕ → ℕ → List ℕ → List ℕ
+after s i m ys = take i s ++ (ys ++ drop m (drop i s))
+
+module _ (h : Header) (s ys : List ℕ) (i m : ℕ)
+    (inside : i + m ≤ needed h) (room : needed h ≤ length s) (kept : length ys ≡ length (take m (drop i s))) where
+  lent-size : length (take m (drop i s)) ≡ m
+  lent-size = length-take-le m (drop i s) (omega (arith, length-drop i s))
+
+  before-it : i ≤ length s
+  before-it = omega arith
+
+  replaced : after s i m ys ≡ splice s i ys
+  replaced = given-back s ys i m (kept ∙ lent-size)
+
+  pub after-length : length (after s i m ys) ≡ length s
+  after-length = ap length replaced ∙ length-splice s i ys (omega (arith, lent-size))
+
+  pub after-before : take i (after s i m ys) ≡ take i s
+  after-before = ap (take i) replaced ∙ splice-before s i ys before-it
+
+  pub after-behind : drop (needed h) (after s i m ys) ≡ drop (needed h) s
+  after-behind = ap (drop (needed h)) replaced ∙ splice-behind s i ys before-it (needed h) (omega (arith, lent-size))
+
+  pub after-again : (xs : List ℕ) → length xs ≡ m → splice (after s i m ys) i xs ≡ splice s i xs
+  after-again xs e = ap (λ (t : List ℕ). splice t i xs) replaced ∙ splice-again s i ys xs before-it (kept ∙ lent-size ∙ sym e)
+
+  -- its text stands at its front
+  text-in : (text tag : List ℕ) (n : ℕ) → length text ≡ n → ys ≡ text ++ tag → take n (drop i (after s i m ys)) ≡ text
+  text-in text tag n e t =
+      let behind : List ℕ = drop (i + length ys) s in
+      ap (λ (x : List ℕ). take n (drop i x)) replaced
+      ∙ ap (take n) (splice-from s i ys before-it ∙ ap (λ (x : List ℕ). x ++ behind) t ∙ append-assoc text tag behind)
+      ∙ take-at text (tag ++ behind) n e
+
+  -- the part is opened there, of which the definition speaks with its own length, and `next` is what follows its text
+  module _ (r : Receiving) (p : ℕ) (ep : m ≡ p) (next : List ℕ → List ℕ → Stepped) where
+    abbrev bytes : List ℕ
+    bytes = take m (drop i s)
+
+    abbrev pub answer : List ℕ → Stepped
+    answer x = unlessRefused (judgePart r x) (zeroed h s) (next (partText r x) s)
+
+    same-part : answer bytes ≡ answer (take p (drop i s))
+    same-part = ap (λ (k : ℕ). answer (take k (drop i s))) ep
+
+    pub part-refused : (n : Numbers) → judgePart r (take m (drop i s)) ≡ refused n
+        → refuse n (zeroed h (after s i m ys)) ≡ answer (take p (drop i s))
+    part-refused n j =
+        ap (refuse n) (zeroed-same h s (after s i m ys) after-behind)
+        ∙ sym (ap (λ (x : Judged). unlessRefused x (zeroed h s) (next (partText r bytes) s)) j)
+        ∙ same-part
+
+    pub part-opened : (n : ℕ) → m ≡ n + 16 → ((text : List ℕ) → length text ≡ n → next text (after s i m ys) ≡ next text s)
+        → judgePart r (take m (drop i s)) ≡ fine
+        → ys ≡ partText r (take m (drop i s)) ++ drop (length (take m (drop i s)) - 16) (take m (drop i s))
+        → next (take n (drop i (after s i m ys))) (after s i m ys) ≡ answer (take p (drop i s))
+    part-opened n en same j t =
+        let text : List ℕ = partText r bytes in
+        let l : length text ≡ n = part-text-length r bytes j ∙ omega (arith, lent-size) in
+        ap (λ (x : List ℕ). next x (after s i m ys)) (text-in text (drop (length bytes - 16) bytes) n l t)
+        ∙ same text l
+        ∙ sym (ap (λ (x : Judged). unlessRefused x (zeroed h s) (next text s)) j)
+        ∙ same-part

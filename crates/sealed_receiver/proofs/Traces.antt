@@ -1,0 +1,450 @@
+-- The receiver's step, run over a stream of sealed frames, gives what the definition over whole streams has.
+use Prim.Native.Nat.{ℕ, zero, suc, _+_, _-_, _%_, _≤_, _<_, zero-le}
+use mathlib.Core.List.{List, [], _∷_, _++_, append-assoc}
+use mathlib.Core.Path.{_≡_, refl, sym, ap, ap₂, _∙_}
+use mathlib.Core.Bool.{Bool, true, false, cond, _&&_}
+use native.Mathlib.Omega.{arith}
+use native.Mathlib.Nat.{le-refl, add-zero, zero-add, mod-lt, mod-eq-of-lt}
+use lib.ListN.{length, take, drop, getD, replicate, length-take, length-drop, length-append, length-replicate}
+use lib.Seq.{sets, sets-eq, length-take-le, take-at}
+use lib.Dec.{lit<, ltb, leb}
+use borrow.Author.Tests.{le-ltb, ltb-true, ltb-false, leb-true, leb-false}
+use Rattle.buffer.specs.Splice.{replaceFront, splice}
+use Rattle.buffer.proofs.Parts.{replaceFront-next, length-replaceFront}
+use Rattle.refusal.specs.declared.Refusal.the-variants as refusal
+use Rattle.refusal.specs.Refusals.{Judged, fine, refused, orElse}
+use Rattle.refusal.proofs.Judgements.{both-fine, all-fine, passed}
+use Rattle.preamble.specs.declared.Header.{Header}
+use Rattle.preamble.specs.Judge.{headerOf, judgeChecksum, judgeShape, judgeFlags, judgeTag, judgeLimits, judgeStore}
+use Rattle.preamble.proofs.Laws.{store-fits}
+use Rattle.body.specs.End.{Ended, whole, dropped, turnedAway}
+use Rattle.stream.specs.declared.Event.the-variants as event
+use Rattle.stream.specs.Stream.{Trace, ended, after}
+use Rattle.stream.specs.Stream as stream
+use Rattle.receiver.specs.declared.Report.the-variants as report
+use Rattle.receiver.proofs.Placed.{sets-whole, take-over, over-longer}
+use Rattle.receiver.proofs.Machine.{Silent, scan, scan-none, scan-silent}
+use Rattle.aes.specs.Aes.{keyExpansion}
+use Rattle.aes.specs.Counter.{gctr}
+use Rattle.aes.proofs.Counters.{gctr-length}
+use Rattle.gcm.specs.Gcm.{Opened, plain, fail, tagFits, openedBy}
+use Rattle.secure.specs.Layout.{allNonces, nextNonce, padding, roundUp, inlineLength, firstLength, noRest, noLast, restPart, lastPart, restPartLength, lastPartLength, lastLengths, needed}
+use Rattle.secure.specs.Reading.{judgeNonce, judgePadding, judgeFirst, unpadded, lastEnded, zeroed, holding, byOpening, partTrace, atEnd, lastTrace, restTrace, frames, sealedTrace}
+use Rattle.sealed_receiver.specs.declared.Stage.the-variants as stage
+use Rattle.sealed_receiver.specs.declared.Receiving.{Receiving}
+use Rattle.sealed_receiver.specs.declared.State.{State}
+use Rattle.sealed_receiver.specs.State.{openedOf, freshReceiving, openedMore}
+use Rattle.sealed_receiver.specs.Step.{blank, at, knowing, nextFrame, switched, refusedState, Stepped, unlessRefused, judgeOpened, textOf, judgePart, partText, endFrame, beginLast, beginRest, behindFirst, behindRest, behindLast, finish, stored}
+use Rattle.sealed_receiver.proofs.Gathers.{traceBy, run, byteStep, short, full}
+use Rattle.sealed_receiver.proofs.Gathered.{bare, parts}
+use Rattle.sealed_receiver.proofs.Stores.{front-there, part-there, again, zeroed-over, holding-over}
+
+-- what the bytes from P on come to, from a state and a store, and from a step
+abbrev pub traced : State → List ℕ → ℕ → List ℕ → Trace
+traced st s P ys = traceBy (scan (byteStep parts) st s P ys)
+
+abbrev pub runs : Stepped → ℕ → List ℕ → Trace
+runs y P ys = run parts (bare y) P ys
+
+-- ---- a refused receiver is silent
+
+pub gone-byte : (st : State) (s : List ℕ) (b : ℕ) → st .position .stage ≡ stage.Refused → Silent {State = State} (λ x. x .position .stage ≡ stage.Refused) s (byteStep parts st s b)
+unfolding finish
+gone-byte st s b e = rw (e, le-ltb (st .position .got + 1) 0 zero-le) (record { state = refl; store = refl; report = refl })
+
+pub silent-trace : (st : State) (s : List ℕ) (P : ℕ) (ys : List ℕ) → st .position .stage ≡ stage.Refused → traced st s P ys ≡ ended s
+silent-trace st s P ys e =
+    let z = scan-silent (byteStep parts) (λ x. x .position .stage ≡ stage.Refused) gone-byte st s P ys e in
+    ap₂ (λ (es : List stream.Entry) (l : List ℕ). record { entries = es; store = l }) (z .0) (z .1)
+
+run-unless : (j : Judged) (s : List ℕ) (x : Stepped) (P : ℕ) (ys : List ℕ) → runs (unlessRefused j s x) P ys ≡ stream.unlessRefused j P s (runs x P ys)
+run-unless fine s x P ys = refl
+run-unless (refused n) s x P ys = ap (after (event.Refused n) P s) (silent-trace (refusedState n) s P ys refl)
+
+-- a part that is opened
+opened-trace : (j : Judged) (o : Opened) (P : ℕ) (s : List ℕ) (next : List ℕ → Trace)
+    → stream.unlessRefused (orElse j (judgeOpened o)) P s (next (textOf o)) ≡ stream.unlessRefused j P s (byOpening o P s next)
+opened-trace fine (plain text) P s next = refl
+opened-trace fine fail P s next = refl
+opened-trace (refused n) o P s next = refl
+
+part-trace : (r : Receiving) (bytes : List ℕ) (P : ℕ) (s : List ℕ) (next : List ℕ → Trace)
+    → stream.unlessRefused (judgePart r bytes) P s (next (partText r bytes)) ≡ partTrace (keyExpansion (r .key)) (r .nonce) (openedOf r) bytes P s next
+unfolding judgePart partText
+part-trace r bytes P s next = opened-trace (judgeNonce (openedOf r)) (openedBy (keyExpansion (r .key)) (r .nonce) bytes) P s next
+
+-- what follows depends on the text only where the part is opened
+part-next : (j : Judged) (P : ℕ) (s : List ℕ) (x y : Trace) → (j ≡ fine → x ≡ y) → stream.unlessRefused j P s x ≡ stream.unlessRefused j P s y
+part-next fine P s x y h = h refl
+part-next (refused n) P s x y h = refl
+
+-- ---- nonces
+
+not-spent : (n : ℕ) → judgeNonce n ≡ fine → n < allNonces
+not-spent n j = ltb-true n allNonces (passed (ltb n allNonces) refusal.NoncesSpent j)
+
+one-more : (exhausted : Bool) (n : ℕ) → cond exhausted allNonces n < allNonces
+    → cond (leb allNonces (n + 1)) allNonces ((n + 1) % allNonces) ≡ suc (cond exhausted allNonces n)
+one-more true n h = absurd (omega arith)
+one-more false n h = go (leb allNonces (n + 1)) refl
+  where
+    go : (b : Bool) → leb allNonces (n + 1) ≡ b → cond (leb allNonces (n + 1)) allNonces ((n + 1) % allNonces) ≡ suc n
+    go true e = let l = leb-true allNonces (n + 1) e in rw e (omega arith)
+    go false e = let l = leb-false allNonces (n + 1) e in rw e (mod-eq-of-lt (let l′ : n + 1 < allNonces = omega arith in l′) ∙ omega arith)
+
+pub opened-next : (r : Receiving) (bytes : List ℕ) → judgePart r bytes ≡ fine → openedOf (openedMore r) ≡ suc (openedOf r)
+unfolding judgePart openedMore
+opened-next r bytes j =
+    one-more (r .exhausted) (r .opened)
+    (not-spent (openedOf r) (both-fine (judgeNonce (openedOf r)) (judgeOpened (openedBy (keyExpansion (r .key)) (r .nonce) bytes)) j .0))
+
+-- an opened part's text
+opened-length : (b : Bool) (c : List ℕ) (n : ℕ) → length c ≡ n → judgeOpened (cond b (plain c) fail) ≡ fine → length (textOf (cond b (plain c) fail)) ≡ n
+opened-length true c n l e = l
+opened-length false c n l e = absurd (let z : _≡_ {A = ℕ} 0 1 = cc in omega arith)
+
+pub text-length : (r : Receiving) (bytes : List ℕ) → judgePart r bytes ≡ fine → length (partText r bytes) ≡ length bytes - 16
+unfolding judgePart partText openedBy
+text-length r bytes j =
+    let w = keyExpansion (r .key) in
+    let n = length bytes - 16 in
+    opened-length (leb 16 (length bytes) && tagFits w (r .nonce) n bytes) (gctr w (r .nonce) (take n bytes)) n
+    (gctr-length w (r .nonce) 0 (take n bytes) ∙ length-take-le n bytes (omega arith))
+    (both-fine (judgeNonce (openedOf r)) (judgeOpened (openedBy w (r .nonce) bytes)) j .1)
+
+-- the second part has room in what the frame needs
+padding-lt : (m : ℕ) → padding m < 16
+padding-lt m = let h : 0 < 16 = lit< tt in mod-lt (16 - m % 16) h
+
+second-room : (n q p rest : ℕ) → inlineLength < n → q < 16 → inlineLength + ((n - inlineLength) + q + 16) ≤ (n + p) + rest + 32
+second-room n q p rest h k = omega arith
+
+sums : (a b c d : ℕ) → (a + (b + c + d)) + 32 ≡ a + b + c + d + 32
+sums a b c d = omega arith
+
+-- what is asked of a first part
+first-accepted : (text : List ℕ) (n : ℕ) → judgeFirst text n ≡ fine → needed (headerOf text) ≤ n
+unfolding judgeFirst
+first-accepted text n j =
+    let h = headerOf text in
+    store-fits (all-fine (judgeChecksum text ∷ judgeShape h ∷ judgeFlags (getD text 26 0) (getD text 27 0) ∷ judgeTag (h .tag) ∷ judgeLimits h ∷ judgeStore (needed h) n
+    ∷ judgePadding (drop (32 + h .s1 .len) text) ∷ []) j .1 .1 .1 .1 .1 .0)
+
+-- what of segment 1 stands in the inline buffer
+inline-size : (text : List ℕ) (h : Header) (b : Bool) → noRest h ≡ b → length text ≡ 80 → length (take (h .s1 .len) (drop 32 text)) ≡ cond b (h .s1 .len) inlineLength
+inline-size text h true e k = length-take-le (h .s1 .len) (drop 32 text) (let l = leb-true (h .s1 .len) inlineLength e in omega (arith, l, k, length-drop 32 text))
+inline-size text h false e k =
+    let l = leb-false (h .s1 .len) inlineLength e in
+    length-take (h .s1 .len) (drop 32 text) ∙ omega (arith, l, k, length-drop 32 text)
+
+-- ---- a frame, part by part; f bounds how many frames follow
+
+unfoldable pub Below : ℕ → Type 0
+Below f = (r : Receiving) (P : ℕ) (ys s : List ℕ) → length ys ≤ f → traced (nextFrame r) s P ys ≡ frames f (keyExpansion (r .key)) (r .nonce) (openedOf r) P ys s
+
+-- a part's bytes do not matter for how the frame ends
+end-over : (x : Ended) (r : Receiving) (h : Header) (p s xs : List ℕ) (i : ℕ) → i ≤ length s → i + length xs ≤ needed h
+    → endFrame x r h p (splice s i xs) ≡ endFrame x r h p s
+end-over whole r h p s xs i k l = rw (holding-over h p s xs i k l)
+end-over dropped r h p s xs i k l = rw (zeroed-over h s xs i k l)
+end-over (turnedAway n) r h p s xs i k l = rw (zeroed-over h s xs i k l)
+
+module _ (f : ℕ) (below : Below f) where
+  end-run : (x : Ended) (r : Receiving) (h : Header) (P : ℕ) (ys p s : List ℕ) → length ys ≤ f
+      → runs (endFrame x r h p s) P ys ≡ atEnd x h P p s (frames f (keyExpansion (r .key)) (r .nonce) (openedOf r) P ys)
+  unfolding Below
+  end-run whole r h P ys p s l = ap (after (event.Frame h) P (holding h p s)) (below r P ys (holding h p s) l)
+  end-run dropped r h P ys p s l = ap (after (event.Dropped h) P (zeroed h s)) (below r P ys (zeroed h s) l)
+  end-run (turnedAway n) r h P ys p s l = ap (after (event.Refused n) P (zeroed h s)) (silent-trace (refusedState n) (zeroed h s) P ys refl)
+
+  -- ---- the last part
+
+  module _ (r : Receiving) (h : Header) (P : ℕ) (ys first s : List ℕ) (fits : needed h ≤ length s) (stands : take (h .s1 .len) s ≡ first) (left : length ys ≤ f) where
+    abbrev n₁ : ℕ
+    n₁ = h .s1 .len
+
+    abbrev xs : List ℕ
+    xs = take (lastPart h) ys
+
+    last-room : n₁ + lastPart h ≤ needed h
+    unfolding needed
+    last-room = omega arith
+
+    last-size : noLast h ≡ false → lastPartLength h ≡ lastPart h
+    last-size e = ap (λ (b : Bool). cond b 0 (lastPart h)) e
+
+    last-placed : (zs : List ℕ) → length zs ≤ lastPart h → stored (at stage.Last (knowing r h)) s zs ≡ splice s n₁ zs
+    last-placed zs l = ap (λ (k : ℕ). sets s k zs) (add-zero n₁) ∙ sets-eq zs s n₁ (let q = last-room in omega (arith, q))
+
+    last-finish : noLast h ≡ false → lastPart h ≤ length ys
+        → finish stage.Last blank (knowing r h) (splice s n₁ xs)
+        ≡ unlessRefused (judgePart r xs) (zeroed h s) (endFrame (lastEnded h (partText r xs)) (openedMore r) h (first ++ unpadded (lastLengths h) (partText r xs)) s)
+    unfolding finish behindLast
+    last-finish e l =
+        let q = last-room in
+        let n : length xs ≡ lastPart h = length-take-le (lastPart h) ys l in
+        let k : n₁ ≤ length s = omega (arith, q) in
+        let m : n₁ + length xs ≤ needed h = omega (arith, q) in
+        let x = lastEnded h (partText r xs) in
+        let u = unpadded (lastLengths h) (partText r xs) in
+        ap₂ (λ (b z : List ℕ). unlessRefused (judgePart r b) z (behindLast (openedMore r) h (partText r b) (splice s n₁ xs)))
+        (part-there s xs n₁ k (lastPartLength h) (n ∙ sym (last-size e))) (zeroed-over h s xs n₁ k m)
+        ∙ ap (unlessRefused (judgePart r xs) (zeroed h s))
+        (end-over x (openedMore r) h (take n₁ (splice s n₁ xs) ++ u) s xs n₁ k m ∙ ap (λ (p : List ℕ). endFrame x (openedMore r) h (p ++ u) s) (front-there s xs n₁ k ∙ stands))
+
+    -- all of it came
+    last-whole : noLast h ≡ false → lastPart h ≤ length ys
+        → traced (at stage.Last (knowing r h)) s P ys
+        ≡ partTrace (keyExpansion (r .key)) (r .nonce) (openedOf r) xs (P + lastPart h) (zeroed h s)
+        (λ text. atEnd (lastEnded h text) h (P + lastPart h) (first ++ unpadded (lastLengths h) text) s
+        (frames f (keyExpansion (r .key)) (nextNonce (r .nonce)) (suc (openedOf r)) (P + lastPart h) (drop (lastPart h) ys)))
+    unfolding openedMore
+    last-whole e l =
+        let n : length xs ≡ lastPart h = length-take-le (lastPart h) ys l in
+        let some : 0 < lastPart h = omega arith in
+        let len : length (drop (lastPart h) ys) ≤ f = omega (arith, length-drop (lastPart h) ys) in
+        let T = partText r xs in
+        let p = first ++ unpadded (lastLengths h) T in
+        full parts (at stage.Last (knowing r h)) s P (lastPart h) ys some (zero-add (lastPart h) ∙ sym (last-size e)) l
+        ∙ ap (λ (t : List ℕ). runs (finish stage.Last blank (knowing r h) t) (P + lastPart h) (drop (lastPart h) ys)) (last-placed xs (omega (arith, n)))
+        ∙ ap (λ (y : Stepped). runs y (P + lastPart h) (drop (lastPart h) ys)) (last-finish e l)
+        ∙ run-unless (judgePart r xs) (zeroed h s) (endFrame (lastEnded h T) (openedMore r) h p s) (P + lastPart h) (drop (lastPart h) ys)
+        ∙ part-next (judgePart r xs) (P + lastPart h) (zeroed h s) _ _
+        (λ j. end-run (lastEnded h T) (openedMore r) h (P + lastPart h) (drop (lastPart h) ys) p s len
+        ∙ ap (λ (m : ℕ). atEnd (lastEnded h T) h (P + lastPart h) p s (frames f (keyExpansion (r .key)) (nextNonce (r .nonce)) m (P + lastPart h) (drop (lastPart h) ys))) (opened-next r xs j))
+        ∙ part-trace r xs (P + lastPart h) (zeroed h s)
+        (λ text. atEnd (lastEnded h text) h (P + lastPart h) (first ++ unpadded (lastLengths h) text) s
+        (frames f (keyExpansion (r .key)) (nextNonce (r .nonce)) (suc (openedOf r)) (P + lastPart h) (drop (lastPart h) ys)))
+
+    last-cut : noLast h ≡ false → length ys < lastPart h → traced (at stage.Last (knowing r h)) s P ys ≡ ended (splice s n₁ ys)
+    last-cut e l =
+        let k : 0 + length ys < lastPartLength h = rw (last-size e) (omega arith) in
+        short parts (at stage.Last (knowing r h)) s P ys k ∙ ap ended (last-placed ys (omega arith))
+
+    last-by : (b c : Bool) → noLast h ≡ b → ltb (length ys) (lastPart h) ≡ c
+        → runs (cond b (endFrame whole r h (take n₁ s) s) (record { state = at stage.Last (knowing r h); store = s; report = report.More })) P ys
+        ≡ cond b (atEnd whole h P first s (frames f (keyExpansion (r .key)) (r .nonce) (openedOf r) P ys))
+        (cond c (ended (splice s n₁ ys))
+        (partTrace (keyExpansion (r .key)) (r .nonce) (openedOf r) xs (P + lastPart h) (zeroed h s)
+        (λ text. atEnd (lastEnded h text) h (P + lastPart h) (first ++ unpadded (lastLengths h) text) s
+        (frames f (keyExpansion (r .key)) (nextNonce (r .nonce)) (suc (openedOf r)) (P + lastPart h) (drop (lastPart h) ys)))))
+    last-by true c e q = ap (λ (p : List ℕ). runs (endFrame whole r h p s) P ys) stands ∙ end-run whole r h P ys first s left
+    last-by false true e q = last-cut e (ltb-true (length ys) (lastPart h) q)
+    last-by false false e q = last-whole e (ltb-false (length ys) (lastPart h) q)
+
+    last-run : runs (beginLast r h s) P ys ≡ lastTrace (keyExpansion (r .key)) h (r .nonce) (openedOf r) P ys first s (frames f (keyExpansion (r .key)))
+    last-run = last-by (noLast h) (ltb (length ys) (lastPart h)) refl refl
+
+  -- ---- the rest of segment 1
+
+  module _ (r : Receiving) (h : Header) (P : ℕ) (ys first s : List ℕ) (fits : needed h ≤ length s) (left : length ys ≤ f) where
+    abbrev m₁ : ℕ
+    m₁ = h .s1 .len - inlineLength
+
+    abbrev rs : List ℕ
+    rs = take (restPart h) ys
+
+    -- the store with the inline bytes at its front
+    abbrev inline : List ℕ
+    inline = replaceFront first s
+
+    -- what an opened second part leads to
+    abbrev behind₁ : List ℕ → Trace
+    behind₁ text =
+        stream.unlessRefused (judgePadding (drop m₁ text)) (P + restPart h) (zeroed h s)
+        (lastTrace (keyExpansion (r .key)) h (nextNonce (r .nonce)) (suc (openedOf r)) (P + restPart h) (drop (restPart h) ys) (first ++ take m₁ text)
+        (replaceFront (first ++ take m₁ text ++ replicate (padding m₁ + 16) 0) s) (frames f (keyExpansion (r .key))))
+
+    first-fits : h .s1 .len ≤ needed h
+    unfolding needed
+    first-fits = omega arith
+
+    rest-long : noRest h ≡ false → inlineLength < h .s1 .len
+    rest-long e = leb-false (h .s1 .len) inlineLength e
+
+    rest-room : noRest h ≡ false → inlineLength + restPart h ≤ needed h
+    unfolding needed
+    rest-room e =
+        let r₂ = roundUp (h .s2 .len) in
+        let r₃ = roundUp (h .s3 .len) in
+        let r₄ = roundUp (h .s4 .len) in
+        let q : (roundUp (h .s1 .len) + (r₂ + r₃ + r₄)) + 32 ≡ needed h = sums (roundUp (h .s1 .len)) r₂ r₃ r₄ in
+        rw q at (second-room (h .s1 .len) (padding m₁) (padding (h .s1 .len)) (r₂ + r₃ + r₄) (rest-long e) (padding-lt m₁))
+
+    rest-size : noRest h ≡ false → restPartLength h ≡ restPart h
+    rest-size e = ap (λ (b : Bool). cond b 0 (restPart h)) e
+
+    module _ (e : noRest h ≡ false) (size₁ : length first ≡ inlineLength) where
+      inline-fits : length inline ≡ length s
+      inline-fits = length-replaceFront first s (let q = rest-room e in omega (arith, q))
+
+      rest-placed : (zs : List ℕ) → length zs ≤ restPart h → stored (at stage.Rest (knowing r h)) inline zs ≡ splice inline inlineLength zs
+      rest-placed zs l = ap (λ (k : ℕ). sets inline k zs) (add-zero inlineLength) ∙ sets-eq zs inline inlineLength (let q = rest-room e in let i = inline-fits in omega (arith, q, i))
+
+      rest-cut : length ys < restPart h → traced (at stage.Rest (knowing r h)) inline P ys ≡ ended (splice inline inlineLength ys)
+      rest-cut l =
+          let k : 0 + length ys < restPartLength h = rw (rest-size e) (omega arith) in
+          short parts (at stage.Rest (knowing r h)) inline P ys k ∙ ap ended (rest-placed ys (omega arith))
+
+      module _ (l : restPart h ≤ length ys) where
+        rest-n : length rs ≡ restPart h
+        rest-n = length-take-le (restPart h) ys l
+
+        inline-room : inlineLength ≤ length inline
+        inline-room = let q = rest-room e in let i = inline-fits in omega (arith, q, i)
+
+        rest-zeroed : zeroed h (splice inline inlineLength rs) ≡ zeroed h s
+        rest-zeroed =
+            let q = rest-room e in
+            let z = length-replicate {A = ℕ} (needed h) 0 in
+            zeroed-over h inline rs inlineLength inline-room (let n = rest-n in omega (arith, q, n)) ∙ over-longer first (replicate (needed h) 0) s (omega (arith, z, q, size₁))
+
+        rest-finish : finish stage.Rest blank (knowing r h) (splice inline inlineLength rs)
+            ≡ unlessRefused (judgePart r rs) (zeroed h s) (behindRest (openedMore r) h (partText r rs) (splice inline inlineLength rs))
+        unfolding finish
+        rest-finish =
+            ap₂ (λ (b z : List ℕ). unlessRefused (judgePart r b) z (behindRest (openedMore r) h (partText r b) (splice inline inlineLength rs)))
+            (part-there inline rs inlineLength inline-room (restPartLength h) (rest-n ∙ sym (rest-size e))) rest-zeroed
+
+        -- an opened one, and what is behind it
+        module _ (j : judgePart r rs ≡ fine) where
+          abbrev text₁ : List ℕ
+          text₁ = partText r rs
+
+          abbrev whole₁ : List ℕ
+          whole₁ = first ++ take m₁ text₁
+
+          abbrev zeros₁ : List ℕ
+          zeros₁ = replicate (padding m₁ + 16) 0
+
+          rest-length : length (take m₁ text₁) ≡ m₁
+          rest-length = length-take-le m₁ text₁ (let k = text-length r rs j in let n = rest-n in omega (arith, k, n))
+
+          whole-length : length whole₁ ≡ h .s1 .len
+          whole-length = length-append first (take m₁ text₁) ∙ (let k = rest-length in let l₁ = rest-long e in omega (arith, k, l₁, size₁))
+
+          rest-store : splice (splice inline inlineLength rs) inlineLength (take m₁ text₁ ++ zeros₁) ≡ replaceFront (whole₁ ++ zeros₁) s
+          rest-store =
+              let a = length-append (take m₁ text₁) zeros₁ in
+              let z = length-replicate {A = ℕ} (padding m₁ + 16) 0 in
+              let k = rest-length in
+              let n = rest-n in
+              again inline rs inlineLength inline-room (take m₁ text₁ ++ zeros₁) (omega (arith, a, z, k, n))
+              ∙ ap (λ (i : ℕ). splice inline i (take m₁ text₁ ++ zeros₁)) (sym size₁)
+              ∙ replaceFront-next s first (take m₁ text₁ ++ zeros₁)
+              ∙ ap (λ (t : List ℕ). replaceFront t s) (sym (append-assoc first (take m₁ text₁) zeros₁))
+
+          rest-fits : length (replaceFront (whole₁ ++ zeros₁) s) ≡ length s
+          rest-fits =
+              let a = length-append whole₁ zeros₁ in
+              let z = length-replicate {A = ℕ} (padding m₁ + 16) 0 in
+              let k = whole-length in
+              let q = rest-room e in
+              let l₁ = rest-long e in
+              length-replaceFront (whole₁ ++ zeros₁) s (omega (arith, a, z, k, q, l₁))
+
+          rest-stands : take (h .s1 .len) (replaceFront (whole₁ ++ zeros₁) s) ≡ whole₁
+          rest-stands =
+              ap (take (h .s1 .len)) (append-assoc whole₁ zeros₁ (drop (length (whole₁ ++ zeros₁)) s))
+              ∙ take-at whole₁ (zeros₁ ++ drop (length (whole₁ ++ zeros₁)) s) (h .s1 .len) whole-length
+
+          rest-behind : (P′ : ℕ) (zs : List ℕ) → length zs ≤ f
+              → runs (behindRest (openedMore r) h text₁ (splice inline inlineLength rs)) P′ zs
+              ≡ stream.unlessRefused (judgePadding (drop m₁ text₁)) P′ (zeroed h s)
+              (lastTrace (keyExpansion (r .key)) h (nextNonce (r .nonce)) (suc (openedOf r)) P′ zs whole₁ (replaceFront (whole₁ ++ zeros₁) s) (frames f (keyExpansion (r .key))))
+          unfolding behindRest openedMore
+          rest-behind P′ zs k =
+              let s′ = splice inline inlineLength rs in
+              let s″ = replaceFront (whole₁ ++ zeros₁) s in
+              let pad = judgePadding (drop m₁ text₁) in
+              ap₂ (λ (z t : List ℕ). runs (unlessRefused pad z (beginLast (openedMore r) h t)) P′ zs) rest-zeroed rest-store
+              ∙ run-unless pad (zeroed h s) (beginLast (openedMore r) h s″) P′ zs
+              ∙ ap (stream.unlessRefused pad P′ (zeroed h s))
+              (last-run (openedMore r) h P′ zs whole₁ s″ (rw rest-fits fits) rest-stands k
+              ∙ ap (λ (n : ℕ). lastTrace (keyExpansion (r .key)) h (nextNonce (r .nonce)) n P′ zs whole₁ s″ (frames f (keyExpansion (r .key)))) (opened-next r rs j))
+
+        rest-whole : traced (at stage.Rest (knowing r h)) inline P ys
+            ≡ partTrace (keyExpansion (r .key)) (r .nonce) (openedOf r) rs (P + restPart h) (zeroed h s) behind₁
+        rest-whole =
+            let some : 0 < restPart h = omega arith in
+            let len : length (drop (restPart h) ys) ≤ f = omega (arith, length-drop (restPart h) ys) in
+            let s′ = splice inline inlineLength rs in
+            full parts (at stage.Rest (knowing r h)) inline P (restPart h) ys some (zero-add (restPart h) ∙ sym (rest-size e)) l
+            ∙ ap (λ (t : List ℕ). runs (finish stage.Rest blank (knowing r h) t) (P + restPart h) (drop (restPart h) ys)) (rest-placed rs (let n = rest-n in omega (arith, n)))
+            ∙ ap (λ (y : Stepped). runs y (P + restPart h) (drop (restPart h) ys)) rest-finish
+            ∙ run-unless (judgePart r rs) (zeroed h s) (behindRest (openedMore r) h (partText r rs) s′) (P + restPart h) (drop (restPart h) ys)
+            ∙ part-next (judgePart r rs) (P + restPart h) (zeroed h s) _ (behind₁ (partText r rs)) (λ j. rest-behind j (P + restPart h) (drop (restPart h) ys) len)
+            ∙ part-trace r rs (P + restPart h) (zeroed h s) behind₁
+
+    -- segment 1 is as long as the inline buffer has it
+    abbrev InlineSize : Type 0
+    InlineSize = length first ≡ cond (noRest h) (h .s1 .len) inlineLength
+
+    rest-by : (b c : Bool) → noRest h ≡ b → ltb (length ys) (restPart h) ≡ c → length first ≡ cond b (h .s1 .len) inlineLength
+        → runs (cond b (beginLast r h inline) (record { state = at stage.Rest (knowing r h); store = inline; report = report.More })) P ys
+        ≡ cond b (lastTrace (keyExpansion (r .key)) h (r .nonce) (openedOf r) P ys first inline (frames f (keyExpansion (r .key))))
+        (cond c (ended (splice inline inlineLength ys)) (partTrace (keyExpansion (r .key)) (r .nonce) (openedOf r) rs (P + restPart h) (zeroed h s) behind₁))
+    rest-by true c e q k =
+        let l : length first ≤ length s = (let z = first-fits in omega (arith, z)) in
+        last-run r h P ys first inline (rw (length-replaceFront first s l) fits) (take-over first s (h .s1 .len) k) left
+    rest-by false true e q k = rest-cut e k (ltb-true (length ys) (restPart h) q)
+    rest-by false false e q k = rest-whole e k (ltb-false (length ys) (restPart h) q)
+
+    rest-run : InlineSize → runs (beginRest r h inline) P ys ≡ restTrace (keyExpansion (r .key)) h (r .nonce) (openedOf r) P ys first s (frames f (keyExpansion (r .key)))
+    rest-run k = rest-by (noRest h) (ltb (length ys) (restPart h)) refl refl k
+
+  -- ---- the first part
+
+  abbrev behind₀ : Receiving → ℕ → List ℕ → List ℕ → List ℕ → Trace
+  behind₀ r P ys s text =
+      stream.unlessRefused (judgeFirst text (length s)) P s
+      (restTrace (keyExpansion (r .key)) (headerOf text) (nextNonce (r .nonce)) (suc (openedOf r)) P ys (take (headerOf text .s1 .len) (drop 32 text)) s (frames f (keyExpansion (r .key))))
+
+  first-behind : (r : Receiving) (P : ℕ) (ys s bytes : List ℕ) → length ys ≤ f → length bytes ≡ firstLength → judgePart r bytes ≡ fine
+      → runs (behindFirst (openedMore r) (partText r bytes) s) P ys ≡ behind₀ r P ys s (partText r bytes)
+  unfolding behindFirst openedMore
+  first-behind r P ys s bytes left n j =
+      let text = partText r bytes in
+      let h = headerOf text in
+      let first = take (h .s1 .len) (drop 32 text) in
+      run-unless (judgeFirst text (length s)) s (beginRest (openedMore r) h (replaceFront first s)) P ys
+      ∙ part-next (judgeFirst text (length s)) P s _ _
+      (λ q. rest-run (openedMore r) h P ys first s (first-accepted text (length s) q) left
+      (inline-size text h (noRest h) refl (text-length r bytes j ∙ rw n))
+      ∙ ap (λ (m : ℕ). restTrace (keyExpansion (r .key)) h (nextNonce (r .nonce)) m P ys first s (frames f (keyExpansion (r .key)))) (opened-next r bytes j))
+
+  module _ (r : Receiving) (P : ℕ) (ys s : List ℕ) (left : length ys ≤ suc f) where
+    abbrev fs : List ℕ
+    fs = take firstLength ys
+
+    first-whole : firstLength ≤ length ys
+        → traced (nextFrame r) s P ys ≡ partTrace (keyExpansion (r .key)) (r .nonce) (openedOf r) fs (P + firstLength) s (behind₀ r (P + firstLength) (drop firstLength ys) s)
+    unfolding finish
+    first-whole l =
+        let n : length fs ≡ firstLength = length-take-le firstLength ys l in
+        let some : 0 < firstLength = lit< tt in
+        let len : length (drop firstLength ys) ≤ f = omega (arith, length-drop firstLength ys) in
+        full parts (nextFrame r) s P firstLength ys some refl l
+        ∙ ap (λ (b : List ℕ). runs (unlessRefused (judgePart r b) s (behindFirst (openedMore r) (partText r b) s)) (P + firstLength) (drop firstLength ys)) (sets-whole blank fs n)
+        ∙ run-unless (judgePart r fs) s (behindFirst (openedMore r) (partText r fs) s) (P + firstLength) (drop firstLength ys)
+        ∙ part-next (judgePart r fs) (P + firstLength) s _ (behind₀ r (P + firstLength) (drop firstLength ys) s (partText r fs))
+        (λ j. first-behind r (P + firstLength) (drop firstLength ys) s fs len n j)
+        ∙ part-trace r fs (P + firstLength) s (behind₀ r (P + firstLength) (drop firstLength ys) s)
+
+    first-by : (c : Bool) → ltb (length ys) firstLength ≡ c
+        → traced (nextFrame r) s P ys
+        ≡ cond c (ended s) (partTrace (keyExpansion (r .key)) (r .nonce) (openedOf r) fs (P + firstLength) s (behind₀ r (P + firstLength) (drop firstLength ys) s))
+    first-by true q = short parts (nextFrame r) s P ys (let l = ltb-true (length ys) firstLength q in omega (arith, l))
+    first-by false q = first-whole (ltb-false (length ys) firstLength q)
+
+-- THE FRAMES from a state on are those of the definition
+pub frames-trace : (f : ℕ) → Below f
+unfolding Below frames
+frames-trace zero r P [] s l = ap traceBy (scan-none (byteStep parts) (nextFrame r) s P)
+frames-trace zero r P (y ∷ ys) s l = absurd (omega arith)
+frames-trace (suc f) r P ys s l = first-by f (frames-trace f) r P ys s l (ltb (length ys) firstLength) refl
+
+-- from a switch on: THE DEFINITION
+pub sealed-trace : (key nonce : List ℕ) (P : ℕ) (ys s : List ℕ) → traced (switched key nonce) s P ys ≡ sealedTrace key nonce 0 P ys s
+unfolding Below switched freshReceiving sealedTrace
+sealed-trace key nonce P ys s = frames-trace (length ys) (freshReceiving key nonce) P ys s (le-refl (length ys))

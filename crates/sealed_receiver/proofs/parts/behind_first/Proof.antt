@@ -1,0 +1,80 @@
+use mathlib.Core.Path.{_≡_, _∙_, sym, ap}
+use Rattle.refusal.specs.declared.Numbers.{Numbers}
+use Rattle.refusal.specs.Refusals.{fine, isFine, judgedBy}
+use lib.ListN.{length}
+use native.Mathlib.Omega.{arith}
+use Rattle.preamble.specs.declared.Header.{Header}
+use Rattle.preamble.specs.Judge.{judgeHeader}
+use Rattle.secure.specs.Layout.{needed}
+use Rattle.secure.specs.Reading.{judgeFirst}
+use Rattle.sealed_receiver.specs.Step as step
+use Rattle.sealed_receiver.proofs.FirstPart.{first-fits, first-header, first-refused, first-accepted}
+use borrow.Author.Needs.{needs}
+use Rattle.sealed_receiver.proofs.parts.behind_first.Statement.{statement}
+use Rattle.sealed_receiver.proofs.parts.behind_first.Tie as tie
+
+judge-first-requires : tie.Need-judge-first-requires
+judge-first-requires c κs = search needs
+
+enum-told : tie.Need-enum-told
+enum-told c = search needs
+
+read-header-requires : tie.Need-read-header-requires
+read-header-requires c κs = search needs
+
+cast-part : tie.Need-cast-part
+cast-part c = search needs
+
+part-requires : tie.Need-part-requires
+part-requires c κs = search needs
+
+put-requires : tie.Need-put-requires
+put-requires c κs = search needs
+
+begin-rest-requires : tie.Need-begin-rest-requires
+begin-rest-requires c κs =
+    let text = c .before .before .before .before .before .before .before .before .before .before .before .before .before .args .text .now in
+    let s = c .before .before .before .before .before .before .before .before .before .before .before .before .before .args .store .now in
+    let j : judgeFirst text (length s) ≡ fine = sym (c .before .before .before .before .before .before .before .before .before .before .judge-first .ensures) ∙ ap judgedBy (c .before .before .before .before .before .before .before .before .enum-told .given .1) in
+    (omega (arith, ap needed (c .before .before .before .before .before .before .before .read-header .ensures), first-fits text (length s) j, c .before .before .before .put .kept .0), ap (λ (x : Header). isFine (judgeHeader x)) (c .before .before .before .before .before .before .before .read-header .ensures) ∙ ap isFine (first-header text (length s) j))
+
+enum-known-judged : tie.Need-enum-known-judged
+enum-known-judged c = search needs
+
+in-numbers-requires : tie.Need-in-numbers-requires
+in-numbers-requires c κs = search needs
+
+refuse-requires : tie.Need-refuse-requires
+refuse-requires c κs = search needs
+
+same-length : tie.Need-same-length
+same-length c = search needs
+
+returns : tie.Need-returns
+returns c =
+    let g = c .before .before .before .before .before .before .before .before .before .before .before .before .before .before .before .before .args in
+    let j : judgeFirst (g .text .now) (length (g .store .now)) ≡ fine = sym (c .before .before .before .before .before .before .before .before .before .before .before .before .before .judge-first .ensures) ∙ ap judgedBy (c .before .before .before .before .before .before .before .before .before .before .before .enum-told .given .1) in
+    c .before .before .begin-rest .ensures ∙ first-accepted (g .r) (g .text .now) (g .store .now) (c .before .before .before .before .before .before .before .before .before .before .read-header .result) (c .before .before .before .before .before .before .before .part .result .now) (c .before .before .before .before .before .before .put .last .0) j (c .before .before .before .before .before .before .before .before .before .before .read-header .ensures) (c .before .before .before .before .before .before .before .part .ensures) (c .before .before .before .before .before .before .put .ensures)
+
+returns-2 : tie.Need-returns-2
+returns-2 c =
+    let g = c .before .before .before .before .before .before .before .before .args in
+    c .refuse .ensures (g .store .now) ∙ ap (λ (n : Numbers). step.refuse n (g .store .now)) (c .before .in-numbers .ensures) ∙ first-refused (g .r) (g .text .now) (g .store .now) _ (sym (c .before .before .before .before .before .judge-first .ensures) ∙ ap judgedBy (c .before .before .before .judged .given .1))
+
+pub behind-first-spec : {M : Type 1} → statement M
+behind-first-spec =
+    tie.close
+    (tie.spec
+    judge-first-requires
+    enum-told
+    read-header-requires
+    cast-part
+    part-requires
+    put-requires
+    begin-rest-requires
+    enum-known-judged
+    in-numbers-requires
+    refuse-requires
+    same-length
+    returns
+    returns-2)

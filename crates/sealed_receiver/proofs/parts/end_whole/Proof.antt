@@ -1,0 +1,61 @@
+use mathlib.Core.Path.{ap₂}
+use mathlib.Core.List.{List}
+use Prim.Native.Nat.{ℕ}
+use native.Mathlib.Omega.{arith}
+use Rattle.stream.specs.declared.Event.the-variants as event
+use Rattle.receiver.specs.declared.Report.the-variants as report
+use Rattle.sealed_receiver.specs.declared.State.{State}
+use Rattle.sealed_receiver.specs.Step as step
+use Rattle.sealed_receiver.proofs.Regions.{zeros-behind}
+use Rattle.sealed_receiver.proofs.Rooms.{segments-fit}
+use borrow.Author.Needs.{needs}
+use Rattle.sealed_receiver.proofs.parts.end_whole.Statement.{statement}
+use Rattle.sealed_receiver.proofs.parts.end_whole.Tie as tie
+
+total-of-requires : tie.Need-total-of-requires
+total-of-requires c κs = search needs
+
+sub-put-zeros : tie.Need-sub-put-zeros
+sub-put-zeros c = omega (arith, segments-fit (c .before .before .args .h), c .total-of .ensures, c .before .before .pre)
+
+part-put-zeros-start : tie.Need-part-put-zeros-start
+part-put-zeros-start c = omega (arith, segments-fit (c .before .before .args .h), c .total-of .ensures, c .before .before .pre)
+
+part-put-zeros-end : tie.Need-part-put-zeros-end
+part-put-zeros-end c = search needs
+
+needed-of-requires : tie.Need-needed-of-requires
+needed-of-requires c κs = search needs
+
+sub-put-zeros-2 : tie.Need-sub-put-zeros-2
+sub-put-zeros-2 c = omega (arith, segments-fit (c .before .before .before .before .args .h), c .before .before .total-of .ensures, c .needed-of .ensures .0)
+
+put-zeros-requires : tie.Need-put-zeros-requires
+put-zeros-requires c κs = search needs
+
+next-frame-requires : tie.Need-next-frame-requires
+next-frame-requires c κs = search needs
+
+same-length : tie.Need-same-length
+same-length c = search needs
+
+returns : tie.Need-returns
+returns c =
+    let g = c .before .before .before .before .before .before .before .before .args in
+    ap₂ (λ (x : State) (t : List ℕ). step.stepped x t (report.Event (event.Frame (g .h)))) (c .next-frame .ensures)
+    (zeros-behind (g .h) (g .store .now) (c .before .before .before .put-zeros .last .0) (c .before .before .before .before .before .before .total-of .result) (c .before .before .before .before .needed-of .result) (c .before .before .before .before .before .before .total-of .ensures) (c .before .before .before .before .needed-of .ensures .0) (c .before .before .before .before .before .before .before .before .pre) (c .before .before .before .put-zeros .ensures))
+
+pub end-whole-spec : {M : Type 1} → statement M
+end-whole-spec =
+    tie.close
+    (tie.spec
+    total-of-requires
+    sub-put-zeros
+    part-put-zeros-start
+    part-put-zeros-end
+    needed-of-requires
+    sub-put-zeros-2
+    put-zeros-requires
+    next-frame-requires
+    same-length
+    returns)

@@ -1,0 +1,25 @@
+use mathlib.Core.Path.{_∙_, ap}
+use Rattle.secure.specs.Reading.{allZero}
+use Rattle.sealed_receiver.proofs.LastPart.{pads}
+use borrow.Author.Needs.{needs}
+use Rattle.sealed_receiver.proofs.parts.is_padded.Statement.{statement}
+use Rattle.sealed_receiver.proofs.parts.is_padded.Tie as tie
+
+add-part : tie.Need-add-part
+add-part c = search needs
+
+padding-requires : tie.Need-padding-requires
+padding-requires c κs = search needs
+
+part-requires : tie.Need-part-requires
+part-requires c κs = search needs
+
+all-zero-requires : tie.Need-all-zero-requires
+all-zero-requires c κs = search needs
+
+returns : tie.Need-returns
+returns c = let g = c .before .before .before .before .args in c .all-zero .ensures ∙ ap allZero (c .before .part .ensures ∙ pads (g .text .now) (g .at) (g .n) (c .before .before .padding .result) (c .before .before .padding .ensures .0))
+
+pub is-padded-spec : {M : Type 1} → statement M
+is-padded-spec =
+    tie.close (tie.spec add-part padding-requires part-requires all-zero-requires returns)

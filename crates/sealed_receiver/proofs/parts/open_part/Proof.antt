@@ -1,0 +1,42 @@
+use Rattle.aes.specs.Aes.{keyExpansion}
+use Rattle.gcm.specs.Calls.{Opening}
+use native.Mathlib.Omega.{arith}
+use Rattle.sealed_receiver.proofs.Openings.{none-left, opened-part}
+use borrow.Author.Needs.{needs}
+use Rattle.sealed_receiver.proofs.parts.open_part.Statement.{statement}
+use Rattle.sealed_receiver.proofs.parts.open_part.Tie as tie
+
+returns : tie.Need-returns
+returns c = none-left (c .before .before .args .r) (c .before .before .args .bytes .now) _ (c .if1 .taken)
+
+expand-requires : tie.Need-expand-requires
+expand-requires c κs = search needs
+
+open-in-place-requires : tie.Need-open-in-place-requires
+open-in-place-requires c κs = search needs
+
+verdict-of-requires : tie.Need-verdict-of-requires
+verdict-of-requires c κs = search needs
+
+same-length : tie.Need-same-length
+same-length c = search needs
+
+returns-2 : tie.Need-returns-2
+returns-2 c =
+    let r = c .before .before .before .before .before .before .before .before .before .before .before .args .r in
+    let bytes = c .before .before .before .before .before .before .before .before .before .before .before .args .bytes .now in
+    let o = c .before .before .before .open-in-place .result in
+    let after = c .before .before .before .open-in-place .last .1 .1 .0 in
+    let opening : Opening (keyExpansion (r .key)) (r .nonce) bytes bytes o after = rw (c .before .before .before .before .before .before .expand .ensures) at (c .before .before .before .open-in-place .ensures) in
+    opened-part r bytes after (c .verdict-of .result) o (c .verdict-of .ensures) (c .before .before .before .before .before .before .before .before .before .if1 .left) (omega (arith, c .before .before .before .before .before .before .before .before .before .before .before .good .0)) (c .before .before .before .before .before .before .before .before .before .before .before .pre .0) (c .before .before .before .before .before .before .before .before .before .before .before .pre .1) opening
+
+pub open-part-spec : {M : Type 1} → statement M
+open-part-spec =
+    tie.close
+    (tie.spec
+    returns
+    expand-requires
+    open-in-place-requires
+    verdict-of-requires
+    same-length
+    returns-2)

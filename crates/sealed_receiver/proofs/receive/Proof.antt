@@ -1,0 +1,132 @@
+use Prim.Native.Nat.{ℕ, _<_}
+use mathlib.Core.Bool.{true, false}
+use mathlib.Core.Path.{_≡_, _∙_, sym, ap}
+use lib.ListN.{length}
+use borrow.Author.Needs.{needs}
+use borrow.Author.Tests.{not-true, not-false}
+use Rattle.refusal.specs.declared.Numbers.{Numbers}
+use Rattle.refusal.specs.Refusals.{row}
+use Rattle.sealed_receiver.specs.State.{agrees, isRefused}
+use Rattle.sealed_receiver.specs.Step as step
+use Rattle.sealed_receiver.proofs.Every.{contradicting, repeating, shortened, feeding}
+use Rattle.sealed_receiver.proofs.receive.Statement.{statement}
+use Rattle.sealed_receiver.proofs.receive.Tie as tie
+
+-- what was tested before: the state agrees with itself, and is not refused
+agreed : (a : tie.Else1) → agrees (a .before .before .before .before .args .state) ≡ true
+agreed a = sym (a .before .agrees-with-itself .ensures) ∙ not-false (a .before .agrees-with-itself .result) (a .if1 .left)
+
+live : (a : tie.Else2) → isRefused (a .before .before .before .before .before .before .before .before .args .state .position .stage) ≡ false
+live a = sym (a .before .is-refused .ensures) ∙ a .if2 .left
+
+running : (a : tie.Else3)
+    → (let z = a .before .before .before .before .before .before .before .before .before .before in step.Running (z .args .state) (z .args .store .now))
+running a =
+    record {
+      agree = agreed (a .before .before .before .before .before .before);
+      live = live (a .before .before);
+      fits = rw (a .before .needed-by .ensures) at (a .if3 .left);
+    }
+
+agrees-with-itself-requires : tie.Need-agrees-with-itself-requires
+agrees-with-itself-requires c κs = search needs
+
+in-numbers-requires : tie.Need-in-numbers-requires
+in-numbers-requires c κs = search needs
+
+refuse-unchanged-requires : tie.Need-refuse-unchanged-requires
+refuse-unchanged-requires c κs = search needs
+
+returns : tie.Need-returns
+returns c =
+    let z = c .before .before .before .before .before .before in
+    let st = z .args .state in
+    let s = z .args .store .now in
+    let tested = c .before .before .before .agrees-with-itself in
+    let a = sym (tested .ensures) ∙ not-true (tested .result) (c .before .before .if1 .taken) in
+    let e = sym (contradicting st s (z .args .piece .now) a) in
+    record {
+      received =
+          c .refuse-unchanged .ensures s
+          ∙ ap (λ (n : Numbers). step.refuseUnchanged st n s .received) (c .before .in-numbers .ensures)
+          ∙ ap (λ (x : step.Answer). x .received) e;
+      store = ap (λ (x : step.Answer). x .store) e;
+    }
+
+is-refused-requires : tie.Need-is-refused-requires
+is-refused-requires c κs = search needs
+
+refuse-unchanged-requires-2 : tie.Need-refuse-unchanged-requires-2
+refuse-unchanged-requires-2 c κs = search needs
+
+returns-2 : tie.Need-returns-2
+returns-2 c =
+    let z = c .before .before .before .before .before .before .before .before .before in
+    let st = z .args .state in
+    let s = z .args .store .now in
+    let r = sym (c .before .before .is-refused .ensures) ∙ c .before .if2 .taken in
+    let e = sym (repeating st s (z .args .piece .now) (agreed (c .before .before .before .before .before)) r) in
+    record { received = c .refuse-unchanged2 .ensures s ∙ ap (λ (x : step.Answer). x .received) e; store = ap (λ (x : step.Answer). x .store) e }
+
+needed-by-requires : tie.Need-needed-by-requires
+needed-by-requires c κs = search needs
+
+in-numbers-requires-2 : tie.Need-in-numbers-requires-2
+in-numbers-requires-2 c κs = search needs
+
+refused-state-requires : tie.Need-refused-state-requires
+refused-state-requires c κs = search needs
+
+refuse-unchanged-requires-3 : tie.Need-refuse-unchanged-requires-3
+refuse-unchanged-requires-3 c κs = search needs
+
+returns-3 : tie.Need-returns-3
+returns-3 c =
+    let z = c .before .before .before .before .before .before .before .before .before .before .before .before .before in
+    let st = z .args .state in
+    let s = z .args .store .now in
+    let q = c .before .before .before .before .needed-by .ensures in
+    let t : length s < step.neededBy st = rw q at (c .before .before .before .if3 .taken) in
+    let r = live (c .before .before .before .before .before) in
+    let e = sym (shortened st s (z .args .piece .now) (agreed (c .before .before .before .before .before .before .before .before .before)) r t) in
+    let numbers = c .before .before .in-numbers2 in
+    let n : numbers .result ≡ step.shortStore st = numbers .ensures ∙ ap (λ (k : ℕ). row 10 k 0 0) q in
+    record {
+      received = c .refuse-unchanged3 .ensures s ∙ rw (c .before .refused-state .ensures, n) (ap (λ (x : step.Answer). x .received) e);
+      store = ap (λ (x : step.Answer). x .store) e;
+    }
+
+take-piece-requires : tie.Need-take-piece-requires
+take-piece-requires c κs = running (c .before)
+
+same-length : tie.Need-same-length
+same-length c = search needs
+
+returns-4 : tie.Need-returns-4
+returns-4 c =
+    let z = c .before .before .before .before .before .before .before .before .before .before .before .before .before .before in
+    let st = z .args .state in
+    let s = z .args .store .now in
+    let e = sym (feeding st s (z .args .piece .now) (running (c .before .before .before .before))) in
+    let f = c .before .before .take-piece .ensures in
+    record { received = f .received ∙ ap (λ (x : step.Answer). x .received) e; store = f .store ∙ ap (λ (x : step.Answer). x .store) e }
+
+pub receive-spec : {M : Type 1} → statement M
+receive-spec =
+    tie.close
+    (tie.spec
+    agrees-with-itself-requires
+    in-numbers-requires
+    refuse-unchanged-requires
+    returns
+    is-refused-requires
+    refuse-unchanged-requires-2
+    returns-2
+    needed-by-requires
+    in-numbers-requires-2
+    refused-state-requires
+    refuse-unchanged-requires-3
+    returns-3
+    take-piece-requires
+    same-length
+    returns-4)

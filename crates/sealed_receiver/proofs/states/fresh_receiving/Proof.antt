@@ -1,0 +1,11 @@
+use Rattle.sealed_receiver.specs.State.{freshReceiving}
+use mathlib.Core.Path.{refl}
+use Rattle.sealed_receiver.proofs.states.fresh_receiving.Statement.{statement}
+use Rattle.sealed_receiver.proofs.states.fresh_receiving.Tie as tie
+
+returns : tie.Need-returns
+unfolding freshReceiving
+returns c = refl
+
+pub fresh-receiving-spec : {M : Type 1} → statement M
+fresh-receiving-spec = tie.close (tie.spec returns)

@@ -1,0 +1,11 @@
+use Rattle.sealed_receiver.specs.State.{noReceiving}
+use mathlib.Core.Path.{refl}
+use Rattle.sealed_receiver.proofs.states.no_receiving.Statement.{statement}
+use Rattle.sealed_receiver.proofs.states.no_receiving.Tie as tie
+
+returns : tie.Need-returns
+unfolding noReceiving
+returns c = refl
+
+pub no-receiving-spec : {M : Type 1} → statement M
+no-receiving-spec = tie.close (tie.spec returns)

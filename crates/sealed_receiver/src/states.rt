@@ -1,0 +1,287 @@
+// States that follow from one another, and what a state says of itself.
+use crate::Known;
+use crate::Position;
+use crate::Receiving;
+use crate::Stage;
+use crate::State;
+use buffer::behind;
+use preamble::Header;
+use preamble::Segment;
+use preamble::header_is_fine;
+use receiver::states::is_no_header;
+use receiver::states::is_no_refusal;
+use refusal::Numbers;
+use refusal::both;
+use refusal::either;
+use secure::all_zero;
+use secure::last_part_length;
+use secure::needed_of;
+use secure::next_nonce;
+use secure::rest_part_length;
+ghost use mathlib.Core.Path.{_≡_};
+ghost use Prim.Native.Nat.{_<_};
+ghost use Rattle.receiver.specs.State.{noHeader, noRefusal};
+ghost use Rattle.sealed_receiver.specs.declared.Stage.the-variants as stage;
+ghost use Rattle.sealed_receiver.specs.State.{isFirst, isRefused, sizeOf, placeOf, inFrame, needed, freshReceiving, openedMore, noReceiving, isNoReceiving, receivingRule, headerRule, given, refusalRule, countRule, inBlock, blockRule, rules, agrees};
+ghost use Rattle.sealed_receiver.specs.Step.{at, knowing, nextFrame, refusedState};
+
+// ---- states
+
+fn no_header() -> Header
+    ensures { λ r. ⌜ r ≡ noHeader ⌝ }
+{
+    let none = Segment { len: 0, align: 0 };
+    Header {
+        tag: 0,
+        count: 0,
+        s1: none,
+        s2: none,
+        s3: none,
+        s4: none,
+    }
+}
+
+// Before a part's first byte.
+pub(crate) fn state_at(stage: Stage, known: Known) -> State
+    ensures { λ r. ⌜ r ≡ at stage known ⌝ }
+{
+    State {
+        position: Position {
+            stage: stage,
+            got: 0,
+            block: [0u8; 96],
+        },
+        known: known,
+    }
+}
+
+pub(crate) fn knowing(receiving: Receiving, header: Header) -> Known
+    ensures { λ r. ⌜ r ≡ knowing receiving header ⌝ }
+{
+    Known {
+        receiving: receiving,
+        header: header,
+        refusal: Numbers {
+            number: 0,
+            first: 0,
+            second: 0,
+            third: 0,
+        },
+    }
+}
+
+pub(crate) fn next_frame(receiving: Receiving) -> State
+    ensures { λ r. ⌜ r ≡ nextFrame receiving ⌝ }
+{
+    state_at(Stage::First, knowing(receiving, no_header()))
+}
+
+pub(crate) fn fresh_receiving(key: [u8; 16], nonce: [u8; 12]) -> Receiving
+    ensures { λ r. ⌜ r ≡ freshReceiving key nonce ⌝ }
+{
+    Receiving {
+        key: key,
+        nonce: nonce,
+        opened: 0,
+        exhausted: false,
+    }
+}
+
+// One part more was opened.
+pub(crate) fn opened_more(r: Receiving) -> Receiving
+    ensures { λ q. ⌜ q ≡ openedMore r ⌝ }
+{
+    let key = r.key;
+    let last = r.nonce;
+    let opened = std::num::wrapping_add_u64(r.opened, 1);
+    Receiving {
+        key: key,
+        nonce: next_nonce(last),
+        opened: opened,
+        exhausted: opened == 0,
+    }
+}
+
+fn no_receiving() -> Receiving
+    ensures { λ r. ⌜ r ≡ noReceiving ⌝ }
+{
+    Receiving {
+        key: [0u8; 16],
+        nonce: [0u8; 12],
+        opened: 0,
+        exhausted: false,
+    }
+}
+
+// Refused from now on: no key is kept.
+pub(crate) fn refused_state(n: Numbers) -> State
+    ensures { λ r. ⌜ r ≡ refusedState n ⌝ }
+{
+    let known = Known {
+        receiving: no_receiving(),
+        header: no_header(),
+        refusal: n,
+    };
+    state_at(Stage::Refused, known)
+}
+
+// ---- stages
+
+pub(crate) fn is_first(stage: Stage) -> bool
+    ensures { λ r. ⌜ r ≡ isFirst stage ⌝ }
+{
+    match stage {
+        Stage::First => true,
+        Stage::Rest => false,
+        Stage::Last => false,
+        Stage::Refused => false,
+    }
+}
+
+pub(crate) fn is_refused(stage: Stage) -> bool
+    ensures { λ r. ⌜ r ≡ isRefused stage ⌝ }
+{
+    match stage {
+        Stage::First => false,
+        Stage::Rest => false,
+        Stage::Last => false,
+        Stage::Refused => true,
+    }
+}
+
+// How many bytes a part has, with its tag.
+pub(crate) fn size_of(stage: Stage, h: Header) -> usize
+    ensures { λ r. ⌜ (r ≡ sizeOf stage h) × (r < 17179869184) ⌝ }
+{
+    match stage {
+        Stage::First => 96,
+        Stage::Rest => rest_part_length(h) as usize,
+        Stage::Last => last_part_length(h) as usize,
+        Stage::Refused => 0,
+    }
+}
+
+// Where a later part's bytes go in the store.
+pub(crate) fn place_of(stage: Stage, h: Header) -> usize
+    ensures { λ r. ⌜ (r ≡ placeOf stage h) × (r < 4294967296) ⌝ }
+{
+    match stage {
+        Stage::First => 0,
+        Stage::Rest => 48,
+        Stage::Last => h.s1.len as usize,
+        Stage::Refused => 0,
+    }
+}
+
+pub(crate) fn in_frame(stage: Stage) -> bool
+    ensures { λ r. ⌜ r ≡ inFrame stage ⌝ }
+{
+    !either(is_first(stage), is_refused(stage))
+}
+
+pub(crate) fn needed_by(stage: Stage, h: Header) -> u64
+    ensures { λ r. ⌜ r ≡ needed stage h ⌝ }
+{
+    if in_frame(stage) {
+        return needed_of(h);
+    }
+    0
+}
+
+// ---- what refusal 26 asks
+
+fn is_no_receiving(r: Receiving) -> bool
+    ensures { λ q. ⌜ q ≡ isNoReceiving r ⌝ }
+{
+    let key = r.key;
+    let nonce = r.nonce;
+    let keys = both(all_zero(&key), all_zero(&nonce));
+    both(keys, both(r.opened == 0, !r.exhausted))
+}
+
+fn receiving_rule(stage: Stage, r: Receiving) -> bool
+    ensures { λ q. ⌜ q ≡ receivingRule stage r ⌝ }
+{
+    if is_refused(stage) {
+        return is_no_receiving(r);
+    }
+    either(!r.exhausted, r.opened == 0)
+}
+
+fn header_rule(stage: Stage, h: Header) -> bool
+    ensures { λ r. ⌜ r ≡ headerRule stage h ⌝ }
+{
+    if in_frame(stage) {
+        return header_is_fine(h);
+    }
+    is_no_header(h)
+}
+
+// A refusal that this receiver gives.
+fn is_given(n: Numbers) -> bool
+    ensures { λ r. ⌜ r ≡ given n ⌝ }
+{
+    let k = n.number;
+    let later = either(k == 12, both(17 <= k, k <= 19));
+    let known = either(both(5 <= k, k <= 10), later);
+    both(known, both(n.second == 0, n.third == 0))
+}
+
+fn refusal_rule(stage: Stage, n: Numbers) -> bool
+    ensures { λ r. ⌜ r ≡ refusalRule stage n ⌝ }
+{
+    if is_refused(stage) {
+        return is_given(n);
+    }
+    is_no_refusal(n)
+}
+
+fn count_rule(stage: Stage, h: Header, got: usize) -> bool
+    ensures { λ r. ⌜ r ≡ countRule stage h got ⌝ }
+{
+    if is_refused(stage) {
+        return got == 0;
+    }
+    got < size_of(stage, h)
+}
+
+// How many bytes stand in the block.
+fn in_block(stage: Stage, got: usize) -> usize
+    ensures { λ r. ⌜ r ≡ inBlock stage got ⌝ }
+{
+    if is_first(stage) {
+        return got;
+    }
+    0
+}
+
+fn block_rule(stage: Stage, got: usize, block: [u8; 96]) -> bool
+    ensures { λ r. ⌜ r ≡ blockRule stage got block ⌝ }
+{
+    all_zero(behind(&block, in_block(stage, got)))
+}
+
+fn rules_hold(stage: Stage, v: Known) -> bool
+    ensures { λ r. ⌜ r ≡ rules stage v ⌝ }
+{
+    let receiving = v.receiving;
+    let header = v.header;
+    let refusal = v.refusal;
+    let last = both(header_rule(stage, header), refusal_rule(stage, refusal));
+    both(receiving_rule(stage, receiving), last)
+}
+
+// The fields agree: what refusal 26 asks.
+pub fn agrees_with_itself(st: State) -> bool
+    ensures { λ r. ⌜ r ≡ agrees st ⌝ }
+{
+    let position = st.position;
+    let known = st.known;
+    let stage = position.stage;
+    let block = position.block;
+    let counted = both(
+        rules_hold(stage, known),
+        count_rule(stage, known.header, position.got),
+    );
+    both(counted, block_rule(stage, position.got, block))
+}
