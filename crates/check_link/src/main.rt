@@ -6,11 +6,13 @@ use libc::STDOUT_FILENO;
 use link::begin;
 use link::read;
 use link::wanted;
+ghost use mathlib.Core.Path.{_≡_};
 ghost use Prim.Native.Nat.{_≤_};
 ghost use lib.ListN.{length};
 
+// It is lent room for a read, the store, and room for the lines of a read: with less the text could be cut, or a frame refused that fits the store.
 fn run(held: &mut [u8], store: &mut [u8], text: &mut [u8])
-    requires { ⌜ 16384 ≤ length (now held) ⌝ }
+    requires { ⌜ (16384 ≤ length (now held)) × (length (now store) ≡ 32768) × (65536 ≤ length (now text)) ⌝ }
 {
     let mut link = begin();
     let mut n = wanted(link);

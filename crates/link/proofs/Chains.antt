@@ -1,30 +1,29 @@
 -- Calls that a walk makes one behind the other.
 use mathlib.Core.Path.{_≡_, refl, sym, ap, subst, _∙_}
-use mathlib.Core.Bool.{Bool, true, false}
+use mathlib.Core.Bool.{true, false}
 use mathlib.Core.List.{List, [], _∷_}
 use Prim.Native.Nat.{ℕ, zero, suc, _+_, _-_, _≤_, _<_}
 use native.Mathlib.Nat.{suc-add, zero-add}
 use native.Mathlib.Omega.{arith}
-use lib.ListN.{length, take, drop, length-drop, length-take}
-use lib.Seq.{take-take, drop-drop, length-take-le, drop-nil, take-nil}
+use lib.ListN.{length, take, drop, length-drop}
+use lib.Seq.{take-take, drop-drop, length-take-le, take-nil}
 use Rattle.stream.specs.declared.Event.{Event}
-use Rattle.stream.specs.Stream.{Entry, entry}
+use Rattle.stream.specs.Stream.{Entry}
 use Rattle.receiver.specs.declared.Report.the-variants as report
 use Rattle.receiver.specs.declared.Received.{Received}
 use Rattle.receiver.specs.Step.{Answered}
-use Rattle.receiver.specs.Calls.{Call, pieceAt, Chained, takenBy, stateBy, storeBy, reportedBy, refusedIn}
-use Rattle.text.specs.Page.{page, puts}
+use Rattle.receiver.specs.Calls.{Call, pieceAt, reportedBy, refusedIn}
 use Rattle.link.specs.declared.Segments.{Segments}
 use Rattle.link.specs.declared.Walk.{Walk}
 use Rattle.link.specs.Lines.{linesOf}
 use Rattle.link.specs.Walks.{lastOf, framesOf, Noted, Fits, NotedEvent, reported, withSegments, Advanced, Walked}
 use Rattle.link.proofs.Counts.{noted-next, entered-next, entered-last}
-use Rattle.link.proofs.Moves.{Moves, moves, not-refused}
+use Rattle.link.proofs.Moves.{moves, not-refused}
 
 -- ---- one call
 
 abbrev moved : Walk → Received → Walk
-moved w o = record { receiver = o .state; segments = w .segments; taken = w .taken + o .taken; entry = w .entry; frames = w .frames; refused = w .refused; number = w .number; filled = w .filled }
+moved w o = record { receiver = o .state; segments = w .segments; taken = w .taken + o .taken; «entry_end» = w .«entry_end»; frames = w .frames; refused = w .refused; number = w .number; filled = w .filled }
 
 module _ (w : Walk) (s piece text : List ℕ) (o : Received) (s′ : List ℕ) (a : Answered (w .receiver) s piece o s′) where
   abbrev es : List Entry
@@ -41,17 +40,17 @@ module _ (w : Walk) (s piece text : List ℕ) (o : Received) (s′ : List ℕ) (
         noted = n;
         within = omega (arith, m .within);
         goes = λ live h. omega (arith, m .goes (w .taken + o .taken) s′ (sym (n .refused) ∙ live) h);
-        few = omega (arith, m .few (w .taken + o .taken) (w .frames) s′, n .frames);
+        frames-within = omega (arith, m .frames-within (w .taken + o .taken) (w .frames) s′, n .frames);
       }
 
   pub advance-more : w .refused ≡ false → o .report ≡ report.More → Advanced w s piece text (moved w o) s′ text
   unfolding lastOf framesOf linesOf
-  advance-more live e = advanced (moved w o) text refl refl (rw e (record { entry = refl; frames = refl; refused = live; end = λ e. not-refused live e; lines = refl }))
+  advance-more live e = advanced (moved w o) text refl refl (rw e (record { entry-end = refl; frames = refl; refused = live; end = λ e. not-refused live e; lines = refl }))
 
   pub advance-event : (e : Event) (r : Walk) (text′ : List ℕ) → o .report ≡ report.Event e → NotedEvent (moved w o) e text r text′ → Advanced w s piece text r s′ text′
   advance-event e r text′ q n =
       let m = n .noted s′ in
-      advanced r text′ (n .receiver) (n .taken) (rw q (record { entry = m .entry; frames = m .frames; refused = m .refused; end = m .end; lines = m .lines }))
+      advanced r text′ (n .receiver) (n .taken) (rw q (record { entry-end = m .entry-end; frames = m .frames; refused = m .refused; end = m .end; lines = m .lines }))
 
 -- ---- calls one behind the other
 
@@ -76,10 +75,10 @@ module _ (w : Walk) (s bytes text : List ℕ) where
     state = refl;
     store = refl;
     taken = refl;
-    noted = record { entry = refl; frames = refl; refused = live; end = λ e. not-refused live e; lines = refl };
+    noted = record { entry-end = refl; frames = refl; refused = live; end = λ e. not-refused live e; lines = refl };
     within = omega arith;
     whole = λ e. omega arith;
-    few = omega arith;
+    frames-within = omega arith;
   }
 
   module _ (n : ℕ) (h : n ≤ length bytes) (r : Walk) (s₁ text₁ : List ℕ) (a : Advanced w s (take n bytes) text r s₁ text₁) where
@@ -104,7 +103,7 @@ module _ (w : Walk) (s bytes text : List ℕ) where
       noted = rw (entered-last (a .received .report) (w .taken + a .received .taken) s₁) (a .noted);
       within = omega (arith, taken-few);
       whole = λ f. absurd (let z : _≡_ {A = ℕ} 0 1 = cc in omega arith);
-      few = a .few;
+      frames-within = a .frames-within;
     }
 
     pub walked-next : (k : ℕ) (r′ : Walk) (s′ text′ : List ℕ) → r .refused ≡ false → k ≡ r .taken - w .taken → Walked r s₁ (drop k bytes) text₁ r′ s′ text′ → Walked w s bytes text r′ s′ text′
@@ -126,7 +125,7 @@ module _ (w : Walk) (s bytes text : List ℕ) where
           noted = rw (entered-next (a .received .report) t s₁ (reportedBy t (x .calls)) clean) (noted-next w r r′ (reported (a .received .report) t s₁) (reportedBy t (x .calls)) text text₁ text′ (a .noted) clean (subst (λ (fs : List Entry). Noted r fs text₁ r′ text′) (ap (λ (m : ℕ). reportedBy m (x .calls)) et) (x .noted)));
           within = omega (arith, x .within);
           whole = λ e. omega (arith, x .whole e);
-          few = omega (arith, x .few, a .few);
+          frames-within = omega (arith, x .frames-within, a .frames-within);
         }
 
 -- ---- the steps: from place at on, and then behind the k bytes that one call took of n
@@ -157,5 +156,5 @@ module _ (w : Walk) (s bytes text : List ℕ) (at : ℕ) where
     step-fits f live = record {
       live = live;
       taken = omega (arith, f .taken, step-few, a .taken);
-      frames = omega (arith, f .frames, step-few, a .taken, a .few);
+      frames = omega (arith, f .frames, step-few, a .taken, a .frames-within);
     }

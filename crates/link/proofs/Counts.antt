@@ -2,12 +2,12 @@
 use mathlib.Core.Path.{_≡_, refl, sym, ap, _∙_}
 use mathlib.Core.Bool.{Bool, true, false}
 use mathlib.Core.List.{List, [], _∷_, _++_, append-assoc}
-use Prim.Native.Nat.{ℕ, _+_, _-_, _≤_, _<_}
+use Prim.Native.Nat.{ℕ, _+_, _-_}
 use native.Mathlib.Omega.{arith}
 use Rattle.refusal.specs.declared.Numbers.{Numbers}
 use Rattle.stream.specs.declared.Event.{Event}
 use Rattle.stream.specs.declared.Event.the-variants as event
-use Rattle.stream.specs.Stream.{Entry, entry}
+use Rattle.stream.specs.Stream.{Entry}
 use Rattle.receiver.specs.declared.Report.{Report}
 use Rattle.receiver.specs.declared.Report.the-variants as report
 use Rattle.receiver.specs.Calls.{passing, entered, refusedIn}
@@ -15,7 +15,7 @@ use Rattle.text.specs.Line.{Piece}
 use Rattle.text.specs.Page.{Page, page, puts}
 use Rattle.link.specs.declared.Walk.{Walk}
 use Rattle.link.specs.Lines.{lineOf, numbered, linesOf, End, endBy, endOf}
-use Rattle.link.specs.Walks.{entryBy, lastOf, framesOf, Noted, reported}
+use Rattle.link.specs.Walks.{entryEndBy, lastOf, framesOf, Noted, reported}
 
 pub puts-append : (xs ys : List Piece) (p : Page) → puts (xs ++ ys) p ≡ puts ys (puts xs p)
 puts-append [] ys p = refl
@@ -24,7 +24,7 @@ puts-append (x ∷ xs) ys p = puts-append xs ys _
 pub last-append : (p : ℕ) (es fs : List Entry) → lastOf p (es ++ fs) ≡ lastOf (lastOf p es) fs
 unfolding lastOf
 last-append p [] fs = refl
-last-append p (e ∷ es) fs = last-append (entryBy p (e .event) (e .at)) es fs
+last-append p (e ∷ es) fs = last-append (entryEndBy p (e .event) (e .at)) es fs
 
 pub frames-append : (k : ℕ) (es fs : List Entry) → framesOf k (es ++ fs) ≡ framesOf (framesOf k es) fs
 unfolding framesOf
@@ -62,9 +62,9 @@ unfolding endOf lastOf
 end-append bad n p [] fs h = refl
 end-append bad n p (e ∷ es) fs h =
     goes-on (e .event) (e .at) p (refusedIn es) h (λ q. endOf bad n q (es ++ fs))
-    ∙ end-append bad n (entryBy p (e .event) (e .at)) es fs (behind (e .event) (refusedIn es) h)
+    ∙ end-append bad n (entryEndBy p (e .event) (e .at)) es fs (behind (e .event) (refusedIn es) h)
   where
-    goes-on : (w : Event) (at q : ℕ) (x : Bool) → passing w x (λ n. true) ≡ false → (later : ℕ → End) → endBy w at q later ≡ later (entryBy q w at)
+    goes-on : (w : Event) (at q : ℕ) (x : Bool) → passing w x (λ n. true) ≡ false → (later : ℕ → End) → endBy w at q later ≡ later (entryEndBy q w at)
     goes-on (event.Banner f r) at q x e later = refl
     goes-on (event.First f) at q x e later = refl
     goes-on (event.Frame f) at q x e later = refl
@@ -74,7 +74,7 @@ end-append bad n p (e ∷ es) fs h =
 -- notes of one list behind those of another
 pub noted-next : (w w₁ r : Walk) (es fs : List Entry) (text text₁ text′ : List ℕ) → Noted w es text w₁ text₁ → refusedIn es ≡ false → Noted w₁ fs text₁ r text′ → Noted w (es ++ fs) text r text′
 noted-next w w₁ r es fs text text₁ text′ a h b = record {
-  entry = b .entry ∙ rw (a .entry) (sym (last-append (w .entry) es fs));
+  entry-end = b .entry-end ∙ rw (a .entry-end) (sym (last-append (w .«entry_end») es fs));
   frames = b .frames ∙ rw (a .frames) (sym (frames-append (w .frames) es fs));
   refused = b .refused ∙ sym (refused-append es fs h);
   end = λ e bad n p. end-append bad n p es fs h ∙ b .end e bad n (lastOf p es);

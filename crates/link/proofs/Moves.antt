@@ -1,11 +1,11 @@
 -- One call of the receiver: what it takes, and what a walk makes of its report.
-use mathlib.Core.Path.{_≡_, refl, sym, ap, _∙_}
+use mathlib.Core.Path.{_≡_, refl}
 use mathlib.Core.Bool.{Bool, true, false}
-use mathlib.Core.List.{List, [], _∷_}
+use mathlib.Core.List.{List}
 use Prim.Native.Nat.{ℕ, _+_, _≤_, _<_, zero-le}
 use native.Mathlib.Omega.{arith}
-use lib.Dec.{ltb, eqb}
-use lib.ListN.{length, drop}
+use lib.Dec.{ltb}
+use lib.ListN.{length}
 use lib.Seq.{take-length}
 use borrow.Author.Tests.{ltb-true, ltb-false}
 use Rattle.refusal.specs.declared.Numbers.{Numbers}
@@ -14,7 +14,6 @@ use Rattle.banner.specs.declared.Revision.{Revision}
 use Rattle.preamble.specs.declared.Header.{Header}
 use Rattle.stream.specs.declared.Event.{Event}
 use Rattle.stream.specs.declared.Event.the-variants as event
-use Rattle.stream.specs.Stream.{Entry, entry}
 use Rattle.receiver.specs.declared.State.{State}
 use Rattle.receiver.specs.declared.Report.{Report}
 use Rattle.receiver.specs.declared.Report.the-variants as report
@@ -29,14 +28,14 @@ use Rattle.receiver.proofs.CallLoop.{taken-within}
 use Rattle.text.specs.Page.{page, puts}
 use Rattle.link.specs.declared.Walk.{Walk}
 use Rattle.link.specs.Lines.{bannerLine, lineOf, numbered, linesOf, endOf}
-use Rattle.link.specs.Walks.{lastOf, framesOf, Noted, NotedEvent, reported, framed}
+use Rattle.link.specs.Walks.{lastOf, framesOf, NotedEvent, reported, framed}
 
 -- ---- what a call takes
 
 pub record Moves (piece : List ℕ) (o : Received) : Type 0 where
   pub within : o .taken ≤ length piece
   pub goes : (at : ℕ) (s : List ℕ) → refusedIn (reported (o .report) at s) ≡ false → 0 < length piece → 0 < o .taken
-  pub few : (at k : ℕ) (s : List ℕ) → framesOf k (reported (o .report) at s) ≤ k + o .taken
+  pub frames-within : (at k : ℕ) (s : List ℕ) → framesOf k (reported (o .report) at s) ≤ k + o .taken
 
 numbered-few : (k : ℕ) (e : Event) → numbered k e ≤ k + 1
 numbered-few k (event.Banner p r) = omega arith
@@ -60,14 +59,14 @@ module _ (piece : List ℕ) (o : Received) (within : o .taken ≤ length piece) 
   moves-refused st n s s′ r = record {
     within = within;
     goes = λ at u e h. absurd (let f : true ≡ false = rw (r .report) at e in let z : _≡_ {A = ℕ} 0 1 = cc in omega arith);
-    few = λ at k u. rw (r .report) (omega arith);
+    frames-within = λ at k u. rw (r .report) (omega arith);
   }
 
   moves-running : (st : State) (s s′ : List ℕ) → Sound st s piece o s′ → Running st s → Moves piece o
   moves-running st s s′ x l = record {
     within = within;
     goes = λ at u e h. x .progress l h;
-    few = λ at k u. by-length at k u (ltb 0 (length piece)) refl;
+    frames-within = λ at k u. by-length at k u (ltb 0 (length piece)) refl;
   }
     where
       by-length : (at k : ℕ) (u : List ℕ) (b : Bool) → ltb 0 (length piece) ≡ b → framesOf k (reported (o .report) at u) ≤ k + o .taken
@@ -103,10 +102,10 @@ moves st s piece o s′ a = by-agree (agrees st) refl
 -- ---- what a walk makes of an event
 
 abbrev afterBanner : Walk → ℕ → Walk
-afterBanner w filled = record { receiver = w .receiver; segments = w .segments; taken = w .taken; entry = w .taken; frames = w .frames; refused = w .refused; number = w .number; filled = filled }
+afterBanner w filled = record { receiver = w .receiver; segments = w .segments; taken = w .taken; «entry_end» = w .taken; frames = w .frames; refused = w .refused; number = w .number; filled = filled }
 
 abbrev afterRefusal : Walk → ℕ → Walk
-afterRefusal w number = record { receiver = w .receiver; segments = w .segments; taken = w .taken; entry = w .entry; frames = w .frames; refused = true; number = number; filled = w .filled }
+afterRefusal w number = record { receiver = w .receiver; segments = w .segments; taken = w .taken; «entry_end» = w .«entry_end»; frames = w .frames; refused = true; number = number; filled = w .filled }
 
 pub not-refused : {A : Type 0} {b : Bool} → b ≡ false → b ≡ true → A
 not-refused e f = absurd (let z : _≡_ {A = ℕ} 0 1 = cc in omega arith)
@@ -114,21 +113,21 @@ not-refused e f = absurd (let z : _≡_ {A = ℕ} 0 1 = cc in omega arith)
 module _ (w : Walk) (text : List ℕ) where
   pub note-first : (h : Header) → w .refused ≡ false → NotedEvent w (event.First h) text w text
   unfolding lastOf framesOf linesOf
-  note-first h live = record { receiver = refl; taken = refl; noted = λ s. record { entry = refl; frames = refl; refused = live; end = λ e. not-refused live e; lines = refl } }
+  note-first h live = record { receiver = refl; taken = refl; noted = λ s. record { entry-end = refl; frames = refl; refused = live; end = λ e. not-refused live e; lines = refl } }
 
   pub note-refusal : (n : Numbers) → NotedEvent w (event.Refused n) text (afterRefusal w (n .number)) text
   unfolding lastOf framesOf linesOf endOf
-  note-refusal n = record { receiver = refl; taken = refl; noted = λ s. record { entry = refl; frames = refl; refused = refl; end = λ e bad n p. refl; lines = refl } }
+  note-refusal n = record { receiver = refl; taken = refl; noted = λ s. record { entry-end = refl; frames = refl; refused = refl; end = λ e bad n p. refl; lines = refl } }
 
   module _ (text′ : List ℕ) (live : w .refused ≡ false) where
     pub note-banner : (p : Features) (r : Revision) (filled : ℕ) → page text′ filled ≡ puts (bannerLine p r) (page text (w .filled)) → NotedEvent w (event.Banner p r) text (afterBanner w filled) text′
     unfolding lastOf framesOf linesOf
-    note-banner p r filled e = record { receiver = refl; taken = refl; noted = λ s. record { entry = refl; frames = refl; refused = live; end = λ e. not-refused live e; lines = e } }
+    note-banner p r filled e = record { receiver = refl; taken = refl; noted = λ s. record { entry-end = refl; frames = refl; refused = live; end = λ e. not-refused live e; lines = e } }
 
     pub note-framed : (h : Header) (r : Walk) → r ≡ framed w (r .filled) → page text′ (r .filled) ≡ puts (lineOf (w .frames) (event.Frame h)) (page text (w .filled)) → NotedEvent w (event.Frame h) text r text′
     unfolding lastOf framesOf linesOf
-    note-framed h r q e = rw q (record { receiver = refl; taken = refl; noted = λ s. record { entry = refl; frames = refl; refused = live; end = λ e. not-refused live e; lines = e } })
+    note-framed h r q e = rw q (record { receiver = refl; taken = refl; noted = λ s. record { entry-end = refl; frames = refl; refused = live; end = λ e. not-refused live e; lines = e } })
 
     pub note-dropped : (h : Header) (r : Walk) → r ≡ framed w (r .filled) → page text′ (r .filled) ≡ puts (lineOf (w .frames) (event.Dropped h)) (page text (w .filled)) → NotedEvent w (event.Dropped h) text r text′
     unfolding lastOf framesOf linesOf
-    note-dropped h r q e = rw q (record { receiver = refl; taken = refl; noted = λ s. record { entry = refl; frames = refl; refused = live; end = λ e. not-refused live e; lines = e } })
+    note-dropped h r q e = rw q (record { receiver = refl; taken = refl; noted = λ s. record { entry-end = refl; frames = refl; refused = live; end = λ e. not-refused live e; lines = e } })

@@ -6,10 +6,10 @@ use Prim.Native.Nat.{ℕ, zero, suc, _+_, _-_, _*_, _≤_, _<_, min}
 use native.Mathlib.Nat.{le-refl}
 use native.Mathlib.Omega.{arith}
 use lib.Dec.{leb, ltb, eqb}
-use lib.ListN.{length, take, drop, getD, length-take, length-drop}
+use lib.ListN.{length, take, drop, length-take, length-drop}
 use lib.Seq.{take-take, take-all, drop-drop}
-use borrow.Author.Tests.{lt-ltb, le-ltb, le-leb, ltb-true, ltb-false, leb-true, leb-false, eqb-true}
-use Rattle.buffer.specs.Le.{leOf, numberAt, Bytes}
+use borrow.Author.Tests.{lt-ltb, le-ltb, le-leb, ltb-true, ltb-false, leb-true, leb-false, eqb-true, eqb-false}
+use Rattle.buffer.specs.Le.{numberAt, Bytes}
 use Rattle.buffer.proofs.Numbers.{number-take, word-read, bytes-take, bytes-drop}
 use Rattle.buffer.proofs.Turn.{take-min}
 use Rattle.refusal.specs.Refusals.{Judged, fine}
@@ -21,7 +21,7 @@ use Rattle.receiver.specs.declared.State.{State}
 use Rattle.receiver.specs.Step.{started}
 use Rattle.receiver.specs.Calls.{Call, Chained, takenBy, stateBy, storeBy, reportedBy, refusedIn, listOf, AsDefined, Demand3}
 use Rattle.text.specs.Line.{Piece, textOf}
-use Rattle.text.specs.Page.{Page, page, puts}
+use Rattle.text.specs.Page.{page, puts}
 use Rattle.text.specs.Law.{EveryLine}
 use Rattle.link.specs.declared.Walk.{Walk}
 use Rattle.link.specs.declared.Part.{Part}
@@ -29,10 +29,10 @@ use Rattle.link.specs.declared.Part.the-variants.{Count, Table, Bodies, 
 use Rattle.link.specs.declared.Outcome.{Outcome}
 use Rattle.link.specs.declared.Outcome.the-variants.{Goes, Ends}
 use Rattle.link.specs.declared.Link.{Link}
-use Rattle.link.specs.Lines.{linesOf, End, ok, badFile, refusedAt, openEnd, endLine, endOf}
-use Rattle.link.specs.File.{countOf, sumOf, tableOf, lengthOf, behindTable, noTable, bodiesOf, isBad, ours, entriesOf, linkLines, linkText}
-use Rattle.link.specs.Walks.{lastOf, framesOf, Noted, Walked, endAt}
-use Rattle.link.specs.Reads.{newWalk, linkAt, begun, wantedBy, wantedOf, countOutcome, tableOutcome, bodiesOutcome, filledTo, linkAfter, lastPieces, Settled, ready, BodiesRead, TableRead, WalkRead, ReadBy, ReadOn}
+use Rattle.link.specs.Lines.{linesOf, End, ok, badFile, openEnd, endLine, endOf}
+use Rattle.link.specs.File.{countOf, sumOf, tableOf, lengthOf, behindTable, noTable, bodiesOf, isBad, ours, entriesOf, linkText}
+use Rattle.link.specs.Walks.{lastOf, framesOf, endAt}
+use Rattle.link.specs.Reads.{newWalk, begun, wantedBy, wantedOf, countOutcome, tableOutcome, bodiesOutcome, filledTo, linkAfter, lastPieces, Settled, ready, BodiesRead, TableRead, WalkRead, ReadBy, ReadOn}
 use Rattle.link.specs.Links.{Read, Reading, linkBy, writtenBy, askedBy, Checked, EveryLink}
 use Rattle.link.proofs.Counts.{puts-append, last-append, frames-append, lines-append, refused-append, end-append}
 use Rattle.link.proofs.Ends.{at-refused, at-bad, at-open}
@@ -151,8 +151,9 @@ module _ (law : EveryLine) (demand3 : Demand3) (file store : List ℕ) (bytes : 
   record Tabling (t left : ℕ) (w : Walk) (s written : List ℕ) : Type 0 where
     place : t ≡ 2
     counted : 2 ≤ length file
-    few : countOf file ≤ 512
+    count-within : countOf file ≤ 512
     lengths : left ≡ countOf file
+    some : 0 < left
     new : filledTo w 0 ≡ newWalk
     kept : s ≡ store
     nothing : written ≡ []
@@ -161,16 +162,17 @@ module _ (law : EveryLine) (demand3 : Demand3) (file store : List ℕ) (bytes : 
     table : noTable file ≡ false
     place : t ≡ 2 + (4 * countOf file + w .taken)
     rest : left + w .taken ≡ lengthOf file
+    some : 0 < left
     calls : List Call
     chained : Chained stream (started ours) store 0 calls
     state : w .receiver ≡ stateBy (started ours) calls
     kept : s ≡ storeBy store calls
     taken : w .taken ≡ takenBy 0 calls
-    entry : w .entry ≡ lastOf 0 (reportedBy 0 calls)
+    entry-end : w .«entry_end» ≡ lastOf 0 (reportedBy 0 calls)
     frames : w .frames ≡ framesOf 0 (reportedBy 0 calls)
     live : w .refused ≡ false
     clean : refusedIn (reportedBy 0 calls) ≡ false
-    few : w .frames ≤ w .taken
+    frames-within : w .frames ≤ w .taken
     short : lengthOf file ≤ 4611686018427387904
     lines : written ≡ textOf (linesOf 0 (reportedBy 0 calls))
 
@@ -246,8 +248,9 @@ module _ (law : EveryLine) (demand3 : Demand3) (file store : List ℕ) (bytes : 
             settled-link (Stands (t + 2) s′ out) (Goes Table (numberAt 2 0 b)) (x .settled) eo (record {
               place = omega (arith, t0);
               counted = omega (arith, l, ltb-false (length b) 2 ep);
-              few = omega (arith, n, ltb-false 512 (numberAt 2 0 b) eq);
+              count-within = omega (arith, n, ltb-false 512 (numberAt 2 0 b) eq);
               lengths = n;
+              some = omega (arith, eqb-false (numberAt 2 0 b) 0 ez);
               new = c .new;
               kept = x .store ∙ c .kept;
               nothing = alone written _ _ (c .nothing) (front room refl (x .settled) ∙ ap (λ (k : Outcome). textOf (lastPieces k w₀)) eo);
@@ -261,7 +264,7 @@ module _ (law : EveryLine) (demand3 : Demand3) (file store : List ℕ) (bytes : 
         m = min left 512
 
         em : m ≡ countOf file
-        em = omega (arith, c .lengths, c .few)
+        em = omega (arith, c .lengths, c .count-within)
 
         b2 : b ≡ tableOf file
         b2 = eb ∙ ap (λ (k : ℕ). take (4 * k) (drop t file)) em ∙ ap (λ (k : ℕ). take (4 * countOf file) (drop k file)) (c .place)
@@ -276,7 +279,7 @@ module _ (law : EveryLine) (demand3 : Demand3) (file store : List ℕ) (bytes : 
         t0 = ap (λ (v : Walk). v .taken) (c .new)
 
         there : ltb (length b) (4 * m) ≡ false → noTable file ≡ false
-        there e = table-there (c .counted) (c .few) (omega (arith, l, em, ltb-false (length b) (4 * m) e))
+        there e = table-there (c .counted) (c .count-within) (omega (arith, l, em, ltb-false (length b) (4 * m) e))
 
         by-tests : (p : Bool) → ltb (length b) (4 * m) ≡ p → (z : Bool) → eqb (sumOf m b) 0 ≡ z → Stands (t + 4 * m) s′ out r
         by-tests true ep z ez =
@@ -291,17 +294,18 @@ module _ (law : EveryLine) (demand3 : Demand3) (file store : List ℕ) (bytes : 
               table = there ep;
               place = omega (arith, em, t0, c .place);
               rest = omega (arith, sum, t0);
+              some = omega (arith, eqb-false (sumOf m b) 0 ez);
               calls = [];
               chained = tt;
               state = ap (λ (v : Walk). v .receiver) (c .new);
               kept = x .store ∙ c .kept;
               taken = t0;
-              entry = ap (λ (v : Walk). v .entry) (c .new);
+              entry-end = ap (λ (v : Walk). v .«entry_end») (c .new);
               frames = ap (λ (v : Walk). v .frames) (c .new);
               live = ap (λ (v : Walk). v .refused) (c .new);
               clean = refl;
-              few = omega (arith, t0, ap (λ (v : Walk). v .frames) (c .new));
-              short = few-length (c .few);
+              frames-within = omega (arith, t0, ap (λ (v : Walk). v .frames) (c .new));
+              short = few-length (c .count-within);
               lines = alone written _ _ (c .nothing) (front room refl (x .settled) ∙ ap (λ (k : Outcome). textOf (lastPieces k w₀)) eo);
             })
 
@@ -416,8 +420,8 @@ module _ (law : EveryLine) (demand3 : Demand3) (file store : List ℕ) (bytes : 
         clean′ : refusedIn (es ++ fs) ≡ false
         clean′ = refused-append es fs (k .clean) ∙ sym (y .walked .noted .refused) ∙ er
 
-        entry′ : w′ .entry ≡ lastOf 0 (es ++ fs)
-        entry′ = y .walked .noted .entry ∙ ap (λ (p : ℕ). lastOf p fs) (k .entry) ∙ sym (last-append 0 es fs)
+        entry-end′ : w′ .«entry_end» ≡ lastOf 0 (es ++ fs)
+        entry-end′ = y .walked .noted .entry-end ∙ ap (λ (p : ℕ). lastOf p fs) (k .entry-end) ∙ sym (last-append 0 es fs)
 
         whole′ : w′ .taken ≡ u + length b
         whole′ = y .walked .whole er
@@ -447,7 +451,7 @@ module _ (law : EveryLine) (demand3 : Demand3) (file store : List ℕ) (bytes : 
             let n : w′ .taken ≡ length stream = omega (arith, b-length, Y-length, stream-length, k .rest, whole′, inside) in
             over false false (rw (er, e, f)) (bad-is false (le-ltb (length (behindTable file)) (lengthOf file) (omega (arith, b-length, Y-length, stream-length, k .rest, whole′, inside))))
             (entries-are n)
-            (end-open false (length stream) 0 (es ++ fs) clean′ ∙ at-open w′ false (length stream) (lastOf 0 (es ++ fs)) er refl n entry′)
+            (end-open false (length stream) 0 (es ++ fs) clean′ ∙ at-open w′ false (length stream) (lastOf 0 (es ++ fs)) er refl n entry-end′)
 
         more : ltb (length b) m ≡ false → leb left (length b) ≡ false → Stands (t + m) s′ out r
         unfolding Stands StandsBy
@@ -459,16 +463,17 @@ module _ (law : EveryLine) (demand3 : Demand3) (file store : List ℕ) (bytes : 
               table = k .table;
               place = omega (arith, k .place, whole′);
               rest = omega (arith, k .rest, whole′);
+              some = omega (arith, g);
               calls = cs ++ ds;
               chained = chained′;
               state = y .walked .state ∙ ap (λ (st : State). stateBy st ds) (k .state) ∙ sym (state-append (started ours) cs ds);
               kept = y .walked .store ∙ ap (λ (l : List ℕ). storeBy l ds) (k .kept) ∙ sym (store-append store cs ds);
               taken = sym taken′;
-              entry = entry′ ∙ ap (lastOf 0) (sym all);
+              entry-end = entry-end′ ∙ ap (lastOf 0) (sym all);
               frames = y .walked .noted .frames ∙ ap (λ (p : ℕ). framesOf p fs) (k .frames) ∙ sym (frames-append 0 es fs) ∙ ap (framesOf 0) (sym all);
               live = er;
               clean = ap refusedIn all ∙ clean′;
-              few = omega (arith, y .walked .few, k .few);
+              frames-within = omega (arith, y .walked .frames-within, k .frames-within);
               short = k .short;
               lines = out-is ∙ ap (λ (v : Outcome). textOf (linesOf 0 (es ++ fs) ++ lastPieces v w′)) eo ∙ ap textOf (append-nil (linesOf 0 (es ++ fs))) ∙ ap (λ (l : List Entry). textOf (linesOf 0 l)) (sym all);
             })
@@ -484,7 +489,7 @@ module _ (law : EveryLine) (demand3 : Demand3) (file store : List ℕ) (bytes : 
 
     bodies-next : (left : ℕ) (b : List ℕ) → Walking t left w₀ s written → b ≡ take (min left 16384) (drop t file) → WalkRead (ready w₀) left w₀ s b lent r s′ text′ → Stands (t + min left 16384) s′ out r
     bodies-next left b k eb x =
-        let ok : ready w₀ ≡ true = rw (k .live, le-leb (w .taken) 4611686018427387904 (omega (arith, k .short, k .rest)), le-leb (w .frames) 4611686018427387904 (omega (arith, k .short, k .rest, k .few))) in
+        let ok : ready w₀ ≡ true = rw (k .live, le-leb (w .taken) 4611686018427387904 (omega (arith, k .short, k .rest)), le-leb (w .frames) 4611686018427387904 (omega (arith, k .short, k .rest, k .frames-within))) in
         walk-next left b k eb (subst (λ (c : Bool). WalkRead c left w₀ s b lent r s′ text′) ok x)
 
     -- by what comes next
@@ -506,12 +511,13 @@ module _ (law : EveryLine) (demand3 : Demand3) (file store : List ℕ) (bytes : 
   asks Bodies t left w s written k = omega (arith, k .place, k .rest)
   asks Ended t left w s written k = omega (arith, k .place)
 
-  ended : (p : Part) (t left : ℕ) (w : Walk) (s written : List ℕ) → StandsBy p t left w s written → p ≡ Ended → written ≡ linkText file store
+  -- nothing is wanted: reading is over
+  over-at : (p : Part) (t left : ℕ) (w : Walk) (s written : List ℕ) → StandsBy p t left w s written → wantedBy p left ≡ 0 → written ≡ linkText file store
   unfolding StandsBy
-  ended Count t left w s written k e = absurd (let z : _≡_ {A = ℕ} 0 1 = cc in omega arith)
-  ended Table t left w s written k e = absurd (let z : _≡_ {A = ℕ} 0 1 = cc in omega arith)
-  ended Bodies t left w s written k e = absurd (let z : _≡_ {A = ℕ} 0 1 = cc in omega arith)
-  ended Ended t left w s written k e = k .whole
+  over-at Count t left w s written k e = absurd (omega arith)
+  over-at Table t left w s written k e = absurd (omega (arith, k .some))
+  over-at Bodies t left w s written k e = absurd (omega (arith, k .some))
+  over-at Ended t left w s written k e = k .whole
 
   read-next : (t : ℕ) (l : Link) (s written lent : List ℕ) (r : Link) (s′ text′ : List ℕ) → Stands t s written l → 65536 ≤ length lent → ReadOn l s (take (wantedOf l) (drop t file)) lent r s′ text′ → Stands (t + wantedOf l) s′ (written ++ take (r .walk .filled) text′) r
   unfolding Stands ReadOn
@@ -519,9 +525,9 @@ module _ (law : EveryLine) (demand3 : Demand3) (file store : List ℕ) (bytes : 
       part-next t (l .walk) s written lent r s′ text′ room (l .part) (l .left) (take (wantedOf l) (take (wantedOf l) (drop t file))) k (take-take (wantedOf l) (wantedOf l) (drop t file) (le-refl (wantedOf l))) x
 
   reads : (rs : List Read) (t : ℕ) (l : Link) (s written : List ℕ) → Stands t s written l → Reading file l s t rs
-      → (linkBy l rs .part ≡ Ended → written ++ writtenBy rs ≡ linkText file store) × (t + askedBy l rs ≤ End′)
+      → (wantedOf (linkBy l rs) ≡ 0 → written ++ writtenBy rs ≡ linkText file store) × (t + askedBy l rs ≤ End′)
   unfolding Stands
-  reads [] t l s written k x = (λ e. append-nil written ∙ ended (l .part) t (l .left) (l .walk) s written k e, omega (arith, asks (l .part) t (l .left) (l .walk) s written k))
+  reads [] t l s written k x = (λ e. append-nil written ∙ over-at (l .part) t (l .left) (l .walk) s written k e, omega (arith, asks (l .part) t (l .left) (l .walk) s written k))
   reads (r ∷ rs) t l s written k x =
       let n = wantedOf l in
       let ih = reads rs (t + n) (r .link) (r .store) (written ++ take (r .link .walk .filled) (r .text)) (read-next t l s written (r .lent) (r .link) (r .store) (r .text) k (x .1) (x .0)) (x .2) in

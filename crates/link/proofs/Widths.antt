@@ -1,24 +1,21 @@
 -- How long the lines of a read are at most.
 use mathlib.Core.Path.{_≡_, refl, sym, ap, _∙_}
-use mathlib.Core.Bool.{Bool, true, false}
+use mathlib.Core.Bool.{true, false}
 use mathlib.Core.List.{List, [], _∷_, _++_, append-assoc}
-use Prim.Native.Nat.{ℕ, _+_, _-_, _*_, _≤_, _<_, zero-le}
+use Prim.Native.Nat.{ℕ, _+_, _-_, _*_, _≤_}
 use native.Mathlib.Omega.{arith}
 use lib.ListN.{length, take, drop}
 use lib.Seq.{take-at}
 use Rattle.banner.specs.declared.Revision.{Revision}
-use Rattle.banner.specs.declared.Revision.the-variants.{Msgr20, Msgr21}
-use Rattle.preamble.specs.declared.Header.{Header}
-use Rattle.body.specs.Body.{wireLength}
 use Rattle.stream.specs.declared.Event.{Event}
 use Rattle.stream.specs.declared.Event.the-variants as event
-use Rattle.stream.specs.Stream.{Entry, entry}
+use Rattle.stream.specs.Stream.{Entry}
 use Rattle.stream.specs.Adds.{Adds, AddsAt, AddsFirst, AddsUp}
 use Rattle.receiver.specs.declared.Report.{Report}
 use Rattle.receiver.specs.declared.Report.the-variants as report
 use Rattle.receiver.specs.Calls.{Call, passing, entered, takenBy, reportedBy, refusedIn}
-use Rattle.text.specs.Line.{Piece, textOf, bytesOf, width, widthOf}
-use Rattle.text.specs.Page.{Page, page, write, puts}
+use Rattle.text.specs.Line.{Piece, textOf, bytesOf, width}
+use Rattle.text.specs.Page.{Page, page, puts}
 use Rattle.text.specs.Law.{EveryLine}
 use Rattle.link.specs.declared.Walk.{Walk}
 use Rattle.link.specs.declared.Outcome.{Outcome}

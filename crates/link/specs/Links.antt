@@ -4,7 +4,6 @@ use mathlib.Core.List.{List, [], _∷_, _++_}
 use Prim.Native.Nat.{ℕ, _+_, _*_, _≤_}
 use lib.ListN.{length, take, drop}
 use Rattle.buffer.specs.Le.{Bytes}
-use Rattle.link.specs.declared.Part.the-variants.{Ended}
 use Rattle.link.specs.declared.Link.{Link}
 use Rattle.link.specs.File.{countOf, lengthOf, linkText}
 use Rattle.link.specs.Reads.{begun, wantedOf, ReadOn}
@@ -39,8 +38,8 @@ askedBy l [] = 0
 askedBy l (r ∷ rs) = wantedOf l + askedBy (r .link) rs
 
 pub record Checked (file store : List ℕ) (rs : List Read) : Type 0 where
-  -- at the end it is the text of the file
-  pub text : linkBy begun rs .part ≡ Ended → writtenBy rs ≡ linkText file store
+  -- once the link wants no more bytes, and so the program stops, it is the text of the file
+  pub text : wantedOf (linkBy begun rs) ≡ 0 → writtenBy rs ≡ linkText file store
   -- bytes behind the last body are not read
   pub within : askedBy begun rs ≤ 2 + (4 * countOf file + lengthOf file)
 

@@ -21,7 +21,7 @@ use Rattle.link.specs.Walks.{endAt, Walked}
 
 -- before the first byte
 abbrev pub newWalk : Walk
-newWalk = record { receiver = started ours; segments = record { left = 0; bytes = 0 }; taken = 0; entry = 0; frames = 0; refused = false; number = 0; filled = 0 }
+newWalk = record { receiver = started ours; segments = record { left = 0; bytes = 0 }; taken = 0; «entry_end» = 0; frames = 0; refused = false; number = 0; filled = 0 }
 
 abbrev pub linkAt : Part → ℕ → Walk → Link
 linkAt part left w = record { part = part; left = left; walk = w }
@@ -60,7 +60,7 @@ bodiesOutcome left n refused =
     (cond (leb left n) (Ends false) (Goes Bodies (left - n))))
 
 abbrev pub filledTo : Walk → ℕ → Walk
-filledTo w filled = record { receiver = w .receiver; segments = w .segments; taken = w .taken; entry = w .entry; frames = w .frames; refused = w .refused; number = w .number; filled = filled }
+filledTo w filled = record { receiver = w .receiver; segments = w .segments; taken = w .taken; «entry_end» = w .«entry_end»; frames = w .frames; refused = w .refused; number = w .number; filled = filled }
 
 abbrev pub linkAfter : Outcome → Walk → Link
 linkAfter (Goes part left) w = linkAt part left w

@@ -7,7 +7,6 @@ use lib.ListN.{length, take, drop}
 use Rattle.stream.specs.declared.Event.{Event}
 use Rattle.stream.specs.declared.Event.the-variants as event
 use Rattle.stream.specs.Stream.{Entry, entry}
-use Rattle.receiver.specs.declared.State.{State}
 use Rattle.receiver.specs.declared.Report.{Report}
 use Rattle.receiver.specs.declared.Report.the-variants as report
 use Rattle.receiver.specs.declared.Received.{Received}
@@ -21,16 +20,16 @@ use Rattle.link.specs.Lines.{numbered, linesOf, End, refusedAt, openEnd,
 -- ---- counts, by the entries
 
 -- the byte of the last banner, frame or drop, where it was at p before
-abbrev pub entryBy : ℕ → Event → ℕ → ℕ
-entryBy p (event.Banner f r) at = at
-entryBy p (event.First h) at = p
-entryBy p (event.Frame h) at = at
-entryBy p (event.Dropped h) at = at
-entryBy p (event.Refused n) at = p
+abbrev pub entryEndBy : ℕ → Event → ℕ → ℕ
+entryEndBy p (event.Banner f r) at = at
+entryEndBy p (event.First h) at = p
+entryEndBy p (event.Frame h) at = at
+entryEndBy p (event.Dropped h) at = at
+entryEndBy p (event.Refused n) at = p
 
 unfoldable pub lastOf : ℕ → List Entry → ℕ
 lastOf p [] = p
-lastOf p (e ∷ es) = lastOf (entryBy p (e .event) (e .at)) es
+lastOf p (e ∷ es) = lastOf (entryEndBy p (e .event) (e .at)) es
 
 -- how many frames and drops there are
 unfoldable pub framesOf : ℕ → List Entry → ℕ
@@ -39,7 +38,7 @@ framesOf k (e ∷ es) = framesOf (numbered k (e .event)) es
 
 -- a walk that notes the entries es: the counts, the end where one is a refusal, and the lines of the text
 pub record Noted (w : Walk) (es : List Entry) (text : List ℕ) (r : Walk) (text′ : List ℕ) : Type 0 where
-  pub entry : r .entry ≡ lastOf (w .entry) es
+  pub entry-end : r .«entry_end» ≡ lastOf (w .«entry_end») es
   pub frames : r .frames ≡ framesOf (w .frames) es
   pub refused : r .refused ≡ refusedIn es
   pub end : r .refused ≡ true → (bad : Bool) (n p : ℕ) → endOf bad n p es ≡ refusedAt (r .number) (r .taken)
@@ -47,7 +46,7 @@ pub record Noted (w : Walk) (es : List Entry) (text : List ℕ) (r : Walk) (text
 
 -- the end of a walk
 abbrev pub endAt : Bool → Walk → End
-endAt bad w = cond (w .refused) (refusedAt (w .number) (w .taken)) (openEnd bad (w .taken) (w .entry))
+endAt bad w = cond (w .refused) (refusedAt (w .number) (w .taken)) (openEnd bad (w .taken) (w .«entry_end»))
 
 -- ---- one call
 
@@ -58,10 +57,10 @@ pub record Fits (w : Walk) (n : ℕ) : Type 0 where
   pub frames : w .frames + n < 18446744073709551615
 
 abbrev pub framed : Walk → ℕ → Walk
-framed w filled = record { receiver = w .receiver; segments = w .segments; taken = w .taken; entry = w .taken; frames = w .frames + 1; refused = w .refused; number = w .number; filled = filled }
+framed w filled = record { receiver = w .receiver; segments = w .segments; taken = w .taken; «entry_end» = w .taken; frames = w .frames + 1; refused = w .refused; number = w .number; filled = filled }
 
 abbrev pub withSegments : Walk → Segments → Walk
-withSegments w segments = record { receiver = w .receiver; segments = segments; taken = w .taken; entry = w .entry; frames = w .frames; refused = w .refused; number = w .number; filled = w .filled }
+withSegments w segments = record { receiver = w .receiver; segments = segments; taken = w .taken; «entry_end» = w .«entry_end»; frames = w .frames; refused = w .refused; number = w .number; filled = w .filled }
 
 abbrev pub reported : Report → ℕ → List ℕ → List Entry
 reported report.More at s = []
@@ -81,7 +80,7 @@ pub record Advanced (w : Walk) (s piece text : List ℕ) (r : Walk) (s′ text�
   -- no more than the piece is taken, and at least one byte of it, unless the stream is refused
   pub within : r .taken ≤ w .taken + length piece
   pub goes : r .refused ≡ false → 0 < length piece → w .taken < r .taken
-  pub few : r .frames + w .taken ≤ w .frames + r .taken
+  pub frames-within : r .frames + w .taken ≤ w .frames + r .taken
 
 -- ---- all bytes that are lent at a time
 
@@ -96,4 +95,4 @@ pub record Walked (w : Walk) (s bytes text : List ℕ) (r : Walk) (s′ text′ 
   -- they take all bytes, unless the stream is refused
   pub within : r .taken ≤ w .taken + length bytes
   pub whole : r .refused ≡ false → r .taken ≡ w .taken + length bytes
-  pub few : r .frames + w .taken ≤ w .frames + r .taken
+  pub frames-within : r .frames + w .taken ≤ w .frames + r .taken

@@ -35,7 +35,7 @@ pub struct Walk {
     pub segments: Segments,
     // Bytes taken, those up to the last banner, frame or drop, and how many frames and drops there were.
     pub taken: u64,
-    pub entry: u64,
+    pub entry_end: u64,
     pub frames: u64,
     // Whether the stream is refused, and the refusal's number.
     pub refused: bool,
@@ -82,7 +82,7 @@ pub fn begin() -> Link
             receiver: state,
             segments: Segments { left: 0, bytes: 0 },
             taken: 0,
-            entry: 0,
+            entry_end: 0,
             frames: 0,
             refused: false,
             number: 0,

@@ -56,14 +56,14 @@ fn put_bad_file(text: &mut [u8], at: usize) -> usize
     put_word(text, at, b"end bad file\n")
 }
 
-fn put_open(text: &mut [u8], at: usize, taken: u64, entry: u64) -> usize
-    ensures { λ r. ⌜ page (now (text .exit)) r ≡ puts (endLine (openEnd false taken entry)) (page (now (text .entry)) at) ⌝ }
+fn put_open(text: &mut [u8], at: usize, taken: u64, entry_end: u64) -> usize
+    ensures { λ r. ⌜ page (now (text .exit)) r ≡ puts (endLine (openEnd false taken «entry_end»)) (page (now (text .entry)) at) ⌝ }
 {
-    if taken <= entry {
+    if taken <= entry_end {
         let a = put_field(text, at, b"end ok", taken);
         return put_end(text, a);
     }
-    let b = put_field(text, at, b"end cut", taken - entry);
+    let b = put_field(text, at, b"end cut", taken - entry_end);
     put_end(text, b)
 }
 
@@ -77,5 +77,5 @@ pub(crate) fn put_last(text: &mut [u8], w: Walk, bad: bool) -> usize
     if bad {
         return put_bad_file(text, w.filled);
     }
-    put_open(text, w.filled, w.taken, w.entry)
+    put_open(text, w.filled, w.taken, w.entry_end)
 }

@@ -30,7 +30,7 @@ fn note_frame(w: Walk, h: Header, letters: &[u8], text: &mut [u8]) -> Walk
     ensures { λ r. ⌜ page (now (text .exit)) (r .filled) ≡ puts (frameLine (now (letters .entry)) (w .frames + 1) h) (page (now (text .entry)) (w .filled)) ⌝ }
 {
     let mut next = w;
-    next.entry = w.taken;
+    next.entry_end = w.taken;
     next.frames = w.frames + 1;
     next.filled = put_frame(text, w.filled, letters, w.frames + 1, h);
     next
@@ -44,7 +44,7 @@ fn note(w: Walk, event: Event, text: &mut [u8]) -> Walk
     match event {
         Event::Banner(peer, revision) => {
             let mut next = w;
-            next.entry = w.taken;
+            next.entry_end = w.taken;
             next.filled = put_banner(text, w.filled, peer, revision);
             next
         }

@@ -1,9 +1,6 @@
 use borrow.Author.Needs.{needs}
 use Rattle.link.proofs.begin.Statement.{statement}
 use Rattle.link.proofs.begin.Tie as tie
-use Rattle.link.proofs.begin.Reads as reads
-use Rattle.link.proofs.begin.Lts as lts
-use Rattle.receiver.proofs.start.Reads as start-reads
 
 -- src/lib.rt:70:9
 start-requires : tie.Need-start-requires

@@ -3,9 +3,6 @@ use Rattle.link.proofs.Outcomes.{bodies-short, bodies-all, bodies-more}
 use borrow.Author.Needs.{needs}
 use Rattle.link.proofs.bodies_outcome.Statement.{statement}
 use Rattle.link.proofs.bodies_outcome.Tie as tie
-use Rattle.link.proofs.bodies_outcome.Reads as reads
-use Rattle.link.proofs.bodies_outcome.Lts as lts
-use Rattle.buffer.proofs.min.Reads as min-reads
 
 -- src/lib.rt:160:9
 returns : tie.Need-returns

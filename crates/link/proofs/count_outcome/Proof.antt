@@ -3,9 +3,6 @@ use Rattle.link.proofs.Outcomes.{count-short, count-many, count-none, c
 use borrow.Author.Needs.{needs}
 use Rattle.link.proofs.count_outcome.Statement.{statement}
 use Rattle.link.proofs.count_outcome.Tie as tie
-use Rattle.link.proofs.count_outcome.Reads as reads
-use Rattle.link.proofs.count_outcome.Lts as lts
-use Rattle.buffer.proofs.u16_at.Reads as u16-at-reads
 
 -- src/lib.rt:110:9
 returns : tie.Need-returns

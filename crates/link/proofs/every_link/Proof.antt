@@ -2,10 +2,6 @@ use Rattle.link.proofs.Whole.{every-link}
 use borrow.Author.Needs.{needs}
 use Rattle.link.proofs.every_link.Statement.{statement}
 use Rattle.link.proofs.every_link.Tie as tie
-use Rattle.link.proofs.every_link.Reads as reads
-use Rattle.link.proofs.every_link.Lts as lts
-use Rattle.receiver.proofs.every_cutting.Reads as every-cutting-reads
-use Rattle.text.proofs.every_line.Reads as every-line-reads
 
 -- src/lib.rt:258:5
 every-line-requires : tie.Need-every-line-requires

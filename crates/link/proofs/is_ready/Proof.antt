@@ -1,9 +1,6 @@
 use borrow.Author.Needs.{needs}
 use Rattle.link.proofs.is_ready.Statement.{statement}
 use Rattle.link.proofs.is_ready.Tie as tie
-use Rattle.link.proofs.is_ready.Reads as reads
-use Rattle.link.proofs.is_ready.Lts as lts
-use Rattle.refusal.proofs.both.Reads as both-reads
 
 -- src/lib.rt:199:9
 both-requires : tie.Need-both-requires

@@ -6,16 +6,6 @@ use Rattle.link.proofs.Outcomes.{read-by, bodies-few, walk-read, read-n
 use borrow.Author.Needs.{needs}
 use Rattle.link.proofs.read.Statement.{statement}
 use Rattle.link.proofs.read.Tie as tie
-use Rattle.link.proofs.read.Reads as reads
-use Rattle.link.proofs.read.Lts as lts
-use Rattle.buffer.proofs.min.Reads as min-reads
-use Rattle.buffer.proofs.part.Reads as part-reads
-use Rattle.link.proofs.count_outcome.Reads as count-outcome-reads
-use Rattle.link.proofs.is_ready.Reads as is-ready-reads
-use Rattle.link.proofs.read_bodies.Reads as read-bodies-reads
-use Rattle.link.proofs.settle.Reads as settle-reads
-use Rattle.link.proofs.table_outcome.Reads as table-outcome-reads
-use Rattle.link.proofs.wanted.Reads as wanted-reads
 
 -- src/lib.rt:220:31
 wanted-requires : tie.Need-wanted-requires

@@ -2,11 +2,6 @@ use Rattle.link.proofs.Outcomes.{ready-fits}
 use borrow.Author.Needs.{needs}
 use Rattle.link.proofs.read_bodies.Statement.{statement}
 use Rattle.link.proofs.read_bodies.Tie as tie
-use Rattle.link.proofs.read_bodies.Reads as reads
-use Rattle.link.proofs.read_bodies.Lts as lts
-use Rattle.link.proofs.bodies_outcome.Reads as bodies-outcome-reads
-use Rattle.link.proofs.settle.Reads as settle-reads
-use Rattle.link.proofs.steps.walk_bytes.Reads as walk-bytes-reads
 
 -- src/lib.rt:210:9
 walk-bytes-requires : tie.Need-walk-bytes-requires

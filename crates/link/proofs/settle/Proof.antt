@@ -2,9 +2,6 @@ use mathlib.Core.Path.{refl}
 use borrow.Author.Needs.{needs}
 use Rattle.link.proofs.settle.Statement.{statement}
 use Rattle.link.proofs.settle.Tie as tie
-use Rattle.link.proofs.settle.Reads as reads
-use Rattle.link.proofs.settle.Lts as lts
-use Rattle.link.proofs.lines.put_last.Reads as put-last-reads
 
 -- src/lib.rt:176:23
 enum-known-outcome : tie.Need-enum-known-outcome

@@ -10,10 +10,6 @@ use Rattle.link.specs.File.{sumOf}
 use Rattle.link.proofs.Outcomes.{sum-more, sum-none}
 use Rattle.link.proofs.sum_of.Statement.{statement}
 use Rattle.link.proofs.sum_of.Tie as tie
-use Rattle.link.proofs.sum_of.Reads as reads
-use Rattle.link.proofs.sum_of.Lts as lts
-use Rattle.buffer.proofs.u32_at.Reads as u32-at-reads
-use Rattle.link.proofs.wide.Reads as wide-reads
 
 next : (n i sum k : ℕ) (table : List ℕ) → i < n → k ≡ numberAt 4 (4 * i) table → sum + sumOf (n - i) (drop (4 * i) table) ≡ sumOf n table → (sum + k) + sumOf (n - (i + 1)) (drop (4 * (i + 1)) table) ≡ sumOf n table
 next n i sum k table h e inv =

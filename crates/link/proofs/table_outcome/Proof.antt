@@ -3,9 +3,6 @@ use Rattle.link.proofs.Outcomes.{table-short, table-none, table-some}
 use borrow.Author.Needs.{needs}
 use Rattle.link.proofs.table_outcome.Statement.{statement}
 use Rattle.link.proofs.table_outcome.Tie as tie
-use Rattle.link.proofs.table_outcome.Reads as reads
-use Rattle.link.proofs.table_outcome.Lts as lts
-use Rattle.link.proofs.sum_of.Reads as sum-of-reads
 
 -- src/lib.rt:146:22
 mul-if1 : tie.Need-mul-if1

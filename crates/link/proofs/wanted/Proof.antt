@@ -2,9 +2,6 @@ use native.Mathlib.Omega.{arith}
 use borrow.Author.Needs.{needs}
 use Rattle.link.proofs.wanted.Statement.{statement}
 use Rattle.link.proofs.wanted.Tie as tie
-use Rattle.link.proofs.wanted.Reads as reads
-use Rattle.link.proofs.wanted.Lts as lts
-use Rattle.buffer.proofs.min.Reads as min-reads
 
 -- src/lib.rt:99:24
 enum-told : tie.Need-enum-told

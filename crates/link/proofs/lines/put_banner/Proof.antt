@@ -1,11 +1,6 @@
 use borrow.Author.Needs.{needs}
 use Rattle.link.proofs.lines.put_banner.Statement.{statement}
 use Rattle.link.proofs.lines.put_banner.Tie as tie
-use Rattle.link.proofs.lines.put_banner.Reads as reads
-use Rattle.link.proofs.lines.put_banner.Lts as lts
-use Rattle.link.proofs.lines.revision_number.Reads as revision-number-reads
-use Rattle.text.proofs.put_end.Reads as put-end-reads
-use Rattle.text.proofs.put_field.Reads as put-field-reads
 
 -- src/lines.rt:28:33
 slice-aggregate-put-field : tie.Need-slice-aggregate-put-field

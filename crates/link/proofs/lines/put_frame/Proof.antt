@@ -1,11 +1,6 @@
 use borrow.Author.Needs.{needs}
 use Rattle.link.proofs.lines.put_frame.Statement.{statement}
 use Rattle.link.proofs.lines.put_frame.Tie as tie
-use Rattle.link.proofs.lines.put_frame.Reads as reads
-use Rattle.link.proofs.lines.put_frame.Lts as lts
-use Rattle.preamble.proofs.total_of.Reads as total-of-reads
-use Rattle.text.proofs.put_end.Reads as put-end-reads
-use Rattle.text.proofs.put_field.Reads as put-field-reads
 
 -- src/lines.rt:38:9
 put-field-requires : tie.Need-put-field-requires

@@ -3,11 +3,6 @@ use Rattle.link.proofs.Ends.{at-refused, at-bad, at-open}
 use borrow.Author.Needs.{needs}
 use Rattle.link.proofs.lines.put_last.Statement.{statement}
 use Rattle.link.proofs.lines.put_last.Tie as tie
-use Rattle.link.proofs.lines.put_last.Reads as reads
-use Rattle.link.proofs.lines.put_last.Lts as lts
-use Rattle.link.proofs.lines.put_bad_file.Reads as put-bad-file-reads
-use Rattle.link.proofs.lines.put_open.Reads as put-open-reads
-use Rattle.link.proofs.lines.put_refused.Reads as put-refused-reads
 
 -- src/lines.rt:75:9
 put-refused-requires : tie.Need-put-refused-requires
@@ -43,7 +38,7 @@ same-length-3 c = search needs
 
 -- src/lines.rt:71:1
 returns-3 : tie.Need-returns-3
-returns-3 c = rw (← (at-open (c .before .before .before .before .before .before .before .args .w) (c .before .before .before .before .before .before .before .args .bad) (c .before .before .before .before .before .before .before .args .w .taken) (c .before .before .before .before .before .before .before .args .w .entry) (c .before .before .before .before .before .if1 .left) (c .before .before .before .before .if2 .left) refl refl)) (c .before .before .put-open .ensures)
+returns-3 c = rw (← (at-open (c .before .before .before .before .before .before .before .args .w) (c .before .before .before .before .before .before .before .args .bad) (c .before .before .before .before .before .before .before .args .w .taken) (c .before .before .before .before .before .before .before .args .w .«entry_end») (c .before .before .before .before .before .if1 .left) (c .before .before .before .before .if2 .left) refl refl)) (c .before .before .put-open .ensures)
 
 pub put-last-spec : {M : Type 1} → statement M
 put-last-spec =

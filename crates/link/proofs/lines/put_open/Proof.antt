@@ -3,10 +3,6 @@ use Rattle.link.proofs.Ends.{end-ok, end-cut}
 use borrow.Author.Needs.{needs}
 use Rattle.link.proofs.lines.put_open.Statement.{statement}
 use Rattle.link.proofs.lines.put_open.Tie as tie
-use Rattle.link.proofs.lines.put_open.Reads as reads
-use Rattle.link.proofs.lines.put_open.Lts as lts
-use Rattle.text.proofs.put_end.Reads as put-end-reads
-use Rattle.text.proofs.put_field.Reads as put-field-reads
 
 -- src/lines.rt:63:37
 slice-aggregate-put-field : tie.Need-slice-aggregate-put-field
@@ -26,7 +22,7 @@ same-length c = search needs
 
 -- src/lines.rt:64:9
 returns : tie.Need-returns
-returns c = rw (end-ok (c .before .before .before .before .before .before .before .before .before .before .before .args .taken) (c .before .before .before .before .before .before .before .before .before .before .before .args .entry) (c .before .before .before .before .before .before .before .before .before .if1 .taken)) cc
+returns c = rw (end-ok (c .before .before .before .before .before .before .before .before .before .before .before .args .taken) (c .before .before .before .before .before .before .before .before .before .before .before .args .entry-end) (c .before .before .before .before .before .before .before .before .before .if1 .taken)) cc
 
 -- src/lines.rt:66:33
 slice-aggregate-put-field-2 : tie.Need-slice-aggregate-put-field-2
@@ -50,7 +46,7 @@ same-length-2 c = search needs
 
 -- src/lines.rt:59:1
 returns-2 : tie.Need-returns-2
-returns-2 c = rw (end-cut (c .before .before .before .before .before .before .before .before .before .before .before .args .taken) (c .before .before .before .before .before .before .before .before .before .before .before .args .entry) (omega arith)) cc
+returns-2 c = rw (end-cut (c .before .before .before .before .before .before .before .before .before .before .before .args .taken) (c .before .before .before .before .before .before .before .before .before .before .before .args .entry-end) (omega arith)) cc
 
 pub put-open-spec : {M : Type 1} → statement M
 put-open-spec =

@@ -1,10 +1,6 @@
 use borrow.Author.Needs.{needs}
 use Rattle.link.proofs.lines.put_refused.Statement.{statement}
 use Rattle.link.proofs.lines.put_refused.Tie as tie
-use Rattle.link.proofs.lines.put_refused.Reads as reads
-use Rattle.link.proofs.lines.put_refused.Lts as lts
-use Rattle.text.proofs.put_end.Reads as put-end-reads
-use Rattle.text.proofs.put_field.Reads as put-field-reads
 
 -- src/lines.rt:48:33
 slice-aggregate-put-field : tie.Need-slice-aggregate-put-field

@@ -2,7 +2,7 @@ use mathlib.Core.Path.{_∙_}
 use Rattle.link.proofs.Chains.{step-none, step-refused, step-next, step-few, step-goes, step-fits}
 use native.Mathlib.Omega.{arith}
 use lib.ListN.{length}
-use Prim.Native.Nat.{ℕ, _<_, _≤_, _+_, _*_, _-_}
+use Prim.Native.Nat.{ℕ, _<_, _+_, _*_, _-_}
 use borrow.Author.Needs.{needs}
 use borrow.Fn.Kinds.{In}
 use borrow.Fn.PlainCycle.{Measures, is, falls, and}

@@ -4,10 +4,6 @@ use Rattle.link.proofs.Chains.{advance-more, advance-event}
 use borrow.Author.Needs.{needs}
 use Rattle.link.proofs.steps.advance.Statement.{statement}
 use Rattle.link.proofs.steps.advance.Tie as tie
-use Rattle.link.proofs.steps.advance.Reads as reads
-use Rattle.link.proofs.steps.advance.Lts as lts
-use Rattle.link.proofs.steps.note.Reads as note-reads
-use Rattle.receiver.proofs.receive.Reads as receive-reads
 
 -- src/steps.rt:68:9
 receive-requires : tie.Need-receive-requires

@@ -2,10 +2,6 @@ use Rattle.link.proofs.Moves.{note-banner, note-first, note-framed, not
 use borrow.Author.Needs.{needs}
 use Rattle.link.proofs.steps.note.Statement.{statement}
 use Rattle.link.proofs.steps.note.Tie as tie
-use Rattle.link.proofs.steps.note.Reads as reads
-use Rattle.link.proofs.steps.note.Lts as lts
-use Rattle.link.proofs.lines.put_banner.Reads as put-banner-reads
-use Rattle.link.proofs.steps.note_frame.Reads as note-frame-reads
 
 -- src/steps.rt:45:23
 enum-known-event : tie.Need-enum-known-event

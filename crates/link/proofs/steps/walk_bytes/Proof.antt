@@ -2,10 +2,6 @@ use native.Mathlib.Omega.{arith}
 use borrow.Author.Needs.{needs}
 use Rattle.link.proofs.steps.walk_bytes.Statement.{statement}
 use Rattle.link.proofs.steps.walk_bytes.Tie as tie
-use Rattle.link.proofs.steps.walk_bytes.Reads as reads
-use Rattle.link.proofs.steps.walk_bytes.Lts as lts
-use Rattle.link.proofs.steps.at_most_four.Reads as at-most-four-reads
-use Rattle.link.proofs.steps.segment_step.Reads as segment-step-reads
 
 -- src/steps.rt:253:9
 at-most-four-requires : tie.Need-at-most-four-requires
