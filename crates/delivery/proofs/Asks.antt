@@ -1,5 +1,5 @@
--- What the functions that read a body need: bodies that are not one number, and a part of the store.
-use mathlib.Core.Path.{_≡_, refl}
+-- What the functions need: bodies that are not one number, a part of the store, and an answer of the session handed on.
+use mathlib.Core.Path.{_≡_, refl, ap, _∙_}
 use mathlib.Core.List.{List, [], _∷_}
 use Prim.Native.Nat.{ℕ, _≤_, _<_, min}
 use native.Mathlib.Omega.{arith}
@@ -18,8 +18,12 @@ use Rattle.bodies.specs.Read.{answerOf}
 use Rattle.stream.proofs.Event as declared-event
 use Rattle.stream.specs.declared.Event.{Event}
 use Rattle.stream.specs.declared.Event.the-variants as event
+use Rattle.session.specs.declared.Outcome.{Outcome}
+use Rattle.session.specs.Laws.{Call, callOf}
 use Rattle.delivery.specs.declared.Asked.the-variants as asked
-use Rattle.delivery.specs.Asked.{byBody, askedBy}
+use Rattle.delivery.specs.declared.Delivery.{Delivery}
+use Rattle.delivery.specs.declared.Sent.{Sent}
+use Rattle.delivery.specs.Asked.{byBody, askedBy, delivery, sentBy, Called}
 
 -- bodies by the numbers of their cases: all but a number (7), a reset (8) and a refusal (10)
 abbrev pub others : List ℕ
@@ -58,3 +62,10 @@ take-min n l = go (leb n (length l)) refl
         let h : length l < n = leb-false n (length l) e in
         let m : min n (length l) ≡ length l = omega arith in
         rw (m, take-all n l (omega arith), take-all (length l) l (omega arith))
+
+-- an answer by its two parts
+pub called : (st : Delivery) (c : Call) (r : Sent) (o : Outcome) → r ≡ sentBy st o → o ≡ callOf (st .session) c → Called st c r
+called st c r o e q = record {
+  state = ap (λ (x : Sent). x .state) e ∙ ap (λ (x : Outcome). delivery (st .receiver) (x .session)) q;
+  report = ap (λ (x : Sent). x .report) e ∙ ap (λ (x : Outcome). x .report) q;
+}

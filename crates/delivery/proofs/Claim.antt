@@ -1,16 +1,20 @@
 -- No message is released before its acknowledgement: each call by what its bytes add to the definition's list, and then all of them.
 use mathlib.Core.Path.{_≡_, refl, sym, ap, subst, _∙_}
-use mathlib.Core.List.{List, [], _∷_, _++_, map, append-assoc}
+use mathlib.Core.List.{List, [], _∷_, _++_, map, append-assoc, append-nil}
 use Prim.Native.Nat.{ℕ, _+_}
-use lib.ListN.{length, drop}
+use lib.ListN.{length, take, drop}
 use lib.Seq.{drop-at}
-use Rattle.stream.specs.Stream.{Entry, entry}
+use Rattle.refusal.specs.declared.Numbers.{Numbers}
+use Rattle.refusal.specs.Refusals.{Judged, refused}
+use Rattle.banner.specs.Banner.{judgeOwn}
+use Rattle.stream.specs.Stream.{Entry, entry, byOwn, streamTrace, traceOf}
 use Rattle.receiver.specs.declared.State.{State}
 use Rattle.receiver.specs.declared.Report.{Report}
 use Rattle.receiver.specs.Step.{started}
 use Rattle.receiver.specs.Calls as receiver
 use Rattle.receiver.specs.Calls.{pieceAt, takenBy, stateBy, storeBy, Demand3}
 use Rattle.session.specs.declared.Session.{Session}
+use Rattle.session.specs.declared.Report as answer
 use Rattle.session.specs.Calls.{freshSession}
 use Rattle.session.specs.Laws as session
 use Rattle.session.specs.Laws.{callOf, EveryCall}
@@ -22,8 +26,8 @@ use Rattle.delivery.specs.declared.Asked.the-variants as asked
 use Rattle.delivery.specs.declared.Settled.{Settled}
 use Rattle.delivery.specs.declared.Delivered.{Delivered}
 use Rattle.delivery.specs.declared.Sent.{Sent}
-use Rattle.delivery.specs.Asked.{askedBy, askedByReport, settled, doneTo, receivedBy, Delivers, ConnectedWith}
-use Rattle.delivery.specs.Calls.{Call, piece, accepted, handed, Chained, sessionAfter, Connection, Connects, sessionAfterAll, entriesUpTo, added, Cause, sends, receives, causesFrom, causesOf, callsAsked, callsBy, callsDue, played, historyOf, Does, nothing, one, Each, EachOf, EveryRelease}
+use Rattle.delivery.specs.Asked.{askedBy, askedByReport, settled, doneTo, receivedBy, Delivers, Called, ConnectedWith}
+use Rattle.delivery.specs.Calls.{Call, piece, accepted, handed, Chained, sessionAfter, Connection, Connects, sessionAfterAll, entriesUpTo, added, Cause, sends, receives, causesFrom, causesOf, callsAsked, callsBy, callsDue, played, historyOf, Does, nothing, one, Each, EachOf, toldBy, toldIn, toldOf, reportsIn, StartsOf, EveryRelease}
 use Rattle.delivery.proofs.Entries.{snoc, chained-snoc, taken-snoc, state-snoc, store-snoc, Adds, silent, again, reports, Grows, one-more}
 use Rattle.delivery.proofs.Reasons.{afterCalls, sent-held}
 use Rattle.delivery.proofs.Leaves.{left-of}
@@ -86,50 +90,68 @@ module _ (demand : Demand3) (k : Connection) where
     each (snoc (callBy size r s′) past) (r .state) s′ (t + r .taken) cs (next-upto past st s t size r s′ u (ch .0)) (ch .1),
   )
   each past st s t (accepted h r ∷ cs) u ch =
-      let e : r .state .receiver ≡ st .receiver = ap (λ (o : Sent). o .state .receiver) (ch .0 .answer) in
+      let e : r .state .receiver ≡ st .receiver = ap (λ (o : Delivery). o .receiver) (ch .0 .state) in
       each past (r .state) s t cs (rw e u) (ch .1)
   each past st s t (handed n r ∷ cs) u ch =
-      let e : r .state .receiver ≡ st .receiver = ap (λ (o : Sent). o .state .receiver) (ch .0 .answer) in
+      let e : r .state .receiver ≡ st .receiver = ap (λ (o : Delivery). o .receiver) (ch .0 .state) in
       each past (r .state) s t cs (rw e u) (ch .1)
 
--- ---- the session after them
-
-after-append : (s : Session) (xs ys : List session.Call) → afterCalls s (xs ++ ys) ≡ afterCalls (afterCalls s xs) ys
-after-append s [] ys = refl
-after-append s (x ∷ xs) ys = after-append (callOf s x .session) xs ys
+-- ---- the session after them, and what the caller is told
 
 due-append : (xs ys : List Cause) → callsDue (xs ++ ys) ≡ callsDue xs ++ callsDue ys
 due-append [] ys = refl
 due-append (x ∷ xs) ys = ap (λ (cs : List session.Call). callsBy x ++ cs) (due-append xs ys) ∙ sym (append-assoc (callsBy x) (callsDue xs) (callsDue ys))
 
+-- calls of the session, one behind the other, lead from s to s′ and give these answers
+record Plays (s : Session) (calls : List session.Call) (s′ : Session) (answers : List answer.Report) : Type 0 where
+  leads : s′ ≡ afterCalls s calls
+  gives : answers ≡ reportsIn (played s calls)
+
+after-append : (s : Session) (xs ys : List session.Call) → afterCalls s (xs ++ ys) ≡ afterCalls (afterCalls s xs) ys
+after-append s [] ys = refl
+after-append s (x ∷ xs) ys = after-append (callOf s x .session) xs ys
+
+reports-append : (s : Session) (xs ys : List session.Call) → reportsIn (played s (xs ++ ys)) ≡ reportsIn (played s xs) ++ reportsIn (played (afterCalls s xs) ys)
+reports-append s [] ys = refl
+reports-append s (x ∷ xs) ys = ap (λ (rs : List answer.Report). callOf s x .report ∷ rs) (reports-append (callOf s x .session) xs ys)
+
+plays-then : {s s′ s″ : Session} {xs ys : List session.Call} {rs qs : List answer.Report} → Plays s xs s′ rs → Plays s′ ys s″ qs → Plays s (xs ++ ys) s″ (rs ++ qs)
+plays-then {s} {s′} {s″} {xs} {ys} {rs} {qs} x y = record {
+  leads = y .leads ∙ ap (λ (z : Session). afterCalls z ys) (x .leads) ∙ sym (after-append s xs ys);
+  gives =
+      ap (λ (l : List answer.Report). l ++ qs) (x .gives)
+      ∙ ap (λ (l : List answer.Report). reportsIn (played s xs) ++ l) (y .gives ∙ ap (λ (z : Session). reportsIn (played z ys)) (x .leads))
+      ∙ sym (reports-append s xs ys);
+}
+
 -- what is asked is done by the calls that are asked for
-asked-after : (s : Session) (a : Asked) → doneTo s a .session ≡ afterCalls s (callsAsked a)
-asked-after s asked.Nothing = refl
-asked-after s (asked.Ack n) = refl
-asked-after s (asked.Reconnect n) = refl
-asked-after s (asked.Reset full) = refl
-asked-after s (asked.Malformed n) = refl
+asked-plays : (s : Session) (a : Asked) → Plays s (callsAsked a) (doneTo s a .session) (toldBy (doneTo s a .effect))
+asked-plays s asked.Nothing = record { leads = refl; gives = refl }
+asked-plays s (asked.Ack n) = record { leads = refl; gives = refl }
+asked-plays s (asked.Reconnect n) = record { leads = refl; gives = refl }
+asked-plays s (asked.Reset full) = record { leads = refl; gives = refl }
+asked-plays s (asked.Malformed n) = record { leads = refl; gives = refl }
 
-does-after : (s : Session) (t′ : ℕ) (d : Settled) (es : List Entry) → Does s t′ d es → d .session ≡ afterCalls s (callsDue (map receives es))
-does-after s t′ d es (nothing e) = ap (λ (x : Settled). x .session) e
-does-after s t′ d es (one w at e) =
-    ap (λ (x : Settled). x .session) e ∙ asked-after s (askedBy (w .event) (w .store)) ∙ sym (after-append s (callsAsked (askedBy (w .event) (w .store))) [])
+does-plays : (s : Session) (t′ : ℕ) (d : Settled) (es : List Entry) → Does s t′ d es → Plays s (callsDue (map receives es)) (d .session) (toldBy (d .effect))
+does-plays s t′ d es (nothing e) = subst (λ (x : Settled). Plays s [] (x .session) (toldBy (x .effect))) (sym e) (record { leads = refl; gives = refl })
+does-plays s t′ d es (one w at e) =
+    let a = askedBy (w .event) (w .store) in
+    subst (λ (x : Settled). Plays s (callsAsked a ++ []) (x .session) (toldBy (x .effect))) (sym e)
+    (subst (λ (cs : List session.Call). Plays s cs (doneTo s a .session) (toldBy (doneTo s a .effect))) (sym (append-nil (callsAsked a))) (asked-plays s a))
 
-session-run : (k : Connection) (st : Delivery) (s : List ℕ) (t : ℕ) (cs : List Call) → Chained (k .stream) st s t cs → Each k (st .session) t cs
-    → sessionAfter (st .session) cs ≡ afterCalls (st .session) (callsDue (causesFrom k t cs))
-session-run k st s t [] ch e = refl
-session-run k st s t (piece size r s′ ∷ cs) ch e =
+called-plays : (st : Delivery) (c : session.Call) (r : Sent) → Called st c r → Plays (st .session) (c ∷ []) (r .state .session) (r .report ∷ [])
+called-plays st c r x = record { leads = ap (λ (d : Delivery). d .session) (x .state); gives = ap (λ (q : answer.Report). q ∷ []) (x .report) }
+
+calls-play : (k : Connection) (st : Delivery) (s : List ℕ) (t : ℕ) (cs : List Call) → Chained (k .stream) st s t cs → Each k (st .session) t cs
+    → Plays (st .session) (callsDue (causesFrom k t cs)) (sessionAfter (st .session) cs) (toldIn cs)
+calls-play k st s t [] ch e = record { leads = refl; gives = refl }
+calls-play k st s t (piece size r s′ ∷ cs) ch e =
     let xs = map receives (added k t (t + r .taken)) in
     let ys = causesFrom k (t + r .taken) cs in
-    let now : r .state .session ≡ afterCalls (st .session) (callsDue xs) = does-after (st .session) (t + r .taken) (settled (r .state .session) (r .effect)) (added k t (t + r .taken)) (e .1) in
-    session-run k (r .state) s′ (t + r .taken) cs (ch .1) (e .2)
-    ∙ ap (λ (x : Session). afterCalls x (callsDue ys)) now
-    ∙ sym (after-append (st .session) (callsDue xs) (callsDue ys))
-    ∙ ap (afterCalls (st .session)) (sym (due-append xs ys))
-session-run k st s t (accepted h r ∷ cs) ch e =
-    session-run k (r .state) s t cs (ch .1) e ∙ ap (λ (o : Sent). afterCalls (o .state .session) (callsDue (causesFrom k t cs))) (ch .0 .answer)
-session-run k st s t (handed n r ∷ cs) ch e =
-    session-run k (r .state) s t cs (ch .1) e ∙ ap (λ (o : Sent). afterCalls (o .state .session) (callsDue (causesFrom k t cs))) (ch .0 .answer)
+    subst (λ (l : List session.Call). Plays (st .session) l (sessionAfter (r .state .session) cs) (toldBy (r .effect) ++ toldIn cs)) (sym (due-append xs ys))
+    (plays-then (does-plays (st .session) (t + r .taken) (settled (r .state .session) (r .effect)) (added k t (t + r .taken)) (e .1)) (calls-play k (r .state) s′ (t + r .taken) cs (ch .1) (e .2)))
+calls-play k st s t (accepted h r ∷ cs) ch e = plays-then (called-plays st (session.accept h) r (ch .0)) (calls-play k (r .state) s t cs (ch .1) e)
+calls-play k st s t (handed n r ∷ cs) ch e = plays-then (called-plays st (session.ack n) r (ch .0)) (calls-play k (r .state) s t cs (ch .1) e)
 
 -- ---- every connection
 
@@ -140,19 +162,26 @@ each-of demand s (k ∷ ks) c =
     let e : st .session ≡ s = ap (λ (x : Delivery). x .session) (c .0 .state) in
     (subst (λ (x : Session). Each k x 0 (k .calls)) e (each demand k [] st (k .store) 0 (k .calls) (begun k s (c .0)) (c .1)), each-of demand (sessionAfter s (k .calls)) ks (c .2))
 
-all-after : (s : Session) (ks : List Connection) → Connects s ks → EachOf s ks → sessionAfterAll s ks ≡ afterCalls s (callsDue (causesOf ks))
-all-after s [] c e = refl
-all-after s (k ∷ ks) c e =
+all-play : (s : Session) (ks : List Connection) → Connects s ks → EachOf s ks → Plays s (callsDue (causesOf ks)) (sessionAfterAll s ks) (toldOf ks)
+all-play s [] c e = record { leads = refl; gives = refl }
+all-play s (k ∷ ks) c e =
     let st = k .connected .state in
     let q : st .session ≡ s = ap (λ (x : Delivery). x .session) (c .0 .state) in
     let xs = causesFrom k 0 (k .calls) in
-    let now : sessionAfter s (k .calls) ≡ afterCalls s (callsDue xs) =
-    subst (λ (x : Session). sessionAfter x (k .calls) ≡ afterCalls x (callsDue xs)) q
-    (session-run k st (k .store) 0 (k .calls) (c .1) (subst (λ (x : Session). Each k x 0 (k .calls)) (sym q) (e .0))) in
-    all-after (sessionAfter s (k .calls)) ks (c .2) (e .1)
-    ∙ ap (λ (x : Session). afterCalls x (callsDue (causesOf ks))) now
-    ∙ sym (after-append s (callsDue xs) (callsDue (causesOf ks)))
-    ∙ ap (afterCalls s) (sym (due-append xs (causesOf ks)))
+    let now : Plays s (callsDue xs) (sessionAfter s (k .calls)) (toldIn (k .calls)) =
+    subst (λ (x : Session). Plays x (callsDue xs) (sessionAfter x (k .calls)) (toldIn (k .calls))) q
+    (calls-play k st (k .store) 0 (k .calls) (c .1) (subst (λ (x : Session). Each k x 0 (k .calls)) (sym q) (e .0))) in
+    subst (λ (l : List session.Call). Plays s l (sessionAfterAll (sessionAfter s (k .calls)) ks) (toldIn (k .calls) ++ toldOf ks)) (sym (due-append xs (causesOf ks)))
+    (plays-then now (all-play (sessionAfter s (k .calls)) ks (c .2) (e .1)))
+
+-- where our own features are refused, the definition has no entry
+no-entries : (k : Connection) (n : Numbers) (t : ℕ) → judgeOwn (k .own .supported) (k .own .required) ≡ refused n → entriesUpTo k t ≡ []
+unfolding traceOf
+no-entries k n t e = ap (λ (j : Judged). byOwn j (streamTrace (k .own) (take t (k .stream)) (k .store)) (k .store) .entries) e
+
+starts-of : (s : Session) (ks : List Connection) → Connects s ks → StartsOf ks
+starts-of s [] c = tt
+starts-of s (k ∷ ks) c = (record { verdict = c .0 .verdict; refuses = λ n e t. no-entries k n t (sym (c .0 .verdict) ∙ e) }, starts-of (sessionAfter s (k .calls)) ks (c .2))
 
 played-chained : (s : Session) (cs : List session.Call) → history.Chained s (played s cs)
 played-chained s [] = tt
@@ -163,13 +192,16 @@ pub every-release : Demand3 → EveryCall → EveryHistory → EveryRelease
 unfolding EveryRelease EveryHistory
 every-release demand calls histories ks c =
     let e = each-of demand freshSession ks c in
-    let final : sessionAfterAll freshSession ks ≡ sessionBy freshSession (historyOf (causesOf ks)) = all-after freshSession ks c e in
+    let p = all-play freshSession ks c e in
+    let final : sessionAfterAll freshSession ks ≡ sessionBy freshSession (historyOf (causesOf ks)) = p .leads in
     let kept : Kept (historyOf (causesOf ks)) = histories (historyOf (causesOf ks)) (played-chained freshSession (callsDue (causesOf ks))) in
     record {
       each = e;
       leaves = left-of calls freshSession ks c e (record { agreeing = calls .fresh; sized = refl });
       final = final;
       kept = kept;
+      told = p .gives;
+      starts = starts-of freshSession ks c;
       released = λ before since h m q a.
           let d : callsDue (causesOf ks) ≡ callsDue before ++ (session.accept h ∷ callsDue since) = ap callsDue q ∙ due-append before (sends h ∷ since) in
           rw (final, kept .holds, d) (sent-held freshSession (callsDue before) since h m a);

@@ -19,7 +19,6 @@ use Rattle.delivery.specs.declared.Delivery.{Delivery}
 use Rattle.delivery.specs.declared.Asked.{Asked}
 use Rattle.delivery.specs.declared.Asked.the-variants as asked
 use Rattle.delivery.specs.declared.Settled.{Settled}
-use Rattle.delivery.specs.declared.Sent.{Sent}
 use Rattle.delivery.specs.Asked.{askedBy, settled, doneTo}
 use Rattle.delivery.specs.Calls.{Call, piece, accepted, handed, Chained, sessionAfter, Connection, Connects, added, Cause, hands, receives, callsAsked, callsBy, Does, nothing, one, Each, EachOf, Covered, Leaves, LeavesIn, LeavesOf}
 use Rattle.delivery.specs.Calls as calls
@@ -105,14 +104,14 @@ module _ (every : EveryCall) where
       let i = left-run k (r .state) s′ (t + r .taken) cs (ch .1) (e .2) (l .good) in
       record { leaves = (l .leaves, i .leaves); good = i .good }
   left-run k st s t (accepted h r ∷ cs) ch e g =
-      let q : callOf (st .session) (session.accept h) .session ≡ r .state .session = sym (ap (λ (o : Sent). o .state .session) (ch .0 .answer)) in
+      let q : callOf (st .session) (session.accept h) .session ≡ r .state .session = sym (ap (λ (o : Delivery). o .session) (ch .0 .state)) in
       let i = left-run k (r .state) s t cs (ch .1) e (subst (λ (x : Session). Good x) q (call-good (st .session) (session.accept h) g)) in
       record {
         leaves = ((λ x m. inl (subst (λ (y : Session). List·Memᴰ x (heldOf y)) q (call-keeps (st .session) (session.accept h) x g refl m))), i .leaves);
         good = i .good;
       }
   left-run k st s t (handed n r ∷ cs) ch e g =
-      let q : callOf (st .session) (session.ack n) .session ≡ r .state .session = sym (ap (λ (o : Sent). o .state .session) (ch .0 .answer)) in
+      let q : callOf (st .session) (session.ack n) .session ≡ r .state .session = sym (ap (λ (o : Delivery). o .session) (ch .0 .state)) in
       let i = left-run k (r .state) s t cs (ch .1) e (subst (λ (x : Session). Good x) q (call-good (st .session) (session.ack n) g)) in
       record { leaves = (subst (λ (y : Session). Leaves (st .session) y (hands n ∷ [])) q (by-call (st .session) (session.ack n) (hands n) refl g), i .leaves); good = i .good }
 

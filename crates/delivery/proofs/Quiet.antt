@@ -17,7 +17,6 @@ use Rattle.session.specs.declared.Session.{Session}
 use Rattle.delivery.specs.declared.Delivery.{Delivery}
 use Rattle.delivery.specs.declared.Asked.the-variants as asked
 use Rattle.delivery.specs.declared.Settled.{Settled}
-use Rattle.delivery.specs.declared.Sent.{Sent}
 use Rattle.delivery.specs.Asked.{settled, doneTo}
 use Rattle.delivery.specs.Calls.{Call, piece, accepted, handed, Chained, sessionAfter, Connection, entriesUpTo, added, Does, nothing, one, Each}
 use Rattle.delivery.specs.Worked.{asksOf, ownCalls, ReleasesNothing, ours, store}
@@ -74,9 +73,9 @@ quiet-run k st s t (piece size r s′ ∷ cs) q ch e =
     quiet-run k (r .state) s′ (t + r .taken) cs q (ch .1) (e .2)
     ∙ ap (λ (x : Session). afterCalls x (ownCalls cs)) (does-nothing (st .session) (t + r .taken) (settled (r .state .session) (r .effect)) (added k t (t + r .taken)) (e .1) new)
 quiet-run k st s t (accepted h r ∷ cs) q ch e =
-    quiet-run k (r .state) s t cs q (ch .1) e ∙ ap (λ (o : Sent). afterCalls (o .state .session) (ownCalls cs)) (ch .0 .answer)
+    quiet-run k (r .state) s t cs q (ch .1) e ∙ ap (λ (o : Delivery). afterCalls (o .session) (ownCalls cs)) (ch .0 .state)
 quiet-run k st s t (handed n r ∷ cs) q ch e =
-    quiet-run k (r .state) s t cs q (ch .1) e ∙ ap (λ (o : Sent). afterCalls (o .state .session) (ownCalls cs)) (ch .0 .answer)
+    quiet-run k (r .state) s t cs q (ch .1) e ∙ ap (λ (o : Delivery). afterCalls (o .session) (ownCalls cs)) (ch .0 .state)
 
 pub releases-nothing : Demand3 → (stream : List ℕ) → Quiet (traceOf ours stream store .entries) → ReleasesNothing stream
 releases-nothing demand stream q s k cs c ch =

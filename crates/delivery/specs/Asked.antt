@@ -113,9 +113,10 @@ pub record Delivers (st : Delivery) (s piece : List ℕ) (r : Delivered) (s′ :
 abbrev pub sentBy : Delivery → Outcome → Sent
 sentBy st o = record { state = delivery (st .receiver) (o .session); report = o .report }
 
--- `accept` and `acknowledge`: a call of the session
+-- `accept` and `acknowledge`: a call of the session, which hands back what it leaves and tells its answer
 pub record Called (st : Delivery) (c : Call) (r : Sent) : Type 0 where
-  pub answer : r ≡ sentBy st (callOf (st .session) c)
+  pub state : r .state ≡ delivery (st .receiver) (callOf (st .session) c .session)
+  pub report : r .report ≡ callOf (st .session) c .report
 
 -- `connect`: a start, and the session as it was
 pub record ConnectedWith (s : Session) (own : Features) (r : Connected) : Type 0 where

@@ -5,7 +5,10 @@ use mathlib.Core.Logic.{_⊎_}
 use mathlib.Core.List.{List, [], _∷_, _++_, map, List·Memᴰ}
 use Prim.Native.Nat.{ℕ, _+_, _≤_}
 use lib.ListN.{length, take, drop}
+use Rattle.refusal.specs.declared.Numbers.{Numbers}
+use Rattle.refusal.specs.Refusals.{refused, judgedBy}
 use Rattle.banner.specs.declared.Features.{Features}
+use Rattle.banner.specs.Banner.{judgeOwn}
 use Rattle.preamble.specs.declared.Header.{Header}
 use Rattle.bodies.specs.Rows.{oneNumberOf, resetOf}
 use Rattle.bodies.specs.Read.{whole}
@@ -14,6 +17,7 @@ use Rattle.stream.specs.Stream.{Entry, entry, traceOf}
 use Rattle.receiver.specs.Calls.{pieceAt}
 use Rattle.session.specs.declared.Session.{Session}
 use Rattle.session.specs.declared.Message.{Message}
+use Rattle.session.specs.declared.Report.{Report}
 use Rattle.session.specs.declared.Report.the-variants.{Accepted}
 use Rattle.session.specs.Calls.{message, heldOf, freshSession}
 use Rattle.session.specs.Laws as session
@@ -23,6 +27,7 @@ use Rattle.session.specs.History.{sessionBy, Kept}
 use Rattle.delivery.specs.declared.Delivery.{Delivery}
 use Rattle.delivery.specs.declared.Asked.{Asked}
 use Rattle.delivery.specs.declared.Asked.the-variants as asked
+use Rattle.delivery.specs.declared.Effect.{Effect}
 use Rattle.delivery.specs.declared.Effect.the-variants as effect
 use Rattle.delivery.specs.declared.Settled.{Settled}
 use Rattle.delivery.specs.declared.Delivered.{Delivered}
@@ -145,6 +150,39 @@ abbrev pub EachOf : Session → List Connection → Type 0
 EachOf s [] = Unit {0}
 EachOf s (k ∷ ks) = Each k s 0 (k .calls) × EachOf (sessionAfter s (k .calls)) ks
 
+-- ---- what the caller is told
+
+-- by an effect: the session's answer, if it was asked
+abbrev pub toldBy : Effect → List Report
+toldBy effect.Nothing = []
+toldBy (effect.Malformed n) = []
+toldBy (effect.Answer r) = r ∷ []
+
+abbrev pub toldIn : List Call → List Report
+toldIn [] = []
+toldIn (piece size r s′ ∷ cs) = toldBy (r .effect) ++ toldIn cs
+toldIn (accepted h r ∷ cs) = r .report ∷ toldIn cs
+toldIn (handed n r ∷ cs) = r .report ∷ toldIn cs
+
+-- THE SESSION'S ANSWERS, in the order in which the calls tell them
+abbrev pub toldOf : List Connection → List Report
+toldOf [] = []
+toldOf (k ∷ ks) = toldIn (k .calls) ++ toldOf ks
+
+-- those of a history
+abbrev pub reportsIn : List history.Entry → List Report
+reportsIn [] = []
+reportsIn (e ∷ es) = e .outcome .report ∷ reportsIn es
+
+-- `connect` says whether our own features are refused; where they are, the definition has no entry, whatever comes
+pub record Starts (k : Connection) : Type 0 where
+  pub verdict : judgedBy (k .connected .verdict) ≡ judgeOwn (k .own .supported) (k .own .required)
+  pub refuses : (n : Numbers) → judgedBy (k .connected .verdict) ≡ refused n → (t : ℕ) → entriesUpTo k t ≡ []
+
+abbrev pub StartsOf : List Connection → Type 0
+StartsOf [] = Unit {0}
+StartsOf (k ∷ ks) = Starts k × StartsOf ks
+
 -- ---- WHY A MESSAGE IS NO LONGER HELD
 
 pub data Reason (m : ℕ) : Cause → Type 0 where
@@ -185,6 +223,10 @@ pub record Acknowledged (ks : List Connection) : Type 0 where
   pub final : sessionAfterAll freshSession ks ≡ sessionBy freshSession (historyOf (causesOf ks))
   -- of these K13's claim holds: what is held is what they neither acknowledged nor dropped
   pub kept : Kept (historyOf (causesOf ks))
+  -- and the answers that the caller is told are their answers, in order, none left out
+  pub told : toldOf ks ≡ reportsIn (historyOf (causesOf ks))
+  -- each connection began as `connect` said
+  pub starts : StartsOf ks
   -- a message m that was sent, with the handle h, is still held, or one of the causes since then is a reason why it is not
   pub released : (before since : List Cause) (h m : ℕ) → causesOf ks ≡ before ++ (sends h ∷ since)
       → callOf (sessionBy freshSession (historyOf before)) (session.accept h) .report ≡ Accepted m

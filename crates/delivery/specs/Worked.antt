@@ -11,13 +11,21 @@ use Rattle.banner.specs.Banner.{bannerBytes}
 use Rattle.stream.specs.Stream.{Entry, traceOf}
 use Rattle.stream.specs.Rows.{Row, _⇒_, Holds, features}
 use Rattle.session.specs.declared.Session.{Session}
+use Rattle.session.specs.declared.Message.{Message}
+use Rattle.session.specs.declared.Report.the-variants.{Done, Resend, Refused}
+use Rattle.session.specs.declared.Held.{Held}
+use Rattle.session.specs.declared.Held.the-variants.{At}
+use Rattle.session.specs.Calls.{heldOf, freshSession}
 use Rattle.session.specs.Laws as session
+use Rattle.session.specs.Laws.{resentBy}
 use Rattle.session.specs.History.{sessionBy}
 use Rattle.delivery.specs.declared.Asked.{Asked}
 use Rattle.delivery.specs.declared.Asked.the-variants.{Nothing, Ack, Reconnect, Reset, Malformed}
+use Rattle.delivery.specs.declared.Effect.{Effect}
+use Rattle.delivery.specs.declared.Effect.the-variants as effect
 use Rattle.delivery.specs.declared.Connected.{Connected}
-use Rattle.delivery.specs.Asked.{askedBy, ConnectedWith}
-use Rattle.delivery.specs.Calls.{Call, piece, accepted, handed, Chained, sessionAfter, played}
+use Rattle.delivery.specs.Asked.{askedBy, doneTo, ConnectedWith}
+use Rattle.delivery.specs.Calls.{Call, piece, accepted, handed, Chained, sessionAfter, receives, callsDue, played}
 
 -- ---- what the rows are made of
 
@@ -96,6 +104,69 @@ ReleasesNothing stream =
     (s : Session) (k : Connected) (cs : List Call) → ConnectedWith s ours k → Chained stream (k .state) store 0 cs
     → sessionAfter s cs ≡ sessionBy s (played s (ownCalls cs))
 
+-- ---- what is released
+
+-- three messages were sent
+abbrev first : Message
+first = record { number = 1; handle = 7 }
+
+abbrev second : Message
+second = record { number = 2; handle = 8 }
+
+abbrev third : Message
+third = record { number = 3; handle = 9 }
+
+abbrev sent : Session
+sent = sessionBy freshSession (played freshSession (session.accept 7 ∷ session.accept 8 ∷ session.accept 9 ∷ []))
+
+-- what is then held, by what the entries of a stream ask
+abbrev heldAfter : List ℕ → List Message
+heldAfter stream = heldOf (sessionBy sent (played sent (callsDue (map receives (traceOf ours stream store .entries)))))
+
+unfoldable pub heldRows : List (Row (List Message))
+heldRows =
+    -- all but the last byte of an acknowledgement of 1, and all of it
+    heldAfter split ⇒ (first ∷ second ∷ third ∷ [])
+    ∷ heldAfter (bannerBytes 1 0 ++ message ++ ack1) ⇒ (second ∷ third ∷ [])
+    -- the fault: all three buffers, where one take was written
+    ∷ heldAfter (bannerBytes 1 0 ++ filledUp) ⇒ []
+    ∷ []
+
+-- what is held after something is asked, what the caller is told, and what is sent again
+pub record Result : Type 0 where
+  pub held : List Message
+  pub effect : Effect
+  pub again : List Held
+
+abbrev result : List Message → Effect → List Held → Result
+result ms e hs = record { held = ms; effect = e; again = hs }
+
+abbrev againBy : Effect → Session → List Held
+againBy effect.Nothing s = []
+againBy (effect.Malformed n) s = []
+againBy (effect.Answer r) s = resentBy r s
+
+abbrev resultOf : Asked → Result
+resultOf a = result (heldOf (doneTo sent a .session)) (doneTo sent a .effect) (againBy (doneTo sent a .effect) (doneTo sent a .session))
+
+unfoldable pub resultRows : List (Row Result)
+resultRows =
+    resultOf Nothing ⇒ result (first ∷ second ∷ third ∷ []) effect.Nothing []
+    ∷ resultOf (Ack 1) ⇒ result (second ∷ third ∷ []) (effect.Answer Done) []
+    ∷ resultOf (Ack 3) ⇒ result [] (effect.Answer Done) []
+    -- more than was sent
+    ∷ resultOf (Ack 4) ⇒ result (first ∷ second ∷ third ∷ []) (effect.Answer (Refused (row 23 0 0 0))) []
+    -- what was not acknowledged is sent again
+    ∷ resultOf (Reconnect 2) ⇒ result (third ∷ []) (effect.Answer (Resend 1)) (At third ∷ [])
+    ∷ resultOf (Reconnect 0) ⇒ result (first ∷ second ∷ third ∷ []) (effect.Answer (Resend 3)) (At first ∷ At second ∷ At third ∷ [])
+    ∷ resultOf (Reconnect 4) ⇒ result (first ∷ second ∷ third ∷ []) (effect.Answer (Refused (row 23 0 0 0))) []
+    -- a full reset drops all
+    ∷ resultOf (Reset true) ⇒ result [] (effect.Answer Done) []
+    ∷ resultOf (Reset false) ⇒ result (first ∷ second ∷ third ∷ []) (effect.Answer Done) []
+    -- a body that is malformed
+    ∷ resultOf (Malformed (row 20 8 0 0)) ⇒ result (first ∷ second ∷ third ∷ []) (effect.Malformed (row 20 8 0 0)) []
+    ∷ []
+
 -- ---- other frames
 
 -- an acknowledgement of 1 in msgr2.0, by its late_flags; one with a second segment of one byte, up to that
@@ -137,4 +208,4 @@ frameRows =
 
 -- THE CLAIM
 unfoldable pub Worked : Type 0
-Worked = (filledUp ≡ ack3) × Holds faultRows × ReleasesNothing split × Holds frameRows
+Worked = (filledUp ≡ ack3) × Holds faultRows × ReleasesNothing split × Holds heldRows × Holds resultRows × Holds frameRows

@@ -1,5 +1,4 @@
-use mathlib.Core.Path.{_∙_, ap}
-use Rattle.delivery.specs.Asked.{sentBy}
+use Rattle.delivery.proofs.Asks.{called}
 use borrow.Author.Needs.{needs}
 use Rattle.delivery.proofs.acknowledge.Statement.{statement}
 use Rattle.delivery.proofs.acknowledge.Tie as tie
@@ -11,7 +10,7 @@ sent-with-requires : tie.Need-sent-with-requires
 sent-with-requires c κs = search needs
 
 returns : tie.Need-returns
-returns c = record { answer = c .sent-with .ensures ∙ ap (sentBy (c .before .before .args .state)) (c .before .ack .ensures) }
+returns c = called (c .before .before .args .state) _ (c .sent-with .result) (c .before .ack .result) (c .sent-with .ensures) (c .before .ack .ensures)
 
 pub acknowledge-spec : {M : Type 1} → statement M
 acknowledge-spec = tie.close (tie.spec ack-requires sent-with-requires returns)
