@@ -201,7 +201,7 @@ decided-wrote served q room = go served (leb (q .len) segmentLimit) (q .failed) 
     go false a b d x y h = absurd (let z : _≡_ {A = ℕ} 0 1 = cc in omega arith)
 
 -- kinds do not depend on the lists and bytes
-kinds-requested : (tag : ℕ) (r : Request) (ms ns bs : List ℕ) → writes tag r ≡ isListed (layoutOf tag) (kindsOf (requested r ms ns bs))
+pub kinds-requested : (tag : ℕ) (r : Request) (ms ns bs : List ℕ) → writes tag r ≡ isListed (layoutOf tag) (kindsOf (requested r ms ns bs))
 unfolding writes kindsOf
 kinds-requested tag r ms ns bs = ap (isListed (layoutOf tag)) (go r)
   where

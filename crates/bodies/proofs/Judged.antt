@@ -16,12 +16,11 @@ use Rattle.preamble.specs.Judge.{segmentLimit}
 use Rattle.fields.specs.declared.Cursor.{Cursor}
 use Rattle.fields.specs.Layout.{Kind, num, neg, list, size, rest, plain, good, fault, past, stepOf}
 use Rattle.fields.specs.Field.{Field, number, negative, numbers, sized, opaque, fixed, kindOf, words, wordsOf, fieldBytes, Fits}
-use Rattle.fields.specs.Reading.{Took}
 use Rattle.fields.specs.Writing.{sound, faultIn}
 use Rattle.bodies.specs.declared.Request.{Request}
 use Rattle.bodies.specs.declared.Request.the-variants as request
 use Rattle.bodies.specs.Rows.{requested}
-use Rattle.bodies.specs.Read.{run, Answer, whole, malformed, settled, readOf}
+use Rattle.bodies.specs.Read.{run, Answer, whole, malformed, settled, readOf, Took}
 use Rattle.bodies.specs.Write.{kindsOf, bytesOf}
 use Rattle.bodies.specs.Claims.{AllFit, none, one}
 use Rattle.bodies.proofs.Rows.{Row, step, end, row-read}
@@ -68,7 +67,7 @@ unfolding words wordsOf
 words-there [] post h = refl
 words-there (n ∷ ns) post h = ap₂ (λ (x : ℕ) (l : List ℕ). x ∷ l) (leOf-le 4 n (h 0 (omega arith))) (words-there ns post (λ i g. h (suc i) (omega arith)))
 
-length-words : (ns : List ℕ) → length (words ns) ≡ 4 * length ns
+pub length-words : (ns : List ℕ) → length (words ns) ≡ 4 * length ns
 unfolding words
 length-words [] = refl
 length-words (n ∷ ns) = let e = length-words ns in omega arith
@@ -84,14 +83,14 @@ module _ (pre post : List ℕ) where
   -- each kind: a sound field is there, and the cursor goes behind its bytes
   took-number : (w n : ℕ) → n < 256 ^ w → Took (num w) (pre ++ (le w n ++ post)) (good (length pre)) (number w n) (good (length pre + length (le w n)))
   unfolding stepOf
-  took-number w n h = record { next = passes w (le w n) (length-le w n); value = ap (number w) (sym (number-there w n pre post h)) }
+  took-number w n h = record { next = passes w (le w n) (length-le w n); value = λ _. ap (number w) (sym (number-there w n pre post h)) }
 
   took-negative : (n : ℕ) → 2147483648 ≤ n → n < 4294967296 → Took neg (pre ++ (le 4 n ++ post)) (good (length pre)) (negative n) (good (length pre + length (le 4 n)))
   unfolding stepOf
   took-negative n h k =
       record {
         next = rw (number-there 4 n pre post k, le-ltb n 2147483648 h) (passes 4 (le 4 n) refl);
-        value = ap negative (sym (number-there 4 n pre post k));
+        value = λ _. ap negative (sym (number-there 4 n pre post k));
       }
 
   took-numbers : (ns : List ℕ) → length ns ≤ 32 → ((i : ℕ) → i < length ns → getD ns i 0 < 4294967296) → Took list (pre ++ ((le 4 (length ns) ++ words ns) ++ post)) (good (length pre)) (numbers ns) (good (length pre + length (le 4 (length ns) ++ words ns)))
@@ -102,7 +101,7 @@ module _ (pre post : List ℕ) where
       let e : length xs ≡ 4 + 4 * length ns = let w = length-words ns in omega arith in
       record {
         next = rw (n, le-ltb 32 (length ns) h, le-leb (4 + 4 * length ns) (length (pre ++ (xs ++ post)) - length pre) (let r = room pre xs post in omega arith), e);
-        value = rw (n, drop-append-add pre (xs ++ post) 4) (ap numbers (sym (words-there ns post k)));
+        value = λ _. rw (n, drop-append-add pre (xs ++ post) 4) (ap numbers (sym (words-there ns post k)));
       }
 
   took-sized : (bs : List ℕ) → length bs < 4294967296 → Took size (pre ++ ((le 4 (length bs) ++ bs) ++ post)) (good (length pre)) (sized bs) (good (length pre + length (le 4 (length bs) ++ bs)))
@@ -112,7 +111,7 @@ module _ (pre post : List ℕ) where
       let n = number-there 4 (length bs) pre (bs ++ post) h in
       record {
         next = rw n (passes (4 + length bs) xs (omega arith));
-        value = rw (n, drop-append-add pre (xs ++ post) 4) (ap sized (sym (take-at bs post (length bs) refl)));
+        value = λ _. rw (n, drop-append-add pre (xs ++ post) 4) (ap sized (sym (take-at bs post (length bs) refl)));
       }
 
   took-opaque : (k : ℕ) (bs : List ℕ) → length post ≡ k → Took (rest k) (pre ++ (bs ++ post)) (good (length pre)) (opaque k bs) (good (length pre + length bs))
@@ -123,12 +122,12 @@ module _ (pre post : List ℕ) where
       let b : length (pre ++ (bs ++ post)) - k - length pre ≡ length bs = omega arith in
       record {
         next = rw (le-leb k (length (pre ++ (bs ++ post)) - length pre) (omega arith), a);
-        value = rw (b, drop-append-seam pre (bs ++ post)) (ap (opaque k) (sym (take-at bs post (length bs) refl)));
+        value = λ _. rw (b, drop-append-seam pre (bs ++ post)) (ap (opaque k) (sym (take-at bs post (length bs) refl)));
       }
 
   took-fixed : (w : ℕ) (bs : List ℕ) → length bs ≡ w → Took (plain w) (pre ++ (bs ++ post)) (good (length pre)) (fixed w bs) (good (length pre + length bs))
   unfolding stepOf
-  took-fixed w bs e = record { next = passes w bs e; value = rw (drop-append-seam pre (bs ++ post)) (ap (fixed w) (sym (take-at bs post w e))) }
+  took-fixed w bs e = record { next = passes w bs e; value = λ _. rw (drop-append-seam pre (bs ++ post)) (ap (fixed w) (sym (take-at bs post w e))) }
 
   -- one that is not sound fails
   negative-fails : (n : ℕ) → n < 2147483648 → stepOf neg (pre ++ (le 4 n ++ post)) (good (length pre)) ≡ fault (length pre)
@@ -163,7 +162,7 @@ unfolding stepOf
 stuck [] s n = refl
 stuck (k ∷ ks) s n = stuck ks s n
 
-settles : (s : List ℕ) (ks : List Kind) (c : Cursor) (n m : ℕ) (a : Answer) → c ≡ fault n → n ≡ m → settled s (run ks s c) a ≡ malformed m
+pub settles : (s : List ℕ) (ks : List Kind) (c : Cursor) (n m : ℕ) (a : Answer) → c ≡ fault n → n ≡ m → settled s (run ks s c) a ≡ malformed m
 unfolding settled
 settles s ks c n m a e f = rw (e, stuck ks s n, f)
 

@@ -3,3 +3,5 @@ pub mod Tags
 pub mod Judged
 pub mod Drafted
 pub mod Trips
+pub mod ByTags
+pub mod Limits

@@ -1,19 +1,42 @@
 -- A row of steps reads what its layout says, and a tag's row is the table's.
-use mathlib.Core.Path.{_≡_, refl, ap, _∙_}
-use mathlib.Core.Bool.{true, false}
+use mathlib.Core.Path.{_≡_, refl, sym, ap, _∙_}
+use mathlib.Core.Bool.{Bool, true, false, cond}
 use mathlib.Core.List.{List, [], _∷_}
 use Prim.Native.Nat.{ℕ, _≤_, _<_}
+use native.Mathlib.Omega.{arith}
 use borrow.Author.Tests.{le-leb, lt-leb, eq-eqb, ne-eqb}
 use lib.ListN.{length}
 use Rattle.preamble.specs.Judge.{segmentLimit}
 use Rattle.fields.specs.declared.Cursor.{Cursor}
-use Rattle.fields.specs.Layout.{Kind, good}
-use Rattle.fields.specs.Field.{Field}
-use Rattle.fields.specs.Reading.{Took}
+use Rattle.fields.specs.Layout.{Kind, good, stepOf}
+use Rattle.fields.specs.Field.{Field, fieldAt}
+use Rattle.fields.specs.Reading.{read, failed, takeOf}
 use Rattle.bodies.specs.Table.{layoutIn, layoutOf}
-use Rattle.bodies.specs.Read.{run, fieldsOf, Answer, whole, malformed, settled, readOf, readBy, readBody}
+use Rattle.bodies.specs.Read.{run, fieldsOf, Answer, whole, malformed, settled, readOf, readBy, readBody, Took}
 
--- steps, one behind the other
+clash : {A : Type 0} → true ≡ false → A
+clash h = absurd (let z : _≡_ {A = ℕ} 0 1 = cc in omega arith)
+
+-- ---- a step's answer, as a field of a row
+
+pub took-read : {k : Kind} {s : List ℕ} {c d : Cursor} {f : Field} → read f d ≡ takeOf k s c → Took k s c f d
+unfolding takeOf
+took-read {k} {s} {c} {d} {f} = go (stepOf k s c .failed) refl
+  where
+    go : (b : Bool) → stepOf k s c .failed ≡ b → read f d ≡ cond b (failed (stepOf k s c)) (read (fieldAt k s (c .at)) (stepOf k s c)) → Took k s c f d
+    go true t e = absurd (let z : _≡_ {A = ℕ} 0 1 = cc in omega arith)
+    go false t e = record { next = cc; value = λ _. cc }
+
+pub took-failed : {k : Kind} {s : List ℕ} {c d : Cursor} {f : Field} → failed d ≡ takeOf k s c → Took k s c f d
+unfolding takeOf
+took-failed {k} {s} {c} {d} {f} = go (stepOf k s c .failed) refl
+  where
+    go : (b : Bool) → stepOf k s c .failed ≡ b → failed d ≡ cond b (failed (stepOf k s c)) (read (fieldAt k s (c .at)) (stepOf k s c)) → Took k s c f d
+    go true t e = let n : d ≡ stepOf k s c = cc in record { next = n; value = λ h. clash (sym t ∙ sym (ap (λ (x : Cursor). x .failed) n) ∙ h) }
+    go false t e = absurd (let z : _≡_ {A = ℕ} 0 1 = cc in omega arith)
+
+-- ---- fields, one behind the other
+
 pub data Row (s : List ℕ) : Cursor → List Kind → List Field → Cursor → Type 0 where
   end : {c : Cursor} → Row s c [] [] c
   step : {k : Kind} {c d e : Cursor} {f : Field} {ks : List Kind} {fs : List Field} → Took k s c f d → Row s d ks fs e → Row s c (k ∷ ks) (f ∷ fs) e
@@ -22,12 +45,35 @@ row-run : {s : List ℕ} {c e : Cursor} {ks : List Kind} {fs : List Field} → R
 row-run end = refl
 row-run (step t r) = rw (← (t .next)) (row-run r)
 
-row-fields : {s : List ℕ} {c e : Cursor} {ks : List Kind} {fs : List Field} → Row s c ks fs e → fieldsOf ks s c ≡ fs
-row-fields end = refl
-row-fields (step {f = f} t r) = rw (← (t .next), ← (t .value)) (ap (λ (l : List Field). f ∷ l) (row-fields r))
+-- a cursor that failed stays so
+pub failed-run : (ks : List Kind) (s : List ℕ) (c : Cursor) → c .failed ≡ true → run ks s c .failed ≡ true
+unfolding stepOf
+failed-run [] s c h = h
+failed-run (k ∷ ks) s c h = failed-run ks s (stepOf k s c) (rw h)
+
+fine-before : {s : List ℕ} {c e : Cursor} {ks : List Kind} {fs : List Field} → Row s c ks fs e → e .failed ≡ false → c .failed ≡ false
+fine-before {s} {c} {e} {ks} r h = go (c .failed) refl
+  where
+    go : (b : Bool) → c .failed ≡ b → c .failed ≡ false
+    go true t = clash (sym (failed-run ks s c t) ∙ ap (λ (x : Cursor). x .failed) (row-run r) ∙ h)
+    go false t = t
+
+row-fields : {s : List ℕ} {c e : Cursor} {ks : List Kind} {fs : List Field} → Row s c ks fs e → e .failed ≡ false → fieldsOf ks s c ≡ fs
+row-fields end h = refl
+row-fields (step {f = f} t r) h = rw (← (t .next), ← (t .value (fine-before r h))) (ap (λ (l : List Field). f ∷ l) (row-fields r h))
+
+-- what was read behind a fault makes no difference
+same-settled : (s : List ℕ) (c : Cursor) (a b : Answer) → (c .failed ≡ false → a ≡ b) → settled s c a ≡ settled s c b
+unfolding settled
+same-settled s c a b h = go (c .failed) refl
+  where
+    go : (x : Bool) → c .failed ≡ x → settled s c a ≡ settled s c b
+    go true t = rw t
+    go false t = rw (h t)
 
 pub row-read : {s : List ℕ} {c e : Cursor} {ks : List Kind} {fs : List Field} {a : Answer} → c ≡ good 0 → Row s c ks fs e → a ≡ settled s e (whole fs) → a ≡ readOf ks s
-row-read {s} {c} {e} {ks} {fs} {a} z r t = t ∙ rw (← (row-run r), ← (row-fields r), z)
+row-read {s} {c} {e} {ks} {fs} {a} z r t =
+    t ∙ same-settled s e (whole fs) (whole (fieldsOf ks s c)) (λ h. ap whole (sym (row-fields r h))) ∙ rw (← (row-run r), z)
 
 -- the returns of `settle`
 module _ (s : List ℕ) (c : Cursor) where

@@ -2,7 +2,7 @@
 use mathlib.Core.Path.{_≡_, refl, sym, ap, ap₂, subst, _∙_}
 use mathlib.Core.Bool.{Bool, true, false, cond}
 use mathlib.Core.List.{List, [], _∷_, _++_}
-use Prim.Native.Nat.{ℕ, zero, suc, _+_, _-_, _*_, _/_, _%_, _≤_, _<_}
+use Prim.Native.Nat.{ℕ, zero, suc, _+_, _-_, _*_, _/_, _≤_}
 use native.Mathlib.Omega.{arith}
 use lib.Dec.{leb, ltb, eqb}
 use borrow.Author.Tests.{le-leb, leb-true, leb-false, eqb-true}
@@ -17,18 +17,22 @@ use Rattle.refusal.specs.Refusals.{row}
 use Rattle.fields.specs.declared.Cursor.{Cursor}
 use Rattle.fields.specs.Layout.{Kind, num, neg, list, size, rest, plain, good, fault, past, stepOf}
 use Rattle.fields.specs.Field.{Field, kindOf, words, wordsOf, fieldBytes, fieldAt}
+use Rattle.fields.specs.Reading.{spanIn, numbersIn}
 use Rattle.bodies.specs.declared.Body.{Body}
+use Rattle.bodies.specs.declared.Body.the-variants as body
 use Rattle.bodies.specs.declared.Request.{Request}
+use Rattle.bodies.specs.declared.Request.the-variants as request
 use Rattle.bodies.specs.declared.Written.{Written}
 use Rattle.bodies.specs.declared.Written.the-variants as written
 use Rattle.bodies.specs.Table.{Found, listed, unlisted, layoutOf, isListed}
 use Rattle.bodies.specs.Rows.{requested}
 use Rattle.bodies.specs.Read.{run, fieldsOf, Answer, whole, refused, malformed, settled, readOf, readBy, readBody, answerOf}
-use Rattle.bodies.specs.Write.{kindsOf, bytesOf, Outcome, wrote, turnedAway, Done, done, writeAs, writeBody, outcomeOf}
-use Rattle.bodies.specs.Claims.{AllFit, Reads, Writes, RoundTrips}
+use Rattle.bodies.specs.Write.{kindsOf, bytesOf, Outcome, wrote, turnedAway, Done, done, writeAs, writeBody, outcomeOf, writes}
+use Rattle.bodies.specs.Claims.{AllFit, AllSound, Requested, holds, Reads, Writes, RoundTrips}
+use Rattle.bodies.proofs.Rows.{failed-run}
 use Rattle.bodies.proofs.Tags.{is-listed, listed-is}
 use Rattle.bodies.proofs.Judged.{judge, Closed, closed-request}
-use Rattle.bodies.proofs.Drafted.{read-listed, read-long}
+use Rattle.bodies.proofs.Drafted.{read-listed, read-long, kinds-requested}
 
 -- ---- what was written
 
@@ -198,12 +202,6 @@ module _ (s : List ℕ) (at : ℕ) (h : Bytes s) (in-s : at ≤ length s) where
   over-field (rest k) = over-rest k
   over-field (plain w) = over-plain w
 
--- a cursor that failed stays so
-failed-run : (ks : List Kind) (s : List ℕ) (c : Cursor) → c .failed ≡ true → run ks s c .failed ≡ true
-unfolding stepOf
-failed-run [] s c h = h
-failed-run (k ∷ ks) s c h = failed-run ks s (stepOf k s c) (rw h)
-
 fields-again : (ks : List Kind) (s : List ℕ) (at : ℕ) → Bytes s → at ≤ length s → run ks s (good at) .failed ≡ false → run ks s (good at) .at ≡ length s → bytesOf (fieldsOf ks s (good at)) ≡ drop at s
 unfolding bytesOf
 fields-again [] s at h l f e = sym (ap (λ (n : ℕ). drop n s) e ∙ drop-length s)
@@ -282,7 +280,37 @@ again : (tag : ℕ) (s : List ℕ) (b : Body) (r : Request) (ms ns bs out l : Li
 again tag s b r ms ns bs out l w h q e k x =
     wrote-is w l (replaceFront s out) (length s) (x .outcome ∙ written-again tag s (requested r ms ns bs) out h (sym (q .answer) ∙ e) k)
 
+-- ---- what is written
+
+-- sound fields have no fault
+sound-judged : (fs : List Field) (at : ℕ) → AllSound fs → judge fs at .failed ≡ false
+unfolding AllSound judge
+sound-judged [] at h = refl
+sound-judged (f ∷ fs) at h = rw (h .0) (sound-judged fs (at + length (fieldBytes f)) (h .1))
+
+written-whole : (tag : ℕ) (r : Request) (ms ns bs out l : List ℕ) (w : Written) → writes tag r ≡ true → AllSound (requested r ms ns bs) → length (bytesOf (requested r ms ns bs)) ≤ segmentLimit → length (bytesOf (requested r ms ns bs)) ≤ length out → Writes tag (requested r ms ns bs) out w l → (w ≡ written.Wrote (length (bytesOf (requested r ms ns bs)))) × (l ≡ replaceFront (bytesOf (requested r ms ns bs)) out)
+unfolding writeBody writeAs
+written-whole tag r ms ns bs out l w t s h k x =
+    let fs : List Field = requested r ms ns bs in
+    let e : isListed (layoutOf tag) (kindsOf fs) ≡ true = sym (kinds-requested tag r ms ns bs) ∙ t in
+    let q : readBody tag (bytesOf fs) ≡ whole fs = read-listed tag fs (is-listed (layoutOf tag) (kindsOf fs) e) (x .fits) (closed-request r ms ns bs) h ∙ rw (sound-judged fs 0 s) in
+    wrote-is w l (replaceFront (bytesOf fs) out) (length (bytesOf fs)) (x .outcome ∙ rw (e, q, le-leb (length (bytesOf fs)) (length out) k))
+
+-- the request of a body
+held-by : (s : List ℕ) (b : Body) (fs : List Field) → answerOf s b ≡ whole fs → Requested fs
+held-by s (body.Hello n p) fs e = holds (request.Hello n) [] [] (spanIn s p) cc
+held-by s (body.AuthRequest m l p) fs e = holds (request.AuthRequest m) (numbersIn s l) [] (spanIn s p) cc
+held-by s (body.BadMethod m x l k) fs e = holds (request.BadMethod m x) (numbersIn s l) (numbersIn s k) [] cc
+held-by s (body.More p) fs e = holds request.More [] [] (spanIn s p) cc
+held-by s (body.AuthDone g m p) fs e = holds (request.AuthDone g m) [] [] (spanIn s p) cc
+held-by s (body.Identity n p i) fs e = holds (request.Identity n i) [] [] (spanIn s p) cc
+held-by s (body.Resume n p k) fs e = holds (request.Resume n k) [] [] (spanIn s p) cc
+held-by s (body.Number n) fs e = holds (request.Number n) [] [] [] cc
+held-by s (body.Reset n) fs e = holds (request.Reset n) [] [] [] cc
+held-by s (body.Stamp p) fs e = holds request.Stamp [] [] (spanIn s p) cc
+held-by s (body.Refused r) fs e = absurd (let z : _≡_ {A = ℕ} 0 1 = cc in omega arith)
+
 -- THE CLAIM
 pub round-trips : RoundTrips
 unfolding RoundTrips
-round-trips = (back, again)
+round-trips = (written-whole, back, held-by, again)

@@ -3,4 +3,5 @@ pub mod Read
 pub mod Rows
 pub mod Write
 pub mod Claims
+pub mod ByTag
 pub mod Worked

@@ -1,5 +1,6 @@
 -- Reading a body by its layout: its fields, or refusal 20 with the place of the fault.
-use mathlib.Core.Bool.{cond}
+use mathlib.Core.Path.{_≡_}
+use mathlib.Core.Bool.{false, cond}
 use mathlib.Core.List.{List, [], _∷_}
 use Prim.Native.Nat.{ℕ}
 use lib.Dec.{leb, eqb}
@@ -60,3 +61,10 @@ answerOf s (body.Number n) = whole (oneNumberOf n)
 answerOf s (body.Reset full) = whole (resetOf full)
 answerOf s (body.Stamp p) = whole (stampOf (spanIn s p))
 answerOf s (body.Refused r) = refused (numbersOf r)
+
+-- ---- as the code goes
+
+-- a field of a row that goes on behind a fault: what it reads there tells nothing
+pub record Took (k : Kind) (s : List ℕ) (c : Cursor) (f : Field) (d : Cursor) : Type 0 where
+  pub next : d ≡ stepOf k s c
+  pub value : d .failed ≡ false → f ≡ fieldAt k s (c .at)

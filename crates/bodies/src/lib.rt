@@ -1,8 +1,13 @@
 // Bodies of control frames: each tag's body is a row of fields, read by the cursor and written by the draft of crate `fields`.
 use fields::Cursor;
 use fields::Draft;
+use fields::ListStep;
 use fields::NumberList;
 use fields::Span;
+use fields::SpanStep;
+use fields::U8Step;
+use fields::U32Step;
+use fields::U64Step;
 use fields::append_bytes;
 use fields::append_list;
 use fields::append_negative;
@@ -27,12 +32,16 @@ use refusal::either;
 ghost use mathlib.Core.Path.{_≡_};
 ghost use Prim.Native.Nat.{_<_};
 ghost use Rattle.preamble.specs.Judge.{segmentLimit};
+ghost use Rattle.fields.specs.Layout.{num, neg, list, size, rest, plain};
+ghost use Rattle.fields.specs.Field.{number, negative, numbers, sized, opaque, fixed};
+ghost use Rattle.fields.specs.Reading.{numbersIn, spanIn};
 ghost use Rattle.fields.specs.Writing.{empty};
 ghost use Rattle.bodies.specs.Table.{layoutOf, hello, authRequest, badMethod, more, authDone, ident, reconnect, oneNumber, reset, stamp};
 ghost use Rattle.bodies.specs.Rows.{helloOf, authRequestOf, badMethodOf, moreOf, authDoneOf, identOf, reconnectOf, oneNumberOf, resetOf, stampOf, requested};
-ghost use Rattle.bodies.specs.Read.{settled, readBy, readOf, answerOf};
+ghost use Rattle.bodies.specs.Read.{Took, settled, readBy, readOf, answerOf};
 ghost use Rattle.bodies.specs.Write.{writes, AppendedAll, judged, decided, isWrote};
 ghost use Rattle.bodies.specs.Claims.{Reads, Writes, RoundTrips};
+ghost use Rattle.bodies.specs.ByTag.{EveryBody};
 ghost use Rattle.bodies.specs.Worked.{Worked};
 
 pub struct Ident {
@@ -91,6 +100,154 @@ pub enum Body {
     Refused(Refusal),
 }
 
+// ---- a field of a row, which goes on behind a fault: what is read there is nothing, and `settle` refuses the body
+
+// What a field holds, and the cursor behind it or at the first fault.
+struct FieldU8 {
+    value: u8,
+    next: Cursor,
+}
+
+struct FieldU32 {
+    value: u32,
+    next: Cursor,
+}
+
+struct FieldU64 {
+    value: u64,
+    next: Cursor,
+}
+
+struct FieldList {
+    value: NumberList,
+    next: Cursor,
+}
+
+struct FieldSpan {
+    value: Span,
+    next: Cursor,
+}
+
+fn field_u8(s: &[u8], c: Cursor) -> FieldU8
+    ensures { λ r. ⌜ Took (num 1) (now (s .entry)) c (number 1 (r .value)) (r .next) ⌝ }
+{
+    match read_u8(s, c) {
+        U8Step::Read(value, next) => FieldU8 {
+            value: value,
+            next: next,
+        },
+        U8Step::Failed(next) => FieldU8 {
+            value: 0,
+            next: next,
+        },
+    }
+}
+
+fn field_u32(s: &[u8], c: Cursor) -> FieldU32
+    ensures { λ r. ⌜ Took (num 4) (now (s .entry)) c (number 4 (r .value)) (r .next) ⌝ }
+{
+    match read_u32(s, c) {
+        U32Step::Read(value, next) => FieldU32 {
+            value: value,
+            next: next,
+        },
+        U32Step::Failed(next) => FieldU32 {
+            value: 0,
+            next: next,
+        },
+    }
+}
+
+fn field_u64(s: &[u8], c: Cursor) -> FieldU64
+    ensures { λ r. ⌜ Took (num 8) (now (s .entry)) c (number 8 (r .value)) (r .next) ⌝ }
+{
+    match read_u64(s, c) {
+        U64Step::Read(value, next) => FieldU64 {
+            value: value,
+            next: next,
+        },
+        U64Step::Failed(next) => FieldU64 {
+            value: 0,
+            next: next,
+        },
+    }
+}
+
+fn field_negative(s: &[u8], c: Cursor) -> FieldU32
+    ensures { λ r. ⌜ Took neg (now (s .entry)) c (negative (r .value)) (r .next) ⌝ }
+{
+    match read_negative(s, c) {
+        U32Step::Read(value, next) => FieldU32 {
+            value: value,
+            next: next,
+        },
+        U32Step::Failed(next) => FieldU32 {
+            value: 0,
+            next: next,
+        },
+    }
+}
+
+fn field_list(s: &[u8], c: Cursor) -> FieldList
+    ensures { λ r. ⌜ Took list (now (s .entry)) c (numbers (numbersIn (now (s .entry)) (r .value))) (r .next) ⌝ }
+{
+    match read_list(s, c) {
+        ListStep::Read(value, next) => FieldList {
+            value: value,
+            next: next,
+        },
+        ListStep::Failed(next) => FieldList {
+            value: NumberList { at: 0, count: 0 },
+            next: next,
+        },
+    }
+}
+
+fn field_payload(s: &[u8], c: Cursor) -> FieldSpan
+    ensures { λ r. ⌜ Took size (now (s .entry)) c (sized (spanIn (now (s .entry)) (r .value))) (r .next) ⌝ }
+{
+    match read_payload(s, c) {
+        SpanStep::Read(value, next) => FieldSpan {
+            value: value,
+            next: next,
+        },
+        SpanStep::Failed(next) => FieldSpan {
+            value: Span { at: 0, len: 0 },
+            next: next,
+        },
+    }
+}
+
+fn field_rest(s: &[u8], c: Cursor, closing: usize) -> FieldSpan
+    ensures { λ r. ⌜ Took (rest closing) (now (s .entry)) c (opaque closing (spanIn (now (s .entry)) (r .value))) (r .next) ⌝ }
+{
+    match read_rest(s, c, closing) {
+        SpanStep::Read(value, next) => FieldSpan {
+            value: value,
+            next: next,
+        },
+        SpanStep::Failed(next) => FieldSpan {
+            value: Span { at: 0, len: 0 },
+            next: next,
+        },
+    }
+}
+
+fn field_bytes(s: &[u8], c: Cursor, w: usize) -> FieldSpan
+    ensures { λ r. ⌜ Took (plain w) (now (s .entry)) c (fixed w (spanIn (now (s .entry)) (r .value))) (r .next) ⌝ }
+{
+    match read_bytes(s, c, w) {
+        SpanStep::Read(value, next) => FieldSpan {
+            value: value,
+            next: next,
+        },
+        SpanStep::Failed(next) => FieldSpan {
+            value: Span { at: 0, len: 0 },
+            next: next,
+        },
+    }
+}
+
 // The body, unless a field failed or a byte is left over.
 fn settle(s: &[u8], c: Cursor, body: Body) -> Body
     ensures { λ r. ⌜ answerOf (now (s .entry)) r ≡ settled (now (s .entry)) c (answerOf (now (s .entry)) body) ⌝ }
@@ -110,8 +267,8 @@ fn settle(s: &[u8], c: Cursor, body: Body) -> Body
 fn read_hello(s: &[u8]) -> Body
     ensures { λ r. ⌜ answerOf (now (s .entry)) r ≡ readOf hello (now (s .entry)) ⌝ }
 {
-    let a = read_u8(s, start());
-    let p = read_rest(s, a.next, 0);
+    let a = field_u8(s, start());
+    let p = field_rest(s, a.next, 0);
     let address = p.value;
     let body = Body::Hello {
         entity: a.value,
@@ -123,9 +280,9 @@ fn read_hello(s: &[u8]) -> Body
 fn read_auth_request(s: &[u8]) -> Body
     ensures { λ r. ⌜ answerOf (now (s .entry)) r ≡ readOf authRequest (now (s .entry)) ⌝ }
 {
-    let a = read_u32(s, start());
-    let b = read_list(s, a.next);
-    let p = read_rest(s, b.next, 0);
+    let a = field_u32(s, start());
+    let b = field_list(s, a.next);
+    let p = field_rest(s, b.next, 0);
     let modes = b.value;
     let payload = p.value;
     let body = Body::AuthRequest {
@@ -139,10 +296,10 @@ fn read_auth_request(s: &[u8]) -> Body
 fn read_bad_method(s: &[u8]) -> Body
     ensures { λ r. ⌜ answerOf (now (s .entry)) r ≡ readOf badMethod (now (s .entry)) ⌝ }
 {
-    let a = read_u32(s, start());
-    let e = read_negative(s, a.next);
-    let f = read_list(s, e.next);
-    let g = read_list(s, f.next);
+    let a = field_u32(s, start());
+    let e = field_negative(s, a.next);
+    let f = field_list(s, e.next);
+    let g = field_list(s, f.next);
     let methods = f.value;
     let modes = g.value;
     let body = Body::BadMethod {
@@ -157,7 +314,7 @@ fn read_bad_method(s: &[u8]) -> Body
 fn read_more(s: &[u8]) -> Body
     ensures { λ r. ⌜ answerOf (now (s .entry)) r ≡ readOf more (now (s .entry)) ⌝ }
 {
-    let p = read_payload(s, start());
+    let p = field_payload(s, start());
     let payload = p.value;
     settle(s, p.next, Body::More(payload))
 }
@@ -165,9 +322,9 @@ fn read_more(s: &[u8]) -> Body
 fn read_auth_done(s: &[u8]) -> Body
     ensures { λ r. ⌜ answerOf (now (s .entry)) r ≡ readOf authDone (now (s .entry)) ⌝ }
 {
-    let a = read_u64(s, start());
-    let b = read_u32(s, a.next);
-    let p = read_rest(s, b.next, 0);
+    let a = field_u64(s, start());
+    let b = field_u32(s, a.next);
+    let p = field_rest(s, b.next, 0);
     let payload = p.value;
     let body = Body::AuthDone {
         id: a.value,
@@ -180,14 +337,14 @@ fn read_auth_done(s: &[u8]) -> Body
 fn read_ident(s: &[u8]) -> Body
     ensures { λ r. ⌜ answerOf (now (s .entry)) r ≡ readOf ident (now (s .entry)) ⌝ }
 {
-    let n = read_u32(s, start());
-    let p = read_rest(s, n.next, 48);
-    let a = read_u64(s, p.next);
-    let b = read_u64(s, a.next);
-    let d = read_u64(s, b.next);
-    let e = read_u64(s, d.next);
-    let f = read_u64(s, e.next);
-    let g = read_u64(s, f.next);
+    let n = field_u32(s, start());
+    let p = field_rest(s, n.next, 48);
+    let a = field_u64(s, p.next);
+    let b = field_u64(s, a.next);
+    let d = field_u64(s, b.next);
+    let e = field_u64(s, d.next);
+    let f = field_u64(s, e.next);
+    let g = field_u64(s, f.next);
     let block = p.value;
     let i = Ident {
         gid: a.value,
@@ -208,20 +365,20 @@ fn read_ident(s: &[u8]) -> Body
 fn read_one_number(s: &[u8]) -> Body
     ensures { λ r. ⌜ answerOf (now (s .entry)) r ≡ readOf oneNumber (now (s .entry)) ⌝ }
 {
-    let a = read_u64(s, start());
+    let a = field_u64(s, start());
     settle(s, a.next, Body::Number(a.value))
 }
 
 fn read_reconnect(s: &[u8]) -> Body
     ensures { λ r. ⌜ answerOf (now (s .entry)) r ≡ readOf reconnect (now (s .entry)) ⌝ }
 {
-    let n = read_u32(s, start());
-    let p = read_rest(s, n.next, 40);
-    let a = read_u64(s, p.next);
-    let b = read_u64(s, a.next);
-    let d = read_u64(s, b.next);
-    let e = read_u64(s, d.next);
-    let f = read_u64(s, e.next);
+    let n = field_u32(s, start());
+    let p = field_rest(s, n.next, 40);
+    let a = field_u64(s, p.next);
+    let b = field_u64(s, a.next);
+    let d = field_u64(s, b.next);
+    let e = field_u64(s, d.next);
+    let f = field_u64(s, e.next);
     let block = p.value;
     let k = Reconnect {
         client: a.value,
@@ -241,14 +398,14 @@ fn read_reconnect(s: &[u8]) -> Body
 fn read_reset(s: &[u8]) -> Body
     ensures { λ r. ⌜ answerOf (now (s .entry)) r ≡ readOf reset (now (s .entry)) ⌝ }
 {
-    let a = read_u8(s, start());
+    let a = field_u8(s, start());
     settle(s, a.next, Body::Reset(a.value))
 }
 
 fn read_stamp(s: &[u8]) -> Body
     ensures { λ r. ⌜ answerOf (now (s .entry)) r ≡ readOf stamp (now (s .entry)) ⌝ }
 {
-    let p = read_bytes(s, start(), 8);
+    let p = field_bytes(s, start(), 8);
     let stamp = p.value;
     settle(s, p.next, Body::Stamp(stamp))
 }
@@ -554,9 +711,14 @@ pub fn write(
     verdict
 }
 
-// Reading what was written gives it back, and writing what was read gives the same bytes: a promise and no code.
+// What is written, that reading it gives it back, and that writing what was read gives the same bytes: a promise and no code.
 pub fn round_trips()
     ensures { λ _. ⌜ RoundTrips ⌝ }
+{}
+
+// What each tag's body comes to, written out place by place: a promise and no code.
+pub fn every_body()
+    ensures { λ _. ⌜ EveryBody ⌝ }
 {}
 
 // The worked bodies read and are written as the rules say.

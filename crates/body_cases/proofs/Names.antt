@@ -22,7 +22,7 @@ use Rattle.bodies.specs.Write.{kindsOf, writes}
 use Rattle.bodies.specs.Claims.{Reads}
 use Rattle.bodies.proofs.Tags.{serves-hello, serves-auth-request, serves-bad-method, serves-more, serves-auth-done, serves-identity, serves-resume, serves-number, serves-reset, serves-stamp}
 use Rattle.bodies.proofs.Trips.{kinds-read}
-use Rattle.body_cases.specs.Reading.{helloNames, requestNames, badMethodNames, moreNames, doneNames, identNames, featureNames, reconnectNames, resetNames, messageNames, stampNames, namesOf, numberNames, rowLine, readLine}
+use Rattle.body_cases.specs.Reading.{helloNames, requestNames, badMethodNames, moreNames, doneNames, identNames, reconnectNames, resetNames, stampNames, namesOf, numberNames, rowLine, readLine}
 
 -- one of two tags, and one of three
 two : (n m tag : ℕ) {names : List String} → namesOf n ≡ names → namesOf m ≡ names → (eqb tag n || eqb tag m) ≡ true → namesOf tag ≡ names

@@ -1,18 +1,17 @@
 -- Requests that are read off a record, and the bodies that they write.
 use mathlib.Core.Path.{_≡_, refl, sym, ap, _∙_}
-use mathlib.Core.Bool.{Bool, true, false, not, _&&_}
+use mathlib.Core.Bool.{Bool, true, not, _&&_}
 use mathlib.Core.List.{List, [], _∷_}
 use Prim.Native.Nat.{ℕ, _+_, _*_, _≤_, min}
-use native.Mathlib.Omega.{arith}
 use borrow.Author.Tests.{leb-true, ne-eqb}
 use lib.Dec.{leb}
-use lib.ListN.{length, take, drop, getD, drop-of-length-le}
+use lib.ListN.{take, drop, getD}
 use Rattle.buffer.specs.Le.{numberAt}
 use Rattle.crc32c.specs.Crc.{crcOf}
 use Rattle.fields.specs.declared.Cursor.{Cursor}
 use Rattle.fields.specs.Layout.{Kind, num, neg, list, size, rest, plain, good, stepOf}
-use Rattle.fields.specs.Field.{Field, number, negative, numbers, sized, opaque, fixed, wordsOf}
-use Rattle.fields.specs.Reading.{Took, spanIn}
+use Rattle.fields.specs.Field.{Field, number, negative, numbers, sized, opaque, wordsOf}
+use Rattle.fields.specs.Reading.{spanIn}
 use Rattle.bodies.specs.declared.Written.{Written}
 use Rattle.bodies.specs.Table.{layoutIn, layoutOf, unlisted}
 use Rattle.bodies.specs.Rows.{requested}
@@ -21,44 +20,44 @@ use Rattle.records.specs.Records.{isWhole, allowed, counted}
 use Rattle.records.specs.Records as records
 use Rattle.records.proofs.Laws.{first, sized-good, words-take}
 use Rattle.body_cases.specs.declared.writing.Asked.{Asked}
-use Rattle.body_cases.specs.Writing.{limited, pastGiven, fieldsGiven, allGiven, kindsFor, outcomeLine, doneLine, writeSize, writeOf, Given, BytesGiven, fieldsOf, Asks, AsksFor}
+use Rattle.body_cases.specs.Writing.{limited, fieldsGiven, allGiven, kindsFor, outcomeLine, doneLine, writeSize, writeOf, Given, BytesGiven, fieldsOf, Asks, AsksFor}
 
 -- ---- steps
 
--- past the end nothing is left
-pub drop-past : (s : List ℕ) (at : ℕ) → length s ≤ at → drop at s ≡ drop (at + 1) s
-drop-past s at h = drop-of-length-le s {i = at} h ∙ sym (drop-of-length-le s {i = at + 1} (omega arith))
+number-past : (w : ℕ) (s : List ℕ) (c : Cursor) → stepOf (plain w) s c ≡ stepOf (num w) s c
+unfolding stepOf
+number-past w s c = refl
 
-module _ {s : List ℕ} {c d : Cursor} where
-  pub num-given : {w : ℕ} {f : Field} → Took (num w) s c f d → Given (num w) s c f d
-  num-given t = record { next = t .next; value = t .value }
+module _ {s : List ℕ} {c : Cursor} where
+  pub number-given : (w n : ℕ) {d : Cursor} → n ≡ numberAt w (c .at) s → d ≡ stepOf (plain w) s c → Given (num w) s c (number w n) d
+  number-given w n e k = record { next = k ∙ number-past w s c; value = ap (number w) e }
 
-  pub neg-given : {n : ℕ} → Took (num 4) s c (number 4 n) d → Given neg s c (negative n) d
+  pub neg-given : {n : ℕ} {d : Cursor} → Given (num 4) s c (number 4 n) d → Given neg s c (negative n) d
   neg-given {n} t = let e = t .value in record { next = t .next; value = cc }
 
-  pub plain-given : {w : ℕ} {f : Field} → Took (plain w) s c f d → Given (plain w) s c f d
-  plain-given t = record { next = t .next; value = t .value }
-
-  pub size-given : {bs : List ℕ} → BytesGiven s c bs d → Given size s c (sized bs) d
+  pub size-given : {bs : List ℕ} {d : Cursor} → BytesGiven s c bs d → Given size s c (sized bs) d
   size-given t = record { next = t .next; value = ap sized (t .value) }
 
-  pub rest-given : {bs : List ℕ} (k : ℕ) → BytesGiven s c bs d → Given (rest k) s c (opaque k bs) d
+  pub rest-given : {bs : List ℕ} {d : Cursor} (k : ℕ) → BytesGiven s c bs d → Given (rest k) s c (opaque k bs) d
   rest-given k t = record { next = t .next; value = ap (opaque k) (t .value) }
 
-pub bytes-by : {s : List ℕ} {c d e : Cursor} {bs : List ℕ} {n : ℕ} → Took size s c (sized bs) d → n ≡ numberAt 4 (c .at) s → e ≡ limited (allowed n) d → BytesGiven s c bs e
-bytes-by {s} {c} {d} {e} {bs} {n} t en k = let v = t .value in record { next = k ∙ rw (t .next, en); value = cc }
+  pub bytes-by : (place n : ℕ) {d e : Cursor}
+      → n ≡ numberAt 4 (c .at) s
+      → d ≡ stepOf size s c
+      → e ≡ limited (allowed n) d
+      → drop place s ≡ drop (c .at + 4) s
+      → BytesGiven s c (take n (drop place s)) e
+  bytes-by place n en ed ee ep = record { next = ee ∙ rw (ed, en); value = rw (ep, en) }
 
-pub list-by : (place : ℕ) {s : List ℕ} {c a b d : Cursor} {n count : ℕ} {f : Field}
-    → Took (num 1) s c (number 1 n) a
-    → Took (plain (4 * n)) s a f b
-    → d ≡ limited (leb n 64) b
-    → count ≡ min n 64
-    → drop place s ≡ drop (c .at + 1) s
-    → Given list s c (numbers (wordsOf count (drop place s))) d
-list-by place {s} {c} {a} {b} {d} {n} {count} t u k ec ep =
-    let v = t .value in
-    let en : n ≡ numberAt 1 (c .at) s = cc in
-    record { next = k ∙ rw (u .next, t .next, en); value = rw (ec, ep, en) }
+  pub list-by : (place n count : ℕ) {a b d : Cursor}
+      → n ≡ numberAt 1 (c .at) s
+      → a ≡ stepOf (plain 1) s c
+      → b ≡ stepOf (plain (4 * n)) s a
+      → d ≡ limited (leb n 64) b
+      → count ≡ min n 64
+      → drop place s ≡ drop (c .at + 1) s
+      → Given list s c (numbers (wordsOf count (drop place s))) d
+  list-by place n count en ea eb ed ec ep = record { next = ed ∙ rw (eb, ea, number-past 1 s c, en); value = rw (ec, ep, en) }
 
 -- ---- rows of steps
 

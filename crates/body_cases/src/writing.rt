@@ -5,19 +5,17 @@ use bodies::Request;
 use bodies::Written;
 use bodies::write;
 use buffer::byte_at;
+use buffer::min;
 use buffer::part;
 use buffer::u32_at;
+use buffer::u64_at;
 use crc32c::checksum;
 use fields::Cursor;
-use fields::ListStep;
 use fields::NumberList;
 use fields::Span;
 use fields::SpanStep;
 use fields::read_bytes;
 use fields::read_payload;
-use fields::read_u8;
-use fields::read_u32;
-use fields::read_u64;
 use records::LARGEST;
 use records::Step;
 use records::bad_record;
@@ -33,8 +31,8 @@ use refusal::in_numbers;
 ghost use mathlib.Core.Path.{_≡_};
 ghost use Prim.Native.Nat.{_+_, _≤_, _<_, min};
 ghost use lib.ListN.{length, drop};
-ghost use Rattle.fields.specs.Field.{numbers};
-ghost use Rattle.fields.specs.Layout.{good, list};
+ghost use Rattle.fields.specs.Field.{number, numbers, fixed};
+ghost use Rattle.fields.specs.Layout.{num, list, size, plain, good, stepOf};
 ghost use Rattle.fields.specs.Reading.{numbersIn, spanIn};
 ghost use Rattle.bodies.specs.Table.{hello, authRequest, badMethod, more, authDone, ident, reconnect, oneNumber, reset, stamp};
 ghost use Rattle.bodies.specs.Write.{done, outcomeOf, writeBody};
@@ -49,6 +47,32 @@ struct Asked {
     second: NumberList,
     bytes: Span,
     end: Cursor,
+}
+
+// A field of the record, and the cursor behind it or at the first that is cut off. What is read behind the record's end is not used: the record is a bad one.
+struct GivenU8 {
+    value: u8,
+    next: Cursor,
+}
+
+struct GivenU32 {
+    value: u32,
+    next: Cursor,
+}
+
+struct GivenU64 {
+    value: u64,
+    next: Cursor,
+}
+
+struct GivenList {
+    value: NumberList,
+    next: Cursor,
+}
+
+struct GivenSpan {
+    value: Span,
+    next: Cursor,
 }
 
 // ---- fields
@@ -71,11 +95,31 @@ fn limit(ok: bool, c: Cursor) -> Cursor
     }
 }
 
-// The place behind a byte, but not past the end.
-fn behind_byte(s: &[u8], at: usize) -> usize
-    ensures { λ r. ⌜ drop r (now (s .entry)) ≡ drop (at + 1) (now (s .entry)) ⌝ }
+// Past w bytes.
+fn past(s: &[u8], c: Cursor, w: usize) -> Cursor
+    ensures { λ r. ⌜ r ≡ stepOf (plain w) (now (s .entry)) c ⌝ }
 {
-    if at < s.len() { at + 1 } else { at }
+    match read_bytes(s, c, w) {
+        SpanStep::Read(_, next) => next,
+        SpanStep::Failed(next) => next,
+    }
+}
+
+// Past a length and that many bytes.
+fn past_payload(s: &[u8], c: Cursor) -> Cursor
+    ensures { λ r. ⌜ r ≡ stepOf size (now (s .entry)) c ⌝ }
+{
+    match read_payload(s, c) {
+        SpanStep::Read(_, next) => next,
+        SpanStep::Failed(next) => next,
+    }
+}
+
+// The place so many bytes on, at most 8.
+fn behind(s: &[u8], at: usize, k: u8) -> usize
+    ensures { λ r. ⌜ drop r (now (s .entry)) ≡ drop (at + k) (now (s .entry)) ⌝ }
+{
+    min(at, s.len()) + k as usize
 }
 
 fn at_most(n: u8) -> u32
@@ -84,32 +128,75 @@ fn at_most(n: u8) -> u32
     if n <= 64 { n as u32 } else { 64 }
 }
 
-fn given_list(s: &[u8], c: Cursor) -> ListStep
-    ensures { λ r. ⌜ Given list (now (s .entry)) c (numbers (numbersIn (now (s .entry)) (r .value))) (r .next) × (r .value .count ≤ 64) ⌝ }
+fn given_u8(s: &[u8], c: Cursor) -> GivenU8
+    ensures { λ r. ⌜ Given (num 1) (now (s .entry)) c (number 1 (r .value)) (r .next) ⌝ }
 {
-    let a = read_u8(s, c);
-    let n = a.value;
-    let b = read_bytes(s, a.next, 4 * (n as usize));
     let at = c.at;
-    let value = NumberList {
-        at: behind_byte(s, at),
-        count: at_most(n),
-    };
-    ListStep {
-        value: value,
-        next: limit(n <= 64, b.next),
+    GivenU8 {
+        value: byte_at(s, at),
+        next: past(s, c, 1),
     }
 }
 
-fn given_bytes(s: &[u8], c: Cursor) -> SpanStep
+fn given_u32(s: &[u8], c: Cursor) -> GivenU32
+    ensures { λ r. ⌜ Given (num 4) (now (s .entry)) c (number 4 (r .value)) (r .next) ⌝ }
+{
+    let at = c.at;
+    GivenU32 {
+        value: u32_at(s, at),
+        next: past(s, c, 4),
+    }
+}
+
+fn given_u64(s: &[u8], c: Cursor) -> GivenU64
+    ensures { λ r. ⌜ Given (num 8) (now (s .entry)) c (number 8 (r .value)) (r .next) ⌝ }
+{
+    let at = c.at;
+    GivenU64 {
+        value: u64_at(s, at),
+        next: past(s, c, 8),
+    }
+}
+
+fn given_stamp(s: &[u8], c: Cursor) -> GivenSpan
+    ensures { λ r. ⌜ Given (plain 8) (now (s .entry)) c (fixed 8 (spanIn (now (s .entry)) (r .value))) (r .next) ⌝ }
+{
+    let at = c.at;
+    GivenSpan {
+        value: Span { at: at, len: 8 },
+        next: past(s, c, 8),
+    }
+}
+
+fn given_list(s: &[u8], c: Cursor) -> GivenList
+    ensures { λ r. ⌜ Given list (now (s .entry)) c (numbers (numbersIn (now (s .entry)) (r .value))) (r .next) × (r .value .count ≤ 64) ⌝ }
+{
+    let at = c.at;
+    let n = byte_at(s, at);
+    let end = past(s, past(s, c, 1), 4 * (n as usize));
+    let value = NumberList {
+        at: behind(s, at, 1),
+        count: at_most(n),
+    };
+    GivenList {
+        value: value,
+        next: limit(n <= 64, end),
+    }
+}
+
+fn given_bytes(s: &[u8], c: Cursor) -> GivenSpan
     ensures { λ r. ⌜ BytesGiven (now (s .entry)) c (spanIn (now (s .entry)) (r .value)) (r .next) ⌝ }
 {
-    let p = read_payload(s, c);
     let at = c.at;
-    let span = p.value;
-    SpanStep {
+    let n = u32_at(s, at) as usize;
+    let end = past_payload(s, c);
+    let span = Span {
+        at: behind(s, at, 4),
+        len: n,
+    };
+    GivenSpan {
         value: span,
-        next: limit(u32_at(s, at) as usize <= LARGEST, p.next),
+        next: limit(n <= LARGEST, end),
     }
 }
 
@@ -128,7 +215,7 @@ fn no_bytes() -> Span {
 fn ask_hello(s: &[u8]) -> Asked
     ensures { λ r. ⌜ Asks hello (now (s .entry)) r ⌝ }
 {
-    let a = read_u8(s, start());
+    let a = given_u8(s, start());
     let p = given_bytes(s, a.next);
     let bytes = p.value;
     let end = p.next;
@@ -144,7 +231,7 @@ fn ask_hello(s: &[u8]) -> Asked
 fn ask_auth_request(s: &[u8]) -> Asked
     ensures { λ r. ⌜ Asks authRequest (now (s .entry)) r ⌝ }
 {
-    let a = read_u32(s, start());
+    let a = given_u32(s, start());
     let b = given_list(s, a.next);
     let p = given_bytes(s, b.next);
     let first = b.value;
@@ -162,8 +249,8 @@ fn ask_auth_request(s: &[u8]) -> Asked
 fn ask_bad_method(s: &[u8]) -> Asked
     ensures { λ r. ⌜ Asks badMethod (now (s .entry)) r ⌝ }
 {
-    let a = read_u32(s, start());
-    let e = read_u32(s, a.next);
+    let a = given_u32(s, start());
+    let e = given_u32(s, a.next);
     let f = given_list(s, e.next);
     let g = given_list(s, f.next);
     let first = f.value;
@@ -200,8 +287,8 @@ fn ask_more(s: &[u8]) -> Asked
 fn ask_auth_done(s: &[u8]) -> Asked
     ensures { λ r. ⌜ Asks authDone (now (s .entry)) r ⌝ }
 {
-    let a = read_u64(s, start());
-    let b = read_u32(s, a.next);
+    let a = given_u64(s, start());
+    let b = given_u32(s, a.next);
     let p = given_bytes(s, b.next);
     let bytes = p.value;
     let end = p.next;
@@ -221,14 +308,14 @@ fn ask_auth_done(s: &[u8]) -> Asked
 fn ask_ident(s: &[u8]) -> Asked
     ensures { λ r. ⌜ Asks ident (now (s .entry)) r ⌝ }
 {
-    let n = read_u32(s, start());
+    let n = given_u32(s, start());
     let p = given_bytes(s, n.next);
-    let a = read_u64(s, p.next);
-    let b = read_u64(s, a.next);
-    let d = read_u64(s, b.next);
-    let e = read_u64(s, d.next);
-    let f = read_u64(s, e.next);
-    let g = read_u64(s, f.next);
+    let a = given_u64(s, p.next);
+    let b = given_u64(s, a.next);
+    let d = given_u64(s, b.next);
+    let e = given_u64(s, d.next);
+    let f = given_u64(s, e.next);
+    let g = given_u64(s, f.next);
     let bytes = p.value;
     let end = g.next;
     let i = Ident {
@@ -255,13 +342,13 @@ fn ask_ident(s: &[u8]) -> Asked
 fn ask_reconnect(s: &[u8]) -> Asked
     ensures { λ r. ⌜ Asks reconnect (now (s .entry)) r ⌝ }
 {
-    let n = read_u32(s, start());
+    let n = given_u32(s, start());
     let p = given_bytes(s, n.next);
-    let a = read_u64(s, p.next);
-    let b = read_u64(s, a.next);
-    let d = read_u64(s, b.next);
-    let e = read_u64(s, d.next);
-    let f = read_u64(s, e.next);
+    let a = given_u64(s, p.next);
+    let b = given_u64(s, a.next);
+    let d = given_u64(s, b.next);
+    let e = given_u64(s, d.next);
+    let f = given_u64(s, e.next);
     let bytes = p.value;
     let end = f.next;
     let k = Reconnect {
@@ -287,7 +374,7 @@ fn ask_reconnect(s: &[u8]) -> Asked
 fn ask_number(s: &[u8]) -> Asked
     ensures { λ r. ⌜ Asks oneNumber (now (s .entry)) r ⌝ }
 {
-    let a = read_u64(s, start());
+    let a = given_u64(s, start());
     let end = a.next;
     Asked {
         request: Request::Number(a.value),
@@ -301,7 +388,7 @@ fn ask_number(s: &[u8]) -> Asked
 fn ask_reset(s: &[u8]) -> Asked
     ensures { λ r. ⌜ Asks reset (now (s .entry)) r ⌝ }
 {
-    let a = read_u8(s, start());
+    let a = given_u8(s, start());
     let end = a.next;
     Asked {
         request: Request::Reset(a.value),
@@ -315,7 +402,7 @@ fn ask_reset(s: &[u8]) -> Asked
 fn ask_stamp(s: &[u8]) -> Asked
     ensures { λ r. ⌜ Asks stamp (now (s .entry)) r ⌝ }
 {
-    let p = read_bytes(s, start(), 8);
+    let p = given_stamp(s, start());
     let bytes = p.value;
     let end = p.next;
     Asked {

@@ -14,7 +14,7 @@ ghost use Rattle.buffer.specs.Le.{le};
 ghost use Rattle.preamble.specs.Judge.{segmentLimit};
 ghost use Rattle.fields.specs.Layout.{num, neg, list, size, rest, plain, good, stepOf};
 ghost use Rattle.fields.specs.Field.{bitsOf, words, WordsFit, number, negative, numbers, sized, opaque, fixed};
-ghost use Rattle.fields.specs.Reading.{Took, spanIn, numbersIn};
+ghost use Rattle.fields.specs.Reading.{numbersIn, inU8, inU32, inU64, inList, inSpan, takeOf};
 ghost use Rattle.fields.specs.Writing.{capped, counted, empty, putAt, Put, Appended};
 
 // A place in a segment; once failed, the place that the fault is named by.
@@ -35,30 +35,30 @@ pub struct NumberList {
     pub count: u32,
 }
 
-// What a step reads, and the cursor behind it.
-pub struct U8Step {
-    pub value: u8,
-    pub next: Cursor,
+// What a step answers: the field and the cursor behind it, or the cursor at its fault.
+pub enum U8Step {
+    Read(u8, Cursor),
+    Failed(Cursor),
 }
 
-pub struct U32Step {
-    pub value: u32,
-    pub next: Cursor,
+pub enum U32Step {
+    Read(u32, Cursor),
+    Failed(Cursor),
 }
 
-pub struct U64Step {
-    pub value: u64,
-    pub next: Cursor,
+pub enum U64Step {
+    Read(u64, Cursor),
+    Failed(Cursor),
 }
 
-pub struct ListStep {
-    pub value: NumberList,
-    pub next: Cursor,
+pub enum ListStep {
+    Read(NumberList, Cursor),
+    Failed(Cursor),
 }
 
-pub struct SpanStep {
-    pub value: Span,
-    pub next: Cursor,
+pub enum SpanStep {
+    Read(Span, Cursor),
+    Failed(Cursor),
 }
 
 // ---- where a field ends: a cursor at a fault stays there
@@ -174,44 +174,48 @@ pub fn start() -> Cursor
 }
 
 pub fn read_u8(s: &[u8], c: Cursor) -> U8Step
-    ensures { λ r. ⌜ Took (num 1) (now (s .entry)) c (number 1 (r .value)) (r .next) ⌝ }
+    ensures { λ r. ⌜ inU8 r ≡ takeOf (num 1) (now (s .entry)) c ⌝ }
 {
     let at = c.at;
-    U8Step {
-        value: byte_at(s, at),
-        next: skip(s, c, 1),
+    let next = skip(s, c, 1);
+    if next.failed {
+        return U8Step::Failed(next);
     }
+    U8Step::Read(byte_at(s, at), next)
 }
 
 pub fn read_u32(s: &[u8], c: Cursor) -> U32Step
-    ensures { λ r. ⌜ Took (num 4) (now (s .entry)) c (number 4 (r .value)) (r .next) ⌝ }
+    ensures { λ r. ⌜ inU32 (number 4) r ≡ takeOf (num 4) (now (s .entry)) c ⌝ }
 {
     let at = c.at;
-    U32Step {
-        value: u32_at(s, at),
-        next: skip(s, c, 4),
+    let next = skip(s, c, 4);
+    if next.failed {
+        return U32Step::Failed(next);
     }
+    U32Step::Read(u32_at(s, at), next)
 }
 
 pub fn read_u64(s: &[u8], c: Cursor) -> U64Step
-    ensures { λ r. ⌜ Took (num 8) (now (s .entry)) c (number 8 (r .value)) (r .next) ⌝ }
+    ensures { λ r. ⌜ inU64 r ≡ takeOf (num 8) (now (s .entry)) c ⌝ }
 {
     let at = c.at;
-    U64Step {
-        value: u64_at(s, at),
-        next: skip(s, c, 8),
+    let next = skip(s, c, 8);
+    if next.failed {
+        return U64Step::Failed(next);
     }
+    U64Step::Read(u64_at(s, at), next)
 }
 
 // A signed 32-bit number below zero, as its 32 bits: `error_of` gives the number.
 pub fn read_negative(s: &[u8], c: Cursor) -> U32Step
-    ensures { λ r. ⌜ Took neg (now (s .entry)) c (negative (r .value)) (r .next) ⌝ }
+    ensures { λ r. ⌜ inU32 negative r ≡ takeOf neg (now (s .entry)) c ⌝ }
 {
     let at = c.at;
-    U32Step {
-        value: u32_at(s, at),
-        next: skip_negative(s, c),
+    let next = skip_negative(s, c);
+    if next.failed {
+        return U32Step::Failed(next);
     }
+    U32Step::Read(u32_at(s, at), next)
 }
 
 // The place behind a 32-bit count.
@@ -223,57 +227,61 @@ fn behind_count(s: &[u8], at: usize) -> usize
 
 // A 32-bit count, at most 32, and that many 32-bit numbers.
 pub fn read_list(s: &[u8], c: Cursor) -> ListStep
-    ensures { λ r. ⌜ Took list (now (s .entry)) c (numbers (numbersIn (now (s .entry)) (r .value))) (r .next) ⌝ }
+    ensures { λ r. ⌜ inList (now (s .entry)) r ≡ takeOf list (now (s .entry)) c ⌝ }
 {
     let at = c.at;
-    ListStep {
-        value: NumberList {
-            at: behind_count(s, at),
-            count: u32_at(s, at),
-        },
-        next: skip_list(s, c),
+    let next = skip_list(s, c);
+    if next.failed {
+        return ListStep::Failed(next);
     }
+    let numbers = NumberList {
+        at: behind_count(s, at),
+        count: u32_at(s, at),
+    };
+    ListStep::Read(numbers, next)
 }
 
 // A 32-bit length and that many bytes.
 pub fn read_payload(s: &[u8], c: Cursor) -> SpanStep
-    ensures { λ r. ⌜ Took size (now (s .entry)) c (sized (spanIn (now (s .entry)) (r .value))) (r .next) ⌝ }
+    ensures { λ r. ⌜ inSpan sized (now (s .entry)) r ≡ takeOf size (now (s .entry)) c ⌝ }
 {
     let at = c.at;
-    let n = u32_at(s, at) as usize;
-    SpanStep {
-        value: Span {
-            at: behind_count(s, at),
-            len: n,
-        },
-        next: skip_payload(s, c),
+    let next = skip_payload(s, c);
+    if next.failed {
+        return SpanStep::Failed(next);
     }
+    let n = u32_at(s, at) as usize;
+    let payload = Span {
+        at: behind_count(s, at),
+        len: n,
+    };
+    SpanStep::Read(payload, next)
 }
 
 // All bytes but so many closing ones.
 pub fn read_rest(s: &[u8], c: Cursor, closing: usize) -> SpanStep
-    ensures { λ r. ⌜ Took (rest closing) (now (s .entry)) c (opaque closing (spanIn (now (s .entry)) (r .value))) (r .next) ⌝ }
+    ensures { λ r. ⌜ inSpan (opaque closing) (now (s .entry)) r ≡ takeOf (rest closing) (now (s .entry)) c ⌝ }
 {
     let at = c.at;
-    let end = s.len() - min(closing, s.len());
-    SpanStep {
-        value: Span {
-            at: at,
-            len: end - min(at, end),
-        },
-        next: skip_rest(s, c, closing),
+    let next = skip_rest(s, c, closing);
+    if next.failed {
+        return SpanStep::Failed(next);
     }
+    let end = s.len() - min(closing, s.len());
+    let len = end - min(at, end);
+    SpanStep::Read(Span { at: at, len: len }, next)
 }
 
 // So many opaque bytes.
 pub fn read_bytes(s: &[u8], c: Cursor, w: usize) -> SpanStep
-    ensures { λ r. ⌜ Took (plain w) (now (s .entry)) c (fixed w (spanIn (now (s .entry)) (r .value))) (r .next) ⌝ }
+    ensures { λ r. ⌜ inSpan (fixed w) (now (s .entry)) r ≡ takeOf (plain w) (now (s .entry)) c ⌝ }
 {
     let at = c.at;
-    SpanStep {
-        value: Span { at: at, len: w },
-        next: skip(s, c, w),
+    let next = skip(s, c, w);
+    if next.failed {
+        return SpanStep::Failed(next);
     }
+    SpanStep::Read(Span { at: at, len: w }, next)
 }
 
 // The i-th number of a list that was read, or 0 past its end.

@@ -1,18 +1,23 @@
--- Worked runs and picks, computed from the definitions as one table. They tell the table apart from near ones.
+-- Worked runs, what each state takes, and worked picks, computed from the definitions as one table. They tell the table apart from near ones.
 use mathlib.Core.Path.{_≡_}
-use mathlib.Core.Bool.{true, false}
-use mathlib.Core.List.{List, [], _∷_}
-use Prim.Native.Nat.{ℕ}
+use mathlib.Core.Bool.{Bool, true, false}
+use mathlib.Core.List.{List, [], _∷_, _++_}
+use Prim.Native.Nat.{ℕ, zero, suc, _+_}
+use lib.ListN.{replicate}
+use Rattle.refusal.specs.Refusals.{row}
 use Rattle.handshake.specs.declared.State.{State}
 use Rattle.handshake.specs.declared.State.the-variants.{Hello, Auth, More, Signature, Session, Ready, Standby, Wait, Closed}
 use Rattle.handshake.specs.declared.AuthVerdict.{AuthVerdict}
 use Rattle.handshake.specs.declared.AuthVerdict.the-variants as verdict
 use Rattle.handshake.specs.declared.Verdict.{Verdict}
+use Rattle.handshake.specs.declared.Report.the-variants.{Taken, Refused}
 use Rattle.handshake.specs.declared.Step.{Step}
+use Rattle.handshake.specs.declared.Next.{Next}
+use Rattle.handshake.specs.declared.Next.the-variants.{To, Unexpected}
 use Rattle.handshake.specs.declared.Picked.{Picked}
 use Rattle.handshake.specs.declared.Picked.the-variants.{Mode, NoMode}
 use Rattle.handshake.specs.Table.{find}
-use Rattle.handshake.specs.Steps.{taken, refusedAt, stepBy}
+use Rattle.handshake.specs.Steps.{stepBy}
 use Rattle.handshake.specs.Runs.{Side, client, server, rowsOf}
 use Rattle.handshake.specs.Pick.{pickOf}
 
@@ -30,10 +35,10 @@ pub record Came : Type 0 where
 
 -- a tag and the verdict on it lead to a state, or are refused
 abbrev goes : ℕ → Verdict → State → Came
-goes tag v s = record { tag = tag; verdict = v; answer = taken s }
+goes tag v s = record { tag = tag; verdict = v; answer = record { state = s; report = Taken } }
 
 abbrev fails : ℕ → Verdict → Came
-fails tag v = record { tag = tag; verdict = v; answer = refusedAt tag }
+fails tag v = record { tag = tag; verdict = v; answer = record { state = Closed; report = Refused (row 21 tag 0 0) } }
 
 abbrev pub Right : Side → State → List Came → Type 0
 Right side s [] = Unit {0}
@@ -89,6 +94,85 @@ abbrev pub AllRight : List Example → Type 0
 AllRight [] = Unit {0}
 AllRight (x ∷ xs) = Right (x .side) Hello (x .steps) × AllRight xs
 
+-- ---- each state with every tag that a byte can be: what it takes and where that leads. All else is refused
+
+pub record Way : Type 0 where
+  pub tag : ℕ
+  pub to : State
+
+infix 20 _⇒_
+abbrev _⇒_ : ℕ → State → Way
+_⇒_ tag to = record { tag = tag; to = to }
+
+abbrev way : Next → ℕ → List Way → List Way
+way (To s) tag ws = (tag ⇒ s) ∷ ws
+way Unexpected tag ws = ws
+
+-- the ways from a state, of n tags from one on
+unfoldable pub waysFrom : ℕ → ℕ → Side → State → Verdict → List Way
+waysFrom zero tag side s v = []
+waysFrom (suc n) tag side s v = way (find (rowsOf side) s tag v) tag (waysFrom n (tag + 1) side s v)
+
+abbrev takes : Side → State → Verdict → List Way
+takes side s v = waysFrom 256 0 side s v
+
+abbrev none : List Way
+none = []
+
+-- whatever the verdict, where the state asks for none
+abbrev pub Unasked : Verdict → Type 0
+Unasked v =
+    (takes client Hello v ≡ (1 ⇒ Auth) ∷ [])
+    × (takes client Auth v ≡ (3 ⇒ Auth) ∷ (4 ⇒ Auth) ∷ (6 ⇒ Signature) ∷ [])
+    × (takes client More v ≡ none)
+    × (takes client Session v ≡ (9 ⇒ Ready) ∷ (10 ⇒ Closed) ∷ (12 ⇒ Session) ∷ (13 ⇒ Session) ∷ (14 ⇒ Session) ∷ (15 ⇒ Ready) ∷ (16 ⇒ Wait) ∷ [])
+    × (takes client Ready v ≡ (17 ⇒ Ready) ∷ (18 ⇒ Ready) ∷ (19 ⇒ Ready) ∷ (20 ⇒ Ready) ∷ [])
+    × (takes client Standby v ≡ none)
+    × (takes client Wait v ≡ none)
+    × (takes client Closed v ≡ none)
+    × (takes server Hello v ≡ (1 ⇒ Auth) ∷ [])
+    × (takes server Ready v ≡ (17 ⇒ Ready) ∷ (18 ⇒ Ready) ∷ (19 ⇒ Ready) ∷ (20 ⇒ Ready) ∷ [])
+    × (takes server Standby v ≡ none)
+    × (takes server Wait v ≡ none)
+    × (takes server Closed v ≡ none)
+
+-- by the signature, whatever the rest of the verdict
+abbrev pub Signed : AuthVerdict → Bool → Bool → Type 0
+Signed a f k =
+    (takes client Signature (record { auth = a; signature = true; features = f; reconnect = k }) ≡ (7 ⇒ Session) ∷ [])
+    × (takes client Signature (record { auth = a; signature = false; features = f; reconnect = k }) ≡ none)
+    × (takes server Signature (record { auth = a; signature = true; features = f; reconnect = k }) ≡ (7 ⇒ Session) ∷ [])
+    × (takes server Signature (record { auth = a; signature = false; features = f; reconnect = k }) ≡ none)
+
+-- by where the auth request is to lead
+abbrev pub Led : Bool → Bool → Bool → Type 0
+Led g f k =
+    (takes server Auth (record { auth = verdict.Stay; signature = g; features = f; reconnect = k }) ≡ (2 ⇒ Auth) ∷ [])
+    × (takes server Auth (record { auth = verdict.More; signature = g; features = f; reconnect = k }) ≡ (2 ⇒ More) ∷ [])
+    × (takes server Auth (record { auth = verdict.Signature; signature = g; features = f; reconnect = k }) ≡ (2 ⇒ Signature) ∷ [])
+    × (takes server Auth (record { auth = verdict.Standby; signature = g; features = f; reconnect = k }) ≡ (2 ⇒ Standby) ∷ [])
+    × (takes server More (record { auth = verdict.Stay; signature = g; features = f; reconnect = k }) ≡ (5 ⇒ More) ∷ [])
+    × (takes server More (record { auth = verdict.More; signature = g; features = f; reconnect = k }) ≡ (5 ⇒ More) ∷ [])
+    × (takes server More (record { auth = verdict.Signature; signature = g; features = f; reconnect = k }) ≡ (5 ⇒ Signature) ∷ [])
+    × (takes server More (record { auth = verdict.Standby; signature = g; features = f; reconnect = k }) ≡ (5 ⇒ Standby) ∷ [])
+
+-- by the features and by the reconnect
+abbrev pub Entered : AuthVerdict → Bool → Type 0
+Entered a g =
+    (takes server Session (record { auth = a; signature = g; features = true; reconnect = true }) ≡ (8 ⇒ Ready) ∷ (11 ⇒ Ready) ∷ [])
+    × (takes server Session (record { auth = a; signature = g; features = true; reconnect = false }) ≡ (8 ⇒ Ready) ∷ (11 ⇒ Session) ∷ [])
+    × (takes server Session (record { auth = a; signature = g; features = false; reconnect = true }) ≡ (8 ⇒ Closed) ∷ (11 ⇒ Ready) ∷ [])
+    × (takes server Session (record { auth = a; signature = g; features = false; reconnect = false }) ≡ (8 ⇒ Closed) ∷ (11 ⇒ Session) ∷ [])
+
+unfoldable pub Ways : Type 0
+Ways =
+    ((v : Verdict) → Unasked v)
+    × ((a : AuthVerdict) (f k : Bool) → Signed a f k)
+    × ((g f k : Bool) → Led g f k)
+    × ((a : AuthVerdict) (g : Bool) → Entered a g)
+
+-- ---- picks
+
 pub record Chosen : Type 0 where
   pub preferred : List ℕ
   pub allowed : List ℕ
@@ -107,6 +191,7 @@ choices =
     ∷ choice [] (1 ∷ []) NoMode
     ∷ choice (1 ∷ []) [] NoMode
     ∷ choice (0 ∷ []) (0 ∷ []) (Mode 0)
+    ∷ choice (replicate {A = ℕ} 40 3 ++ 7 ∷ 8 ∷ []) (replicate {A = ℕ} 40 4 ++ 8 ∷ 7 ∷ []) (Mode 7)
     ∷ []
 
 abbrev pub AllChosen : List Chosen → Type 0
@@ -114,4 +199,4 @@ AllChosen [] = Unit {0}
 AllChosen (x ∷ xs) = (pickOf (x .preferred) (x .allowed) ≡ x .mode) × AllChosen xs
 
 unfoldable pub Worked : Type 0
-Worked = AllRight examples × AllChosen choices
+Worked = AllRight examples × Ways × AllChosen choices

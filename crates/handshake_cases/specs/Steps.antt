@@ -1,5 +1,4 @@
 -- P records: one side's handshake steps from hello, run as they are read.
-use mathlib.Core.Path.{_≡_}
 use mathlib.Core.Bool.{Bool, cond, _&&_}
 use mathlib.Core.List.{List, [], _∷_, _++_}
 use Prim.Native.Nat.{ℕ, zero, suc, _+_, _/_, _%_}
@@ -19,8 +18,7 @@ use Rattle.handshake.specs.Table.{find}
 use Rattle.handshake.specs.Steps.{stepBy}
 use Rattle.handshake.specs.Runs.{Side, client, server, rowsOf}
 use Rattle.text.specs.Line.{Piece, word, newline}
-use Rattle.text.specs.Page.{page}
-use Rattle.records.specs.Records.{Record, print, refusedPieces, badRecord, lineThen, readAll}
+use Rattle.records.specs.Records.{Record, refusedPieces, badRecord, lineThen, readAll}
 
 -- ---- lines
 

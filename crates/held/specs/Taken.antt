@@ -1,12 +1,10 @@
 -- What the reader's calls answer, by the cursor's definitions.
-use mathlib.Core.Bool.{cond}
 use mathlib.Core.List.{List}
 use Prim.Native.Nat.{ℕ}
-use Rattle.fields.specs.declared.Cursor.{Cursor}
-use Rattle.fields.specs.Layout.{Kind, good, stepOf}
-use Rattle.fields.specs.Field.{Field, number, negative, sized, opaque, fixed, fieldAt}
+use Rattle.fields.specs.Layout.{Kind, good}
+use Rattle.fields.specs.Field.{Field, number, negative, sized, opaque, fixed}
 use Rattle.fields.specs.Field as field
-use Rattle.fields.specs.Reading.{spanIn, numbersIn}
+use Rattle.fields.specs.Reading.{Step, read, failed, takeOf, spanIn, numbersIn}
 use Rattle.held.specs.declared.Taken.{Taken}
 use Rattle.held.specs.declared.Taken.the-variants as taken
 
@@ -36,9 +34,10 @@ shown s (taken.List l next) = got (numbers (numbersIn s l)) next
 shown s (taken.Bytes p next) = got (bytes (spanIn s p)) next
 shown s (taken.Failed at) = off at
 
-abbrev pub answer : Content → Cursor → Shown
-answer c d = cond (d .failed) (off (d .at)) (got c (d .at))
+abbrev pub showOf : Step → Shown
+showOf (read f d) = got (contentOf f) (d .at)
+showOf (failed d) = off (d .at)
 
 -- the field of a kind at a place, and the place behind it; or the place of its fault
-unfoldable pub takeOf : Kind → List ℕ → ℕ → Shown
-takeOf k s at = answer (contentOf (fieldAt k s at)) (stepOf k s (good at))
+unfoldable pub heldOf : Kind → List ℕ → ℕ → Shown
+heldOf k s at = showOf (takeOf k s (good at))

@@ -1,7 +1,12 @@
 // A reader that holds the segment it reads: thin calls over the cursor by value.
 use fields::Cursor;
+use fields::ListStep;
 use fields::NumberList;
 use fields::Span;
+use fields::SpanStep;
+use fields::U8Step;
+use fields::U32Step;
+use fields::U64Step;
 use fields::read_bytes;
 use fields::read_list;
 use fields::read_negative;
@@ -14,8 +19,9 @@ ghost use mathlib.Core.Path.{_≡_};
 ghost use mathlib.Core.List.{List};
 ghost use Prim.Native.Nat.{ℕ};
 ghost use Rattle.fields.specs.Layout.{good, num, neg, list, size, rest, plain};
-ghost use Rattle.fields.specs.Reading.{numbersIn, spanIn};
-ghost use Rattle.held.specs.Taken.{value, numbers, bytes, shown, answer, takeOf};
+ghost use Rattle.fields.specs.Field.{Field};
+ghost use Rattle.fields.specs.Reading.{inU8, inU32, inU64, inList, inSpan};
+ghost use Rattle.held.specs.Taken.{value, bytes, contentOf, shown, showOf, heldOf};
 
 pub struct Reader<'a> {
     pub src: &'a [u8],
@@ -30,33 +36,57 @@ pub enum Taken {
     Failed(usize),
 }
 
-// ---- a step of the cursor as an answer
+// ---- a step's answer, as the reader gives it
 
-fn number_taken(n: u64, next: Cursor) -> Taken
-    ensures { λ r. ⌜ ((s : List ℕ) → shown s r ≡ answer (value n) next) ⌝ }
+fn u8_taken(a: U8Step) -> Taken
+    ensures { λ r. ⌜ ((s : List ℕ) → shown s r ≡ showOf (inU8 a)) ⌝ }
 {
-    if next.failed {
-        return Taken::Failed(next.at);
+    match a {
+        U8Step::Read(n, c) => {
+            let value = n as u64;
+            Taken::Number(value, c.at)
+        }
+        U8Step::Failed(c) => Taken::Failed(c.at),
     }
-    Taken::Number(n, next.at)
 }
 
-fn list_taken(l: NumberList, next: Cursor) -> Taken
-    ensures { λ r. ⌜ ((s : List ℕ) → shown s r ≡ answer (numbers (numbersIn s l)) next) ⌝ }
+fn u32_taken(a: U32Step) -> Taken
+    ensures { λ r. ⌜ ((s : List ℕ) (f : ℕ → Field) → ((n : ℕ) → contentOf (f n) ≡ value n) → shown s r ≡ showOf (inU32 f a)) ⌝ }
 {
-    if next.failed {
-        return Taken::Failed(next.at);
+    match a {
+        U32Step::Read(n, c) => {
+            let value = n as u64;
+            Taken::Number(value, c.at)
+        }
+        U32Step::Failed(c) => Taken::Failed(c.at),
     }
-    Taken::List(l, next.at)
 }
 
-fn span_taken(p: Span, next: Cursor) -> Taken
-    ensures { λ r. ⌜ ((s : List ℕ) → shown s r ≡ answer (bytes (spanIn s p)) next) ⌝ }
+fn u64_taken(a: U64Step) -> Taken
+    ensures { λ r. ⌜ ((s : List ℕ) → shown s r ≡ showOf (inU64 a)) ⌝ }
 {
-    if next.failed {
-        return Taken::Failed(next.at);
+    match a {
+        U64Step::Read(n, c) => Taken::Number(n, c.at),
+        U64Step::Failed(c) => Taken::Failed(c.at),
     }
-    Taken::Bytes(p, next.at)
+}
+
+fn list_taken(a: ListStep) -> Taken
+    ensures { λ r. ⌜ ((s : List ℕ) → shown s r ≡ showOf (inList s a)) ⌝ }
+{
+    match a {
+        ListStep::Read(l, c) => Taken::List(l, c.at),
+        ListStep::Failed(c) => Taken::Failed(c.at),
+    }
+}
+
+fn span_taken(a: SpanStep) -> Taken
+    ensures { λ r. ⌜ ((s : List ℕ) (f : List ℕ → Field) → ((bs : List ℕ) → contentOf (f bs) ≡ bytes bs) → shown s r ≡ showOf (inSpan f s a)) ⌝ }
+{
+    match a {
+        SpanStep::Read(p, c) => Taken::Bytes(p, c.at),
+        SpanStep::Failed(c) => Taken::Failed(c.at),
+    }
 }
 
 fn at_place(at: usize) -> Cursor
@@ -71,99 +101,73 @@ fn at_place(at: usize) -> Cursor
 // ---- a field of a segment from a place on
 
 fn take_u8(s: &[u8], at: usize) -> Taken
-    ensures { λ r. ⌜ shown (now (s .entry)) r ≡ takeOf (num 1) (now (s .entry)) at ⌝ }
+    ensures { λ r. ⌜ shown (now (s .entry)) r ≡ heldOf (num 1) (now (s .entry)) at ⌝ }
 {
     let c = at_place(at);
-    let w = read_u8(s, c);
-    let next = w.next;
-    number_taken(w.value as u64, next)
+    u8_taken(read_u8(s, c))
 }
 
 fn take_u32(s: &[u8], at: usize) -> Taken
-    ensures { λ r. ⌜ shown (now (s .entry)) r ≡ takeOf (num 4) (now (s .entry)) at ⌝ }
+    ensures { λ r. ⌜ shown (now (s .entry)) r ≡ heldOf (num 4) (now (s .entry)) at ⌝ }
 {
     let c = at_place(at);
-    let w = read_u32(s, c);
-    let next = w.next;
-    number_taken(w.value as u64, next)
+    u32_taken(read_u32(s, c))
 }
 
 fn take_u64(s: &[u8], at: usize) -> Taken
-    ensures { λ r. ⌜ shown (now (s .entry)) r ≡ takeOf (num 8) (now (s .entry)) at ⌝ }
+    ensures { λ r. ⌜ shown (now (s .entry)) r ≡ heldOf (num 8) (now (s .entry)) at ⌝ }
 {
     let c = at_place(at);
-    let w = read_u64(s, c);
-    let next = w.next;
-    number_taken(w.value, next)
+    u64_taken(read_u64(s, c))
 }
 
 fn take_negative(s: &[u8], at: usize) -> Taken
-    ensures { λ r. ⌜ shown (now (s .entry)) r ≡ takeOf neg (now (s .entry)) at ⌝ }
+    ensures { λ r. ⌜ shown (now (s .entry)) r ≡ heldOf neg (now (s .entry)) at ⌝ }
 {
     let c = at_place(at);
-    let w = read_negative(s, c);
-    let next = w.next;
-    number_taken(w.value as u64, next)
+    u32_taken(read_negative(s, c))
 }
 
 fn take_list(s: &[u8], at: usize) -> Taken
-    ensures { λ r. ⌜ shown (now (s .entry)) r ≡ takeOf list (now (s .entry)) at ⌝ }
+    ensures { λ r. ⌜ shown (now (s .entry)) r ≡ heldOf list (now (s .entry)) at ⌝ }
 {
     let c = at_place(at);
-    let w = read_list(s, c);
-    let next = w.next;
-    let value = w.value;
-    list_taken(value, next)
+    list_taken(read_list(s, c))
 }
 
 fn take_payload(s: &[u8], at: usize) -> Taken
-    ensures { λ r. ⌜ shown (now (s .entry)) r ≡ takeOf size (now (s .entry)) at ⌝ }
+    ensures { λ r. ⌜ shown (now (s .entry)) r ≡ heldOf size (now (s .entry)) at ⌝ }
 {
     let c = at_place(at);
-    let w = read_payload(s, c);
-    let next = w.next;
-    let value = w.value;
-    span_taken(value, next)
+    span_taken(read_payload(s, c))
 }
 
 fn take_rest(s: &[u8], at: usize) -> Taken
-    ensures { λ r. ⌜ shown (now (s .entry)) r ≡ takeOf (rest 0) (now (s .entry)) at ⌝ }
+    ensures { λ r. ⌜ shown (now (s .entry)) r ≡ heldOf (rest 0) (now (s .entry)) at ⌝ }
 {
     let c = at_place(at);
-    let w = read_rest(s, c, 0);
-    let next = w.next;
-    let value = w.value;
-    span_taken(value, next)
+    span_taken(read_rest(s, c, 0))
 }
 
 fn take_ident_block(s: &[u8], at: usize) -> Taken
-    ensures { λ r. ⌜ shown (now (s .entry)) r ≡ takeOf (rest 48) (now (s .entry)) at ⌝ }
+    ensures { λ r. ⌜ shown (now (s .entry)) r ≡ heldOf (rest 48) (now (s .entry)) at ⌝ }
 {
     let c = at_place(at);
-    let w = read_rest(s, c, 48);
-    let next = w.next;
-    let value = w.value;
-    span_taken(value, next)
+    span_taken(read_rest(s, c, 48))
 }
 
 fn take_reconnect_block(s: &[u8], at: usize) -> Taken
-    ensures { λ r. ⌜ shown (now (s .entry)) r ≡ takeOf (rest 40) (now (s .entry)) at ⌝ }
+    ensures { λ r. ⌜ shown (now (s .entry)) r ≡ heldOf (rest 40) (now (s .entry)) at ⌝ }
 {
     let c = at_place(at);
-    let w = read_rest(s, c, 40);
-    let next = w.next;
-    let value = w.value;
-    span_taken(value, next)
+    span_taken(read_rest(s, c, 40))
 }
 
 fn take_stamp(s: &[u8], at: usize) -> Taken
-    ensures { λ r. ⌜ shown (now (s .entry)) r ≡ takeOf (plain 8) (now (s .entry)) at ⌝ }
+    ensures { λ r. ⌜ shown (now (s .entry)) r ≡ heldOf (plain 8) (now (s .entry)) at ⌝ }
 {
     let c = at_place(at);
-    let w = read_bytes(s, c, 8);
-    let next = w.next;
-    let value = w.value;
-    span_taken(value, next)
+    span_taken(read_bytes(s, c, 8))
 }
 
 // ---- the reader
@@ -183,70 +187,70 @@ pub fn moved<'a>(r: Reader<'a>, at: usize) -> Reader<'a>
 
 // A number of one byte.
 pub fn byte<'a>(r: Reader<'a>) -> Taken
-    ensures { λ t. ⌜ shown (now (r .entry .src)) t ≡ takeOf (num 1) (now (r .entry .src)) (r .entry .at) ⌝ }
+    ensures { λ t. ⌜ shown (now (r .entry .src)) t ≡ heldOf (num 1) (now (r .entry .src)) (r .entry .at) ⌝ }
 {
     take_u8(r.src, r.at)
 }
 
 // A number of four bytes.
 pub fn word<'a>(r: Reader<'a>) -> Taken
-    ensures { λ t. ⌜ shown (now (r .entry .src)) t ≡ takeOf (num 4) (now (r .entry .src)) (r .entry .at) ⌝ }
+    ensures { λ t. ⌜ shown (now (r .entry .src)) t ≡ heldOf (num 4) (now (r .entry .src)) (r .entry .at) ⌝ }
 {
     take_u32(r.src, r.at)
 }
 
 // A number of eight bytes.
 pub fn long<'a>(r: Reader<'a>) -> Taken
-    ensures { λ t. ⌜ shown (now (r .entry .src)) t ≡ takeOf (num 8) (now (r .entry .src)) (r .entry .at) ⌝ }
+    ensures { λ t. ⌜ shown (now (r .entry .src)) t ≡ heldOf (num 8) (now (r .entry .src)) (r .entry .at) ⌝ }
 {
     take_u64(r.src, r.at)
 }
 
 // A signed 32-bit number below zero, as its 32 bits.
 pub fn negative<'a>(r: Reader<'a>) -> Taken
-    ensures { λ t. ⌜ shown (now (r .entry .src)) t ≡ takeOf neg (now (r .entry .src)) (r .entry .at) ⌝ }
+    ensures { λ t. ⌜ shown (now (r .entry .src)) t ≡ heldOf neg (now (r .entry .src)) (r .entry .at) ⌝ }
 {
     take_negative(r.src, r.at)
 }
 
 // A count, at most 32, and that many 32-bit numbers.
 pub fn number_list<'a>(r: Reader<'a>) -> Taken
-    ensures { λ t. ⌜ shown (now (r .entry .src)) t ≡ takeOf list (now (r .entry .src)) (r .entry .at) ⌝ }
+    ensures { λ t. ⌜ shown (now (r .entry .src)) t ≡ heldOf list (now (r .entry .src)) (r .entry .at) ⌝ }
 {
     take_list(r.src, r.at)
 }
 
 // A 32-bit length and that many bytes.
 pub fn payload<'a>(r: Reader<'a>) -> Taken
-    ensures { λ t. ⌜ shown (now (r .entry .src)) t ≡ takeOf size (now (r .entry .src)) (r .entry .at) ⌝ }
+    ensures { λ t. ⌜ shown (now (r .entry .src)) t ≡ heldOf size (now (r .entry .src)) (r .entry .at) ⌝ }
 {
     take_payload(r.src, r.at)
 }
 
 // All bytes to the end.
 pub fn rest<'a>(r: Reader<'a>) -> Taken
-    ensures { λ t. ⌜ shown (now (r .entry .src)) t ≡ takeOf (rest 0) (now (r .entry .src)) (r .entry .at) ⌝ }
+    ensures { λ t. ⌜ shown (now (r .entry .src)) t ≡ heldOf (rest 0) (now (r .entry .src)) (r .entry .at) ⌝ }
 {
     take_rest(r.src, r.at)
 }
 
 // All bytes but the 48 that close an ident.
 pub fn ident_block<'a>(r: Reader<'a>) -> Taken
-    ensures { λ t. ⌜ shown (now (r .entry .src)) t ≡ takeOf (rest 48) (now (r .entry .src)) (r .entry .at) ⌝ }
+    ensures { λ t. ⌜ shown (now (r .entry .src)) t ≡ heldOf (rest 48) (now (r .entry .src)) (r .entry .at) ⌝ }
 {
     take_ident_block(r.src, r.at)
 }
 
 // All bytes but the 40 that close a reconnect.
 pub fn reconnect_block<'a>(r: Reader<'a>) -> Taken
-    ensures { λ t. ⌜ shown (now (r .entry .src)) t ≡ takeOf (rest 40) (now (r .entry .src)) (r .entry .at) ⌝ }
+    ensures { λ t. ⌜ shown (now (r .entry .src)) t ≡ heldOf (rest 40) (now (r .entry .src)) (r .entry .at) ⌝ }
 {
     take_reconnect_block(r.src, r.at)
 }
 
 // The eight bytes of a stamp.
 pub fn stamp<'a>(r: Reader<'a>) -> Taken
-    ensures { λ t. ⌜ shown (now (r .entry .src)) t ≡ takeOf (plain 8) (now (r .entry .src)) (r .entry .at) ⌝ }
+    ensures { λ t. ⌜ shown (now (r .entry .src)) t ≡ heldOf (plain 8) (now (r .entry .src)) (r .entry .at) ⌝ }
 {
     take_stamp(r.src, r.at)
 }

@@ -6,28 +6,28 @@ use Rattle.bodies.proofs.read_auth_request.Tie as tie
 start-requires : tie.Need-start-requires
 start-requires c κs = search needs
 
-read-u32-requires : tie.Need-read-u32-requires
-read-u32-requires c κs = search needs
+field-u32-requires : tie.Need-field-u32-requires
+field-u32-requires c κs = search needs
 
-read-list-requires : tie.Need-read-list-requires
-read-list-requires c κs = search needs
+field-list-requires : tie.Need-field-list-requires
+field-list-requires c κs = search needs
 
-read-rest-requires : tie.Need-read-rest-requires
-read-rest-requires c κs = search needs
+field-rest-requires : tie.Need-field-rest-requires
+field-rest-requires c κs = search needs
 
 settle-requires : tie.Need-settle-requires
 settle-requires c κs = search needs
 
 returns : tie.Need-returns
-returns c = row-read (c .before .before .before .before .before .before .start .ensures) (step (c .before .before .before .before .before .read-u32 .ensures) (step (c .before .before .before .before .read-list .ensures) (step (c .before .before .before .read-rest .ensures) end))) (c .settle .ensures)
+returns c = row-read (c .before .before .before .before .before .before .start .ensures) (step (c .before .before .before .before .before .field-u32 .ensures) (step (c .before .before .before .before .field-list .ensures) (step (c .before .before .before .field-rest .ensures) end))) (c .settle .ensures)
 
 pub read-auth-request-spec : {M : Type 1} → statement M
 read-auth-request-spec =
     tie.close
     (tie.spec
     start-requires
-    read-u32-requires
-    read-list-requires
-    read-rest-requires
+    field-u32-requires
+    field-list-requires
+    field-rest-requires
     settle-requires
     returns)

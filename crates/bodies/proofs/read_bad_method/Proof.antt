@@ -6,24 +6,24 @@ use Rattle.bodies.proofs.read_bad_method.Tie as tie
 start-requires : tie.Need-start-requires
 start-requires c κs = search needs
 
-read-u32-requires : tie.Need-read-u32-requires
-read-u32-requires c κs = search needs
+field-u32-requires : tie.Need-field-u32-requires
+field-u32-requires c κs = search needs
 
-read-negative-requires : tie.Need-read-negative-requires
-read-negative-requires c κs = search needs
+field-negative-requires : tie.Need-field-negative-requires
+field-negative-requires c κs = search needs
 
-read-list-requires : tie.Need-read-list-requires
-read-list-requires c κs = search needs
+field-list-requires : tie.Need-field-list-requires
+field-list-requires c κs = search needs
 
-read-list-requires-2 : tie.Need-read-list-requires-2
-read-list-requires-2 c κs = search needs
+field-list-requires-2 : tie.Need-field-list-requires-2
+field-list-requires-2 c κs = search needs
 
 settle-requires : tie.Need-settle-requires
 settle-requires c κs = search needs
 
 returns : tie.Need-returns
 returns c = row-read (c .before .before .before .before .before .before .before .start .ensures)
-    (step (c .before .before .before .before .before .before .read-u32 .ensures) (step (c .before .before .before .before .before .read-negative .ensures) (step (c .before .before .before .before .read-list .ensures) (step (c .before .before .before .read-list2 .ensures) end))))
+    (step (c .before .before .before .before .before .before .field-u32 .ensures) (step (c .before .before .before .before .before .field-negative .ensures) (step (c .before .before .before .before .field-list .ensures) (step (c .before .before .before .field-list2 .ensures) end))))
     (c .settle .ensures)
 
 pub read-bad-method-spec : {M : Type 1} → statement M
@@ -31,9 +31,9 @@ read-bad-method-spec =
     tie.close
     (tie.spec
     start-requires
-    read-u32-requires
-    read-negative-requires
-    read-list-requires
-    read-list-requires-2
+    field-u32-requires
+    field-negative-requires
+    field-list-requires
+    field-list-requires-2
     settle-requires
     returns)

@@ -6,17 +6,17 @@ use Rattle.bodies.proofs.read_one_number.Tie as tie
 start-requires : tie.Need-start-requires
 start-requires c κs = search needs
 
-read-u64-requires : tie.Need-read-u64-requires
-read-u64-requires c κs = search needs
+field-u64-requires : tie.Need-field-u64-requires
+field-u64-requires c κs = search needs
 
 settle-requires : tie.Need-settle-requires
 settle-requires c κs = search needs
 
 returns : tie.Need-returns
 returns c = row-read (c .before .before .start .ensures)
-    (step (c .before .read-u64 .ensures) end)
+    (step (c .before .field-u64 .ensures) end)
     (c .settle .ensures)
 
 pub read-one-number-spec : {M : Type 1} → statement M
 read-one-number-spec =
-    tie.close (tie.spec start-requires read-u64-requires settle-requires returns)
+    tie.close (tie.spec start-requires field-u64-requires settle-requires returns)

@@ -6,26 +6,26 @@ use Rattle.bodies.proofs.read_reconnect.Tie as tie
 start-requires : tie.Need-start-requires
 start-requires c κs = search needs
 
-read-u32-requires : tie.Need-read-u32-requires
-read-u32-requires c κs = search needs
+field-u32-requires : tie.Need-field-u32-requires
+field-u32-requires c κs = search needs
 
-read-rest-requires : tie.Need-read-rest-requires
-read-rest-requires c κs = search needs
+field-rest-requires : tie.Need-field-rest-requires
+field-rest-requires c κs = search needs
 
-read-u64-requires : tie.Need-read-u64-requires
-read-u64-requires c κs = search needs
+field-u64-requires : tie.Need-field-u64-requires
+field-u64-requires c κs = search needs
 
-read-u64-requires-2 : tie.Need-read-u64-requires-2
-read-u64-requires-2 c κs = search needs
+field-u64-requires-2 : tie.Need-field-u64-requires-2
+field-u64-requires-2 c κs = search needs
 
-read-u64-requires-3 : tie.Need-read-u64-requires-3
-read-u64-requires-3 c κs = search needs
+field-u64-requires-3 : tie.Need-field-u64-requires-3
+field-u64-requires-3 c κs = search needs
 
-read-u64-requires-4 : tie.Need-read-u64-requires-4
-read-u64-requires-4 c κs = search needs
+field-u64-requires-4 : tie.Need-field-u64-requires-4
+field-u64-requires-4 c κs = search needs
 
-read-u64-requires-5 : tie.Need-read-u64-requires-5
-read-u64-requires-5 c κs = search needs
+field-u64-requires-5 : tie.Need-field-u64-requires-5
+field-u64-requires-5 c κs = search needs
 
 settle-requires : tie.Need-settle-requires
 settle-requires c κs = search needs
@@ -33,7 +33,7 @@ settle-requires c κs = search needs
 returns : tie.Need-returns
 returns c =
     row-read (c .before .before .before .before .before .before .before .before .before .start .ensures)
-    (step (c .before .before .before .before .before .before .before .before .read-u32 .ensures) (step (c .before .before .before .before .before .before .before .read-rest .ensures) (step (c .before .before .before .before .before .before .read-u64 .ensures) (step (c .before .before .before .before .before .read-u642 .ensures) (step (c .before .before .before .before .read-u643 .ensures) (step (c .before .before .before .read-u644 .ensures) (step (c .before .before .read-u645 .ensures) end)))))))
+    (step (c .before .before .before .before .before .before .before .before .field-u32 .ensures) (step (c .before .before .before .before .before .before .before .field-rest .ensures) (step (c .before .before .before .before .before .before .field-u64 .ensures) (step (c .before .before .before .before .before .field-u642 .ensures) (step (c .before .before .before .before .field-u643 .ensures) (step (c .before .before .before .field-u644 .ensures) (step (c .before .before .field-u645 .ensures) end)))))))
     (c .settle .ensures)
 
 pub read-reconnect-spec : {M : Type 1} → statement M
@@ -41,12 +41,12 @@ read-reconnect-spec =
     tie.close
     (tie.spec
     start-requires
-    read-u32-requires
-    read-rest-requires
-    read-u64-requires
-    read-u64-requires-2
-    read-u64-requires-3
-    read-u64-requires-4
-    read-u64-requires-5
+    field-u32-requires
+    field-rest-requires
+    field-u64-requires
+    field-u64-requires-2
+    field-u64-requires-3
+    field-u64-requires-4
+    field-u64-requires-5
     settle-requires
     returns)

@@ -6,8 +6,8 @@ use Rattle.bodies.proofs.read_reset.Tie as tie
 start-requires : tie.Need-start-requires
 start-requires c κs = search needs
 
-read-u8-requires : tie.Need-read-u8-requires
-read-u8-requires c κs = search needs
+field-u8-requires : tie.Need-field-u8-requires
+field-u8-requires c κs = search needs
 
 settle-requires : tie.Need-settle-requires
 settle-requires c κs = search needs
@@ -15,8 +15,8 @@ settle-requires c κs = search needs
 returns : tie.Need-returns
 returns c =
     row-read (c .before .before .start .ensures)
-    (step (c .before .read-u8 .ensures) end)
+    (step (c .before .field-u8 .ensures) end)
     (c .settle .ensures)
 
 pub read-reset-spec : {M : Type 1} → statement M
-read-reset-spec = tie.close (tie.spec start-requires read-u8-requires settle-requires returns)
+read-reset-spec = tie.close (tie.spec start-requires field-u8-requires settle-requires returns)

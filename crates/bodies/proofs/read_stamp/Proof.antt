@@ -6,8 +6,8 @@ use Rattle.bodies.proofs.read_stamp.Tie as tie
 start-requires : tie.Need-start-requires
 start-requires c κs = search needs
 
-read-bytes-requires : tie.Need-read-bytes-requires
-read-bytes-requires c κs = search needs
+field-bytes-requires : tie.Need-field-bytes-requires
+field-bytes-requires c κs = search needs
 
 settle-requires : tie.Need-settle-requires
 settle-requires c κs = search needs
@@ -15,8 +15,8 @@ settle-requires c κs = search needs
 returns : tie.Need-returns
 returns c =
     row-read (c .before .before .before .start .ensures)
-    (step (c .before .before .read-bytes .ensures) end)
+    (step (c .before .before .field-bytes .ensures) end)
     (c .settle .ensures)
 
 pub read-stamp-spec : {M : Type 1} → statement M
-read-stamp-spec = tie.close (tie.spec start-requires read-bytes-requires settle-requires returns)
+read-stamp-spec = tie.close (tie.spec start-requires field-bytes-requires settle-requires returns)

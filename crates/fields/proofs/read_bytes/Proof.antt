@@ -1,5 +1,7 @@
 use mathlib.Core.Path.{refl, _∙_}
+use Rattle.fields.specs.Layout.{plain}
 use Rattle.fields.proofs.Skips.{plain-passed}
+use Rattle.fields.proofs.Steps.{stopped, went}
 use borrow.Author.Needs.{needs}
 use Rattle.fields.proofs.read_bytes.Statement.{statement}
 use Rattle.fields.proofs.read_bytes.Tie as tie
@@ -8,7 +10,10 @@ skip-requires : tie.Need-skip-requires
 skip-requires c κs = search needs
 
 returns : tie.Need-returns
-returns c = record { next = c .skip .ensures ∙ plain-passed _ _ _; value = refl }
+returns c = stopped (plain _) _ _ _ (c .before .skip .ensures ∙ plain-passed _ _ _) (c .if1 .taken)
+
+returns-2 : tie.Need-returns-2
+returns-2 c = went (plain _) _ _ _ _ (c .before .skip .ensures ∙ plain-passed _ _ _) (c .if1 .left) refl
 
 pub read-bytes-spec : {M : Type 1} → statement M
-read-bytes-spec = tie.close (tie.spec skip-requires returns)
+read-bytes-spec = tie.close (tie.spec skip-requires returns returns-2)

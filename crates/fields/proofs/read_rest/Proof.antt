@@ -1,7 +1,15 @@
+use Rattle.fields.specs.Layout.{rest}
 use Rattle.fields.proofs.Skips.{up-to}
+use Rattle.fields.proofs.Steps.{stopped, went}
 use borrow.Author.Needs.{needs}
 use Rattle.fields.proofs.read_rest.Statement.{statement}
 use Rattle.fields.proofs.read_rest.Tie as tie
+
+skip-rest-requires : tie.Need-skip-rest-requires
+skip-rest-requires c κs = search needs
+
+returns : tie.Need-returns
+returns c = stopped (rest _) _ _ _ (c .before .skip-rest .ensures) (c .if1 .taken)
 
 min-requires : tie.Need-min-requires
 min-requires c κs = search needs
@@ -12,17 +20,13 @@ sub-end c = search needs
 min-requires-2 : tie.Need-min-requires-2
 min-requires-2 c κs = search needs
 
-sub-t8 : tie.Need-sub-t8
-sub-t8 c = search needs
+sub-len : tie.Need-sub-len
+sub-len c = search needs
 
-skip-rest-requires : tie.Need-skip-rest-requires
-skip-rest-requires c κs = search needs
-
-returns : tie.Need-returns
-returns c =
-    let g = c .before .before .before .before .args in
-    record { next = c .skip-rest .ensures; value = up-to (g .s .now) (g .c .at) (g .closing) _ _ (c .before .before .min .ensures) (c .before .min2 .ensures) }
+returns-2 : tie.Need-returns-2
+returns-2 c =
+    let g = c .before .before .before .before .before .args in
+    went (rest (g .closing)) _ _ _ _ (c .before .before .before .skip-rest .ensures) (c .before .before .if1 .left) (up-to (g .s .now) (g .c .at) (g .closing) _ _ (c .before .min .ensures) (c .min2 .ensures))
 
 pub read-rest-spec : {M : Type 1} → statement M
-read-rest-spec =
-    tie.close (tie.spec min-requires sub-end min-requires-2 sub-t8 skip-rest-requires returns)
+read-rest-spec = tie.close (tie.spec skip-rest-requires returns min-requires sub-end min-requires-2 sub-len returns-2)

@@ -1,18 +1,23 @@
 use mathlib.Core.Path.{_∙_, ap}
+use Rattle.fields.specs.Layout.{num}
 use Rattle.fields.specs.Field.{number}
 use Rattle.fields.proofs.Skips.{byte-there}
+use Rattle.fields.proofs.Steps.{stopped, went}
 use borrow.Author.Needs.{needs}
 use Rattle.fields.proofs.read_u8.Statement.{statement}
 use Rattle.fields.proofs.read_u8.Tie as tie
-
-byte-at-requires : tie.Need-byte-at-requires
-byte-at-requires c κs = search needs
 
 skip-requires : tie.Need-skip-requires
 skip-requires c κs = search needs
 
 returns : tie.Need-returns
-returns c = record { next = c .skip .ensures; value = ap (number 1) (c .before .byte-at .ensures ∙ byte-there _ _) }
+returns c = stopped (num 1) _ _ _ (c .before .skip .ensures) (c .if1 .taken)
+
+byte-at-requires : tie.Need-byte-at-requires
+byte-at-requires c κs = search needs
+
+returns-2 : tie.Need-returns-2
+returns-2 c = went (num 1) _ _ _ _ (c .before .before .skip .ensures) (c .before .if1 .left) (ap (number 1) (c .byte-at .ensures ∙ byte-there _ _))
 
 pub read-u8-spec : {M : Type 1} → statement M
-read-u8-spec = tie.close (tie.spec byte-at-requires skip-requires returns)
+read-u8-spec = tie.close (tie.spec skip-requires returns byte-at-requires returns-2)

@@ -1,4 +1,3 @@
-use mathlib.Core.Path.{_≡_}
 use borrow.Author.Tests.{eq-eqb, ne-eqb}
 use Rattle.handshake_cases.proofs.auth_of.Statement.{statement}
 use Rattle.handshake_cases.proofs.auth_of.Tie as tie

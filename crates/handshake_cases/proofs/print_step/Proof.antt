@@ -1,4 +1,3 @@
-use mathlib.Core.Path.{_≡_}
 use borrow.Author.Needs.{needs}
 use Rattle.handshake_cases.specs.Steps.{stepLine}
 use Rattle.records.proofs.Laws.{puts-append}

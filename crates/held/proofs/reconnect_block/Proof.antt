@@ -2,7 +2,7 @@ use contract.Running.{givenOf, tables, tablesOf}
 use denote.Triple.Spec.{tripleOf}
 use denote.Triple.Table.{entered, cited}
 use Rattle.fields.specs.Layout.{rest}
-use Rattle.held.specs.Taken.{takeOf}
+use Rattle.held.specs.Taken.{heldOf}
 use Rattle.held.proofs.Held.{held-meets}
 use Rattle.held.proofs.take_reconnect_block as callee
 use Rattle.held.proofs.take_reconnect_block.Symbol as callee-def
@@ -18,5 +18,5 @@ unfolding code.routine tablesOf
 reconnect-block-spec 𝓤 H 𝓜 𝓖 𝓡 =
     entered 𝓤 H (tripleOf 𝓤 H (𝓖 .A) this.signature (this.spec 𝓤 H (𝓖 .A) (𝓜 .mem) (𝓡 .run)))
     (tables 𝓤 H 𝓜 𝓡 code.env .C) (tables 𝓤 H 𝓜 𝓡 code.env .Λ) #this code.function (code.unfolded 𝓤 H 𝓜 𝓡)
-    (held-meets (takeOf (rest 40)) 𝓤 H (𝓖 .A) (givenOf 𝓤 H 𝓜 𝓖) #callee (tablesOf 𝓤 H 𝓜 (tables 𝓤 H 𝓜 𝓡 code.env))
+    (held-meets (heldOf (rest 40)) 𝓤 H (𝓖 .A) (givenOf 𝓤 H 𝓜 𝓖) #callee (tablesOf 𝓤 H 𝓜 (tables 𝓤 H 𝓜 𝓡 code.env))
     (cited 𝓤 H (tripleOf 𝓤 H (𝓖 .A) callee.signature (callee.spec 𝓤 H (𝓖 .A) (𝓜 .mem) (𝓡 .run))) 𝓜 𝓡 code.env #callee callee-def.routine code.calls-held·take-reconnect-block (callee-thm.met 𝓤 H 𝓜 𝓖 𝓡)))

@@ -13,7 +13,7 @@ list-taken-requires : tie.Need-list-taken-requires
 list-taken-requires c κs = search needs
 
 returns : tie.Need-returns
-returns c = taken _ _ (c .before .before .before .before .at-place .ensures) (c .before .before .before .read-list .ensures) (c .list-taken .ensures _)
+returns c = taken _ _ _ (c .before .before .at-place .ensures) (c .before .read-list .ensures) (c .list-taken .ensures _)
 
 pub take-list-spec : {M : Type 1} → statement M
 take-list-spec = tie.close (tie.spec at-place-requires read-list-requires list-taken-requires returns)

@@ -1,3 +1,4 @@
+use mathlib.Core.Path.{refl}
 use Rattle.held.proofs.Takes.{taken}
 use borrow.Author.Needs.{needs}
 use Rattle.held.proofs.take_negative.Statement.{statement}
@@ -9,14 +10,11 @@ at-place-requires c κs = search needs
 read-negative-requires : tie.Need-read-negative-requires
 read-negative-requires c κs = search needs
 
-cast-number-taken : tie.Need-cast-number-taken
-cast-number-taken c = search needs
-
-number-taken-requires : tie.Need-number-taken-requires
-number-taken-requires c κs = search needs
+u32-taken-requires : tie.Need-u32-taken-requires
+u32-taken-requires c κs = search needs
 
 returns : tie.Need-returns
-returns c = taken _ _ (c .before .before .before .before .at-place .ensures) (c .before .before .before .read-negative .ensures) (c .number-taken .ensures _)
+returns c = taken _ _ _ (c .before .before .at-place .ensures) (c .before .read-negative .ensures) (c .u32-taken .ensures _ _ (λ n. refl))
 
 pub take-negative-spec : {M : Type 1} → statement M
-take-negative-spec = tie.close (tie.spec at-place-requires read-negative-requires cast-number-taken number-taken-requires returns)
+take-negative-spec = tie.close (tie.spec at-place-requires read-negative-requires u32-taken-requires returns)

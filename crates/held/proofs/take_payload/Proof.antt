@@ -1,3 +1,4 @@
+use mathlib.Core.Path.{refl}
 use Rattle.held.proofs.Takes.{taken}
 use borrow.Author.Needs.{needs}
 use Rattle.held.proofs.take_payload.Statement.{statement}
@@ -13,7 +14,7 @@ span-taken-requires : tie.Need-span-taken-requires
 span-taken-requires c κs = search needs
 
 returns : tie.Need-returns
-returns c = taken _ _ (c .before .before .before .before .at-place .ensures) (c .before .before .before .read-payload .ensures) (c .span-taken .ensures _)
+returns c = taken _ _ _ (c .before .before .at-place .ensures) (c .before .read-payload .ensures) (c .span-taken .ensures _ _ (λ bs. refl))
 
 pub take-payload-spec : {M : Type 1} → statement M
 take-payload-spec = tie.close (tie.spec at-place-requires read-payload-requires span-taken-requires returns)

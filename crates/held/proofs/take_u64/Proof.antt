@@ -9,11 +9,11 @@ at-place-requires c κs = search needs
 read-u64-requires : tie.Need-read-u64-requires
 read-u64-requires c κs = search needs
 
-number-taken-requires : tie.Need-number-taken-requires
-number-taken-requires c κs = search needs
+u64-taken-requires : tie.Need-u64-taken-requires
+u64-taken-requires c κs = search needs
 
 returns : tie.Need-returns
-returns c = taken _ _ (c .before .before .before .at-place .ensures) (c .before .before .read-u64 .ensures) (c .number-taken .ensures _)
+returns c = taken _ _ _ (c .before .before .at-place .ensures) (c .before .read-u64 .ensures) (c .u64-taken .ensures _)
 
 pub take-u64-spec : {M : Type 1} → statement M
-take-u64-spec = tie.close (tie.spec at-place-requires read-u64-requires number-taken-requires returns)
+take-u64-spec = tie.close (tie.spec at-place-requires read-u64-requires u64-taken-requires returns)

@@ -9,14 +9,11 @@ at-place-requires c κs = search needs
 read-u8-requires : tie.Need-read-u8-requires
 read-u8-requires c κs = search needs
 
-cast-number-taken : tie.Need-cast-number-taken
-cast-number-taken c = search needs
-
-number-taken-requires : tie.Need-number-taken-requires
-number-taken-requires c κs = search needs
+u8-taken-requires : tie.Need-u8-taken-requires
+u8-taken-requires c κs = search needs
 
 returns : tie.Need-returns
-returns c = taken _ _ (c .before .before .before .before .at-place .ensures) (c .before .before .before .read-u8 .ensures) (c .number-taken .ensures _)
+returns c = taken _ _ _ (c .before .before .at-place .ensures) (c .before .read-u8 .ensures) (c .u8-taken .ensures _)
 
 pub take-u8-spec : {M : Type 1} → statement M
-take-u8-spec = tie.close (tie.spec at-place-requires read-u8-requires cast-number-taken number-taken-requires returns)
+take-u8-spec = tie.close (tie.spec at-place-requires read-u8-requires u8-taken-requires returns)

@@ -1,12 +1,11 @@
 use mathlib.Core.List.{[], _∷_}
-use mathlib.Core.Path.{_≡_}
 use borrow.Author.Needs.{needs}
 use lib.ListN.{length}
 use Rattle.body_cases.proofs.Laws.{two-lists}
-use Rattle.body_cases.specs.Reading.{eachNumber, bytesPieces, eachByte}
-use Rattle.fields.specs.Reading.{spanIn, numbersIn}
+use Rattle.body_cases.specs.Reading.{eachNumber}
+use Rattle.fields.specs.Reading.{numbersIn}
 use Rattle.text.specs.Line as line
-use Rattle.text.specs.Line.{codes, word, newline, raw}
+use Rattle.text.specs.Line.{word, newline}
 use Rattle.body_cases.proofs.reading.print_bad_method.Statement.{statement}
 use Rattle.body_cases.proofs.reading.print_bad_method.Tie as tie
 

@@ -1,5 +1,5 @@
 use mathlib.Core.List.{List}
-use mathlib.Core.Path.{_≡_, _∙_, ap}
+use mathlib.Core.Path.{_∙_, ap}
 use native.Mathlib.Omega.{arith}
 use borrow.Author.Needs.{needs}
 use Rattle.body_cases.proofs.Names.{line-hello, line-request, line-bad-method, line-more, line-done, line-ident, line-reconnect, line-number, line-reset, line-stamp, line-refused}

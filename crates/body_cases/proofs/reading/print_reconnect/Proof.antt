@@ -1,4 +1,3 @@
-use mathlib.Core.Path.{_≡_}
 use borrow.Author.Needs.{needs}
 use Rattle.body_cases.proofs.reading.print_reconnect.Statement.{statement}
 use Rattle.body_cases.proofs.reading.print_reconnect.Tie as tie

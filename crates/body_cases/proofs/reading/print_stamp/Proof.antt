@@ -1,13 +1,9 @@
 use mathlib.Core.List.{[], _∷_}
-use mathlib.Core.List.{append-nil}
-use mathlib.Core.Path.{_≡_}
 use borrow.Author.Needs.{needs}
-use lib.ListN.{length}
 use Rattle.body_cases.proofs.Laws.{two-parts}
-use Rattle.body_cases.specs.Reading.{eachNumber, bytesPieces, eachByte}
-use Rattle.fields.specs.Reading.{spanIn, numbersIn}
-use Rattle.text.specs.Line as line
-use Rattle.text.specs.Line.{codes, word, newline, raw}
+use Rattle.body_cases.specs.Reading.{eachByte}
+use Rattle.fields.specs.Reading.{spanIn}
+use Rattle.text.specs.Line.{newline}
 use Rattle.body_cases.proofs.reading.print_stamp.Statement.{statement}
 use Rattle.body_cases.proofs.reading.print_stamp.Tie as tie
 

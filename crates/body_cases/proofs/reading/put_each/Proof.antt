@@ -1,15 +1,13 @@
-use mathlib.Core.List.{List, [], _∷_}
-use mathlib.Core.Path.{_≡_, _∙_, sym, refl, ap}
+use mathlib.Core.Path.{_≡_, _∙_, sym, refl}
 use Prim.Native.Nat.{_≤_, _-_}
 use native.Mathlib.Omega.{arith}
 use borrow.Author.Needs.{needs}
 use lib.ListN.{length, drop}
-use lib.Seq.{drop-length}
 use Rattle.body_cases.proofs.Laws.{each-more, each-none}
 use Rattle.body_cases.specs.Reading.{eachNumber}
 use Rattle.fields.specs.Reading.{numbersIn}
 use Rattle.records.proofs.Laws.{length-words}
-use Rattle.text.specs.Page.{Page, page, puts}
+use Rattle.text.specs.Page.{page, puts}
 use Rattle.body_cases.proofs.reading.put_each.Statement.{statement}
 use Rattle.body_cases.proofs.reading.put_each.Tie as tie
 

@@ -1,13 +1,11 @@
-use mathlib.Core.List.{List, [], _∷_}
-use mathlib.Core.Path.{_≡_, _∙_, sym, refl, ap}
+use mathlib.Core.Path.{_≡_, _∙_, sym, refl}
 use Prim.Native.Nat.{_≤_, _-_}
 use native.Mathlib.Omega.{arith}
 use borrow.Author.Needs.{needs}
 use lib.ListN.{length, drop}
-use lib.Seq.{drop-length}
 use Rattle.body_cases.proofs.Laws.{stamp-more, stamp-none}
 use Rattle.body_cases.specs.Reading.{eachByte}
-use Rattle.text.specs.Page.{Page, page, puts}
+use Rattle.text.specs.Page.{page, puts}
 use Rattle.body_cases.proofs.reading.put_stamp.Statement.{statement}
 use Rattle.body_cases.proofs.reading.put_stamp.Tie as tie
 

@@ -1,11 +1,10 @@
 use mathlib.Core.Bool.{true, false}
 use mathlib.Core.List.{List, [], _∷_}
-use mathlib.Core.Path.{_≡_, sym, ap, ap₂, _∙_}
+use mathlib.Core.Path.{_≡_, sym, ap, _∙_}
 use Prim.Native.Nat.{ℕ}
 use borrow.Author.Needs.{needs}
 use borrow.Author.Tests.{not-true, not-false}
-use lib.ListN.{take, drop, getD}
-use Rattle.bodies.specs.Read.{readBody}
+use lib.ListN.{getD}
 use Rattle.body_cases.proofs.Laws.{read-answer}
 use Rattle.body_cases.specs.Reading.{readLine, readSize, answerOf, readRecord}
 use Rattle.records.proofs.Laws.{did-bad, did-whole}

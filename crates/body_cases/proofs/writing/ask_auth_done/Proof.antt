@@ -1,18 +1,18 @@
-use mathlib.Core.Path.{_≡_, refl}
+use mathlib.Core.Path.{refl}
 use native.Mathlib.Omega.{arith}
 use borrow.Author.Needs.{needs}
-use Rattle.body_cases.proofs.Requests.{num-given, rest-given, end, step, asked}
+use Rattle.body_cases.proofs.Requests.{rest-given, end, step, asked}
 use Rattle.body_cases.proofs.writing.ask_auth_done.Statement.{statement}
 use Rattle.body_cases.proofs.writing.ask_auth_done.Tie as tie
 
 start-requires : tie.Need-start-requires
 start-requires c κs = search needs
 
-read-u64-requires : tie.Need-read-u64-requires
-read-u64-requires c κs = search needs
+given-u64-requires : tie.Need-given-u64-requires
+given-u64-requires c κs = search needs
 
-read-u32-requires : tie.Need-read-u32-requires
-read-u32-requires c κs = search needs
+given-u32-requires : tie.Need-given-u32-requires
+given-u32-requires c κs = search needs
 
 given-bytes-requires : tie.Need-given-bytes-requires
 given-bytes-requires c κs = search needs
@@ -25,7 +25,7 @@ no-list-requires-2 c κs = search needs
 
 returns : tie.Need-returns
 returns c = asked (c .before .before .before .before .before .before .before .start .ensures)
-    (step (num-given (c .before .before .before .before .before .before .read-u64 .ensures)) (step (num-given (c .before .before .before .before .before .read-u32 .ensures)) (step (rest-given 0 (c .before .before .before .before .given-bytes .ensures)) end)))
+    (step (c .before .before .before .before .before .before .given-u64 .ensures) (step (c .before .before .before .before .before .given-u32 .ensures) (step (rest-given 0 (c .before .before .before .before .given-bytes .ensures)) end)))
     refl refl (omega (arith, c .before .no-list .ensures)) (omega (arith, c .no-list2 .ensures))
 
 pub ask-auth-done-spec : {M : Type 1} → statement M
@@ -33,8 +33,8 @@ ask-auth-done-spec =
     tie.close
     (tie.spec
     start-requires
-    read-u64-requires
-    read-u32-requires
+    given-u64-requires
+    given-u32-requires
     given-bytes-requires
     no-list-requires
     no-list-requires-2

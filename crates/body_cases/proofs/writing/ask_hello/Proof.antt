@@ -1,15 +1,15 @@
-use mathlib.Core.Path.{_≡_, refl}
+use mathlib.Core.Path.{refl}
 use native.Mathlib.Omega.{arith}
 use borrow.Author.Needs.{needs}
-use Rattle.body_cases.proofs.Requests.{num-given, rest-given, end, step, asked}
+use Rattle.body_cases.proofs.Requests.{rest-given, end, step, asked}
 use Rattle.body_cases.proofs.writing.ask_hello.Statement.{statement}
 use Rattle.body_cases.proofs.writing.ask_hello.Tie as tie
 
 start-requires : tie.Need-start-requires
 start-requires c κs = search needs
 
-read-u8-requires : tie.Need-read-u8-requires
-read-u8-requires c κs = search needs
+given-u8-requires : tie.Need-given-u8-requires
+given-u8-requires c κs = search needs
 
 given-bytes-requires : tie.Need-given-bytes-requires
 given-bytes-requires c κs = search needs
@@ -22,7 +22,7 @@ no-list-requires-2 c κs = search needs
 
 returns : tie.Need-returns
 returns c = asked (c .before .before .before .before .before .before .start .ensures)
-    (step (num-given (c .before .before .before .before .before .read-u8 .ensures)) (step (rest-given 0 (c .before .before .before .before .given-bytes .ensures)) end))
+    (step (c .before .before .before .before .before .given-u8 .ensures) (step (rest-given 0 (c .before .before .before .before .given-bytes .ensures)) end))
     refl refl (omega (arith, c .before .no-list .ensures)) (omega (arith, c .no-list2 .ensures))
 
 pub ask-hello-spec : {M : Type 1} → statement M
@@ -30,7 +30,7 @@ ask-hello-spec =
     tie.close
     (tie.spec
     start-requires
-    read-u8-requires
+    given-u8-requires
     given-bytes-requires
     no-list-requires
     no-list-requires-2

@@ -1,0 +1,25 @@
+use mathlib.Core.Path.{sym, ap, _∙_}
+use Rattle.fields.specs.Field.{number}
+use Rattle.fields.specs.Reading.{inU32}
+use Rattle.bodies.proofs.Rows.{took-read, took-failed}
+use borrow.Author.Needs.{needs}
+use Rattle.bodies.proofs.field_u32.Statement.{statement}
+use Rattle.bodies.proofs.field_u32.Tie as tie
+
+read-u32-requires : tie.Need-read-u32-requires
+read-u32-requires c κs = search needs
+
+enum-known-value : tie.Need-enum-known-value
+enum-known-value c = search needs
+
+enum-known-next : tie.Need-enum-known-next
+enum-known-next c = search needs
+
+returns : tie.Need-returns
+returns c = took-read (ap (inU32 (number 4)) (sym (c .before .value .given .1)) ∙ c .before .before .before .read-u32 .ensures)
+
+returns-2 : tie.Need-returns-2
+returns-2 c = took-failed (ap (inU32 (number 4)) (sym (c .before .next .given .1)) ∙ c .before .before .before .read-u32 .ensures)
+
+pub field-u32-spec : {M : Type 1} → statement M
+field-u32-spec = tie.close (tie.spec read-u32-requires enum-known-value enum-known-next returns returns-2)

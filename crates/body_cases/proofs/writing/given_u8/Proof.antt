@@ -1,0 +1,18 @@
+use mathlib.Core.Path.{_∙_}
+use Rattle.fields.proofs.Skips.{byte-there}
+use Rattle.body_cases.proofs.Requests.{number-given}
+use borrow.Author.Needs.{needs}
+use Rattle.body_cases.proofs.writing.given_u8.Statement.{statement}
+use Rattle.body_cases.proofs.writing.given_u8.Tie as tie
+
+byte-at-requires : tie.Need-byte-at-requires
+byte-at-requires c κs = search needs
+
+past-requires : tie.Need-past-requires
+past-requires c κs = search needs
+
+returns : tie.Need-returns
+returns c = number-given 1 _ (c .before .byte-at .ensures ∙ byte-there _ _) (c .past .ensures)
+
+pub given-u8-spec : {M : Type 1} → statement M
+given-u8-spec = tie.close (tie.spec byte-at-requires past-requires returns)

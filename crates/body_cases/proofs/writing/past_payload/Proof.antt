@@ -1,0 +1,26 @@
+use mathlib.Core.Path.{sym, ap, _∙_}
+use Rattle.fields.specs.Field.{number, sized}
+use Rattle.fields.specs.Reading.{inSpan}
+use Rattle.bodies.proofs.Rows.{took-read, took-failed}
+use borrow.Author.Needs.{needs}
+use Rattle.body_cases.proofs.writing.past_payload.Statement.{statement}
+use Rattle.body_cases.proofs.writing.past_payload.Tie as tie
+
+read-payload-requires : tie.Need-read-payload-requires
+read-payload-requires c κs = search needs
+
+enum-known-next : tie.Need-enum-known-next
+enum-known-next c = search needs
+
+enum-known-next-2 : tie.Need-enum-known-next-2
+enum-known-next-2 c = search needs
+
+returns : tie.Need-returns
+returns c = took-read (ap (inSpan sized (c .before .before .before .before .before .args .s .now)) (sym (c .before .next .given .1)) ∙ c .before .before .before .read-payload .ensures) .next
+
+returns-2 : tie.Need-returns-2
+returns-2 c = took-failed {f = number 0 0} (ap (inSpan sized (c .before .before .before .before .before .args .s .now)) (sym (c .before .next2 .given .1)) ∙ c .before .before .before .read-payload .ensures) .next
+
+pub past-payload-spec : {M : Type 1} → statement M
+past-payload-spec =
+    tie.close (tie.spec read-payload-requires enum-known-next enum-known-next-2 returns returns-2)
