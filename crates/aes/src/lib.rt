@@ -3,7 +3,7 @@ use buffer::min;
 use buffer::u32_bytes;
 use sbox::sbox_table;
 ghost use mathlib.Core.Path.{_≡_};
-ghost use mathlib.Core.List.{List, _++_};
+ghost use mathlib.Core.List.{List, [], _++_};
 ghost use Prim.Native.Nat.{ℕ, _+_, _/_, _%_, _≤_};
 ghost use lib.ListN.{length, getD, take, drop};
 ghost use Rattle.sbox.specs.Sbox.{Ruled, sbox, xtime};
@@ -149,12 +149,12 @@ fn add_round_key(s: [[u8; 4]; 4], k: [[u8; 4]; 4]) -> [[u8; 4]; 4]
 
 // ---- the cipher
 
-fn rounds(t: &[u8; 256], w: &[[[u8; 4]; 4]; 11], block: [[u8; 4]; 4]) -> [[u8; 4]; 4]
+// From the state with the first round key added to it on. Callers add that key themselves: a block that they put together byte by byte is then handed over in words.
+fn rounds(t: &[u8; 256], w: &[[[u8; 4]; 4]; 11], keyed: [[u8; 4]; 4]) -> [[u8; 4]; 4]
     requires { ⌜ Ruled (now t) ⌝ }
-    ensures { λ r. ⌜ r ≡ cipher (now (w .entry)) block ⌝ }
+    ensures { λ r. ⌜ ((block : State) → keyed ≡ addRoundKey block (getD (now (w .entry)) 0 []) → r ≡ cipher (now (w .entry)) block) ⌝ }
 {
-    let first = w[0];
-    let mut s = add_round_key(block, first);
+    let mut s = keyed;
     let mut i: usize = 0;
     while i < 9 {
         i += 1;
@@ -172,7 +172,8 @@ pub fn encrypt(w: &[[[u8; 4]; 4]; 11], block: [[u8; 4]; 4]) -> [[u8; 4]; 4]
     ensures { λ r. ⌜ r ≡ cipher (now (w .entry)) block ⌝ }
 {
     let t = sbox_table();
-    rounds(&t, w, block)
+    let first = w[0];
+    rounds(&t, w, add_round_key(block, first))
 }
 
 // ---- the round keys
@@ -264,11 +265,20 @@ fn counter_block(nonce: [u8; 12], i: usize) -> [[u8; 4]; 4]
     ]
 }
 
+fn stream(t: &[u8; 256], w: &[[[u8; 4]; 4]; 11], nonce: [u8; 12], i: usize) -> [[u8; 4]; 4]
+    requires { ⌜ Ruled (now t) ⌝ }
+    ensures { λ r. ⌜ r ≡ streamBlock (now (w .entry)) nonce i ⌝ }
+{
+    let first = w[0];
+    rounds(t, w, add_round_key(counter_block(nonce, i), first))
+}
+
 // Counter block i, encrypted.
 pub fn stream_block(w: &[[[u8; 4]; 4]; 11], nonce: [u8; 12], i: usize) -> [[u8; 4]; 4]
     ensures { λ r. ⌜ r ≡ streamBlock (now (w .entry)) nonce i ⌝ }
 {
-    encrypt(w, counter_block(nonce, i))
+    let t = sbox_table();
+    stream(&t, w, nonce, i)
 }
 
 fn byte_of(s: [[u8; 4]; 4], k: usize) -> u8
@@ -288,13 +298,6 @@ fn mask_block(s: [[u8; 4]; 4], buf: &mut [u8], i: usize, n: usize)
         buf[i + k] = buf[i + k] ^ byte_of(s, k);
         k += 1;
     }
-}
-
-fn stream(t: &[u8; 256], w: &[[[u8; 4]; 4]; 11], nonce: [u8; 12], i: usize) -> [[u8; 4]; 4]
-    requires { ⌜ Ruled (now t) ⌝ }
-    ensures { λ r. ⌜ r ≡ streamBlock (now (w .entry)) nonce i ⌝ }
-{
-    rounds(t, w, counter_block(nonce, i))
 }
 
 // The whole blocks among the n first bytes; the answer is where they end.

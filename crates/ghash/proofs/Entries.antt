@@ -9,9 +9,9 @@ use lib.Bits.{bitXor}
 use lib.Dec.{eqb}
 use lib.ListN.{getD, length, set, length-set}
 use lib.Seq.{getD-set-same, getD-set-other}
-use Rattle.ghash.specs.Ghash.{pair, mulFrom, product}
+use Rattle.ghash.specs.Ghash.{pair, step, mulFrom, product}
 use Rattle.ghash.specs.Tables.{steps, entry, Filled}
-use Rattle.ghash.proofs.Linear.{mul-steps, steps-plus, top-four}
+use Rattle.ghash.proofs.Linear.{gathered, horner, mul-steps, steps-plus, top-four}
 
 -- entry k of the first place
 pub first-entry : (v k : ℕ) → k < 16 → mulFrom 4 k 0 v ≡ entry v k
@@ -61,7 +61,7 @@ module _ (v a b k : ℕ) (m : List ℕ) (room : 2 * k + 1 < length m) (e : pair 
   pub filled-more : Filled v (k + 1) (set (set m (2 * k) a) (2 * k + 1) b)
   filled-more = record { at = λ j q. put j q (eqb j k) refl }
 
--- ---- the two words of a block
+-- ---- half a word: x is the half of y whose lowest bit is bit n of y
 
 none-left : (x z v : ℕ) → mulFrom 0 x z v ≡ z
 unfolding mulFrom
@@ -71,27 +71,39 @@ no-steps : (v : ℕ) → steps 0 v ≡ v
 unfolding steps
 no-steps v = refl
 
-pub both-words : (v y a b : ℕ) → mulFrom 128 y 0 (steps 0 v) ≡ mulFrom 64 y a (steps 64 v) → mulFrom 64 y a (steps 64 v) ≡ mulFrom 0 y b (steps 128 v)
-    → b ≡ product y v
-both-words v y a b p q = sym (ap (mulFrom 128 y 0) (sym (no-steps v)) ∙ p ∙ q ∙ none-left y b (steps 128 v))
-
--- ---- four bits of a word: x is the word of y whose lowest bit is bit n of y
-
-pub turn-four : (v y n x at j k : ℕ) (m : List ℕ) (z : ℕ) → Filled v 512 m → j < 16 → at ≤ 16 → k < 16
-    → k ≡ y / 2 ^ (n + (60 - 4 * j)) % 16
-    → mulFrom (n + (64 - 4 * j)) y z (steps (4 * (at + j)) v)
-    ≡ mulFrom (n + (64 - 4 * (j + 1))) y (bitXor z (pair (getD m (2 * (16 * (at + j) + k)) 0) (getD m (2 * (16 * (at + j) + k) + 1) 0))) (steps (4 * (at + (j + 1))) v)
-turn-four v y n x at j k m z f hj ha hk e =
-    let i : ℕ = 16 * (at + j) + k in
-    let p : n + (64 - 4 * j) ≡ n + (60 - 4 * j) + 4 = omega arith in
-    let q : n + (60 - 4 * j) ≡ n + (64 - 4 * (j + 1)) = omega arith in
+-- four bits of it
+pub turn-four : (v y n at j k c : ℕ) (m : List ℕ) (z : ℕ) → Filled v c m → 16 * (at + 8) ≤ c → j < 8 → k < 16
+    → k ≡ y / 2 ^ (n + (28 - 4 * j)) % 16
+    → mulFrom (n + (32 - 4 * j)) y z (steps (4 * (at + j)) v)
+    ≡ mulFrom (n + (32 - 4 * (j + 1))) y (bitXor z (pair (getD m (2 * (16 * (at + j) + k)) 0) (getD m (2 * (16 * (at + j) + k) + 1) 0))) (steps (4 * (at + (j + 1))) v)
+turn-four v y n at j k c m z f room hj hk e =
+    let p : n + (32 - 4 * j) ≡ n + (28 - 4 * j) + 4 = omega arith in
+    let q : n + (28 - 4 * j) ≡ n + (32 - 4 * (j + 1)) = omega arith in
     let r : 4 * (at + j) + 4 ≡ 4 * (at + (j + 1)) = omega arith in
     let im : (16 * (at + j) + k) % 16 ≡ k = omega arith in
     let iq : (16 * (at + j) + k) / 16 ≡ at + j = omega arith in
     let there : pair (getD m (2 * (16 * (at + j) + k)) 0) (getD m (2 * (16 * (at + j) + k) + 1) 0) ≡ mulFrom 4 k 0 (steps (4 * (at + j)) v) =
     f .at (16 * (at + j) + k) (omega arith) ∙ ap₂ (λ (x y : ℕ). mulFrom 4 x 0 (steps (4 * y) v)) im iq in
     ap (λ (l : ℕ). mulFrom l y z (steps (4 * (at + j)) v)) p
-    ∙ top-four (n + (60 - 4 * j)) y z (steps (4 * (at + j)) v)
-    ∙ ap (λ (b : ℕ). mulFrom (n + (60 - 4 * j)) y (bitXor z (mulFrom 4 b 0 (steps (4 * (at + j)) v))) (steps 4 (steps (4 * (at + j)) v))) (sym e)
-    ∙ ap₂ (λ (b s : ℕ). mulFrom (n + (60 - 4 * j)) y (bitXor z b) s) (sym there) (sym (steps-plus (4 * (at + j)) 4 v) ∙ ap (λ (l : ℕ). steps l v) r)
+    ∙ top-four (n + (28 - 4 * j)) y z (steps (4 * (at + j)) v)
+    ∙ ap (λ (b : ℕ). mulFrom (n + (28 - 4 * j)) y (bitXor z (mulFrom 4 b 0 (steps (4 * (at + j)) v))) (steps 4 (steps (4 * (at + j)) v))) (sym e)
+    ∙ ap₂ (λ (b s : ℕ). mulFrom (n + (28 - 4 * j)) y (bitXor z b) s) (sym there) (sym (steps-plus (4 * (at + j)) 4 v) ∙ ap (λ (l : ℕ). steps l v) r)
     ∙ ap (λ (l : ℕ). mulFrom l y (bitXor z (pair (getD m (2 * (16 * (at + j) + k)) 0) (getD m (2 * (16 * (at + j) + k) + 1) 0))) (steps (4 * (at + (j + 1))) v)) q
+
+-- by a table of 32 places
+pub four-halves : (v y a b c d : ℕ) → mulFrom 128 y 0 (steps 0 v) ≡ mulFrom 96 y a (steps 32 v) → mulFrom 96 y a (steps 32 v) ≡ mulFrom 64 y b (steps 64 v)
+    → mulFrom 64 y b (steps 64 v) ≡ mulFrom 32 y c (steps 96 v) → mulFrom 32 y c (steps 96 v) ≡ mulFrom 0 y d (steps 128 v) → d ≡ product y v
+four-halves v y a b c d p q r s = sym (ap (mulFrom 128 y 0) (sym (no-steps v)) ∙ p ∙ q ∙ r ∙ s ∙ none-left y d (steps 128 v))
+
+-- by a table of 8 places: r is x by v with z added, and z what the n bits below x gave, 32 steps on
+pub next-half : (v y n x z r : ℕ) → y / 2 ^ n % 2 ^ 32 ≡ x → z ≡ steps 32 (mulFrom n y 0 v) → mulFrom 32 x z (steps 0 v) ≡ mulFrom 0 x r (steps 32 v)
+    → r ≡ mulFrom (n + 32) y 0 v
+next-half v y n x z r a b e =
+    sym (ap (mulFrom 32 x z) (sym (no-steps v)) ∙ e ∙ none-left x r (steps 32 v))
+    ∙ gathered 32 x z v
+    ∙ ap₂ bitXor b (ap (λ (i : ℕ). mulFrom 32 i 0 v) (sym a))
+    ∙ sym (horner n 32 y v)
+
+pub first-half : (v y : ℕ) → 0 ≡ steps 32 (mulFrom 0 y 0 v)
+unfolding mulFrom steps step
+first-half v y = refl

@@ -1,10 +1,12 @@
 -- Steps and products are linear, and the product taken four bits of x at a time.
-use mathlib.Core.Path.{_≡_, refl, sym, ap, ap₂, _∙_}
-use Prim.Native.Nat.{ℕ, zero, suc, _+_, _-_, _*_, _/_, _%_, _^_, _≤_}
-use native.Mathlib.Nat.{mod-lt, zero-mul, one-mul, mul-one, add-zero, add-suc, zero-add, suc-add}
+use mathlib.Core.Path.{_≡_, refl, sym, ap, ap₂, subst, _∙_}
+use Prim.Native.Nat.{ℕ, zero, suc, _+_, _-_, _*_, _/_, _%_, _^_, _<_, _≤_}
+use native.Mathlib.Nat.{mod-lt, zero-mul, one-mul, mul-one, mul-assoc, add-zero, add-suc, zero-add, suc-add, pow-succ'}
+use native.Mathlib.Numerals.{add-one}
 use native.Mathlib.Omega.{arith}
-use lib.Bits.{bitXor, differ, xor-comm, xor-zero-l, xor-zero-r, xor-shr, xor-shifted, shifted-half, shifted-even}
-use lib.Pow.{split, pow-pos, shr-shr, mod-mod-pow}
+use lib.Bits.{bitXor, differ, xor-comm, xor-zero-l, xor-zero-r, xor-shr, xor-block, xor-shifted, shifted-half, shifted-even}
+use lib.Arith.{lt-one}
+use lib.Pow.{split, pow-pos, pow-add, shr-lt, shr-shr, mod-mod-pow}
 use lib.Pow as pow
 use Rattle.bits.proofs.Xor.{digit, xor-assoc, xor-odd}
 use Rattle.ghash.specs.Ghash.{field, step, mulFrom}
@@ -118,3 +120,69 @@ pub steps-plus : (a b v : ℕ) → steps (a + b) v ≡ steps b (steps a v)
 unfolding steps
 steps-plus zero b v = ap (λ (n : ℕ). steps n v) (zero-add b)
 steps-plus (suc a) b v = ap (λ (n : ℕ). steps n v) (suc-add a b) ∙ steps-plus a b (step v)
+
+-- the product by the n lowest bits, and by the m above them
+pub horner : (n m x v : ℕ) → mulFrom (n + m) x 0 v ≡ bitXor (steps m (mulFrom n x 0 v)) (mulFrom m (x / 2 ^ n % 2 ^ m) 0 v)
+horner n m x v =
+    above n m x 0 v
+    ∙ gathered n x (mulFrom m (x / 2 ^ n) 0 v) (steps m v)
+    ∙ ap₂ bitXor (lowest m m (x / 2 ^ n) 0 v (omega arith)) (mul-steps m n x v)
+    ∙ xor-comm (mulFrom m (x / 2 ^ n % 2 ^ m) 0 v) (steps m (mulFrom n x 0 v))
+
+-- ---- what falls out of n steps: its product with 11100001, without carries, set in place
+
+abbrev pub spread : ℕ → ℕ
+spread m = bitXor (bitXor (bitXor (m * 128) (m * 64)) (m * 32)) m
+
+scaled : (e a b : ℕ) → bitXor a b * 2 ^ e ≡ bitXor (a * 2 ^ e) (b * 2 ^ e)
+scaled e a b =
+    sym
+    (ap₂ bitXor (sym (add-zero (a * 2 ^ e))) (sym (add-zero (b * 2 ^ e)))
+    ∙ xor-block e a b 0 0 (pow-pos e) (pow-pos e)
+    ∙ add-zero (bitXor a b * 2 ^ e))
+
+spread-xor : (a b : ℕ) → spread (bitXor a b) ≡ bitXor (spread a) (spread b)
+spread-xor a b =
+    ap (λ (x : ℕ). bitXor x (bitXor a b))
+    (ap₂ bitXor (ap₂ bitXor (scaled 7 a b) (scaled 6 a b) ∙ interchange (a * 128) (b * 128) (a * 64) (b * 64)) (scaled 5 a b)
+    ∙ interchange (bitXor (a * 128) (a * 64)) (bitXor (b * 128) (b * 64)) (a * 32) (b * 32))
+    ∙ interchange (bitXor (bitXor (a * 128) (a * 64)) (a * 32)) (bitXor (bitXor (b * 128) (b * 64)) (b * 32)) a b
+
+spread-double : (m : ℕ) → spread m * 2 ≡ spread (m * 2)
+spread-double m =
+    let p : m * 128 * 2 ≡ m * 2 * 128 = omega arith in
+    let q : m * 64 * 2 ≡ m * 2 * 64 = omega arith in
+    let r : m * 32 * 2 ≡ m * 2 * 32 = omega arith in
+    scaled 1 (bitXor (bitXor (m * 128) (m * 64)) (m * 32)) m
+    ∙ ap (λ (x : ℕ). bitXor x (m * 2))
+    (scaled 1 (bitXor (m * 128) (m * 64)) (m * 32) ∙ ap₂ bitXor (scaled 1 (m * 128) (m * 64) ∙ ap₂ bitXor p q) r)
+
+steps-zero : (n : ℕ) → steps n 0 ≡ 0
+unfolding steps step
+steps-zero zero = refl
+steps-zero (suc n) = steps-zero n
+
+-- the lowest bit of n + 1
+lowest-fallen : (n e m : ℕ) → e + n ≡ 120 → steps n (m % 2 * field) ≡ spread (m % 2) * 2 ^ e
+lowest-fallen n e m q =
+    digit (λ (x : ℕ). steps n (x * field) ≡ spread x * 2 ^ e) (steps-zero n ∙ sym (zero-mul (2 ^ e)))
+    (ap (steps n) (ap (λ (k : ℕ). 0xe1 * 2 ^ k) (sym q) ∙ ap (λ (x : ℕ). 0xe1 * x) (pow-add 2 e n) ∙ sym (mul-assoc 0xe1 (2 ^ e) (2 ^ n)))
+    ∙ steps-shifted n (0xe1 * 2 ^ e))
+    m
+
+pub fallen : (n e m : ℕ) → e + n ≡ 121 → m < 2 ^ n → steps n m ≡ spread m * 2 ^ e
+unfolding steps step
+fallen zero e m q h =
+    let z : m ≡ 0 = lt-one h in
+    z ∙ sym (ap (λ (x : ℕ). spread x * 2 ^ e) z ∙ zero-mul (2 ^ e))
+fallen (suc n) e m q h =
+    steps-xor n (m / 2) (m % 2 * field)
+    ∙ ap₂ bitXor
+    (fallen n (suc e) (m / 2) (omega arith) (shr-lt n 1 (subst (λ (k : ℕ). m < 2 ^ k) (sym (add-one n)) h))
+    ∙ ap (λ (x : ℕ). spread (m / 2) * x) (pow-succ' 2 e)
+    ∙ sym (mul-assoc (spread (m / 2)) 2 (2 ^ e))
+    ∙ ap (λ (x : ℕ). x * 2 ^ e) (spread-double (m / 2)))
+    (lowest-fallen n e m (omega arith))
+    ∙ sym (scaled e (spread (m / 2 * 2)) (spread (m % 2)))
+    ∙ ap (λ (x : ℕ). x * 2 ^ e)
+    (sym (spread-xor (m / 2 * 2) (m % 2)) ∙ ap (λ (x : ℕ). spread x) (xor-shifted (m / 2) 1 (m % 2) (mod-lt m (pow-pos 1)) ∙ split m 1))

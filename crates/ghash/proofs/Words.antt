@@ -1,11 +1,11 @@
--- A block as two words: one bit of the walk, and four.
+-- A block as two words: one bit of the walk, four, and half a word.
 use mathlib.Core.Bool.{Bool}
 use mathlib.Core.List.{List}
 use mathlib.Core.Path.{_≡_, refl, sym, ap, ap₂, subst, _∙_}
 use Prim.Native.Nat.{ℕ, _+_, _-_, _*_, _/_, _%_, _^_, _<_, _≤_}
-use native.Mathlib.Nat.{zero-mul, one-mul, mod-eq-of-lt}
+use native.Mathlib.Nat.{zero-mul, one-mul, mul-assoc, add-zero}
 use native.Mathlib.Omega.{arith}
-use lib.Bits.{bitXor, xor-zero-r, xor-block}
+use lib.Bits.{bitXor, xor-lt, xor-zero-r, xor-block}
 use lib.Dec.{T, eqb, eqb→eq}
 use lib.ListN.{getD, length}
 use lib.Pow.{pow-pos, shr-shr, high, mod-mod-pow}
@@ -14,7 +14,7 @@ use Rattle.bits.proofs.Every.{at, every}
 use Rattle.bits.proofs.Xor.{digit}
 use Rattle.ghash.specs.Ghash.{pair, field, step}
 use Rattle.ghash.specs.Tables.{steps, Reduced}
-use Rattle.ghash.proofs.Linear.{steps-split}
+use Rattle.ghash.proofs.Linear.{steps-split, spread, fallen}
 
 pub xor-pair : (yh yl xh xl : ℕ) → yl < 2 ^ 64 → xl < 2 ^ 64
     → pair (bitXor yh xh) (bitXor yl xl) ≡ bitXor (pair yh yl) (pair xh xl)
@@ -63,40 +63,70 @@ pub reduced-by : {t : List ℕ} → length t ≡ 16 → T (every right 0 t) → 
 unfolding steps step
 reduced-by {t} l p = record { at = λ k h. eqb→eq (pair (getD t k 0) 0) (steps 4 k) (at right t p k (subst (λ (n : ℕ). k < n) (sym l) h)) }
 
--- ---- four steps of two words
+-- ---- k steps of two words, r what falls out of the low one
 
-sixteenth : (h l : ℕ) → l < 2 ^ 64 → pair h l / 2 ^ 4 ≡ pair (h / 16) (h % 16 * 2 ^ 60 + l / 16)
-sixteenth h l k = omega arith
-
-fell-four : (h l : ℕ) → pair h l % 2 ^ 4 ≡ l % 16
-fell-four h l = omega arith
+moved-by : (k h l low r : ℕ) → pair h l / 2 ^ k ≡ pair (h / 2 ^ k) low → pair h l % 2 ^ k ≡ l % 2 ^ k → low < 2 ^ 64
+    → pair r 0 ≡ steps k (l % 2 ^ k) → steps k (pair h l) ≡ pair (bitXor (h / 2 ^ k) r) low
+moved-by k h l low r p q f e =
+    steps-split k (pair h l)
+    ∙ ap₂ (λ (x y : ℕ). bitXor x (steps k y)) p q
+    ∙ ap (bitXor (pair (h / 2 ^ k) low)) (sym e)
+    ∙ xor-block 64 (h / 2 ^ k) r low 0 f (pow-pos 64)
+    ∙ ap (λ (x : ℕ). bitXor (h / 2 ^ k) r * 2 ^ 64 + x) (xor-zero-r low)
 
 pub four-fits : (h l : ℕ) → l < 2 ^ 64 → h % 16 * 2 ^ 60 + l / 16 < 2 ^ 64
 four-fits h l k = omega arith
 
 pub four-steps : (h l r : ℕ) → l < 2 ^ 64 → pair r 0 ≡ steps 4 (l % 16)
     → steps 4 (pair h l) ≡ pair (bitXor (h / 16) r) (h % 16 * 2 ^ 60 + l / 16)
-four-steps h l r k e =
-    steps-split 4 (pair h l)
-    ∙ ap₂ (λ (x y : ℕ). bitXor x (steps 4 y)) (sixteenth h l k) (fell-four h l)
-    ∙ ap (bitXor (pair (h / 16) (h % 16 * 2 ^ 60 + l / 16))) (sym e)
-    ∙ xor-block 64 (h / 16) r (h % 16 * 2 ^ 60 + l / 16) 0 (four-fits h l k) (pow-pos 64)
-    ∙ ap (λ (x : ℕ). bitXor (h / 16) r * 2 ^ 64 + x) (xor-zero-r (h % 16 * 2 ^ 60 + l / 16))
+four-steps h l r k e = moved-by 4 h l (h % 16 * 2 ^ 60 + l / 16) r (omega arith) (omega arith) (four-fits h l k) e
 
--- ---- the four bits at a place of a word of y
-pub bits-at : (y n i x : ℕ) → i + 4 ≤ 64 → y / 2 ^ n % 2 ^ 64 ≡ x → x / 2 ^ i % 16 ≡ y / 2 ^ (n + i) % 16
+pub half-fits : (h l : ℕ) → l < 2 ^ 64 → h % 2 ^ 32 * 2 ^ 32 + l / 2 ^ 32 < 2 ^ 64
+half-fits h l k = omega arith
+
+pub half-steps : (h l r : ℕ) → l < 2 ^ 64 → pair r 0 ≡ steps 32 (l % 2 ^ 32)
+    → steps 32 (pair h l) ≡ pair (bitXor (h / 2 ^ 32) r) (h % 2 ^ 32 * 2 ^ 32 + l / 2 ^ 32)
+half-steps h l r k e = moved-by 32 h l (h % 2 ^ 32 * 2 ^ 32 + l / 2 ^ 32) r (omega arith) (omega arith) (half-fits h l k) e
+
+-- half a word that falls out
+pub half-fallen : (x : ℕ) → x < 2 ^ 32 → pair (spread x * 2 ^ 25) 0 ≡ steps 32 x
+half-fallen x h = add-zero (spread x * 2 ^ 25 * 2 ^ 64) ∙ mul-assoc (spread x) (2 ^ 25) (2 ^ 64) ∙ sym (fallen 32 89 x refl h)
+
+pub spread-fits : (x : ℕ) → x < 2 ^ 32 → spread x < 2 ^ 39
+spread-fits x h =
+    xor-lt 39 (bitXor (bitXor (x * 128) (x * 64)) (x * 32)) x
+    (xor-lt 39 (bitXor (x * 128) (x * 64)) (x * 32) (xor-lt 39 (x * 128) (x * 64) (omega arith) (omega arith)) (omega arith))
+    (omega arith)
+
+-- ---- the four bits at a place of half a word of y
+pub bits-at : (y n i x : ℕ) → i + 4 ≤ 32 → y / 2 ^ n % 2 ^ 32 ≡ x → x / 2 ^ i % 16 ≡ y / 2 ^ (n + i) % 16
 bits-at y n i x h e =
     ap (λ (w : ℕ). w / 2 ^ i % 16) (sym e)
     ∙ ap (λ (w : ℕ). y / 2 ^ n % 2 ^ w / 2 ^ i % 16) q
-    ∙ ap (λ (w : ℕ). w % 16) (pow.field (y / 2 ^ n) (60 - i + 4) i)
-    ∙ mod-mod-pow (y / 2 ^ n / 2 ^ i) (60 - i) 4
+    ∙ ap (λ (w : ℕ). w % 16) (pow.field (y / 2 ^ n) (28 - i + 4) i)
+    ∙ mod-mod-pow (y / 2 ^ n / 2 ^ i) (28 - i) 4
     ∙ ap (λ (w : ℕ). w % 16) (shr-shr y n i)
   where
-    q : 64 ≡ 60 - i + 4 + i
+    q : 32 ≡ 28 - i + 4 + i
     q = omega arith
 
-pub first-word : (h l : ℕ) → l < 2 ^ 64 → pair h l / 2 ^ 0 % 2 ^ 64 ≡ l
-first-word h l k = omega arith
+-- ---- the halves of the words of a block, the last first
 
-pub second-word : (h l : ℕ) → h < 2 ^ 64 → l < 2 ^ 64 → pair h l / 2 ^ 64 % 2 ^ 64 ≡ h
-second-word h l j k = ap (λ (x : ℕ). x % 2 ^ 64) (high h 64 k) ∙ mod-eq-of-lt j
+pub half-alone : (x : ℕ) → x < 2 ^ 32 → x / 2 ^ 0 % 2 ^ 32 ≡ x
+half-alone x h = omega arith
+
+pub half-0 : (h l : ℕ) → pair h l / 2 ^ 0 % 2 ^ 32 ≡ l % 2 ^ 32
+half-0 h l = omega arith
+
+pub half-32 : (h l : ℕ) → l < 2 ^ 64 → pair h l / 2 ^ 32 % 2 ^ 32 ≡ l / 2 ^ 32
+half-32 h l k = omega arith
+
+pub half-64 : (h l : ℕ) → l < 2 ^ 64 → pair h l / 2 ^ 64 % 2 ^ 32 ≡ h % 2 ^ 32
+half-64 h l k = ap (λ (x : ℕ). x % 2 ^ 32) (high h 64 k)
+
+pub half-96 : (h l : ℕ) → h < 2 ^ 64 → l < 2 ^ 64 → pair h l / 2 ^ 96 % 2 ^ 32 ≡ h / 2 ^ 32
+half-96 h l j k =
+    ap (λ (x : ℕ). x % 2 ^ 32) (sym (shr-shr (pair h l) 64 32) ∙ ap (λ (x : ℕ). x / 2 ^ 32) (high h 64 k)) ∙ small h j
+  where
+    small : (h : ℕ) → h < 2 ^ 64 → h / 2 ^ 32 % 2 ^ 32 ≡ h / 2 ^ 32
+    small h j = omega arith

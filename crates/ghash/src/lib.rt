@@ -1,11 +1,11 @@
-// GHASH (SP 800-38D, 6.4), a block as two words. A product is looked up four bits at a time in a table that is made for each call from the hash key.
+// GHASH (SP 800-38D, 6.4), a block as two words. A product is looked up four bits at a time in a table that is made for each call from the hash key: a small one for short texts.
 use buffer::put;
 ghost use mathlib.Core.Path.{_≡_};
 ghost use Prim.Native.Nat.{ℕ, _+_, _*_, _/_, _%_, _<_, _≤_, _^_, _-_};
 ghost use lib.ListN.{length};
 ghost use lib.Bits.{bitXor};
 ghost use Rattle.ghash.specs.Ghash.{pair, step, mulFrom, product, quadOf, quadAt, blockAt, ghashFrom, ghash};
-ghost use Rattle.ghash.specs.Tables.{steps, Reduced, Filled};
+ghost use Rattle.ghash.specs.Tables.{steps, Reduced, Filled, Whole};
 
 pub struct Block {
     pub hi: u64,
@@ -108,9 +108,9 @@ fn four_steps(t: &[u64; 16], z: Block) -> Block
 }
 
 // The entries of the first place.
-fn fill_first(m: &mut [u64; 1024], h: Block)
-    requires { ⌜ length (now m) ≡ 1024 ⌝ }
-    ensures { λ _. ⌜ (length (now (m .exit)) ≡ 1024) × Filled (pair (h .hi) (h .lo)) 16 (now (m .exit)) ⌝ }
+fn fill_first(m: &mut [u64], h: Block)
+    requires { ⌜ 32 ≤ length (now m) ⌝ }
+    ensures { λ _. ⌜ Filled (pair (h .hi) (h .lo)) 16 (now (m .exit)) ⌝ }
 {
     let mut i: usize = 0;
     while i < 16 {
@@ -121,13 +121,14 @@ fn fill_first(m: &mut [u64; 1024], h: Block)
     }
 }
 
-// Those of the other 31, each four steps from the one at the place before.
-fn fill_rest(t: &[u64; 16], m: &mut [u64; 1024])
-    requires { ⌜ Reduced (now t) × (length (now m) ≡ 1024) ⌝ }
-    ensures { λ _. ⌜ ((v : ℕ) → Filled v 16 (now (m .entry)) → Filled v 512 (now (m .exit))) ⌝ }
+// Those of the other places, each four steps from the one at the place before.
+fn fill_rest(t: &[u64; 16], m: &mut [u64])
+    requires { ⌜ Reduced (now t) × (32 ≤ length (now m)) ⌝ }
+    ensures { λ _. ⌜ ((v : ℕ) → Filled v 16 (now (m .entry)) → Whole v (now (m .exit))) ⌝ }
 {
+    let n = m.len() / 2;
     let mut i: usize = 16;
-    while i < 512 {
+    while i < n {
         let hi = m[2 * i - 32];
         let lo = m[2 * i - 31];
         let p = four_steps(t, Block { hi, lo });
@@ -137,9 +138,9 @@ fn fill_rest(t: &[u64; 16], m: &mut [u64; 1024])
     }
 }
 
-fn fill(m: &mut [u64; 1024], h: Block)
-    requires { ⌜ length (now m) ≡ 1024 ⌝ }
-    ensures { λ _. ⌜ Filled (pair (h .hi) (h .lo)) 512 (now (m .exit)) ⌝ }
+fn fill(m: &mut [u64], h: Block)
+    requires { ⌜ 32 ≤ length (now m) ⌝ }
+    ensures { λ _. ⌜ Whole (pair (h .hi) (h .lo)) (now (m .exit)) ⌝ }
 {
     let t = reduced();
     fill_first(m, h);
@@ -157,15 +158,15 @@ fn added(y: Block, x: Block) -> Block
     }
 }
 
-// The product of the 16 times four bits of a word of y, whose first four stand at place `at`, added to z.
-fn word_by(m: &[u64; 1024], x: u64, at: usize, z: Block) -> Block
-    requires { ⌜ at ≤ 16 ⌝ }
-    ensures { λ r. ⌜ ((v y n : ℕ) → Filled v 512 (now (m .entry)) → y / 2 ^ n % 2 ^ 64 ≡ x → mulFrom (n + 64) y (pair (z .hi) (z .lo)) (steps (4 * at) v) ≡ mulFrom n y (pair (r .hi) (r .lo)) (steps (4 * (at + 16)) v)) ⌝ }
+// The product of the eight times four bits of half a word of y, whose first four stand at place `at`, added to z.
+fn half_by(m: &[u64], x: u64, at: usize, z: Block) -> Block
+    requires { ⌜ 32 * (at + 8) ≤ length (now m) ⌝ }
+    ensures { λ r. ⌜ ((v y n : ℕ) → Whole v (now (m .entry)) → y / 2 ^ n % 2 ^ 32 ≡ x → mulFrom (n + 32) y (pair (z .hi) (z .lo)) (steps (4 * at) v) ≡ mulFrom n y (pair (r .hi) (r .lo)) (steps (4 * (at + 8)) v)) ⌝ }
 {
     let mut w = z;
     let mut j: usize = 0;
-    while j < 16 {
-        let k = ((x >> (60 - 4 * j)) % 16) as usize;
+    while j < 8 {
+        let k = ((x >> (28 - 4 * j)) % 16) as usize;
         let e = 2 * (16 * (at + j) + k);
         let hi = m[e];
         let lo = m[e + 1];
@@ -175,11 +176,57 @@ fn word_by(m: &[u64; 1024], x: u64, at: usize, z: Block) -> Block
     w
 }
 
-fn times_by(m: &[u64; 1024], x: Block) -> Block
-    ensures { λ r. ⌜ ((v : ℕ) → Filled v 512 (now (m .entry)) → pair (r .hi) (r .lo) ≡ product (pair (x .hi) (x .lo)) v) ⌝ }
+// What half a word that falls out comes to.
+fn fallen(x: u64) -> u64
+    requires { ⌜ x < 2 ^ 32 ⌝ }
+    ensures { λ r. ⌜ pair r 0 ≡ steps 32 x ⌝ }
 {
-    let high = word_by(m, x.hi, 0, Block { hi: 0, lo: 0 });
-    word_by(m, x.lo, 16, high)
+    ((x * 128) ^ (x * 64) ^ (x * 32) ^ x) * 33554432
+}
+
+fn half_steps(z: Block) -> Block
+    ensures { λ r. ⌜ pair (r .hi) (r .lo) ≡ steps 32 (pair (z .hi) (z .lo)) ⌝ }
+{
+    let zh = z.hi;
+    let zl = z.lo;
+    let r = fallen(zl % 4294967296);
+    let low = zh % 4294967296 * 4294967296 + zl / 4294967296;
+    Block {
+        hi: (zh / 4294967296) ^ r,
+        lo: low,
+    }
+}
+
+// By a table of 8 places: half a word at a time, the last one first.
+fn times_by_small(m: &[u64], x: Block) -> Block
+    requires { ⌜ 256 ≤ length (now m) ⌝ }
+    ensures { λ r. ⌜ ((v : ℕ) → Whole v (now (m .entry)) → pair (r .hi) (r .lo) ≡ product (pair (x .hi) (x .lo)) v) ⌝ }
+{
+    let d = half_by(m, x.lo % 4294967296, 0, Block { hi: 0, lo: 0 });
+    let c = half_by(m, x.lo / 4294967296, 0, half_steps(d));
+    let b = half_by(m, x.hi % 4294967296, 0, half_steps(c));
+    half_by(m, x.hi / 4294967296, 0, half_steps(b))
+}
+
+// By a table of all 32 places.
+fn times_by_large(m: &[u64], x: Block) -> Block
+    requires { ⌜ 1024 ≤ length (now m) ⌝ }
+    ensures { λ r. ⌜ ((v : ℕ) → Whole v (now (m .entry)) → pair (r .hi) (r .lo) ≡ product (pair (x .hi) (x .lo)) v) ⌝ }
+{
+    let a = half_by(m, x.hi / 4294967296, 0, Block { hi: 0, lo: 0 });
+    let b = half_by(m, x.hi % 4294967296, 8, a);
+    let c = half_by(m, x.lo / 4294967296, 16, b);
+    half_by(m, x.lo % 4294967296, 24, c)
+}
+
+fn times_by(m: &[u64], x: Block) -> Block
+    requires { ⌜ 256 ≤ length (now m) ⌝ }
+    ensures { λ r. ⌜ ((v : ℕ) → Whole v (now (m .entry)) → pair (r .hi) (r .lo) ≡ product (pair (x .hi) (x .lo)) v) ⌝ }
+{
+    if m.len() < 1024 {
+        return times_by_small(m, x);
+    }
+    times_by_large(m, x)
 }
 
 // ---- blocks of a text
@@ -223,9 +270,9 @@ fn last_block(s: &[u8], i: usize) -> Block
 
 // ---- the hash
 
-fn hash_blocks(m: &[u64; 1024], s: &[u8], end: usize) -> Block
-    requires { ⌜ (end % 16 ≡ 0) × (end ≤ length (now s)) ⌝ }
-    ensures { λ r. ⌜ ((v n : ℕ) → Filled v 512 (now (m .entry)) → ghashFrom v (now (s .entry)) (end / 16 + n) 0 0 ≡ ghashFrom v (now (s .entry)) n end (pair (r .hi) (r .lo))) ⌝ }
+fn hash_blocks(m: &[u64], s: &[u8], end: usize) -> Block
+    requires { ⌜ (256 ≤ length (now m)) × (end % 16 ≡ 0) × (end ≤ length (now s)) ⌝ }
+    ensures { λ r. ⌜ ((v n : ℕ) → Whole v (now (m .entry)) → ghashFrom v (now (s .entry)) (end / 16 + n) 0 0 ≡ ghashFrom v (now (s .entry)) n end (pair (r .hi) (r .lo))) ⌝ }
 {
     let mut y = Block { hi: 0, lo: 0 };
     let mut i: usize = 0;
@@ -238,8 +285,9 @@ fn hash_blocks(m: &[u64; 1024], s: &[u8], end: usize) -> Block
 }
 
 // All blocks, the last one too where it is not whole.
-fn hash_text(m: &[u64; 1024], s: &[u8]) -> Block
-    ensures { λ r. ⌜ ((v : ℕ) → Filled v 512 (now (m .entry)) → pair (r .hi) (r .lo) ≡ ghashFrom v (now (s .entry)) ((length (now (s .entry)) + 15) / 16) 0 0) ⌝ }
+fn hash_text(m: &[u64], s: &[u8]) -> Block
+    requires { ⌜ 256 ≤ length (now m) ⌝ }
+    ensures { λ r. ⌜ ((v : ℕ) → Whole v (now (m .entry)) → pair (r .hi) (r .lo) ≡ ghashFrom v (now (s .entry)) ((length (now (s .entry)) + 15) / 16) 0 0) ⌝ }
 {
     let end = s.len() / 16 * 16;
     let y = hash_blocks(m, s, end);
@@ -249,13 +297,28 @@ fn hash_text(m: &[u64; 1024], s: &[u8]) -> Block
     y
 }
 
+// By a table that fills all of m.
+fn hash_by(m: &mut [u64], h: Block, s: &[u8]) -> Block
+    requires { ⌜ 256 ≤ length (now m) ⌝ }
+    ensures { λ r. ⌜ pair (r .hi) (r .lo) ≡ ghash (pair (h .hi) (h .lo)) (now (s .entry)) ⌝ }
+{
+    fill(m, h);
+    let y = hash_text(m, s);
+    let bits = (s.len() as u64) % 2305843009213693952 * 8;
+    times_by(m, added(y, Block { hi: 0, lo: bits }))
+}
+
+// From here on a product by the large table makes up for the filling of it.
+const LONG: usize = 768;
+
 // The hash of a text and of its length, by the hash key h.
 pub fn hash(h: Block, s: &[u8]) -> Block
     ensures { λ r. ⌜ pair (r .hi) (r .lo) ≡ ghash (pair (h .hi) (h .lo)) (now (s .entry)) ⌝ }
 {
+    if s.len() < LONG {
+        let mut m = [0u64; 256];
+        return hash_by(&mut m, h, s);
+    }
     let mut m = [0u64; 1024];
-    fill(&mut m, h);
-    let y = hash_text(&m, s);
-    let bits = (s.len() as u64) % 2305843009213693952 * 8;
-    times_by(&m, added(y, Block { hi: 0, lo: bits }))
+    hash_by(&mut m, h, s)
 }

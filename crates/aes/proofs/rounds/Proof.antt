@@ -13,12 +13,6 @@ Inv-loop t w s₀ i₀ s i = (i ≤ 9) × (s ≡ rounds i w s₀)
 abbrev μ-loop : tie.MeasureT-loop
 μ-loop t w s₀ i₀ s i = 9 - i
 
-element-copy-out-first : tie.Need-element-copy-out-first Inv-loop μ-loop
-element-copy-out-first c = search needs
-
-add-round-key-requires : tie.Need-add-round-key-requires Inv-loop μ-loop
-add-round-key-requires c κs = search needs
-
 loop-holds : tie.Need-loop-holds Inv-loop μ-loop
 unfolding rounds
 loop-holds c = (search needs, refl)
@@ -41,8 +35,8 @@ shift-rows-requires c κs = search needs
 mix-columns-requires : tie.Need-mix-columns-requires Inv-loop μ-loop
 mix-columns-requires c κs = search needs
 
-add-round-key-requires-2 : tie.Need-add-round-key-requires-2 Inv-loop μ-loop
-add-round-key-requires-2 c κs = search needs
+add-round-key-requires : tie.Need-add-round-key-requires Inv-loop μ-loop
+add-round-key-requires c κs = search needs
 
 loop-less : tie.Need-loop-less Inv-loop μ-loop
 loop-less c = search needs
@@ -50,8 +44,8 @@ loop-less c = search needs
 loop-again : tie.Need-loop-again Inv-loop μ-loop
 loop-again c =
     let l = c .before .before .before .before .before .before .loop in
-    let b = c .before .before .before .before .before .before .before in
-    (search needs, cc (rounds-next (l .i) (b .before .before .args .w .now) (b .add-round-key .result), l .inv .1))
+    let a = c .before .before .before .before .before .before .before .args in
+    (search needs, cc (rounds-next (l .i) (a .w .now) (a .keyed), l .inv .1))
 
 element-copy-out-last : tie.Need-element-copy-out-last Inv-loop μ-loop
 element-copy-out-last c = search needs
@@ -62,17 +56,16 @@ sub-bytes-requires-2 c κs = search needs
 shift-rows-requires-2 : tie.Need-shift-rows-requires-2 Inv-loop μ-loop
 shift-rows-requires-2 c κs = search needs
 
-add-round-key-requires-3 : tie.Need-add-round-key-requires-3 Inv-loop μ-loop
-add-round-key-requires-3 c κs = search needs
+add-round-key-requires-2 : tie.Need-add-round-key-requires-2 Inv-loop μ-loop
+add-round-key-requires-2 c κs = search needs
 
 returns : tie.Need-returns Inv-loop μ-loop
 returns c =
     let l = c .before .before .before .before .before .loop in
-    let b = c .before .before .before .before .before .before in
-    let a = b .before .before .args in
+    let a = c .before .before .before .before .before .before .args in
     let e : l .i ≡ 9 = omega arith in
-    let q : l .s ≡ rounds 9 (a .w .now) (b .add-round-key .result) = l .inv .1 ∙ ap (λ (n : ℕ). rounds n (a .w .now) (b .add-round-key .result)) e in
-    cc (cipher-last (a .w .now) (a .block), q)
+    let q : l .s ≡ rounds 9 (a .w .now) (a .keyed) = l .inv .1 ∙ ap (λ (n : ℕ). rounds n (a .w .now) (a .keyed)) e in
+    λ block h. cc (cipher-last (a .w .now) block, q, h)
 
 pub rounds-spec : {M : Type 1} → statement M
 rounds-spec =
@@ -80,8 +73,6 @@ rounds-spec =
     (tie.spec
     Inv-loop
     μ-loop
-    element-copy-out-first
-    add-round-key-requires
     loop-holds
     add-i
     mul-k
@@ -89,11 +80,11 @@ rounds-spec =
     sub-bytes-requires
     shift-rows-requires
     mix-columns-requires
-    add-round-key-requires-2
+    add-round-key-requires
     loop-less
     loop-again
     element-copy-out-last
     sub-bytes-requires-2
     shift-rows-requires-2
-    add-round-key-requires-3
+    add-round-key-requires-2
     returns)

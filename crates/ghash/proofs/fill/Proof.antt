@@ -1,4 +1,3 @@
-use Rattle.ghash.specs.Ghash.{pair}
 use borrow.Author.Needs.{needs}
 use Rattle.ghash.proofs.fill.Statement.{statement}
 use Rattle.ghash.proofs.fill.Tie as tie
@@ -12,10 +11,13 @@ fill-first-requires c κs = search needs
 fill-rest-requires : tie.Need-fill-rest-requires
 fill-rest-requires c κs = search needs
 
+same-length : tie.Need-same-length
+same-length c = search needs
+
 returns : tie.Need-returns
-returns c =
-    let h = c .before .before .before .before .before .before .args .h in
-    c .fill-rest .ensures (pair (h .hi) (h .lo)) (c .before .before .before .fill-first .ensures .1)
+returns c = c .before .before .fill-rest .ensures _ (c .before .before .before .before .before .before .before .fill-first .ensures)
 
 pub fill-spec : {M : Type 1} → statement M
-fill-spec = tie.close (tie.spec reduced-requires fill-first-requires fill-rest-requires returns)
+fill-spec =
+    tie.close
+    (tie.spec reduced-requires fill-first-requires fill-rest-requires same-length returns)

@@ -1,8 +1,8 @@
-use mathlib.Core.Path.{_≡_, _∙_}
+use mathlib.Core.Path.{_≡_, refl, _∙_}
 use Prim.Native.Nat.{ℕ, _+_, _-_, _*_, _<_, _≤_}
 use native.Mathlib.Omega.{arith}
-use lib.ListN.{length, set, length-set}
 use native.Mathlib.Nat.{not-suc-le-zero}
+use lib.ListN.{length, set, length-set}
 use Rattle.ghash.specs.Ghash.{pair}
 use Rattle.ghash.specs.Tables.{Filled}
 use Rattle.ghash.proofs.Entries.{first-entry, filled-more}
@@ -11,13 +11,13 @@ use Rattle.ghash.proofs.fill_first.Statement.{statement}
 use Rattle.ghash.proofs.fill_first.Tie as tie
 
 abbrev Inv-loop : tie.InvT-loop
-Inv-loop m₀ h i₀ m i = (i ≤ 16) × (length m ≡ 1024) × Filled (pair (h .hi) (h .lo)) i m
+Inv-loop m₀ h i₀ m i = (i ≤ 16) × (length m ≡ length m₀) × Filled (pair (h .hi) (h .lo)) i m
 
 abbrev μ-loop : tie.MeasureT-loop
 μ-loop m₀ h i₀ m i = 16 - i
 
 loop-holds : tie.Need-loop-holds Inv-loop μ-loop
-loop-holds c = (search needs, c .pre, record { at = λ j h. absurd (not-suc-le-zero h) })
+loop-holds c = (search needs, refl, record { at = λ j h. absurd (not-suc-le-zero h) })
 
 four-requires : tie.Need-four-requires Inv-loop μ-loop
 four-requires c κs = search needs
@@ -28,8 +28,8 @@ mul-m c = search needs
 mul-m-2 : tie.Need-mul-m-2 Inv-loop μ-loop
 mul-m-2 c = search needs
 
-element-write-m : tie.Need-element-write-m Inv-loop μ-loop
-element-write-m c = search needs
+slice-write-m : tie.Need-slice-write-m Inv-loop μ-loop
+slice-write-m c = search needs
 
 mul-m-3 : tie.Need-mul-m-3 Inv-loop μ-loop
 mul-m-3 c = search needs
@@ -40,8 +40,8 @@ add-m c = search needs
 mul-m-4 : tie.Need-mul-m-4 Inv-loop μ-loop
 mul-m-4 c = search needs
 
-element-write-m-2 : tie.Need-element-write-m-2 Inv-loop μ-loop
-element-write-m-2 c = search needs
+slice-write-m-2 : tie.Need-slice-write-m-2 Inv-loop μ-loop
+slice-write-m-2 c = simp length-set (omega arith)
 
 add-i : tie.Need-add-i Inv-loop μ-loop
 add-i c = search needs
@@ -52,7 +52,7 @@ loop-less c = search needs
 loop-again : tie.Need-loop-again Inv-loop μ-loop
 loop-again c =
     let l = c .before .before .loop in
-    let h = c .before .before .before .args .h in
+    let h = c .before .before .before .before .args .h in
     let p = c .four .result in
     let v : ℕ = pair (h .hi) (h .lo) in
     let k : l .i < 16 = omega arith in
@@ -62,10 +62,11 @@ loop-again c =
       filled-more v (p .hi) (p .lo) (l .i) (l .m) room (c .four .ensures ∙ first-entry v (l .i) k) (l .inv .2),
     )
 
+same-length : tie.Need-same-length Inv-loop μ-loop
+same-length c = c .before .loop .inv .1
+
 returns : tie.Need-returns Inv-loop μ-loop
-returns c =
-    let l = c .before .loop in
-    (l .inv .1, record { at = λ j h. l .inv .2 .at j (omega arith) })
+returns c = record { at = λ j h. c .before .loop .inv .2 .at j (omega arith) }
 
 pub fill-first-spec : {M : Type 1} → statement M
 fill-first-spec =
@@ -77,12 +78,13 @@ fill-first-spec =
     four-requires
     mul-m
     mul-m-2
-    element-write-m
+    slice-write-m
     mul-m-3
     add-m
     mul-m-4
-    element-write-m-2
+    slice-write-m-2
     add-i
     loop-less
     loop-again
+    same-length
     returns)

@@ -1,5 +1,5 @@
-use mathlib.Core.Path.{_≡_, ap, ap₂, _∙_}
-use Prim.Native.Nat.{ℕ, _+_, _-_, _*_, _<_, _≤_}
+use mathlib.Core.Path.{_≡_, refl, ap, ap₂, _∙_}
+use Prim.Native.Nat.{ℕ, _+_, _-_, _*_, _/_, _<_, _≤_}
 use native.Mathlib.Omega.{arith}
 use lib.ListN.{length, getD, set, length-set}
 use Rattle.ghash.specs.Ghash.{pair}
@@ -10,13 +10,13 @@ use Rattle.ghash.proofs.fill_rest.Statement.{statement}
 use Rattle.ghash.proofs.fill_rest.Tie as tie
 
 abbrev Inv-loop : tie.InvT-loop
-Inv-loop t m₀ i₀ m i = (16 ≤ i) × (i ≤ 512) × (length m ≡ 1024) × ((v : ℕ) → Filled v 16 m₀ → Filled v i m)
+Inv-loop t m₀ n i₀ m i = (16 ≤ i) × (i ≤ length m₀ / 2) × (length m ≡ length m₀) × ((v : ℕ) → Filled v 16 m₀ → Filled v i m)
 
 abbrev μ-loop : tie.MeasureT-loop
-μ-loop t m₀ i₀ m i = 512 - i
+μ-loop t m₀ n i₀ m i = length m₀ / 2 - i
 
 loop-holds : tie.Need-loop-holds Inv-loop μ-loop
-loop-holds c = (search needs, search needs, c .pre .1, λ v f. f)
+loop-holds c = (search needs, search needs, refl, λ v f. f)
 
 mul-hi : tie.Need-mul-hi Inv-loop μ-loop
 mul-hi c = search needs
@@ -27,8 +27,8 @@ sub-hi c = search needs
 mul-hi-2 : tie.Need-mul-hi-2 Inv-loop μ-loop
 mul-hi-2 c = search needs
 
-element-copy-out-hi : tie.Need-element-copy-out-hi Inv-loop μ-loop
-element-copy-out-hi c = search needs
+slice-read-hi : tie.Need-slice-read-hi Inv-loop μ-loop
+slice-read-hi c = search needs
 
 mul-lo : tie.Need-mul-lo Inv-loop μ-loop
 mul-lo c = search needs
@@ -39,8 +39,8 @@ sub-lo c = search needs
 mul-lo-2 : tie.Need-mul-lo-2 Inv-loop μ-loop
 mul-lo-2 c = search needs
 
-element-copy-out-lo : tie.Need-element-copy-out-lo Inv-loop μ-loop
-element-copy-out-lo c = search needs
+slice-read-lo : tie.Need-slice-read-lo Inv-loop μ-loop
+slice-read-lo c = search needs
 
 four-steps-requires : tie.Need-four-steps-requires Inv-loop μ-loop
 four-steps-requires c κs = search needs
@@ -51,8 +51,8 @@ mul-m c = search needs
 mul-m-2 : tie.Need-mul-m-2 Inv-loop μ-loop
 mul-m-2 c = search needs
 
-element-write-m : tie.Need-element-write-m Inv-loop μ-loop
-element-write-m c = search needs
+slice-write-m : tie.Need-slice-write-m Inv-loop μ-loop
+slice-write-m c = search needs
 
 mul-m-3 : tie.Need-mul-m-3 Inv-loop μ-loop
 mul-m-3 c = search needs
@@ -63,8 +63,8 @@ add-m c = search needs
 mul-m-4 : tie.Need-mul-m-4 Inv-loop μ-loop
 mul-m-4 c = search needs
 
-element-write-m-2 : tie.Need-element-write-m-2 Inv-loop μ-loop
-element-write-m-2 c = search needs
+slice-write-m-2 : tie.Need-slice-write-m-2 Inv-loop μ-loop
+slice-write-m-2 c = simp length-set (omega arith)
 
 add-i : tie.Need-add-i Inv-loop μ-loop
 add-i c = search needs
@@ -93,6 +93,9 @@ loop-again c =
           filled-more v (p .hi) (p .lo) (l .i) (l .m) room e g,
     )
 
+same-length : tie.Need-same-length Inv-loop μ-loop
+same-length c = c .before .loop .inv .2
+
 returns : tie.Need-returns Inv-loop μ-loop
 returns c =
     let l = c .before .loop in
@@ -108,20 +111,21 @@ fill-rest-spec =
     mul-hi
     sub-hi
     mul-hi-2
-    element-copy-out-hi
+    slice-read-hi
     mul-lo
     sub-lo
     mul-lo-2
-    element-copy-out-lo
+    slice-read-lo
     four-steps-requires
     mul-m
     mul-m-2
-    element-write-m
+    slice-write-m
     mul-m-3
     add-m
     mul-m-4
-    element-write-m-2
+    slice-write-m-2
     add-i
     loop-less
     loop-again
+    same-length
     returns)

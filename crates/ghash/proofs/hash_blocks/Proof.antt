@@ -1,11 +1,11 @@
 use mathlib.Core.Path.{_≡_, refl, sym, ap, _∙_}
 use Prim.Native.Nat.{ℕ, _+_, _-_, _/_, _%_, _≤_}
 use native.Mathlib.Omega.{arith}
-use borrow.Author.Needs.{needs}
 use lib.Bits.{bitXor}
 use Rattle.ghash.specs.Ghash.{pair, product, ghashFrom}
-use Rattle.ghash.specs.Tables.{Filled}
+use Rattle.ghash.specs.Tables.{Whole}
 use Rattle.ghash.proofs.Blocks.{ghash-next}
+use borrow.Author.Needs.{needs}
 use Rattle.ghash.proofs.hash_blocks.Statement.{statement}
 use Rattle.ghash.proofs.hash_blocks.Tie as tie
 
@@ -13,14 +13,14 @@ abbrev Inv-loop : tie.InvT-loop
 Inv-loop m s end y₀ i₀ y i =
     (i ≤ end)
     × (i % 16 ≡ 0)
-    × ((v n : ℕ) → Filled v 512 m → ghashFrom v s (end / 16 + n) 0 0 ≡ ghashFrom v s ((end - i) / 16 + n) i (pair (y .hi) (y .lo)))
+    × ((v n : ℕ) → Whole v m → ghashFrom v s (end / 16 + n) 0 0 ≡ ghashFrom v s ((end - i) / 16 + n) i (pair (y .hi) (y .lo)))
 
 abbrev μ-loop : tie.MeasureT-loop
 μ-loop m s end y₀ i₀ y i = end - i
 
 loop-holds : tie.Need-loop-holds Inv-loop μ-loop
 loop-holds c =
-    let a = c .before .args in
+    let a = c .before .before .args in
     let e : a .end / 16 ≡ (a .end - 0) / 16 = omega arith in
     (search needs, refl, λ v n f. ap (λ (k : ℕ). ghashFrom v (a .s .now) (k + n) 0 0) e)
 
@@ -43,7 +43,7 @@ loop-again : tie.Need-loop-again Inv-loop μ-loop
 loop-again c =
     let at = c .before .before .before .before in
     let l = at .loop in
-    let a = at .before .before .args in
+    let a = at .before .before .before .args in
     let y : ℕ = pair (l .y .hi) (l .y .lo) in
     let h : l .i + 16 ≤ a .end = omega arith in (
       search needs,
@@ -60,7 +60,7 @@ loop-again c =
 returns : tie.Need-returns Inv-loop μ-loop
 returns c =
     let l = c .before .loop in
-    let a = c .before .before .before .args in
+    let a = c .before .before .before .before .args in
     λ v n f.
     let i : l .i ≡ a .end = omega arith in
     let e : (a .end - a .end) / 16 + n ≡ n = omega arith in

@@ -27,7 +27,7 @@ times-by-requires c κs = search needs
 returns : tie.Need-returns
 returns c =
     let b = c .before .before .before .before in
-    let s = b .before .before .args .s .now in
+    let s = b .before .before .before .args .s .now in
     let end : ℕ = length s / 16 * 16 in
     let y : ℕ = pair (b .hash-blocks .result .hi) (b .hash-blocks .result .lo) in
     let e : (length s + 15) / 16 ≡ end / 16 + 1 = omega arith in
@@ -43,7 +43,7 @@ returns c =
 returns-2 : tie.Need-returns-2
 returns-2 c =
     let b = c .before in
-    let s = b .before .before .args .s .now in
+    let s = b .before .before .before .args .s .now in
     let end : ℕ = length s / 16 * 16 in
     let y : ℕ = pair (b .hash-blocks .result .hi) (b .hash-blocks .result .lo) in
     let e : (length s + 15) / 16 ≡ end / 16 + 0 = omega arith in

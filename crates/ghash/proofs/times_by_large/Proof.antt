@@ -1,0 +1,38 @@
+use Prim.Native.Nat.{ℕ, _^_, _<_}
+use Rattle.ghash.specs.Ghash.{pair}
+use Rattle.ghash.proofs.Entries.{four-halves}
+use Rattle.ghash.proofs.Words.{half-0, half-32, half-64, half-96}
+use borrow.Author.Needs.{needs}
+use Rattle.ghash.proofs.times_by_large.Statement.{statement}
+use Rattle.ghash.proofs.times_by_large.Tie as tie
+
+half-by-requires : tie.Need-half-by-requires
+half-by-requires c κs = search needs
+
+half-by-requires-2 : tie.Need-half-by-requires-2
+half-by-requires-2 c κs = search needs
+
+half-by-requires-3 : tie.Need-half-by-requires-3
+half-by-requires-3 c κs = search needs
+
+half-by-requires-4 : tie.Need-half-by-requires-4
+half-by-requires-4 c κs = search needs
+
+returns : tie.Need-returns
+returns c =
+    let h₃ = c .before .before in
+    let h₂ = h₃ .before .before in
+    let h₁ = h₂ .before .before in
+    let x = h₁ .before .before .before .args .x in
+    let y : ℕ = pair (x .hi) (x .lo) in
+    let kh : x .hi < 2 ^ 64 = search needs in
+    let kl : x .lo < 2 ^ 64 = search needs in
+    λ v f.
+    four-halves v y _ _ _ _ (h₁ .half-by .ensures v y 96 f (half-96 (x .hi) (x .lo) kh kl)) (h₂ .half-by2 .ensures v y 64 f (half-64 (x .hi) (x .lo) kl))
+    (h₃ .half-by3 .ensures v y 32 f (half-32 (x .hi) (x .lo) kl))
+    (c .half-by4 .ensures v y 0 f (half-0 (x .hi) (x .lo)))
+
+pub times-by-large-spec : {M : Type 1} → statement M
+times-by-large-spec =
+    tie.close
+    (tie.spec half-by-requires half-by-requires-2 half-by-requires-3 half-by-requires-4 returns)
