@@ -15,6 +15,15 @@ pub struct FrameRequest<'a> {
 }
 
 impl FrameRequest<'_> {
+    /// Judges all but the send buffer.
+    pub fn judge(&self) -> Result<(), Refusal> {
+        self.frame.judge_shape()?;
+        self.frame.judge_tag()?;
+        self.frame.judge_limits()?;
+        self.judge_source()?;
+        self.judge_abort()
+    }
+
     fn judge_source(&self) -> Result<(), Refusal> {
         if self.source.len() as u64 == self.frame.sum() {
             Ok(())
@@ -33,7 +42,7 @@ impl FrameRequest<'_> {
 }
 
 /// The part of the send buffer to write to, right behind the queued bytes.
-fn place(buffer: &mut [u8], queued: u64, needed: u64) -> Result<&mut [u8], Refusal> {
+pub fn place(buffer: &mut [u8], queued: u64, needed: u64) -> Result<&mut [u8], Refusal> {
     // With more queued than the buffer holds there is no free part at all.
     match (buffer.len() as u64).checked_sub(queued) {
         Some(free) if needed <= free => {
@@ -61,11 +70,7 @@ pub fn build_frame(request: &FrameRequest, buffer: &mut [u8], queued: u64) -> Re
         abort,
         source,
     } = request;
-    frame.judge_shape()?;
-    frame.judge_tag()?;
-    frame.judge_limits()?;
-    request.judge_source()?;
-    request.judge_abort()?;
+    request.judge()?;
     let needed = wire_length(*revision, frame);
     let place = place(buffer, queued, needed)?;
     place.copy_from_slice(&frame_bytes(*revision, frame, *abort, source));

@@ -16,6 +16,8 @@ const USAGE: &str = "usage: second run
        second generate-t SEED COUNT
        second generate-n SEED COUNT
        second generate-s SEED COUNT
+       second generate-x SEED COUNT
+       second generate-y SEED COUNT
        second recordings FOLDER
        second handshakes FOLDER
        second fixed list
@@ -23,11 +25,14 @@ const USAGE: &str = "usage: second run
        second fixed list-t
        second fixed list-n
        second fixed list-s
+       second fixed list-x
        second fixed NAME
        second lines generate-r SEED COUNT
        second lines generate-h SEED COUNT
        second lines generate-t SEED COUNT
        second lines generate-n SEED COUNT
+       second lines generate-x SEED COUNT
+       second lines generate-y SEED COUNT
        second lines recordings FOLDER
        second lines handshakes FOLDER
        second lines NAME
@@ -69,6 +74,14 @@ fn named_records(words: &[&str]) -> io::Result<Box<dyn Iterator<Item = Record>>>
         ["generate-n", seed, count] => {
             let records = generate::session::records(number(seed)?, number(count)?);
             Ok(Box::new(records.map(Record::Session)))
+        }
+        ["generate-x", seed, count] => {
+            let records = generate::switching::records(number(seed)?, number(count)?);
+            Ok(Box::new(records))
+        }
+        ["generate-y", seed, count] => {
+            let records = generate::builds::records(number(seed)?, number(count)?);
+            Ok(Box::new(records.map(Record::Builds)))
         }
         ["recordings", folder] => {
             let records = recordings::records(Path::new(folder))?;
@@ -116,6 +129,7 @@ pub fn command(words: &[&str], out: &mut impl Write) -> io::Result<()> {
         ["fixed", "list-t"] => print_names(&fixed::lending_names(), out),
         ["fixed", "list-n"] => print_names(&fixed::session_names(), out),
         ["fixed", "list-s"] => print_names(&fixed::sealing_names(), out),
+        ["fixed", "list-x"] => print_names(&fixed::switching_names(), out),
         ["fixed", name] => out.write_all(&fixed_file(name)?.bytes),
         ["histories"] => print_names(&session::worked::table(), out),
         ["lines", name] => writeln!(out, "{}", fixed_file(name)?.lines),

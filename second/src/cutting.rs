@@ -1,15 +1,17 @@
 //! How a stream is cut into the pieces of a record's calls.
 
 use crate::banner::Features;
-use crate::definition::entries;
+use crate::definition::{entries_switched, Entry, Switch};
 use crate::input::LARGEST_LENGTH;
-use crate::records::FrameStore;
+use crate::records::{Call, FrameStore};
 use crate::report::Report;
 
 /// Where calls on a stream stop, however it is cut.
 pub struct Course {
     /// The byte of each entry.
     ends: Vec<usize>,
+    /// The byte behind which the switch is made, where one is.
+    switch_at: Option<usize>,
     /// Bytes of the stream.
     length: usize,
     /// Bytes that can be taken of it: a refusal leaves the rest.
@@ -18,14 +20,28 @@ pub struct Course {
 
 impl Course {
     pub fn of(own: Features, store: FrameStore, stream: &[u8]) -> Self {
-        let entries = entries(own, stream, &store.bytes()).entries;
+        Self::switched(own, store, stream, None)
+    }
+
+    /// The course of a stream with a switch.
+    pub fn switched(
+        own: Features,
+        store: FrameStore,
+        stream: &[u8],
+        switch: Option<&Switch>,
+    ) -> Self {
+        let entries = entries_switched(own, stream, &store.bytes(), switch).entries;
         let last = match entries.last() {
             _ if own.judge_own().is_err() => 0,
             Some(entry) if matches!(entry.report, Report::Refused(_)) => entry.byte,
             _ => stream.len(),
         };
+        let is_frame =
+            |entry: &&Entry| matches!(entry.report, Report::Frame(_) | Report::Dropped(_));
+        let frame = |after: usize| entries.iter().filter(is_frame).nth(after.checked_sub(1)?);
         Self {
             ends: entries.iter().map(|entry| entry.byte).collect(),
+            switch_at: switch.and_then(|switch| Some(frame(switch.after)?.byte)),
             length: stream.len(),
             last,
         }
@@ -57,6 +73,22 @@ impl Course {
             }
         }
         pieces
+    }
+
+    /// The calls of such pieces, with the try at the place where the switch is
+    /// made.
+    pub fn calls(&self, pieces: &[u32], place: u8) -> Vec<Call> {
+        let mut calls = Vec::new();
+        let mut at = 0;
+        for &piece in pieces {
+            let before = at;
+            at = self.stop(at, piece);
+            calls.push(Call::Receive(piece));
+            if before < at && self.switch_at == Some(at) {
+                calls.push(Call::Switch(place));
+            }
+        }
+        calls
     }
 
     /// Every call is offered all that is left.

@@ -4,9 +4,13 @@
 use crate::banner::{judge_magic, judge_payload_length, Features, HEAD_LENGTH, MAGIC_LENGTH};
 use crate::epilogue::{judge_epilogue, judge_first_checksum, Ending};
 use crate::frame::{Frame, PREAMBLE_LENGTH};
+use crate::gcm::KEY_LENGTH;
 use crate::refusal::Refusal;
 use crate::report::Report;
+use crate::secure::Nonce;
 use crate::wire::{epilogue_length, wire_length, Revision, CHECKSUM_LENGTH};
+
+mod sealed;
 
 /// A banner, early report, frame, drop or refusal.
 #[derive(Clone, Debug, PartialEq, Eq)]
@@ -23,6 +27,17 @@ pub struct List {
     pub entries: Vec<Entry>,
     /// The store after all bytes of the stream.
     pub store: Vec<u8>,
+}
+
+/// The switch to secure mode that the reader of a stream makes.
+#[derive(Clone, Copy, Debug, PartialEq, Eq)]
+pub struct Switch {
+    /// The frame or drop after which it is made, counted from 1.
+    pub after: usize,
+    pub key: [u8; KEY_LENGTH],
+    pub nonce: Nonce,
+    /// Parts that count as opened already.
+    pub opened: u64,
 }
 
 /// A report and its byte, counted from where its banner or frame begins;
@@ -154,9 +169,20 @@ impl List {
     }
 }
 
-/// The entries of a stream for a receiver with our own features and the store
-/// as it is at the start.
+/// The entries of a stream in crc mode, for a receiver with our own features and
+/// the store as it is at the start.
 pub fn entries(own: Features, stream: &[u8], store: &[u8]) -> List {
+    entries_switched(own, stream, store, None)
+}
+
+/// The entries of a stream whose reader makes the switch, where there is one: the
+/// frames behind the named one are sealed.
+pub fn entries_switched(
+    own: Features,
+    stream: &[u8],
+    store: &[u8],
+    switch: Option<&Switch>,
+) -> List {
     let mut list = List {
         entries: Vec::new(),
         store: store.to_vec(),
@@ -171,8 +197,16 @@ pub fn entries(own: Features, stream: &[u8], store: &[u8]) -> List {
     let Report::Banner { revision, .. } = report else {
         return list;
     };
-    while let Some(next) = list.push_frame(revision, &stream[place..], place) {
+    let sealed = switch.filter(|_| revision == Revision::Msgr21);
+    for number in 1.. {
+        let Some(next) = list.push_frame(revision, &stream[place..], place) else {
+            break;
+        };
         place = next;
+        if let Some(switch) = sealed.filter(|switch| switch.after == number) {
+            list.push_sealed_frames(switch, stream, place);
+            break;
+        }
     }
     list
 }

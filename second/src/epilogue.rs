@@ -49,7 +49,7 @@ fn judge_spelling(
 /// Reads the byte at the front of an epilogue. Late flags can't be wrong here:
 /// their spelling was judged before. Of a late status only the low four bits are
 /// looked at.
-fn judge_late_byte(revision: Revision, late: u8) -> Result<Ending, Refusal> {
+pub fn judge_late_byte(revision: Revision, late: u8) -> Result<Ending, Refusal> {
     match revision {
         Revision::Msgr20 if late & FLAG_ABORTED != 0 => Ok(Ending::Aborted),
         Revision::Msgr20 => Ok(Ending::Complete),

@@ -7,9 +7,10 @@ mod examples;
 mod lending;
 mod published;
 mod receiver;
-mod request;
+pub(crate) mod request;
 mod sealing;
 mod session;
+pub(crate) mod switching;
 
 use crate::records::Record;
 
@@ -88,6 +89,25 @@ const SEALING: Family = Family {
     bad: sealing::bad_files,
 };
 
+const SWITCHING: Family = Family {
+    good: &[
+        ("sealed-frames", switching::frames::frames),
+        ("sealed-builds", switching::builds::builds),
+        ("switch-shown", switching::shown::shown),
+        ("switch-moments", switching::moments::moments),
+        ("switch-orders", switching::orders::orders),
+        ("switch-cuts", switching::cuts::cuts),
+        ("switch-lengths", switching::lengths::lengths),
+        ("switch-faults", switching::faults::faults),
+        ("switch-nonces", switching::nonces::nonces),
+        ("switch-stores", switching::stores::stores),
+        ("secure-links", switching::links::links),
+        ("secure-links-cut", switching::links::finely),
+    ],
+    bad_name: "switch-bad",
+    bad: switching::bad::files,
+};
+
 impl Family {
     fn names(&self) -> Vec<String> {
         let good = self.good.iter().map(|(name, _)| (*name).to_string());
@@ -126,8 +146,13 @@ pub fn sealing_names() -> Vec<String> {
     SEALING.names()
 }
 
+/// Sealed frames, and the switch to them.
+pub fn switching_names() -> Vec<String> {
+    SWITCHING.names()
+}
+
 pub fn case_file(name: &str) -> Option<CaseFile> {
-    let families = [BUILDER, RECEIVER, LENDING, SESSION, SEALING];
+    let families = [BUILDER, RECEIVER, LENDING, SESSION, SEALING, SWITCHING];
     families.iter().find_map(|family| family.case_file(name))
 }
 
@@ -144,6 +169,7 @@ mod tests {
             lending_names(),
             session_names(),
             sealing_names(),
+            switching_names(),
         ];
         for name in names.concat() {
             let file = case_file(&name).expect("a listed name");

@@ -27,6 +27,7 @@ pub mod records;
 pub mod refusal;
 pub mod report;
 pub mod run;
+pub mod secure;
 pub mod session;
 pub mod spoil;
 #[cfg(test)]

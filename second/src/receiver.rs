@@ -6,8 +6,12 @@ use crate::epilogue::{judge_epilogue, judge_first_checksum, Ending};
 use crate::frame::{Frame, PREAMBLE_LENGTH};
 use crate::refusal::Refusal;
 use crate::report::Report;
+use crate::secure::{self, Direction, Secrets, Sending, HEAD_LENGTH as SEALED_HEAD_LENGTH};
 use crate::wire::{epilogue_length, first_checksum_length, Revision};
+use sealed::SealedBody;
 use std::collections::VecDeque;
+
+mod sealed;
 
 #[derive(Clone, Debug, PartialEq, Eq)]
 pub struct Receiver {
@@ -21,9 +25,17 @@ enum Stage {
     Banner(Vec<u8>),
     Preamble {
         revision: Revision,
+        /// Whether a frame or a drop came right before, and not the banner.
+        after_frame: bool,
         bytes: Vec<u8>,
     },
     Body(Body),
+    /// The first part of a sealed frame so far.
+    SealedHead {
+        direction: Direction,
+        bytes: Vec<u8>,
+    },
+    SealedBody(SealedBody),
     /// Repeated at every later call.
     Refused(Refusal),
 }
@@ -151,9 +163,32 @@ impl Body {
 }
 
 impl Stage {
-    fn preamble(revision: Revision) -> Self {
-        let bytes = Vec::with_capacity(PREAMBLE_LENGTH);
-        Self::Preamble { revision, bytes }
+    fn preamble(revision: Revision, after_frame: bool) -> Self {
+        Self::Preamble {
+            revision,
+            after_frame,
+            bytes: Vec::with_capacity(PREAMBLE_LENGTH),
+        }
+    }
+
+    fn sealed_head(direction: Direction) -> Self {
+        Self::SealedHead {
+            direction,
+            bytes: Vec::with_capacity(SEALED_HEAD_LENGTH),
+        }
+    }
+
+    /// Whether a caller may switch to secure mode: msgr2.1 in crc mode, behind a
+    /// frame or a drop and before any byte of the next.
+    fn may_switch(&self) -> bool {
+        match self {
+            Stage::Preamble {
+                revision,
+                after_frame,
+                bytes,
+            } => *revision == Revision::Msgr21 && *after_frame && bytes.is_empty(),
+            _ => false,
+        }
     }
 
     /// Bytes missing before the next judgement.
@@ -162,14 +197,19 @@ impl Stage {
             Stage::Banner(bytes) => next_banner_length(bytes) - bytes.len(),
             Stage::Preamble { bytes, .. } => PREAMBLE_LENGTH - bytes.len(),
             Stage::Body(body) => body.wanted(),
+            Stage::SealedHead { bytes, .. } => SEALED_HEAD_LENGTH - bytes.len(),
+            Stage::SealedBody(body) => body.wanted(),
             Stage::Refused(_) => 0,
         }
     }
 
     fn take(&mut self, taken: &[u8], store: &mut [u8]) {
         match self {
-            Stage::Banner(bytes) | Stage::Preamble { bytes, .. } => bytes.extend(taken),
+            Stage::Banner(bytes)
+            | Stage::Preamble { bytes, .. }
+            | Stage::SealedHead { bytes, .. } => bytes.extend(taken),
             Stage::Body(body) => body.take(taken, store),
+            Stage::SealedBody(body) => body.take(taken, store),
             Stage::Refused(_) => {}
         }
     }
@@ -211,13 +251,38 @@ impl Receiver {
         }
     }
 
+    /// Switches to secure mode, and hands back the state to build with. A switch
+    /// at another moment changes nothing, and nothing can be built with its state.
+    pub fn switch(&mut self, secrets: &Secrets) -> (Sending, Result<(), Refusal>) {
+        self.switch_after(secrets, 0)
+    }
+
+    /// The same, with so many of the receiving direction's nonces used already.
+    pub fn switch_after(
+        &mut self,
+        secrets: &Secrets,
+        opened: u64,
+    ) -> (Sending, Result<(), Refusal>) {
+        if !self.stage.may_switch() {
+            return (Sending::Refused, Err(Refusal::switch()));
+        }
+        let Secrets {
+            key,
+            receiving,
+            sending,
+        } = *secrets;
+        self.stage = Stage::sealed_head(Direction::new(key, receiving, opened));
+        (Sending::Sealing(Direction::new(key, sending, 0)), Ok(()))
+    }
+
     /// What turns a call away before it takes a byte. A body under way must
     /// find the whole room it was promised, whatever the piece.
     fn judge_call(&self, store: &[u8]) -> Result<(), Refusal> {
         match &self.stage {
             Stage::Refused(refusal) => Err(*refusal),
             Stage::Body(body) => body.frame.judge_store(store.len()),
-            Stage::Banner(_) | Stage::Preamble { .. } => Ok(()),
+            Stage::SealedBody(body) => secure::judge_store(&body.frame, store.len()),
+            Stage::Banner(_) | Stage::Preamble { .. } | Stage::SealedHead { .. } => Ok(()),
         }
     }
 
@@ -233,10 +298,12 @@ impl Receiver {
                 let Some((peer, revision)) = judge_banner(self.own, bytes)? else {
                     return Ok(None);
                 };
-                self.stage = Stage::preamble(revision);
+                self.stage = Stage::preamble(revision, false);
                 Ok(Some(Report::Banner { peer, revision }))
             }
-            Stage::Preamble { revision, bytes } => {
+            Stage::Preamble {
+                revision, bytes, ..
+            } => {
                 let frame = Frame::read(bytes.first_chunk().expect("a whole preamble"))?;
                 frame.judge_store(store.len())?;
                 self.stage = Stage::Body(Body::new(*revision, frame));
@@ -245,7 +312,23 @@ impl Receiver {
             Stage::Body(body) => {
                 let report = body.finish_part(store)?;
                 if body.parts.is_empty() {
-                    self.stage = Stage::preamble(body.revision);
+                    self.stage = Stage::preamble(body.revision, true);
+                }
+                Ok(report)
+            }
+            Stage::SealedHead { direction, bytes } => {
+                let body = SealedBody::begin(direction.clone(), bytes, store)?;
+                let report = body.report(store);
+                self.stage = match report {
+                    Some(_) => Stage::sealed_head(body.direction),
+                    None => Stage::SealedBody(body),
+                };
+                Ok(report)
+            }
+            Stage::SealedBody(body) => {
+                let report = body.finish_part(store)?;
+                if report.is_some() {
+                    self.stage = Stage::sealed_head(body.direction.clone());
                 }
                 Ok(report)
             }

@@ -8,9 +8,9 @@ use std::fs;
 use std::io;
 use std::path::Path;
 
-const OWN: Features = Features::new(1, 0);
+pub const OWN: Features = Features::new(1, 0);
 
-const STORE: FrameStore = FrameStore {
+pub const STORE: FrameStore = FrameStore {
     length: 32_768,
     fill: 0,
 };
@@ -26,40 +26,45 @@ const CALLS_BETWEEN: usize = 1_900;
 const AFTERWARDS: [u32; 2] = [0, LARGEST_LENGTH];
 
 /// One direction of a recorded connection.
-struct Link {
-    stream: Vec<u8>,
+pub struct Link {
+    pub stream: Vec<u8>,
     /// Where it was cut when it crossed the wire.
-    cuts: Vec<usize>,
+    pub cuts: Vec<usize>,
 }
 
 fn malformed(path: &Path, what: &str) -> io::Error {
     io::Error::other(format!("{}: {what}", path.display()))
 }
 
-/// The sizes in a cuts file, one to a line, as places in the stream.
-fn read_cuts(path: &Path) -> io::Result<Vec<usize>> {
-    let mut place = 0;
-    let mut cuts = Vec::new();
-    for line in fs::read_to_string(path)?.lines() {
-        let size: usize = line.parse().map_err(|_| malformed(path, "not a size"))?;
-        place += size;
-        cuts.push(place);
-    }
-    Ok(cuts)
+/// The sizes in a cuts file, one to a line.
+fn read_sizes(path: &Path) -> io::Result<Vec<usize>> {
+    let text = fs::read_to_string(path)?;
+    let size = |line: &str| line.parse().map_err(|_| malformed(path, "not a size"));
+    text.lines().map(size).collect()
 }
 
 impl Link {
+    /// A link and the sizes in which it arrived; nothing where they do not make it
+    /// up.
+    pub fn new(stream: Vec<u8>, sizes: impl IntoIterator<Item = usize>) -> Option<Self> {
+        let mut place = 0;
+        let mut cuts = Vec::new();
+        for size in sizes {
+            place += size;
+            cuts.push(place);
+        }
+        (cuts.last() == Some(&stream.len())).then_some(Self { stream, cuts })
+    }
+
     fn read(path: &Path) -> io::Result<Self> {
         let stream = fs::read(path)?;
         let cuts_path = path.with_extension("cuts");
-        let cuts = read_cuts(&cuts_path)?;
+        let sizes = read_sizes(&cuts_path)?;
         if stream.len() > LARGEST_STREAM as usize {
             return Err(malformed(path, "too long for a record"));
         }
-        if cuts.last() != Some(&stream.len()) {
-            return Err(malformed(&cuts_path, "its sizes do not make up the link"));
-        }
-        Ok(Self { stream, cuts })
+        let link = Self::new(stream, sizes);
+        link.ok_or_else(|| malformed(&cuts_path, "its sizes do not make up the link"))
     }
 
     fn record(&self, mut pieces: Vec<u32>) -> Record {
@@ -75,7 +80,7 @@ impl Link {
 
     /// Byte by byte where that needs few enough calls; else at both edges,
     /// and in pieces of some bytes between them.
-    fn finely(&self, course: &Course) -> Vec<u32> {
+    pub fn finely(&self, course: &Course) -> Vec<u32> {
         let bytes = course.byte_by_byte();
         if bytes.len() + AFTERWARDS.len() <= usize::from(MOST_CALLS) {
             return bytes;
@@ -111,6 +116,7 @@ fn names(folder: &Path) -> io::Result<Vec<String>> {
 }
 
 mod frames;
+pub mod sealed;
 
 pub use frames::{handshake_records, Frames};
 

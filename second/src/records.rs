@@ -6,17 +6,21 @@ use crate::frame::{Frame, Segment, PLACES};
 use crate::input::{BadRecord, Input, LARGEST_LENGTH};
 use crate::wire::Revision;
 
+mod builds;
 mod handshake;
 mod lending;
 mod receiver;
 mod sealing;
 mod session;
+mod switching;
 
+pub use builds::{Build, BuildsRecord, MOST_BUILDS};
 pub use handshake::{BodyRecord, ModeRecord, StepsRecord, WriteRecord};
 pub use lending::{LendingRecord, LentCall};
 pub use receiver::{FrameStore, ReceiverRecord};
 pub use sealing::SealingRecord;
 pub use session::{SessionCall, SessionRecord};
+pub use switching::{Call, SwitchingRecord, Try, MOST_TRIES, TRY_LENGTH};
 
 const CHECKSUM_KIND: u8 = b'C';
 const BANNER_KIND: u8 = b'B';
@@ -30,6 +34,8 @@ const LENDING_KIND: u8 = b'T';
 const SESSION_KIND: u8 = b'N';
 const SEAL_KIND: u8 = b'S';
 const OPEN_KIND: u8 = b'O';
+const SWITCHING_KIND: u8 = b'X';
+const BUILDS_KIND: u8 = b'Y';
 
 #[derive(Clone, Debug, PartialEq, Eq)]
 pub enum Record {
@@ -45,6 +51,8 @@ pub enum Record {
     Session(SessionRecord),
     Seal(SealingRecord),
     Open(SealingRecord),
+    Switching(SwitchingRecord),
+    Builds(BuildsRecord),
 }
 
 #[derive(Clone, Debug, PartialEq, Eq)]
@@ -184,11 +192,7 @@ impl FrameRecord {
 
     fn write(&self, out: &mut Vec<u8>) {
         out.push(u8::from(self.revision == Revision::Msgr21));
-        out.extend([self.frame.tag, self.frame.count]);
-        for segment in &self.frame.segments {
-            out.extend(segment.length.to_le_bytes());
-            out.extend(segment.alignment.to_le_bytes());
-        }
+        write_frame(&self.frame, out);
         out.push(u8::from(self.abort));
         self.buffer.write(out);
         write_run(&self.source, out);
@@ -211,6 +215,14 @@ fn read_frame(input: &mut Input) -> Result<Frame, BadRecord> {
     })
 }
 
+fn write_frame(frame: &Frame, out: &mut Vec<u8>) {
+    out.extend([frame.tag, frame.count]);
+    for segment in &frame.segments {
+        out.extend(segment.length.to_le_bytes());
+        out.extend(segment.alignment.to_le_bytes());
+    }
+}
+
 impl Record {
     pub fn read(input: &mut Input) -> Result<Self, BadRecord> {
         match input.u8()? {
@@ -226,6 +238,8 @@ impl Record {
             SESSION_KIND => SessionRecord::read(input).map(Record::Session),
             SEAL_KIND => SealingRecord::read(input).map(Record::Seal),
             OPEN_KIND => SealingRecord::read(input).map(Record::Open),
+            SWITCHING_KIND => SwitchingRecord::read(input).map(Record::Switching),
+            BUILDS_KIND => BuildsRecord::read(input).map(Record::Builds),
             _ => Err(BadRecord),
         }
     }
@@ -280,6 +294,14 @@ impl Record {
                 out.push(OPEN_KIND);
                 record.write(out);
             }
+            Record::Switching(record) => {
+                out.push(SWITCHING_KIND);
+                record.write(out);
+            }
+            Record::Builds(record) => {
+                out.push(BUILDS_KIND);
+                record.write(out);
+            }
         }
     }
 
@@ -293,7 +315,9 @@ impl Record {
             Record::Seal(_) | Record::Open(_) => 1,
             // The start has a line of its own.
             Record::Receiver(record) => 1 + record.pieces.len(),
-            Record::Lending(record) => 1 + record.calls.len(),
+            Record::Lending(record) => record.lines(),
+            Record::Switching(record) => record.lines(),
+            Record::Builds(record) => record.builds.len() + usize::from(record.spoilt),
             Record::Session(record) => record.calls.len(),
         }
     }

@@ -118,6 +118,16 @@ impl Refusal {
         Self::new(17, 0)
     }
 
+    /// Every nonce was used, or fewer are left than a frame needs.
+    pub const fn nonces_used() -> Self {
+        Self::new(18, 0)
+    }
+
+    /// Padding behind a good tag is not zero.
+    pub const fn padding() -> Self {
+        Self::new(19, 0)
+    }
+
     /// A body is malformed; the first fault is at this byte of it.
     pub const fn body_malformed(at: usize) -> Self {
         Self::new(20, at as u64)
@@ -147,6 +157,12 @@ impl Refusal {
     /// The late flags are neither 0 nor 1.
     pub const fn late_flags() -> Self {
         Self::new(24, 0)
+    }
+
+    /// A switch to secure mode at another moment than it may be made, or a build
+    /// with the state that such a switch handed back.
+    pub const fn switch() -> Self {
+        Self::new(27, 0)
     }
 
     /// A session's numbers are all given.

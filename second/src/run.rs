@@ -8,16 +8,18 @@ use crate::gcm;
 use crate::input::{BadRecord, Input};
 use crate::receiver::Receiver;
 use crate::records::{
-    BannerRecord, ChecksumRecord, FrameRecord, LendingRecord, ReceiverRecord, Record, SealingRecord,
+    BannerRecord, ChecksumRecord, FrameRecord, ReceiverRecord, Record, SealingRecord,
 };
 use crate::refusal::Refusal;
 use crate::report::Report;
 use crate::wire::Revision;
 use session::session_lines;
 use std::io::{self, Write};
+use switching::{build_lines, lending_lines, switching_lines};
 
 mod handshake;
 mod session;
+mod switching;
 
 fn checksum_line(record: &ChecksumRecord, out: &mut impl Write) -> io::Result<()> {
     writeln!(out, "crc {:08x}", checksum(record.start, &record.bytes))
@@ -131,22 +133,6 @@ fn receiver_lines(record: &ReceiverRecord, out: &mut impl Write) -> io::Result<(
     Ok(())
 }
 
-/// The same, but each call lends as much of the store as it says.
-fn lending_lines(record: &LendingRecord, out: &mut impl Write) -> io::Result<()> {
-    let (mut receiver, started) = Receiver::start(record.own);
-    start_line(started, out)?;
-    let mut store = record.store.bytes();
-    let mut left = record.stream.as_slice();
-    for call in &record.calls {
-        let piece = &left[..left.len().min(call.piece as usize)];
-        let lent = store.len().min(call.lent as usize);
-        let (taken, report) = receiver.receive(piece, &mut store[..lent]);
-        left = &left[taken..];
-        report_line(taken, &report, &store, out)?;
-    }
-    Ok(())
-}
-
 const BAD_RECORD: &str = "bad record";
 
 pub fn run(bytes: &[u8], out: &mut impl Write) -> io::Result<()> {
@@ -175,6 +161,13 @@ pub fn run(bytes: &[u8], out: &mut impl Write) -> io::Result<()> {
                     return writeln!(out, "{BAD_RECORD}");
                 }
             }
+            Ok(Record::Switching(record)) => switching_lines(&record, out)?,
+            Ok(Record::Builds(record)) => {
+                build_lines(&record, out)?;
+                if record.spoilt {
+                    return writeln!(out, "{BAD_RECORD}");
+                }
+            }
             Err(BadRecord) => return writeln!(out, "{BAD_RECORD}"),
         }
     }
@@ -183,6 +176,8 @@ pub fn run(bytes: &[u8], out: &mut impl Write) -> io::Result<()> {
 
 #[cfg(test)]
 mod receiver_tests;
+#[cfg(test)]
+mod switching_tests;
 
 #[cfg(test)]
 pub(crate) mod tests {
@@ -225,7 +220,7 @@ pub(crate) mod tests {
     #[test]
     fn a_bad_record_ends_the_run() {
         let good = b"C\0\0\0\0\0\0\0\0";
-        let bytes = [good.as_slice(), b"X", good].concat();
+        let bytes = [good.as_slice(), b"x", good].concat();
         assert_eq!(printed(&bytes), "crc 00000000\nbad record\n");
     }
 }

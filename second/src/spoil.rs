@@ -4,6 +4,8 @@ use crate::frame::{put_preamble_checksum, Frame, PREAMBLE_LENGTH};
 use crate::wire::{epilogue_length, first_checksum_length, frame_bytes};
 use crate::wire::{Revision, CHECKSUM_LENGTH};
 
+pub mod sealed;
+
 #[derive(Clone, Debug)]
 pub struct WireFrame {
     pub revision: Revision,

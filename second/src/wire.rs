@@ -16,7 +16,7 @@ const EPILOGUE_LENGTH_20: usize = 17;
 const EPILOGUE_LENGTH_21: usize = 13;
 
 /// The byte at the front of an epilogue: late flags or late status.
-fn late_byte(revision: Revision, abort: bool) -> u8 {
+pub fn late_byte(revision: Revision, abort: bool) -> u8 {
     match (revision, abort) {
         (Revision::Msgr20, false) => 0x00,
         (Revision::Msgr20, true) => 0x01,
@@ -57,7 +57,7 @@ pub fn wire_length(revision: Revision, frame: &Frame) -> u64 {
 
 /// The bytes each segment carries; an aborted frame has zeros behind segment 1.
 /// `source` holds the segments one after the other.
-fn payloads(frame: &Frame, abort: bool, source: &[u8]) -> [Vec<u8>; PLACES] {
+pub fn payloads(frame: &Frame, abort: bool, source: &[u8]) -> [Vec<u8>; PLACES] {
     let mut rest = source;
     let mut place = 0;
     frame.segments.map(|segment| {

@@ -4,7 +4,8 @@ use super::*;
 use crate::generate::receiver::records;
 use crate::random::Random;
 use crate::receiver::Receiver;
-use crate::records::ReceiverRecord;
+use crate::records::{FrameStore, ReceiverRecord};
+use crate::secure::{Direction, Secrets, Sending};
 use crate::vectors::{banner, empty, single_of_msgr21};
 use crate::vectors::{three_aborted, three_frame, three_source, three_whole};
 
@@ -122,41 +123,106 @@ fn a_refused_start_has_no_entries() {
 }
 
 /// A stream under way: what the calls so far have left.
-struct Calls<'a> {
-    record: &'a ReceiverRecord,
+pub struct Calls<'a> {
+    own: Features,
+    stream: &'a [u8],
+    first_store: Vec<u8>,
+    /// The switch that was made.
+    switch: Option<Switch>,
     list: List,
-    receiver: Receiver,
-    store: Vec<u8>,
-    taken: usize,
-    reported: Vec<Entry>,
+    pub receiver: Receiver,
+    pub store: Vec<u8>,
+    pub taken: usize,
+    pub reported: Vec<Entry>,
 }
 
 impl<'a> Calls<'a> {
-    fn start(record: &'a ReceiverRecord) -> Self {
-        let store = record.store.bytes();
+    pub fn new(own: Features, store: FrameStore, stream: &'a [u8]) -> Self {
+        let store = store.bytes();
         Self {
-            record,
-            list: entries(record.own, &record.stream, &store),
-            receiver: Receiver::start(record.own).0,
+            own,
+            stream,
+            first_store: store.clone(),
+            switch: None,
+            list: entries(own, stream, &store),
+            receiver: Receiver::start(own).0,
             store,
             taken: 0,
             reported: Vec::new(),
         }
     }
 
+    fn start(record: &'a ReceiverRecord) -> Self {
+        Self::new(record.own, record.store, &record.stream)
+    }
+
     fn is_refused(&self) -> bool {
         let last = self.reported.last();
         let refused = last.is_some_and(|entry| matches!(entry.report, Report::Refused(_)));
-        refused || self.record.own.judge_own().is_err()
+        refused || self.own.judge_own().is_err()
     }
 
-    fn has_ended(&self) -> bool {
-        self.is_refused() || self.taken == self.record.stream.len()
+    pub fn has_ended(&self) -> bool {
+        self.is_refused() || self.taken == self.stream.len()
+    }
+
+    /// Frames and drops reported.
+    pub fn frames(&self) -> usize {
+        let reports = self.reported.iter().map(|entry| entry.report);
+        let is_frame = |report: &Report| matches!(report, Report::Frame(_) | Report::Dropped(_));
+        reports.filter(is_frame).count()
+    }
+
+    /// Whether a switch may be made, by what was reported and taken so far.
+    pub fn may_switch(&self) -> bool {
+        let Some(last) = self.reported.last() else {
+            return false;
+        };
+        let is_frame = matches!(last.report, Report::Frame(_) | Report::Dropped(_));
+        let is_21 = matches!(
+            self.reported[0].report,
+            Report::Banner {
+                revision: Revision::Msgr21,
+                ..
+            }
+        );
+        is_frame && is_21 && last.byte == self.taken && self.switch.is_none()
+    }
+
+    /// One try: it is refused unless it may be made, changes no byte of the store,
+    /// and from then on the list is that of the stream with the switch.
+    pub fn switch(&mut self, secrets: &Secrets, opened: u64) {
+        let due = self.may_switch();
+        let before = self.receiver.clone();
+        let (sending, switched) = self.receiver.switch_after(secrets, opened);
+        if !due {
+            assert_eq!(
+                (sending, switched),
+                (Sending::Refused, Err(Refusal::switch()))
+            );
+            assert_eq!(self.receiver, before);
+            return;
+        }
+        let direction = Direction::new(secrets.key, secrets.sending, 0);
+        assert_eq!((sending, switched), (Sending::Sealing(direction), Ok(())));
+        self.switch = Some(Switch {
+            after: self.frames(),
+            key: secrets.key,
+            nonce: secrets.receiving,
+            opened,
+        });
+        self.list = self.defined(self.stream);
+        assert_eq!(self.reported, self.list.entries[..self.reported.len()]);
+    }
+
+    /// The definition's list of the bytes given.
+    fn defined(&self, bytes: &[u8]) -> List {
+        entries_switched(self.own, bytes, &self.first_store, self.switch.as_ref())
     }
 
     /// One call: it must take the piece up to the next entry, or whole.
-    fn call(&mut self, length: usize) {
-        let left = &self.record.stream[self.taken..];
+    pub fn call(&mut self, length: usize) {
+        let left = &self.stream[self.taken..];
         let piece = &left[..left.len().min(length)];
         let refused = self.is_refused();
         let next = self.list.entries.get(self.reported.len());
@@ -180,14 +246,13 @@ impl<'a> Calls<'a> {
     }
 
     /// The store must be the one defined for the bytes taken.
-    fn judge_store(&self) {
-        let taken = &self.record.stream[..self.taken];
-        let defined = entries(self.record.own, taken, &self.record.store.bytes());
+    pub fn judge_store(&self) {
+        let defined = self.defined(&self.stream[..self.taken]);
         assert_eq!(self.store, defined.store);
         assert_eq!(self.reported, defined.entries);
     }
 
-    fn judge_end(&self) {
+    pub fn judge_end(&self) {
         assert!(self.has_ended());
         assert_eq!(self.reported, self.list.entries);
         assert_eq!(self.store, self.list.store);

@@ -16,16 +16,15 @@ const FIRST_CALL_FIELD: usize = 25;
 
 /// Calls that lend the whole store.
 fn lending_all(pieces: &[u32]) -> impl Iterator<Item = LentCall> + '_ {
-    pieces.iter().map(|&piece| LentCall {
-        piece,
-        lent: LARGEST_LENGTH,
-    })
+    let lending = |&piece| LentCall::receive(piece, LARGEST_LENGTH);
+    pieces.iter().map(lending)
 }
 
 fn lending(case: &Case, calls: Vec<LentCall>) -> Record {
     Record::Lending(LendingRecord {
         own: case.own,
         store: case.store,
+        tries: Vec::new(),
         calls,
         stream: case.stream.clone(),
     })
@@ -56,7 +55,7 @@ fn one_shorter(revision: Revision, lengths: &[u32]) -> Vec<Record> {
         for lent in [needed, needed.saturating_sub(1), 0] {
             for piece in [0, 1, LARGEST_LENGTH] {
                 let mut calls = up_to(&course, place);
-                calls.push(LentCall { piece, lent });
+                calls.push(LentCall::receive(piece, lent));
                 calls.extend(lending_all(&[1, LARGEST_LENGTH, LARGEST_LENGTH]));
                 records.push(lending(&case, calls));
             }
@@ -83,7 +82,7 @@ fn up_and_down(revision: Revision) -> Vec<Record> {
     let record = |lents: [u32; 3]| {
         let lents = lents.into_iter().cycle();
         let calls = whole.iter().zip(lents);
-        let calls = calls.map(|(&piece, lent)| LentCall { piece, lent });
+        let calls = calls.map(|(&piece, lent)| LentCall::receive(piece, lent));
         lending(&case, calls.collect())
     };
     lents.into_iter().map(record).collect()
@@ -96,13 +95,13 @@ fn largest() -> Vec<Record> {
     stream.extend(whole(Revision::Msgr21, &[16_384, 16_384]).bytes);
     stream.resize(LARGEST_STREAM as usize, 0x63);
     let long = Case::stream(stream).with_store(LARGEST_LENGTH);
-    let calls = |piece, lent, count: u16| vec![LentCall { piece, lent }; usize::from(count)];
+    let calls = |piece, lent, count| vec![LentCall::receive(piece, lent); usize::from(count)];
     vec![
         lending(&short, calls(1, LARGEST_LENGTH, MOST_CALLS)),
         lending(&long, calls(LARGEST_LENGTH, LARGEST_LENGTH, 4)),
         lending(&long, calls(LARGEST_LENGTH, 32_768, 4)),
         lending(&long, calls(LARGEST_LENGTH, 32_767, 4)),
-        lending(&short, calls(0, 0, 0)),
+        lending(&short, calls(0, 0, 0u16)),
         lending(&Case::stream(Vec::new()).with_store(0), calls(0, 1, 2)),
     ]
 }
@@ -145,7 +144,7 @@ pub fn bad() -> Vec<CaseFile> {
     let mut files = vec![
         patched(0, b"t"),
         patched(STORE_LENGTH_FIELD, &above),
-        patched(SWITCHES_FIELD, &[1]),
+        patched(SWITCHES_FIELD, &[9]),
         patched(SWITCHES_FIELD, &[0xFF]),
         patched(CALLS_FIELD, &[0xFF; 2]),
         patched(FIRST_CALL_FIELD, &above),

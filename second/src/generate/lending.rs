@@ -15,9 +15,8 @@ pub fn records(seed: u64, count: u64) -> impl Iterator<Item = LendingRecord> {
 fn lending(random: &mut Random, record: ReceiverRecord) -> LendingRecord {
     let habit = random.between(1, 4);
     let needed = random.between(0, record.store.length);
-    let calls = record.pieces.iter().map(|&piece| LentCall {
-        piece,
-        lent: match habit {
+    let calls = record.pieces.iter().map(|&piece| {
+        let lent = match habit {
             // Always enough, said in different ways.
             1 => random.pick(&[LARGEST_LENGTH, record.store.length]),
             // Seldom too little.
@@ -28,12 +27,14 @@ fn lending(random: &mut Random, record: ReceiverRecord) -> LendingRecord {
             _ => random
                 .between(0, record.store.length + 1)
                 .min(LARGEST_LENGTH),
-        },
+        };
+        LentCall::receive(piece, lent)
     });
     LendingRecord {
         calls: calls.collect(),
         own: record.own,
         store: record.store,
+        tries: Vec::new(),
         stream: record.stream,
     }
 }

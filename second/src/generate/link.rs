@@ -168,10 +168,10 @@ pub fn spoil_frame(random: &mut Random, link: &mut Link) {
 }
 
 /// A byte of the preamble and what is put over it bit by bit.
-type Change = (usize, u8);
+pub type Change = (usize, u8);
 
 /// Mostly bits by which a refusal of its own is given, else any byte.
-fn preamble_change(random: &mut Random, tag: u8) -> Change {
+pub fn preamble_change(random: &mut Random, tag: u8) -> Change {
     // The first places are used more often.
     let segment = 2 + 6 * random.pick(&[0, 0, 0, 1, 1, 2, 3]);
     let any = random.u8();
@@ -190,7 +190,7 @@ fn preamble_change(random: &mut Random, tag: u8) -> Change {
 
 /// Breaks the rule at that place of the order 5, 6, 7, 8, 9; a length above its
 /// limit is mostly above the store's length too.
-fn break_rule(random: &mut Random, frame: &mut WireFrame, rule: u32) {
+pub fn break_rule(random: &mut Random, frame: &mut WireFrame, rule: u32) {
     let bit = 1 << random.between(0, 7);
     if rule == 0 {
         frame.bytes[31] ^= bit;
@@ -206,7 +206,7 @@ fn break_rule(random: &mut Random, frame: &mut WireFrame, rule: u32) {
 }
 
 /// Four segments of these lengths in the preamble; the body stays.
-fn put_lengths(frame: &mut WireFrame, lengths: [u32; PLACES]) {
+pub fn put_lengths(frame: &mut WireFrame, lengths: [u32; PLACES]) {
     frame.change_preamble(|preamble| {
         preamble[1] = PLACES as u8;
         for (place, length) in lengths.into_iter().enumerate() {
@@ -216,7 +216,7 @@ fn put_lengths(frame: &mut WireFrame, lengths: [u32; PLACES]) {
     });
 }
 
-fn change_preamble(frame: &mut WireFrame, changes: Vec<Change>) {
+pub fn change_preamble(frame: &mut WireFrame, changes: Vec<Change>) {
     frame.change_preamble(|preamble| {
         for (place, bits) in changes {
             preamble[place] ^= bits;
