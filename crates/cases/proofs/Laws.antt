@@ -1,15 +1,14 @@
 -- Laws of builds, of calls, and of bytes that are moved to the front of a list.
 use mathlib.Core.Path.{_≡_, refl, sym, ap, ap₂, _∙_}
 use mathlib.Core.Bool.{Bool, true, false, _&&_}
-use mathlib.Core.List.{List, [], _∷_, _++_, append-assoc, append-nil}
-use Prim.Native.Nat.{ℕ, zero, suc, _+_, _-_, _%_, _≤_, _<_}
+use mathlib.Core.List.{List, [], _∷_, _++_, append-nil}
+use Prim.Native.Nat.{ℕ, zero, suc, _+_, _-_, _≤_, _<_}
 use native.Mathlib.Nat.{add-comm, not-suc-le-zero}
-use native.Mathlib.Numerals.{add-one}
 use native.Mathlib.Omega.{arith}
 use borrow.Author.Tests.{leb-true, eq-eqb, ne-eqb}
-use lib.Dec.{ltb, leb, eqb}
-use lib.ListN.{length, take, drop, getD, set, length-drop, length-append, drop-of-length-le}
-use lib.Seq.{getD-append-add, getD-drop, length-take-le, take-at, take-all, drop-cons, drop-drop, drop-length, set-at}
+use lib.Dec.{leb, eqb}
+use lib.ListN.{length, take, drop, getD, set, length-drop, drop-of-length-le}
+use lib.Seq.{getD-append-add, getD-drop, length-take-le, take-at, take-all, drop-drop, drop-length}
 use Rattle.buffer.proofs.Turn.{copy-more}
 use Rattle.buffer.proofs.Parts.{back}
 use Rattle.buffer.specs.Le.{numberAt}
@@ -24,13 +23,13 @@ use Rattle.banner.specs.declared.Revision.{Revision}
 use Rattle.banner.specs.Banner.{judgeOwn}
 use Rattle.preamble.specs.declared.Header.{Header}
 use Rattle.preamble.specs.Judge.{headerOf}
-use Rattle.text.specs.Line.{Piece}
 use Rattle.text.specs.Page.{Page, page}
 use Rattle.cases.specs.declared.calls.Call.{Call}
 use Rattle.cases.specs.declared.calls.Called.{Called}
 use Rattle.records.specs.Records.{allowed, isWhole, print, prints, counted}
 use Rattle.records.proofs.Laws.{sized-good, first, second}
-use Rattle.cases.specs.Builds.{answerLine, doneLine, bannerSize, bannerDoneOf, revisionOf, frameSize, frameDoneOf}
+use Rattle.build_cases.specs.Sealed.{answerLine}
+use Rattle.cases.specs.Builds.{doneLine, bannerSize, bannerDoneOf, revisionOf, frameSize, frameDoneOf}
 use Rattle.cases.specs.Calls.{CallDid, startLine, callAnswer, callLine, lentAnswer, callLines, ownOf, receiverLines, callAt, callsFrom, callGood, callsGood, callWidth, callsAt, callsOf, streamAt, streamOf, noSwitches, receiverSize}
 
 -- ---- kinds

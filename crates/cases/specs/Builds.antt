@@ -9,13 +9,10 @@ use Rattle.crc32c.specs.Crc.{crcOf}
 use Rattle.banner.specs.declared.Revision.{Revision}
 use Rattle.banner.specs.declared.Revision.the-variants.{Msgr20, Msgr21}
 use Rattle.preamble.specs.Judge.{headerOf}
-use Rattle.builder.specs.Build.{Answer, wrote, turnedAway, Done, bannerDone, frameDone}
+use Rattle.builder.specs.Build.{Done, bannerDone, frameDone}
 use Rattle.text.specs.Line.{Piece}
-use Rattle.records.specs.Records.{Record, wroteLine, refusedLine, sized, allowed, whole, counted}
-
-abbrev pub answerLine : Answer → ℕ → List Piece
-answerLine (wrote n) c = wroteLine n c
-answerLine (turnedAway w) c = refusedLine w c
+use Rattle.records.specs.Records.{Record, sized, allowed, whole, counted}
+use Rattle.build_cases.specs.Sealed.{answerLine}
 
 -- a build's line: its answer, and the checksum of the buffer that it left
 abbrev pub doneLine : Done → List Piece

@@ -2,7 +2,7 @@
 use mathlib.Core.Bool.{true, false, cond}
 use mathlib.Core.List.{List}
 use Prim.Native.Nat.{ℕ}
-use lib.Dec.{eqb}
+use lib.Dec.{ltb, eqb}
 use lib.ListN.{getD}
 use Rattle.records.specs.Records.{Record, badRecord}
 use Rattle.session_cases.specs.Session.{sessionRecord}
@@ -11,6 +11,8 @@ use Rattle.handshake_cases.specs.Modes.{modeRecord}
 use Rattle.sealing_cases.specs.Sealing.{sealingRecord}
 use Rattle.body_cases.specs.Reading.{readRecord}
 use Rattle.body_cases.specs.Writing.{writeRecord}
+use Rattle.build_cases.specs.declared.Builds.{Builds}
+use Rattle.build_cases.specs.Sealed.{PartDone, headPart, buildPart}
 use Rattle.cases.specs.Checksums.{checksumRecord}
 use Rattle.cases.specs.Builds.{bannerRecord, frameRecord}
 use Rattle.cases.specs.Calls.{receiverRecord}
@@ -35,3 +37,9 @@ recordOf s =
     (cond (eqb (getD s 0 0) 0x52) (receiverRecord false s)
     (cond (eqb (getD s 0 0) 0x54) (receiverRecord true s)
     (otherRecord s)))))
+
+-- WHAT COMES NEXT: a build of a record that is not at its end, the head of one, or a record that is read at once
+unfoldable pub nextOf : Builds → List ℕ → PartDone
+nextOf b s =
+    cond (ltb 0 (b .left)) (buildPart b 65536 s)
+    (cond (eqb (getD s 0 0) 0x59) (headPart b s) (record { part = recordOf s; builds = b }))

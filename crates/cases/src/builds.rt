@@ -5,7 +5,7 @@ use buffer::byte_at;
 use buffer::part;
 use buffer::u32_at;
 use buffer::u64_at;
-use builder::Built;
+use build_cases::print_built;
 use builder::build_banner;
 use builder::build_frame;
 use crc32c::checksum;
@@ -15,27 +15,13 @@ use records::Step;
 use records::bad_record;
 use records::count_up;
 use records::is_whole;
-use records::print_refused;
-use records::print_wrote;
 use records::sized;
 use refusal::both;
-use refusal::in_numbers;
 ghost use mathlib.Core.Path.{_≡_};
 ghost use Prim.Native.Nat.{_≤_};
 ghost use lib.ListN.{length};
-ghost use Rattle.builder.specs.Build.{answered};
-ghost use Rattle.text.specs.Page.{page};
-ghost use Rattle.records.specs.Records.{Did, print};
-ghost use Rattle.cases.specs.Builds.{answerLine, revisionOf, bannerSize, bannerRecord, frameSize, frameRecord};
-
-fn print_built(text: &mut [u8], at: usize, built: Built, sum: u32) -> usize
-    ensures { λ r. ⌜ page (now (text .exit)) r ≡ print (answerLine (answered built) sum) (page (now (text .entry)) at) ⌝ }
-{
-    match built {
-        Built::Wrote(n) => print_wrote(text, at, n, sum),
-        Built::Refused(why) => print_refused(text, at, in_numbers(why), sum),
-    }
-}
+ghost use Rattle.records.specs.Records.{Did};
+ghost use Rattle.cases.specs.Builds.{revisionOf, bannerSize, bannerRecord, frameSize, frameRecord};
 
 fn banner_size(s: &[u8]) -> usize
     ensures { λ r. ⌜ r ≡ bannerSize (now (s .entry)) ⌝ }

@@ -7,6 +7,11 @@ use body_cases::reading::read_record;
 use body_cases::writing::write_record;
 use buffer::byte_at;
 use buffer::part;
+use build_cases::Builds;
+use build_cases::Part;
+use build_cases::build_record;
+use build_cases::builds_record;
+use build_cases::no_builds;
 use builds::banner_record;
 use builds::frame_record;
 use calls::receiver_record;
@@ -18,6 +23,7 @@ use libc::STDOUT_FILENO;
 use records::LARGEST;
 use records::Step;
 use records::bad_record;
+use refusal::both;
 use sealing_cases::sealing_record;
 use session_cases::session_record;
 ghost use mathlib.Core.Path.{_≡_};
@@ -26,7 +32,8 @@ ghost use Prim.Native.Nat.{_+_, _≤_, _<_};
 ghost use lib.ListN.{length, take, drop};
 ghost use Rattle.cases.specs.Between.{Between, Refilled};
 ghost use Rattle.records.specs.Records.{Did};
-ghost use Rattle.cases.specs.Kinds.{otherRecord, recordOf};
+ghost use Rattle.build_cases.specs.Sealed.{DidPart};
+ghost use Rattle.cases.specs.Kinds.{otherRecord, recordOf, nextOf};
 
 // The bytes of the longest record of any kind.
 const LONGEST: usize = 163869;
@@ -41,10 +48,11 @@ struct Input {
     open: bool,
 }
 
-// Between two records: the input, where the text ends, and how many more records are read.
+// Between two records, or two builds of one: the input, where the text ends, the builds that are to come, and how many more records are read.
 struct State {
     input: Input,
     filled: usize,
+    builds: Builds,
     left: u64,
 }
 
@@ -83,6 +91,18 @@ fn refill(held: &mut [u8], input: Input) -> Input
         at: 0,
         end: end,
         open: end == all,
+    }
+}
+
+// Behind n bytes more.
+fn advance(input: Input, n: usize) -> Input
+    requires { ⌜ input .at + n ≤ input .end ⌝ }
+    ensures { λ r. ⌜ (r .at ≡ input .at + n) × (r .end ≡ input .end) ⌝ }
+{
+    Input {
+        at: input.at + n,
+        end: input.end,
+        open: input.open,
     }
 }
 
@@ -142,6 +162,24 @@ fn run_record(s: &[u8], space: &mut [u8], text: &mut [u8], at: usize) -> Step
     run_other(s, space, text, at)
 }
 
+// A build of a record that is not at its end, the head of one, or a record that is read at once.
+fn run_next(builds: Builds, s: &[u8], space: &mut [u8], text: &mut [u8], at: usize) -> Part
+    requires { ⌜ 65536 ≤ length (now space) ⌝ }
+    ensures { λ r. ⌜ DidPart (nextOf builds (now (s .entry))) (now (s .entry)) (now (text .entry)) at (now (text .exit)) r ⌝ }
+{
+    if 0 < builds.left {
+        return build_record(builds, s, &mut space[..LARGEST], text, at);
+    }
+    if byte_at(s, 0) == b'Y' {
+        return builds_record(builds, s, text, at);
+    }
+    let step = run_record(s, space, text, at);
+    Part {
+        step: step,
+        builds: builds,
+    }
+}
+
 // ---- the run
 
 // The next record, where the input has one.
@@ -154,29 +192,31 @@ fn turn(held: &mut [u8], space: &mut [u8], text: &mut [u8], s: State) -> State
     let input = refill(held, s.input);
     let at = input.at;
     let end = input.end;
-    if at == end {
+    let builds = s.builds;
+    if both(at == end, builds.left == 0) {
         return State {
             input: input,
             filled: s.filled,
+            builds: builds,
             left: 0,
         };
     }
-    let step = run_record(&held[at..end], space, text, s.filled);
-    if step.taken == 0 {
+    let done = run_next(builds, &held[at..end], space, text, s.filled);
+    let taken = done.step.taken;
+    let filled = done.step.filled;
+    let rest = done.builds;
+    if taken == 0 {
         return State {
             input: input,
-            filled: step.filled,
+            filled: filled,
+            builds: rest,
             left: 0,
         };
     }
-    let rest = Input {
-        at: at + step.taken,
-        end: end,
-        open: input.open,
-    };
     State {
-        input: rest,
-        filled: step.filled,
+        input: advance(input, taken),
+        filled: filled,
+        builds: rest,
         left: s.left - 1,
     }
 }
@@ -192,10 +232,12 @@ fn run(held: &mut [u8], space: &mut [u8], text: &mut [u8])
     let mut s = State {
         input: none,
         filled: 0,
+        builds: no_builds(),
         left: MOST,
     };
     while 0 < s.left {
-        s = turn(held, space, text, s);
+        let next = turn(held, space, text, s);
+        s = next;
     }
     io::write_all(STDOUT_FILENO, part(text, 0, s.filled));
 }

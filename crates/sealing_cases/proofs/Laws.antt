@@ -1,12 +1,12 @@
 -- Laws of sealing and opening by a record.
-use mathlib.Core.Path.{_≡_, refl, sym, ap, _∙_}
-use mathlib.Core.Bool.{Bool, true, false, _&&_}
+use mathlib.Core.Path.{_≡_, ap, _∙_}
+use mathlib.Core.Bool.{Bool, true, _&&_}
 use mathlib.Core.List.{List, append-nil}
 use Prim.Native.Nat.{ℕ, _+_, _-_, _≤_}
 use native.Mathlib.Omega.{arith}
 use borrow.Author.Tests.{leb-true}
 use lib.Dec.{leb}
-use lib.ListN.{length, take, drop, getD, replicate, length-drop, drop-of-length-le}
+use lib.ListN.{length, take, drop, length-drop, drop-of-length-le}
 use lib.Seq.{length-take-le}
 use Rattle.buffer.specs.Le.{numberAt}
 use Rattle.buffer.specs.Splice.{overwrite}
@@ -14,7 +14,7 @@ use Rattle.buffer.proofs.Parts.{overwrite-fits}
 use Rattle.crc32c.specs.Crc.{crcOf}
 use Rattle.gcm.specs.declared.Outcome.{Outcome}
 use Rattle.gcm.specs.Calls.{Done, done, answered}
-use Rattle.records.specs.Records.{isWhole, sized, allowed, counted}
+use Rattle.records.specs.Records.{isWhole, allowed}
 use Rattle.records.proofs.Laws.{first, sized-good, whole-within}
 use Rattle.sealing_cases.specs.Sealing.{answerLine, doneLine, sealingSize, keyOf, nonceOf, givenOf, bufferOf, doneBy, doneOf}
 

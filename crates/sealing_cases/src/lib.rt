@@ -18,7 +18,7 @@ use records::sized;
 use refusal::both;
 use refusal::in_numbers;
 ghost use mathlib.Core.Path.{_≡_};
-ghost use Prim.Native.Nat.{_≤_};
+ghost use Prim.Native.Nat.{_+_, _≤_};
 ghost use lib.ListN.{length, take, drop};
 ghost use Rattle.gcm.specs.Calls.{done, answered};
 ghost use Rattle.text.specs.Page.{page};
@@ -41,19 +41,21 @@ fn sealing_size(room: usize, s: &[u8]) -> usize
     sized(both(u32_at(s, 29) as usize <= room, n <= LARGEST), 38 + n)
 }
 
-fn key_of(s: &[u8]) -> [u8; 16]
-    ensures { λ r. ⌜ (17 ≤ length (now (s .entry)) → r ≡ take 16 (drop 1 (now (s .entry)))) ⌝ }
+// The 16 bytes of a key from a place on.
+pub fn key_at(s: &[u8], at: usize) -> [u8; 16]
+    ensures { λ r. ⌜ (at + 16 ≤ length (now (s .entry)) → r ≡ take 16 (drop at (now (s .entry)))) ⌝ }
 {
     let mut key = [0u8; 16];
-    put(&mut key, part(s, 1, 16));
+    put(&mut key, part(s, at, 16));
     key
 }
 
-fn nonce_of(s: &[u8]) -> [u8; 12]
-    ensures { λ r. ⌜ (29 ≤ length (now (s .entry)) → r ≡ take 12 (drop 17 (now (s .entry)))) ⌝ }
+// The 12 bytes of a nonce.
+pub fn nonce_at(s: &[u8], at: usize) -> [u8; 12]
+    ensures { λ r. ⌜ (at + 12 ≤ length (now (s .entry)) → r ≡ take 12 (drop at (now (s .entry)))) ⌝ }
 {
     let mut nonce = [0u8; 12];
-    put(&mut nonce, part(s, 17, 12));
+    put(&mut nonce, part(s, at, 12));
     nonce
 }
 
@@ -84,7 +86,7 @@ pub fn sealing_record(opens: bool, s: &[u8], space: &mut [u8], text: &mut [u8], 
     let buf = &mut space[..n];
     count_up(buf, byte_at(s, 33));
     let given = part(s, 38, u32_at(s, 34) as usize);
-    let outcome = seal_or_open(opens, key_of(s), nonce_of(s), given, buf);
+    let outcome = seal_or_open(opens, key_at(s, 1), nonce_at(s, 17), given, buf);
     let sum = checksum(0xFFFFFFFF, buf);
     Step {
         taken: size,

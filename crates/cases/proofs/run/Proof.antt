@@ -12,6 +12,9 @@ Inv-loop held₀ space₀ text₀ s₀ held space text s = Between s (length hel
 abbrev μ-loop : tie.MeasureT-loop
 μ-loop held₀ space₀ text₀ s₀ held space text s = s .left
 
+no-builds-requires : tie.Need-no-builds-requires Inv-loop μ-loop
+no-builds-requires c κs = search needs
+
 loop-holds : tie.Need-loop-holds Inv-loop μ-loop
 loop-holds c = (omega arith, refl, refl, refl)
 
@@ -50,6 +53,7 @@ run-spec =
     (tie.spec
     Inv-loop
     μ-loop
+    no-builds-requires
     loop-holds
     turn-requires
     loop-less

@@ -1,4 +1,4 @@
-use mathlib.Core.Path.{_≡_, sym}
+use mathlib.Core.Path.{sym}
 use borrow.Author.Needs.{needs}
 use Rattle.cases.proofs.Laws.{kind-is, kind-isnt, space-lent}
 use Rattle.cases.specs.Kinds.{otherRecord}

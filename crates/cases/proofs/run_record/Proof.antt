@@ -1,4 +1,3 @@
-use mathlib.Core.Path.{_≡_}
 use borrow.Author.Needs.{needs}
 use Rattle.cases.proofs.Laws.{kind-is, kind-isnt}
 use Rattle.cases.specs.Kinds.{recordOf}

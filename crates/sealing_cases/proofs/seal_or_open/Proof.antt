@@ -1,4 +1,3 @@
-use mathlib.Core.Path.{_≡_}
 use borrow.Author.Needs.{needs}
 use Rattle.sealing_cases.specs.Sealing.{doneBy}
 use Rattle.sealing_cases.proofs.seal_or_open.Statement.{statement}

@@ -72,11 +72,11 @@ cast-part c = search needs
 part-requires : tie.Need-part-requires
 part-requires c κs = search needs
 
-key-of-requires : tie.Need-key-of-requires
-key-of-requires c κs = search needs
+key-at-requires : tie.Need-key-at-requires
+key-at-requires c κs = search needs
 
-nonce-of-requires : tie.Need-nonce-of-requires
-nonce-of-requires c κs = search needs
+nonce-at-requires : tie.Need-nonce-at-requires
+nonce-at-requires c κs = search needs
 
 seal-or-open-requires : tie.Need-seal-or-open-requires
 seal-or-open-requires c κs = search needs
@@ -103,9 +103,9 @@ returns-2 c = let s = c .before .before .before .before .before .before .before 
     let n : length (take (c .before .before .before .before .before .before .before .before .before .before .before .before .before .before .before .before .before .before .before .before .before .before .u32-at .result) (c .before .before .before .before .before .before .before .before .before .before .before .before .before .before .before .before .before .before .before .before .before .before .before .before .before .before .before .before .before .args .space .now)) ≡ numberAt 4 29 s = length-take-le (c .before .before .before .before .before .before .before .before .before .before .before .before .before .before .before .before .before .before .before .before .before .before .u32-at .result) (c .before .before .before .before .before .before .before .before .before .before .before .before .before .before .before .before .before .before .before .before .before .before .before .before .before .before .before .before .before .args .space .now) (omega (arith, c .before .before .before .before .before .before .before .before .before .before .before .before .before .before .before .before .before .before .before .before .before .before .u32-at .ensures)) ∙ c .before .before .before .before .before .before .before .before .before .before .before .before .before .before .before .before .before .before .before .before .before .before .u32-at .ensures in
     let d : done (answered (c .before .before .before .before .before .before .before .before .before .before .seal-or-open .result)) (c .before .before .before .before .before .before .before .before .before .before .seal-or-open .last .1 .1 .1 .1 .0) ≡ doneOf (c .before .before .before .before .before .before .before .before .before .before .before .before .before .before .before .before .before .before .before .before .before .before .before .before .before .before .before .before .before .args .opens) s =
     c .before .before .before .before .before .before .before .before .before .before .seal-or-open .ensures
-    ∙ sealing-done (c .before .before .before .before .before .before .before .before .before .before .before .before .before .before .before .before .before .before .before .before .before .before .before .before .before .before .before .before .before .args .opens) s (c .before .before .before .before .before .before .before .before .before .before .before .before .before .key-of .result) (c .before .before .before .before .before .before .before .before .before .before .before .before .nonce-of .result) (c .before .before .before .before .before .before .before .before .before .before .before .before .before .before .part .result .now) (c .before .before .before .before .before .before .before .before .before .before .before .before .before .before .before .before .before .before .count-up .last .0)
-    (c .before .before .before .before .before .before .before .before .before .before .before .before .before .key-of .ensures (omega arith))
-    (c .before .before .before .before .before .before .before .before .before .before .before .before .nonce-of .ensures (omega arith))
+    ∙ sealing-done (c .before .before .before .before .before .before .before .before .before .before .before .before .before .before .before .before .before .before .before .before .before .before .before .before .before .before .before .before .before .args .opens) s (c .before .before .before .before .before .before .before .before .before .before .before .before .before .key-at .result) (c .before .before .before .before .before .before .before .before .before .before .before .before .nonce-at .result) (c .before .before .before .before .before .before .before .before .before .before .before .before .before .before .part .result .now) (c .before .before .before .before .before .before .before .before .before .before .before .before .before .before .before .before .before .before .count-up .last .0)
+    (c .before .before .before .before .before .before .before .before .before .before .before .before .before .key-at .ensures (omega arith))
+    (c .before .before .before .before .before .before .before .before .before .before .before .before .nonce-at .ensures (omega arith))
     (c .before .before .before .before .before .before .before .before .before .before .before .before .before .before .part .ensures ∙ ap (λ (k : ℕ). take k (drop 38 s)) (c .before .before .before .before .before .before .before .before .before .before .before .before .before .before .before .u32-at2 .ensures))
     (c .before .before .before .before .before .before .before .before .before .before .before .before .before .before .before .before .before .before .count-up .ensures ∙ ap₂ counted (c .before .before .before .before .before .before .before .before .before .before .before .before .before .before .before .before .before .before .before .byte-at .ensures) n)
     in
@@ -131,8 +131,8 @@ sealing-record-spec =
     u32-at-requires-2
     cast-part
     part-requires
-    key-of-requires
-    nonce-of-requires
+    key-at-requires
+    nonce-at-requires
     seal-or-open-requires
     checksum-requires
     print-outcome-requires

@@ -1,4 +1,3 @@
-use mathlib.Core.Path.{_∙_, sym}
 use native.Mathlib.Omega.{arith}
 use Rattle.session.proofs.Table.{held-size}
 use Rattle.session_cases.proofs.held_count.Statement.{statement}

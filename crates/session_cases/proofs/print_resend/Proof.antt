@@ -1,4 +1,3 @@
-use mathlib.Core.Path.{_≡_, _∙_, sym, ap}
 use borrow.Author.Needs.{needs}
 use Rattle.records.proofs.Laws.{puts-append}
 use Rattle.session_cases.proofs.print_resend.Statement.{statement}

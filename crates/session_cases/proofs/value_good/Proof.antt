@@ -1,4 +1,3 @@
-use mathlib.Core.Path.{_≡_}
 use borrow.Author.Tests.{eq-eqb, ne-eqb}
 use Rattle.session_cases.proofs.value_good.Statement.{statement}
 use Rattle.session_cases.proofs.value_good.Tie as tie

@@ -1,6 +1,6 @@
 use borrow.Author.Needs.{needs}
-use Rattle.cases.proofs.builds.print_built.Statement.{statement}
-use Rattle.cases.proofs.builds.print_built.Tie as tie
+use Rattle.build_cases.proofs.print_built.Statement.{statement}
+use Rattle.build_cases.proofs.print_built.Tie as tie
 
 enum-known-built : tie.Need-enum-known-built
 enum-known-built c = search needs

@@ -1,0 +1,72 @@
+use mathlib.Core.Bool.{true, false}
+use mathlib.Core.List.{List, [], _∷_}
+use mathlib.Core.Path.{_≡_, refl, sym, ap, ap₂, _∙_}
+use Prim.Native.Nat.{ℕ, _-_}
+use native.Mathlib.Omega.{arith}
+use borrow.Author.Tests.{not-true, not-false}
+use lib.Dec.{eqb}
+use lib.ListN.{length, take, drop}
+use lib.Seq.{length-take-le}
+use Rattle.buffer.specs.Le.{numberAt}
+use Rattle.preamble.specs.Judge.{headerOf}
+use Rattle.builder.specs.Build.{answered}
+use Rattle.sealed_builder.specs.Build.{done}
+use Rattle.records.specs.Records.{isWhole, print, prints, counted}
+use Rattle.text.specs.Line.{Piece}
+use Rattle.text.specs.Page.{page}
+use Rattle.build_cases.specs.Sealed.{headSize, headBuilds, headPart}
+use Rattle.build_cases.proofs.Laws.{head-long, builds-of, part-bad, part-whole}
+use borrow.Author.Needs.{needs}
+use Rattle.build_cases.proofs.builds_record.Statement.{statement}
+use Rattle.build_cases.proofs.builds_record.Tie as tie
+
+head-size-requires : tie.Need-head-size-requires
+head-size-requires c κs = search needs
+
+is-whole-requires : tie.Need-is-whole-requires
+is-whole-requires c κs = search needs
+
+bad-record-requires : tie.Need-bad-record-requires
+bad-record-requires c κs = search needs
+
+same-length : tie.Need-same-length
+same-length c = search needs
+
+returns : tie.Need-returns
+unfolding headPart
+returns c = let a = c .before .before .before .before .before .before .before .before .before .args in
+    let s = a .s .now in
+    let e : isWhole (headSize s) s ≡ false = ap (λ (k : ℕ). isWhole k s) (sym (c .before .before .before .before .before .before .head-size .ensures)) ∙ sym (c .before .before .before .before .before .is-whole .ensures) ∙ not-true (c .before .before .before .before .before .is-whole .result) (c .before .before .before .before .if1 .taken) in
+    part-bad (headSize s) [] (headBuilds s) (a .before) e (c .before .before .bad-record .ensures .0) (c .before .before .bad-record .ensures .1) refl
+
+u16-at-requires : tie.Need-u16-at-requires
+u16-at-requires c κs = search needs
+
+cast-n : tie.Need-cast-n
+cast-n c = search needs
+
+sending-of-requires : tie.Need-sending-of-requires
+sending-of-requires c κs = let s = c .before .before .before .before .before .before .args .s .now in
+    let e : isWhole (headSize s) s ≡ true = ap (λ (k : ℕ). isWhole k s) (sym (c .before .before .before .head-size .ensures)) ∙ sym (c .before .before .is-whole .ensures) ∙ not-false (c .before .before .is-whole .result) (c .before .if1 .left) in
+    head-long s e
+
+returns-2 : tie.Need-returns-2
+unfolding headPart prints
+returns-2 c = let a = c .before .before .before .before .before .before .before .args in
+    let s = a .s .now in
+    let e : isWhole (headSize s) s ≡ true = ap (λ (k : ℕ). isWhole k s) (sym (c .before .before .before .before .head-size .ensures)) ∙ sym (c .before .before .before .is-whole .ensures) ∙ not-false (c .before .before .before .is-whole .result) (c .before .before .if1 .left) in
+    part-whole (headSize s) [] (headBuilds s) (a .before) e (c .before .before .before .before .head-size .ensures) refl (builds-of s (c .before .u16-at .ensures) (c .sending-of .ensures))
+
+pub builds-record-spec : {M : Type 1} → statement M
+builds-record-spec =
+    tie.close
+    (tie.spec
+    head-size-requires
+    is-whole-requires
+    bad-record-requires
+    same-length
+    returns
+    u16-at-requires
+    cast-n
+    sending-of-requires
+    returns-2)

@@ -1,0 +1,17 @@
+use mathlib.Core.List.{List}
+use Prim.Native.Nat.{ℕ}
+use mathlib.Core.Path.{ap}
+use mathlib.Core.Bool.{false}
+use Rattle.sealed_builder.specs.Build.{sendingState}
+use borrow.Author.Needs.{needs}
+use Rattle.build_cases.proofs.sending_after.Statement.{statement}
+use Rattle.build_cases.proofs.sending_after.Tie as tie
+
+nonce-further-requires : tie.Need-nonce-further-requires
+nonce-further-requires c κs = search needs
+
+returns : tie.Need-returns
+returns c = rw (c .nonce-further .ensures)
+
+pub sending-after-spec : {M : Type 1} → statement M
+sending-after-spec = tie.close (tie.spec nonce-further-requires returns)
