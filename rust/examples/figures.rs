@@ -273,7 +273,7 @@ fn builders(title: &str, abort: bool) {
         let source = source(lengths);
         let (header, request) = (header(lengths), request(lengths, abort, &source));
         let revision = mahuixen::Revision::Msgr21;
-        let frames = BYTES / source.len();
+        let frames = (BYTES / source.len()).max(1);
         let library =
             |buffer: &mut [u8], queued| build_one(buffer, queued, revision, &header, &source).ok();
         let longest = wire_length(length as usize);

@@ -23,7 +23,7 @@ use Rattle.mahuixen.specs.declared.PlainReceived.{PlainReceived}
 use Rattle.mahuixen.specs.declared.PlainBuilt.{PlainBuilt}
 use Rattle.mahuixen.specs.Plain.{revisionOf, plainOf, stateOf, known, plainReport, plainReceived, contradicts, PlainAnswer, PlainAnswered, plainly, plainAnswer, plainStarted, PlainDone, plainDone, plainBuilt, inPlain}
 use Rattle.mahuixen.specs.Calls.{reportOf}
-use Rattle.mahuixen.specs.Demands.{InnerCall, PlainRefuses, PlainSound, PlainAnyCall, PlainHanded, plainAnyCalls, PlainDemand1, PlainAccepts, PlainQueued, PlainLinked, PlainDemand2}
+use Rattle.mahuixen.specs.Demands.{InnerCall, PlainRefuses, PlainAnyCall, PlainHanded, plainAnyCalls, PlainDemand1, PlainAccepts, PlainQueued, PlainLinked, PlainDemand2}
 use Rattle.mahuixen.proofs.Back.{report-back}
 use Rattle.mahuixen.proofs.Chain.{answers, as-calls}
 
