@@ -10,6 +10,7 @@ use lib.Dec.{ltb, eqb}
 use borrow.Author.Tests.{le-leb, lt-leb, lt-ltb, le-ltb, eq-eqb, ne-eqb, leb-true, leb-false, ltb-true, ltb-false, eqb-true, eqb-false}
 use lib.ListN.{length, getD, length-append}
 use lib.Seq.{take-at, drop-append-seam, drop-append-add}
+use Rattle.refusal.proofs.Booleans.{wrong}
 use Rattle.buffer.specs.Le.{le, numberAt}
 use Rattle.buffer.proofs.Numbers.{leOf-le, length-le}
 use Rattle.preamble.specs.Judge.{segmentLimit}
@@ -166,9 +167,6 @@ pub settles : (s : List ℕ) (ks : List Kind) (c : Cursor) (n m : ℕ) (a : Answ
 unfolding settled
 settles s ks c n m a e f = rw (e, stuck ks s n, f)
 
-true-false : {A : Type 0} → true ≡ false → A
-true-false h = absurd (let z : _≡_ {A = ℕ} 0 1 = cc in omega arith)
-
 left-over : (s : List ℕ) (n : ℕ) (a : Answer) → (n ≡ length s → ⊥) → settled s (good n) a ≡ malformed n
 unfolding settled
 left-over s n a h = rw (ne-eqb n (length s) h)
@@ -189,15 +187,15 @@ fixed-stops w bs pre a e = go (ltb w (length bs)) refl
 
 stops-one : (f : Field) (fs : List Field) (pre : List ℕ) (a : Answer) → sound f ≡ false → Closes f fs → length (fieldBytes f) ≤ segmentLimit → settled (pre ++ (fieldBytes f ++ bytesOf fs)) (run (kindsOf fs) (pre ++ (fieldBytes f ++ bytesOf fs)) (stepOf (kindOf f) (pre ++ (fieldBytes f ++ bytesOf fs)) (good (length pre)))) a ≡ malformed (length pre + faultIn f)
 unfolding Closes kindsOf bytesOf
-stops-one (number w n) fs pre a s k l = true-false s
+stops-one (number w n) fs pre a s k l = wrong (sym s)
 stops-one (negative n) fs pre a s k l =
     settles _ (kindsOf fs) _ (length pre) (length pre + 0) a (negative-fails pre (bytesOf fs) n (leb-false 2147483648 n s)) (omega arith)
 stops-one (numbers ns) fs pre a s k l =
     let w = length-words ns in
     let e : length (le 4 (length ns) ++ words ns) ≡ 4 + length (words ns) = length-append (le 4 (length ns)) (words ns) in
     settles _ (kindsOf fs) _ (length pre) (length pre + 0) a (numbers-fail pre (bytesOf fs) ns (leb-false (length ns) 32 s) (omega arith)) (omega arith)
-stops-one (sized bs) fs pre a s k l = true-false s
-stops-one (opaque n bs) fs pre a s k l = true-false s
+stops-one (sized bs) fs pre a s k l = wrong (sym s)
+stops-one (opaque n bs) fs pre a s k l = wrong (sym s)
 stops-one (fixed w bs) fs pre a s k l = rw k (fixed-stops w bs pre a s)
 
 stops : (s : List ℕ) (fs : List Field) (pre : List ℕ) → AllFit fs → Closed fs → s ≡ pre ++ bytesOf fs → length (bytesOf fs) ≤ segmentLimit → judge fs (length pre) .failed ≡ true → (a : Answer) → settled s (run (kindsOf fs) s (good (length pre))) a ≡ malformed (judge fs (length pre) .at)

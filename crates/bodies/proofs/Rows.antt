@@ -6,6 +6,7 @@ use Prim.Native.Nat.{ℕ, _≤_, _<_}
 use native.Mathlib.Omega.{arith}
 use borrow.Author.Tests.{le-leb, lt-leb, eq-eqb, ne-eqb}
 use lib.ListN.{length}
+use Rattle.refusal.proofs.Booleans.{wrong}
 use Rattle.preamble.specs.Judge.{segmentLimit}
 use Rattle.fields.specs.declared.Cursor.{Cursor}
 use Rattle.fields.specs.Layout.{Kind, good, stepOf}
@@ -13,9 +14,6 @@ use Rattle.fields.specs.Field.{Field, fieldAt}
 use Rattle.fields.specs.Reading.{read, failed, takeOf}
 use Rattle.bodies.specs.Table.{layoutIn, layoutOf}
 use Rattle.bodies.specs.Read.{run, fieldsOf, Answer, whole, malformed, settled, readOf, readBy, readBody, Took}
-
-clash : {A : Type 0} → true ≡ false → A
-clash h = absurd (let z : _≡_ {A = ℕ} 0 1 = cc in omega arith)
 
 -- ---- a step's answer, as a field of a row
 
@@ -32,7 +30,7 @@ unfolding takeOf
 took-failed {k} {s} {c} {d} {f} = go (stepOf k s c .failed) refl
   where
     go : (b : Bool) → stepOf k s c .failed ≡ b → failed d ≡ cond b (failed (stepOf k s c)) (read (fieldAt k s (c .at)) (stepOf k s c)) → Took k s c f d
-    go true t e = let n : d ≡ stepOf k s c = cc in record { next = n; value = λ h. clash (sym t ∙ sym (ap (λ (x : Cursor). x .failed) n) ∙ h) }
+    go true t e = let n : d ≡ stepOf k s c = cc in record { next = n; value = λ h. wrong (sym h ∙ ap (λ (x : Cursor). x .failed) n ∙ t) }
     go false t e = absurd (let z : _≡_ {A = ℕ} 0 1 = cc in omega arith)
 
 -- ---- fields, one behind the other
@@ -55,7 +53,7 @@ fine-before : {s : List ℕ} {c e : Cursor} {ks : List Kind} {fs : List Field} �
 fine-before {s} {c} {e} {ks} r h = go (c .failed) refl
   where
     go : (b : Bool) → c .failed ≡ b → c .failed ≡ false
-    go true t = clash (sym (failed-run ks s c t) ∙ ap (λ (x : Cursor). x .failed) (row-run r) ∙ h)
+    go true t = wrong (sym h ∙ sym (ap (λ (x : Cursor). x .failed) (row-run r)) ∙ failed-run ks s c t)
     go false t = t
 
 row-fields : {s : List ℕ} {c e : Cursor} {ks : List Kind} {fs : List Field} → Row s c ks fs e → e .failed ≡ false → fieldsOf ks s c ≡ fs

@@ -7,6 +7,7 @@ use native.Mathlib.Omega.{arith}
 use native.Mathlib.Nat.{not-suc-le-zero}
 use lib.Dec.{leb, eqb}
 use borrow.Author.Tests.{eqb-true, eq-eqb, leb-true, leb-false}
+use Rattle.refusal.proofs.Booleans.{each-true}
 use Rattle.fields.specs.Layout.{Kind, num, neg, list, size, rest, plain}
 use Rattle.bodies.specs.declared.Ident.{Ident}
 use Rattle.bodies.specs.declared.Reconnect.{Reconnect}
@@ -32,10 +33,6 @@ kind-by size = refl
 kind-by (rest k) = refl
 kind-by (plain w) = refl
 
-pub both-true : (a b : Bool) → (a && b) ≡ true → (a ≡ true) × (b ≡ true)
-both-true true b h = (refl, h)
-both-true false b h = absurd (let z : _≡_ {A = ℕ} 0 1 = cc in omega arith)
-
 same-kind : (j k : Kind) → eqb (shape j) (shape k) ≡ true → eqb (width j) (width k) ≡ true → j ≡ k
 same-kind j k a b =
     sym (kind-by j) ∙ ap₂ kindBy (eqb-true (shape j) (shape k) a) (eqb-true (width j) (width k) b) ∙ kind-by k
@@ -45,8 +42,8 @@ same-kinds [] [] h = refl
 same-kinds [] (k ∷ ks) h = absurd (let z : _≡_ {A = ℕ} 0 1 = cc in omega arith)
 same-kinds (j ∷ js) [] h = absurd (let z : _≡_ {A = ℕ} 0 1 = cc in omega arith)
 same-kinds (j ∷ js) (k ∷ ks) h =
-    let a = both-true (eqb (shape j) (shape k)) (eqb (width j) (width k) && sameKinds js ks) h in
-    let b = both-true (eqb (width j) (width k)) (sameKinds js ks) (a .1) in
+    let a = each-true (eqb (shape j) (shape k)) (eqb (width j) (width k) && sameKinds js ks) h in
+    let b = each-true (eqb (width j) (width k)) (sameKinds js ks) (a .1) in
     ap₂ (λ (x : Kind) (xs : List Kind). x ∷ xs) (same-kind j k (a .0) (b .0)) (same-kinds js ks (b .1))
 
 pub is-listed : (f : Found) (ks : List Kind) → isListed f ks ≡ true → f ≡ listed ks
@@ -84,7 +81,7 @@ every-below zero i p h l = absurd (not-suc-le-zero l)
 every-below (suc n) i p h l = go (leb n i) refl (every-below n i p)
   where
     a : (p n ≡ true) × (everyBelow n p ≡ true)
-    a = both-true (p n) (everyBelow n p) h
+    a = each-true (p n) (everyBelow n p) h
 
     go : (b : Bool) → leb n i ≡ b → (everyBelow n p ≡ true → i < n → p i ≡ true) → p i ≡ true
     go true t ih = let k = leb-true n i t in let e : i ≡ n = omega arith in rw e (a .0)

@@ -14,10 +14,12 @@ use Rattle.buffer.specs.Splice.{replaceFront}
 use Rattle.preamble.specs.Judge.{segmentLimit}
 use Rattle.refusal.specs.declared.Numbers.{Numbers}
 use Rattle.refusal.specs.Refusals.{row}
+use Rattle.refusal.proofs.Booleans.{wrong}
 use Rattle.fields.specs.declared.Cursor.{Cursor}
 use Rattle.fields.specs.Layout.{Kind, num, neg, list, size, rest, plain, good, fault, past, stepOf}
 use Rattle.fields.specs.Field.{Field, kindOf, words, wordsOf, fieldBytes, fieldAt}
 use Rattle.fields.specs.Reading.{spanIn, numbersIn}
+use Rattle.fields.proofs.Skips.{length-words}
 use Rattle.bodies.specs.declared.Body.{Body}
 use Rattle.bodies.specs.declared.Body.the-variants as body
 use Rattle.bodies.specs.declared.Request.{Request}
@@ -100,11 +102,6 @@ words-again (suc n) t h k =
     let b : le 4 (leOf (take 4 t)) ≡ take 4 t = subst (λ (m : ℕ). le m (leOf (take 4 t)) ≡ take 4 t) a (le-leOf (take 4 t) (bytes-take 4 h)) in
     rw (e, take-add 4 (4 * n) t) (ap₂ (λ (x y : List ℕ). x ++ y) b (words-again n (drop 4 t) (bytes-drop 4 h) (omega arith)))
 
-length-wordsOf : (n : ℕ) (t : List ℕ) → length (wordsOf n t) ≡ n
-unfolding wordsOf
-length-wordsOf zero t = refl
-length-wordsOf (suc n) t = ap suc (length-wordsOf n (drop 4 t))
-
 -- a step that did not fail: it went over m bytes, which are the field's
 record Over (k : Kind) (s : List ℕ) (at : ℕ) : Type 0 where
   m : ℕ
@@ -112,16 +109,13 @@ record Over (k : Kind) (s : List ℕ) (at : ℕ) : Type 0 where
   bytes : fieldBytes (fieldAt k s at) ≡ take m (drop at s)
   within : at + m ≤ length s
 
-clash : {A : Type 0} → true ≡ false → A
-clash h = absurd (let z : _≡_ {A = ℕ} 0 1 = cc in omega arith)
-
 module _ (s : List ℕ) (at : ℕ) (h : Bytes s) (in-s : at ≤ length s) where
   past-over : (w : ℕ) → past w s at .failed ≡ false → (past w s at ≡ good (at + w)) × (w ≤ length s - at)
   past-over w f = go (leb w (length s - at)) refl f
     where
       go : (b : Bool) → leb w (length s - at) ≡ b → cond b (good (at + w)) (fault at) .failed ≡ false → (past w s at ≡ good (at + w)) × (w ≤ length s - at)
       go true t f = (rw t, leb-true w (length s - at) t)
-      go false t f = clash f
+      go false t f = wrong (sym f)
 
   -- a count, and what it counts
   counted-again : (n : ℕ) (xs : List ℕ) → n ≡ numberAt 4 at s → 4 ≤ length s - at → (m : ℕ) → xs ≡ take m (drop (at + 4) s) → le 4 n ++ xs ≡ take (4 + m) (drop at s)
@@ -140,7 +134,7 @@ module _ (s : List ℕ) (at : ℕ) (h : Bytes s) (in-s : at ≤ length s) where
   over-negative = go (ltb (numberAt 4 at s) 2147483648) refl
     where
       go : (b : Bool) → ltb (numberAt 4 at s) 2147483648 ≡ b → cond b (fault at) (past 4 s at) .failed ≡ false → Over neg s at
-      go true t f = clash f
+      go true t f = wrong (sym f)
       go false t f =
           let p = past-over 4 f in
           record { m = 4; next = rw t (p .0); bytes = number-again 4 at s h (p .1); within = let k = p .1 in omega arith }
@@ -150,8 +144,8 @@ module _ (s : List ℕ) (at : ℕ) (h : Bytes s) (in-s : at ≤ length s) where
   over-list = go (ltb 32 (numberAt 4 at s)) (leb (4 + 4 * numberAt 4 at s) (length s - at)) refl refl
     where
       go : (a b : Bool) → ltb 32 (numberAt 4 at s) ≡ a → leb (4 + 4 * numberAt 4 at s) (length s - at) ≡ b → cond a (fault at) (cond b (good (at + (4 + 4 * numberAt 4 at s))) (fault (at + (length s - at) / 4 * 4))) .failed ≡ false → Over list s at
-      go true b t u f = clash f
-      go false false t u f = clash f
+      go true b t u f = wrong (sym f)
+      go false false t u f = wrong (sym f)
       go false true t u f =
           let k = leb-true (4 + 4 * numberAt 4 at s) (length s - at) u in
           let d : length (drop (at + 4) s) ≡ length s - (at + 4) = length-drop (at + 4) s in
@@ -159,7 +153,7 @@ module _ (s : List ℕ) (at : ℕ) (h : Bytes s) (in-s : at ≤ length s) where
           record {
             m = 4 + 4 * numberAt 4 at s;
             next = rw (t, u);
-            bytes = counted-again (length (wordsOf (numberAt 4 at s) (drop (at + 4) s))) (words (wordsOf (numberAt 4 at s) (drop (at + 4) s))) (length-wordsOf (numberAt 4 at s) (drop (at + 4) s)) (omega arith) (4 * numberAt 4 at s) w;
+            bytes = counted-again (length (wordsOf (numberAt 4 at s) (drop (at + 4) s))) (words (wordsOf (numberAt 4 at s) (drop (at + 4) s))) (length-words (numberAt 4 at s) (drop (at + 4) s)) (omega arith) (4 * numberAt 4 at s) w;
             within = omega arith;
           }
 
@@ -182,7 +176,7 @@ module _ (s : List ℕ) (at : ℕ) (h : Bytes s) (in-s : at ≤ length s) where
   over-rest k = go (leb k (length s - at)) refl
     where
       go : (b : Bool) → leb k (length s - at) ≡ b → cond b (good (length s - k)) (fault 0) .failed ≡ false → Over (rest k) s at
-      go false t f = clash f
+      go false t f = wrong (sym f)
       go true t f =
           let j = leb-true k (length s - at) t in
           let e : length s - k ≡ at + (length s - k - at) = omega arith in
@@ -208,7 +202,7 @@ fields-again [] s at h l f e = sym (ap (λ (n : ℕ). drop n s) e ∙ drop-lengt
 fields-again (k ∷ ks) s at h l f e = go (stepOf k s (good at) .failed) refl (λ (n : ℕ). fields-again ks s n h)
   where
     go : (b : Bool) → stepOf k s (good at) .failed ≡ b → ((n : ℕ) → n ≤ length s → run ks s (good n) .failed ≡ false → run ks s (good n) .at ≡ length s → bytesOf (fieldsOf ks s (good n)) ≡ drop n s) → fieldBytes (fieldAt k s at) ++ bytesOf (fieldsOf ks s (stepOf k s (good at))) ≡ drop at s
-    go true t ih = clash (sym (failed-run ks s (stepOf k s (good at)) t) ∙ f)
+    go true t ih = wrong (sym f ∙ failed-run ks s (stepOf k s (good at)) t)
     go false t ih =
         let o = over-field s at h l k t in
         let x : run ks s (good (at + o .m)) .failed ≡ false = subst (λ (c : Cursor). run ks s c .failed ≡ false) (o .next) f in

@@ -8,7 +8,7 @@ use lib.ListN.{length, drop, getD}
 use lib.Dec.{leb, ltb, eqb}
 use borrow.Author.Tests.{le-ltb, lt-ltb, leb-true, leb-false, le-leb, lt-leb, eq-eqb, eqb-true}
 use Rattle.refusal.specs.declared.Refusal.the-variants as refusal
-use Rattle.refusal.specs.Refusals.{Judged, fine, refused, orElse, unless}
+use Rattle.refusal.specs.Refusals.{fine, unless}
 use Rattle.refusal.proofs.Judgements.{both-fine, passed}
 use Rattle.body.specs.Body.{segmentSum, field, fieldsFrom}
 use Rattle.body.specs.End.{compareFrom, unusedFrom}

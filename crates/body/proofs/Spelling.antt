@@ -2,16 +2,16 @@
 use Prim.Native.Nat.{ℕ, _+_, _*_, _%_, _≤_, _<_}
 use mathlib.Core.List.{List, [], _∷_, _++_}
 use mathlib.Core.Path.{_≡_, refl, sym, ap, ap₂, _∙_}
-use mathlib.Core.Bool.{Bool, true, false, cond, _||_}
+use mathlib.Core.Bool.{Bool, true, false, cond}
 use native.Mathlib.Omega.{arith}
-use lib.ListN.{length, take, drop, getD, length-drop, length-append, take-append-drop, drop-of-length-le}
+use lib.ListN.{length, take, drop, getD, length-drop, take-append-drop, drop-of-length-le}
 use lib.Seq.{take-add, take-at, drop-at, drop-drop, length-take-le}
-use lib.Dec.{lit<, leb, ltb, eqb}
-use borrow.Author.Tests.{leb-true, leb-false, le-ltb, ltb-true, eqb-true, eqb-false}
+use lib.Dec.{ltb, eqb}
+use borrow.Author.Tests.{ltb-true, eqb-true, eqb-false}
 use Rattle.buffer.specs.Le.{le, numberAt, Bytes}
 use Rattle.buffer.proofs.Numbers.{number-again, bytes-drop}
 use Rattle.refusal.specs.declared.Refusal.the-variants as refusal
-use Rattle.refusal.specs.Refusals.{Judged, fine, refused, orElse, unless}
+use Rattle.refusal.specs.Refusals.{Judged, fine, refused}
 use Rattle.refusal.proofs.Judgements.{both-fine, passed}
 use Rattle.banner.specs.declared.Revision.{Revision}
 use Rattle.banner.specs.declared.Revision.the-variants.{Msgr20, Msgr21}
@@ -19,8 +19,8 @@ use Rattle.preamble.specs.declared.Header.{Header}
 use Rattle.preamble.specs.Layout.{total}
 use Rattle.body.specs.declared.Late.{Late}
 use Rattle.body.specs.declared.Late.the-variants as late
-use Rattle.body.specs.Body.{segmentSum, field, fieldsFrom, words, restLength, segments, epilogueFrom, inEpilogue, noFirstSum, firstSumLength, noEpilogue, epilogueLength, bodyLength, firstSum, lateByte, epilogue, body}
-use Rattle.body.specs.End.{Ended, whole, segmentBytes, stored, compareFrom, compared, unusedFrom, judgeLateFlags, judgeSpelling, lateOf, byLate, endedBy, unlessTurnedAway, ending}
+use Rattle.body.specs.Body.{segmentSum, words, restLength, segments, epilogueFrom, inEpilogue, noFirstSum, firstSumLength, noEpilogue, epilogueLength, bodyLength, firstSum, lateByte, epilogue, body}
+use Rattle.body.specs.End.{whole, segmentBytes, stored, compared, unusedFrom, judgeLateFlags, judgeSpelling, lateOf, byLate, unlessTurnedAway, ending}
 use Rattle.body.proofs.Laws.{epilogue-is}
 use Rattle.body.proofs.Ends.{no-length}
 use Rattle.body.proofs.Checksums.{fields-back}

@@ -11,7 +11,7 @@ use Rattle.io.specs.Digits.{digits}
 use Rattle.text.specs.Line.{Piece, raw}
 use Rattle.text.specs.Line as line
 use Rattle.text.specs.Page.{Page, put, puts}
-use Rattle.records.proofs.Laws.{puts-append}
+use Rattle.text.proofs.Laws.{puts-append}
 use Rattle.body_cases.specs.Reading.{eachNumber, eachByte, readLine, answerOf}
 
 -- one more number of a list

@@ -1,11 +1,11 @@
 -- Parts lent and given back: a writer that is lent a part leaves `overwrite xs` of it; the laws carry that to the whole.
 use mathlib.Core.Path.{_≡_, refl, sym, ap, ap₂, _∙_}
-use mathlib.Core.List.{List, [], _++_, append-assoc, append-nil}
-use Prim.Native.Nat.{ℕ, _+_, _-_, _≤_}
-use native.Mathlib.Nat.{le-refl, add-assoc}
+use mathlib.Core.List.{List, [], _∷_, _++_, append-assoc, append-nil}
+use Prim.Native.Nat.{ℕ, zero, suc, _+_, _-_, _≤_}
+use native.Mathlib.Nat.{le-refl, zero-add, suc-add, add-assoc}
 use native.Mathlib.Omega.{arith}
 use lib.ListN.{length, take, drop, length-append, length-take, length-drop, drop-of-length-le}
-use lib.Seq.{take-all, take-at, drop-at, drop-append-add, drop-drop, length-take-le}
+use lib.Seq.{take-nil, take-all, take-at, drop-at, drop-append-add, drop-drop, length-take-le}
 use Rattle.buffer.specs.Splice.{replaceFront, overwrite, splice}
 
 -- what a list holds again once the part from i on, lent whole, has come back as ys
@@ -62,6 +62,22 @@ next-overwrite l₀ l₁ xs ys zs n en h e₁ e₂ =
     let a : length l₁ ≡ length l₀ = ap length e₁ ∙ length-replaceFront xs l₀ (omega arith) in
     let b : length (rest l₁ n) ≡ length l₁ - n = length-rest l₁ n in
     next l₀ l₁ xs ys zs n en e₁ (e₂ ∙ overwrite-fits ys (rest l₁ n) (omega arith))
+
+-- a front that is replaced again by a longer one
+pub over-longer : (xs ys l : List ℕ) → length xs ≤ length ys → replaceFront ys (replaceFront xs l) ≡ replaceFront ys l
+over-longer xs ys l h =
+    let n : length xs + (length ys - length xs) ≡ length ys = omega arith in
+    ap (λ (t : List ℕ). ys ++ t)
+    (ap (λ (k : ℕ). drop k (replaceFront xs l)) (sym n)
+    ∙ drop-append-add xs (drop (length xs) l) (length ys - length xs)
+    ∙ drop-drop (length ys - length xs) (length xs) l
+    ∙ ap (λ (k : ℕ). drop k l) n)
+
+-- what stands behind n elements, of the first n + m
+pub drop-take : (n m : ℕ) (l : List ℕ) → drop n (take (n + m) l) ≡ take m (drop n l)
+drop-take zero m l = rw zero-add
+drop-take (suc n) m [] = rw suc-add (rw (take-nil m))
+drop-take (suc n) m (x ∷ l) = rw suc-add (drop-take n m l)
 
 -- two splices, one behind the other
 pub splice-next : (l : List ℕ) (i : ℕ) (xs ys : List ℕ) → i ≤ length l → splice (splice l i xs) (i + length xs) ys ≡ splice l i (xs ++ ys)

@@ -1,10 +1,9 @@
 -- The steps of the CRC are linear over xor.
 use mathlib.Core.Path.{_≡_, refl, sym, ap, ap₂, _∙_}
 use Prim.Native.Nat.{ℕ, zero, suc, _+_, _*_, _/_, _%_, _^_, _<_}
-use native.Mathlib.Nat.{mod-lt, zero-lt-suc, not-suc-le-zero, le-of-suc-le-suc, zero-add, suc-add, zero-mul, one-mul, mul-one}
+use native.Mathlib.Nat.{mod-lt, zero-add, suc-add, zero-mul, one-mul, mul-one}
 use native.Mathlib.Omega.{arith}
-use lib.Arith.{bin-ind}
-use lib.Bits.{bitXor, differ, xor-step, xor-comm, xor-lt, xor-self, xor-zero-r, xor-shr, xor-mod, xor-shifted, shifted-half, shifted-even}
+use lib.Bits.{bitXor, differ, xor-comm, xor-lt, xor-self, xor-zero-r, xor-shr, xor-shifted, shifted-half, shifted-even}
 use lib.Pow.{split, pow-pos}
 use Rattle.bits.proofs.Xor.{digit, xor-assoc, xor-odd}
 use Rattle.crc_steps.specs.Steps.{poly, step, steps}

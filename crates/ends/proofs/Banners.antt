@@ -12,9 +12,9 @@ use Rattle.refusal.specs.Refusals.{Judged, fine, refused}
 use Rattle.banner.specs.declared.Features.{Features}
 use Rattle.banner.specs.declared.Revision.{Revision}
 use Rattle.banner.specs.Banner.{judgeOwn, judgeMagic, judgeLength, judgeFeatures, revisionOf, featuresOf}
+use Rattle.banner.proofs.Lengths.{long-enough}
 use Rattle.stream.specs.declared.Event.the-variants.{Banner}
 use Rattle.stream.specs.Stream.{Trace, after, frames, payloadOf, peerOf, streamTrace, traceOf}
-use Rattle.receiver.proofs.Streams.{long-enough}
 use Rattle.ends.specs.Handed.{UpTo}
 use Rattle.buffer.proofs.Numbers.{number-append}
 use Rattle.ends.proofs.Concatenation.{joined, frames-go}

@@ -7,7 +7,7 @@ use native.Mathlib.Omega.{arith}
 use lib.ListN.{length, take, drop, length-append, length-drop, take-append-drop, drop-of-length-le}
 use lib.Seq.{take-at, drop-at, take-append-le, drop-append-le, length-take-le}
 use lib.Dec.{lit<, leb, eqb, ltb}
-use borrow.Author.Tests.{le-leb, leb-true, eq-eqb, eqb-true}
+use borrow.Author.Tests.{le-leb, leb-true, eq-eqb}
 use Rattle.buffer.specs.Splice.{replaceFront}
 use Rattle.buffer.specs.Le.{le, leOf, numberAt, Bytes}
 use Rattle.buffer.proofs.Numbers.{leOf-le, number-append, bytes-take, bytes-drop, bytes-zeros}
@@ -20,10 +20,11 @@ use Rattle.banner.specs.declared.Revision.the-variants.{Msgr20, Msgr21}
 use Rattle.preamble.specs.declared.Header.{Header}
 use Rattle.preamble.specs.declared.Preamble.{Preamble}
 use Rattle.preamble.specs.Layout.{total, preambleBytes}
-use Rattle.preamble.specs.Judge.{headerOf, preambleOf, judgeChecksum, shapeFault, judgeShape, judgeTag, judgeLimits, judgeHeader, judgeFields, judgePreamble}
+use Rattle.preamble.specs.Judge.{headerOf, preambleOf, judgeChecksum, judgeShape, judgeTag, judgeLimits, judgeHeader, judgeFields, judgePreamble}
 use Rattle.preamble.specs.Reading.{HeaderFits, laidOut, ReadsBack}
 use Rattle.preamble.proofs.Laws.{length-preamble}
 use Rattle.preamble.proofs.Back as preamble
+use Rattle.preamble.proofs.Headers.{some-segment}
 use Rattle.body.specs.Body.{segmentSum, cutInto, segments, field, restLength, words, lateByte, epilogue, firstSum, firstSumLength, bodyLength, wireLength, body, restSent, frameBytes}
 use Rattle.body.specs.End as end
 use Rattle.body.specs.End.{Ended, whole, dropped, compareFrom, unusedFrom, segmentBytes, stored, ending}
@@ -106,27 +107,12 @@ front-back h n f e l =
       accepted = ap₂ orElse (ap judgeChecksum a ∙ b .checked) (ap (λ (p : Preamble). judgeFields p n) fields) ∙ fields-fine h n e l;
     }
 
-shape-fine : (h : Header) → judgeHeader h ≡ fine → shapeFault h ≡ 0
-unfolding judgeHeader
-shape-fine h e = eqb-true (shapeFault h) 0 (passed (eqb (shapeFault h) 0) (refusal.Shape (shapeFault h)) (all-fine (judgeShape h ∷ judgeTag (h .tag) ∷ judgeLimits h ∷ []) e .0))
-
-no-count : (h : Header) → shapeFault h ≡ 0 → leb 1 (h .count) ≡ false → ⊥
-unfolding shapeFault
-no-count h e c = (let w : _≡_ {A = ℕ} 1 0 = rw c at e in omega arith)
-
-count-least : (h : Header) → judgeHeader h ≡ fine → 1 ≤ h .count
-count-least h e = go (leb 1 (h .count)) refl
-  where
-    go : (c : Bool) → leb 1 (h .count) ≡ c → 1 ≤ h .count
-    go true c = leb-true 1 (h .count) c
-    go false c = absurd (no-count h (shape-fine h e) c)
-
 -- an aborted frame of msgr2.1 has more than one segment
 only-whole : (h : Header) (abort : Bool) → judgeHeader h ≡ fine → judgeAbort Msgr21 (h .count) abort ≡ fine → leb (h .count) 1 ≡ true → abort ≡ false
 only-whole h false e a c = refl
 only-whole h true e a c =
     let k = leb-true (h .count) 1 c in
-    let m = count-least h e in
+    let m = some-segment h e in
     let one : eqb (h .count) 1 ≡ true = eq-eqb (h .count) 1 (omega arith) in
     absurd (true≢false (sym (passed (not (eqb (h .count) 1)) refusal.AbortOneSegment a) ∙ ap not one))
 

@@ -100,7 +100,7 @@ number-got s at r n i e h =
     rw (behind s at r (4 * i) e, ← (drop-drop (4 * i) at s)) (words-get n i (drop at s) h)
 
 -- a list has as many numbers as it says
-length-words : (n : ℕ) (t : List ℕ) → length (wordsOf n t) ≡ n
+pub length-words : (n : ℕ) (t : List ℕ) → length (wordsOf n t) ≡ n
 unfolding wordsOf
 length-words zero t = refl
 length-words (suc n) t = ap suc (length-words n (drop 4 t))

@@ -1,5 +1,5 @@
 -- Two runs of bytes compared with no early end: a difference stays in what is gathered.
-use mathlib.Core.Bool.{Bool, true, false, _&&_}
+use mathlib.Core.Bool.{Bool, true, false, _&&_, and-assoc, and-true}
 use mathlib.Core.List.{List, [], _∷_}
 use mathlib.Core.Path.{_≡_, refl, sym, ap, ap₂, _∙_}
 use Prim.Native.Nat.{ℕ, _+_, _<_}
@@ -36,14 +36,6 @@ xor-none x y = go (eqb x y) refl
         eq-eqb (bitXor x y) 0 (ap (λ (z : ℕ). bitXor z y) q ∙ xor-self y) ∙ sym e
     go false e = ne-eqb (bitXor x y) 0 (λ z. eqb-false x y e (equal z)) ∙ sym e
 
-and-assoc : (a b c : Bool) → (a && (b && c)) ≡ ((a && b) && c)
-and-assoc true b c = refl
-and-assoc false b c = refl
-
-and-true : (a : Bool) → (a && true) ≡ a
-and-true true = refl
-and-true false = refl
-
 -- a turn of the loop: d is what was gathered
 pub same-next : (xs ys : List ℕ) (i d : ℕ) → i < length xs → i < length ys
     → (eqb d 0 && sameAs (drop i xs) (drop i ys))
@@ -56,7 +48,7 @@ same-next xs ys i d h k =
     let e : sameAs (drop i xs) (drop i ys) ≡ (eqb (getD xs i 0) (getD ys i 0) && sameAs (drop (i + 1) xs) (drop (i + 1) ys)) =
     rw (drop-cons xs i 0 h, drop-cons ys i 0 k, add-one i) in
     ap (λ (t : Bool). eqb d 0 && t) e
-    ∙ and-assoc (eqb d 0) (eqb x y) r
+    ∙ sym (and-assoc (eqb d 0) (eqb x y) r)
     ∙ ap (λ (t : Bool). t && r) (ap (λ (t : Bool). eqb d 0 && t) (sym (xor-none x y)) ∙ sym (or-none d (bitXor x y)))
 
 pub same-end : (xs ys : List ℕ) (i d : ℕ) → i ≡ length xs → length xs ≡ length ys → (eqb d 0 && sameAs (drop i xs) (drop i ys)) ≡ eqb d 0

@@ -7,6 +7,7 @@ use native.Mathlib.Omega.{arith}
 use lib.Dec.{eqb}
 use lib.ListN.{length}
 use borrow.Author.Tests.{eqb-true, eq-eqb}
+use Rattle.refusal.proofs.Booleans.{wrong, each-true}
 use Rattle.handshake.specs.declared.State.{State}
 use Rattle.handshake.specs.declared.State.the-variants.{Hello, Auth, More, Signature, Session, Ready, Standby, Wait, Closed}
 use Rattle.handshake.specs.declared.Verdict.{Verdict}
@@ -46,19 +47,12 @@ state-of Closed = refl
 same-state : (a b : State) → eqb (stateNumber a) (stateNumber b) ≡ true → a ≡ b
 same-state a b h = sym (state-of a) ∙ ap stateOf (eqb-true (stateNumber a) (stateNumber b) h) ∙ state-of b
 
-clash : {A : Type 0} → true ≡ false → A
-clash h = absurd (let z : _≡_ {A = ℕ} 0 1 = cc in omega arith)
-
-both-true : (a b : Bool) → (a && b) ≡ true → (a ≡ true) × (b ≡ true)
-both-true true b h = (refl, h)
-both-true false b h = clash (sym h)
-
 -- ---- the row that is found
 
 meets : (r : Row) (s : State) (tag : ℕ) (v : Verdict) → leads r s tag v ≡ true → Meets r s tag v
 meets r s tag v h =
-    let a = both-true (eqb (stateNumber (r .from)) (stateNumber s)) (holds (r .asked) v && eqb tag (r .tag)) h in
-    let b = both-true (holds (r .asked) v) (eqb tag (r .tag)) (a .1) in
+    let a = each-true (eqb (stateNumber (r .from)) (stateNumber s)) (holds (r .asked) v && eqb tag (r .tag)) h in
+    let b = each-true (holds (r .asked) v) (eqb tag (r .tag)) (a .1) in
     record { from = same-state (r .from) s (a .0); tag = sym (eqb-true tag (r .tag) (b .1)); asked = b .0 }
 
 all-three : (a b c : Bool) → a ≡ true → b ≡ true → c ≡ true → (a && (b && c)) ≡ true
@@ -78,7 +72,7 @@ in-none (runs.here {rs = rs}) e = let z : suc (length rs) ≡ 0 = ap length e in
 in-none (runs.there {rs = rs} i) e = let z : suc (length rs) ≡ 0 = ap length e in omega arith
 
 in-cons : {q r : Row} {rs : List Row} (s : State) (tag : ℕ) (v : Verdict) → leads r s tag v ≡ false → ((x : Row) → In x rs → Meets x s tag v → ⊥) → In q (r ∷ rs) → Meets q s tag v → ⊥
-in-cons {q} s tag v t f runs.here m = clash (sym (meets-leads q s tag v m) ∙ t)
+in-cons {q} s tag v t f runs.here m = wrong (sym t ∙ meets-leads q s tag v m)
 in-cons {q} s tag v t f (runs.there i) m = f q i m
 
 look : (rs : List Row) (s : State) (tag : ℕ) (v : Verdict) → Sought rs s tag v (find rs s tag v)
@@ -126,13 +120,13 @@ asksSignature reconnectTurnedDown = false
 
 signature-good : (a : Asked) (v : Verdict) → asksSignature a ≡ true → holds a v ≡ true → v .signature ≡ true
 unfolding asksSignature
-signature-good nothing v h k = clash (sym h)
-signature-good (auth a) v h k = clash (sym h)
+signature-good nothing v h k = wrong h
+signature-good (auth a) v h k = wrong h
 signature-good signatureGood v h k = k
-signature-good featuresThere v h k = clash (sym h)
-signature-good featuresMissing v h k = clash (sym h)
-signature-good reconnectAccepted v h k = clash (sym h)
-signature-good reconnectTurnedDown v h k = clash (sym h)
+signature-good featuresThere v h k = wrong h
+signature-good featuresMissing v h k = wrong h
+signature-good reconnectAccepted v h k = wrong h
+signature-good reconnectTurnedDown v h k = wrong h
 
 -- the test of every row: what leads to a signed state comes from one, or is a good 7 to session
 rowSigned : Row → Bool
@@ -144,8 +138,8 @@ everyRow (r ∷ rs) = rowSigned r && everyRow rs
 
 every-row : {r : Row} {rs : List Row} → everyRow rs ≡ true → In r rs → rowSigned r ≡ true
 unfolding everyRow
-every-row {r} h (runs.here {rs = rs}) = both-true (rowSigned r) (everyRow rs) h .0
-every-row {r} h (runs.there {x = x} {rs = rs} i) = every-row (both-true (rowSigned x) (everyRow rs) h .1) i
+every-row {r} h (runs.here {rs = rs}) = each-true (rowSigned r) (everyRow rs) h .0
+every-row {r} h (runs.there {x = x} {rs = rs} i) = every-row (each-true (rowSigned x) (everyRow rs) h .1) i
 
 both-tables : (side : Side) → everyRow (rowsOf side) ≡ true
 unfolding everyRow rowSigned signed asksSignature
@@ -154,21 +148,21 @@ both-tables server = refl
 
 third : (a b : Bool) {c : Bool} → a ≡ true → b ≡ false → (not a || (b || c)) ≡ true → c ≡ true
 third true false x y h = h
-third true true x y h = clash y
-third false b x y h = clash (sym x)
+third true true x y h = wrong (sym y)
+third false b x y h = wrong x
 
 good-row : (r : Row) (e : Entry) (es : List Entry) (s : State) → rowSigned r ≡ true → signed s ≡ false → signed (r .to) ≡ true → Meets r s (e .tag) (e .verdict) → e .step ≡ taken (r .to) → PastSignature (e ∷ es)
 unfolding rowSigned
 good-row r e es s ok u t m h =
     let f : signed (r .from) ≡ false = ap signed (m .from) ∙ u in
     let a = third (signed (r .to)) (signed (r .from)) t f ok in
-    let b = both-true (eqb (r .tag) 7) (asksSignature (r .asked) && eqb (stateNumber (r .to)) 4) a in
-    let d = both-true (asksSignature (r .asked)) (eqb (stateNumber (r .to)) 4) (b .1) in
+    let b = each-true (eqb (r .tag) 7) (asksSignature (r .asked) && eqb (stateNumber (r .to)) 4) a in
+    let d = each-true (asksSignature (r .asked)) (eqb (stateNumber (r .to)) 4) (b .1) in
     runs.here (sym (m .tag) ∙ eqb-true (r .tag) 7 (b .0)) (signature-good (r .asked) (e .verdict) (d .0) (m .asked)) (h ∙ ap taken (same-state (r .to) Session (d .1)))
 
 past : {rs : List Row} {s u : State} {es : List Entry} → everyRow rs ≡ true → Walk rs s es u → signed s ≡ false → signed u ≡ true → PastSignature es
 unfolding signed
-past ok end h k = clash (sym k ∙ h)
+past ok end h k = wrong (sym h ∙ k)
 past {rs} {s} {u} ok (along {e = e} {es = es} r i m t w) h k = go (signed (r .to)) refl (past ok w)
   where
     go : (b : Bool) → signed (r .to) ≡ b → (signed (r .to) ≡ false → signed u ≡ true → PastSignature es) → PastSignature (e ∷ es)

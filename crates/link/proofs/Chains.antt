@@ -2,11 +2,11 @@
 use mathlib.Core.Path.{_≡_, refl, sym, ap, subst, _∙_}
 use mathlib.Core.Bool.{true, false}
 use mathlib.Core.List.{List, [], _∷_}
-use Prim.Native.Nat.{ℕ, zero, suc, _+_, _-_, _≤_, _<_}
-use native.Mathlib.Nat.{suc-add, zero-add}
+use Prim.Native.Nat.{ℕ, _+_, _-_, _≤_, _<_}
 use native.Mathlib.Omega.{arith}
 use lib.ListN.{length, take, drop, length-drop}
-use lib.Seq.{take-take, drop-drop, length-take-le, take-nil}
+use lib.Seq.{take-take, drop-drop, length-take-le}
+use Rattle.buffer.proofs.Parts.{drop-take}
 use Rattle.stream.specs.declared.Event.{Event}
 use Rattle.stream.specs.Stream.{Entry}
 use Rattle.receiver.specs.declared.Report.the-variants as report
@@ -53,11 +53,6 @@ module _ (w : Walk) (s piece text : List ℕ) (o : Received) (s′ : List ℕ) (
       advanced r text′ (n .receiver) (n .taken) (rw q (record { entry-end = m .entry-end; frames = m .frames; refused = m .refused; end = m .end; lines = m .lines }))
 
 -- ---- calls one behind the other
-
-pub drop-take : (k m : ℕ) (l : List ℕ) → drop k (take (k + m) l) ≡ take m (drop k l)
-drop-take zero m l = rw zero-add
-drop-take (suc k) m [] = rw suc-add (rw (take-nil m))
-drop-take (suc k) m (x ∷ l) = rw suc-add (drop-take k m l)
 
 -- the bytes behind the first k
 behind : (k t : ℕ) (bytes stream : List ℕ) → k ≤ length bytes → take (length bytes) (drop t stream) ≡ bytes → take (length (drop k bytes)) (drop (t + k) stream) ≡ drop k bytes

@@ -12,14 +12,11 @@ use Rattle.receiver.specs.declared.Report.{Report}
 use Rattle.receiver.specs.declared.Report.the-variants as report
 use Rattle.receiver.specs.Calls.{passing, entered, refusedIn}
 use Rattle.text.specs.Line.{Piece}
-use Rattle.text.specs.Page.{Page, page, puts}
+use Rattle.text.specs.Page.{page}
+use Rattle.text.proofs.Laws.{puts-append}
 use Rattle.link.specs.declared.Walk.{Walk}
 use Rattle.link.specs.Lines.{lineOf, numbered, linesOf, End, endBy, endOf}
 use Rattle.link.specs.Walks.{entryEndBy, lastOf, framesOf, Noted, reported}
-
-pub puts-append : (xs ys : List Piece) (p : Page) → puts (xs ++ ys) p ≡ puts ys (puts xs p)
-puts-append [] ys p = refl
-puts-append (x ∷ xs) ys p = puts-append xs ys _
 
 pub last-append : (p : ℕ) (es fs : List Entry) → lastOf p (es ++ fs) ≡ lastOf (lastOf p es) fs
 unfolding lastOf

@@ -8,7 +8,8 @@ use native.Mathlib.Omega.{arith}
 use lib.Dec.{leb, ltb, eqb}
 use lib.ListN.{length, take, drop, length-take}
 use lib.Seq.{drop-drop}
-use borrow.Author.Tests.{lt-ltb, le-ltb, le-leb, lt-leb, eq-eqb, ne-eqb, leb-true, ltb-false}
+use borrow.Author.Tests.{lt-ltb, le-ltb, le-leb, lt-leb, eq-eqb, ne-eqb, leb-true, ltb-false, not-true}
+use Rattle.refusal.proofs.Booleans.{each-true}
 use Rattle.buffer.specs.Le.{numberAt}
 use Rattle.buffer.proofs.Numbers.{number-drop}
 use Rattle.link.specs.declared.Walk.{Walk}
@@ -67,20 +68,12 @@ unfolding sumOf
 sum-none table = refl
 
 -- a walk that can go on, and at most 16,384 bytes
-both-true : (a b : Bool) → (a && b) ≡ true → (a ≡ true) × (b ≡ true)
-both-true true b e = (refl, e)
-both-true false b e = absurd (let z : _≡_ {A = ℕ} 0 1 = cc in omega arith)
-
-open-walk : (b : Bool) → not b ≡ true → b ≡ false
-open-walk true e = absurd (let z : _≡_ {A = ℕ} 0 1 = cc in omega arith)
-open-walk false e = refl
-
 pub ready-fits : (w : Walk) (n : ℕ) → ready w ≡ true → n ≤ 16384 → Fits w n
 ready-fits w n e h =
-    let a = both-true (not (w .refused)) (leb (w .taken) 4611686018427387904 && leb (w .frames) 4611686018427387904) e in
-    let b = both-true (leb (w .taken) 4611686018427387904) (leb (w .frames) 4611686018427387904) (a .1) in
+    let a = each-true (not (w .refused)) (leb (w .taken) 4611686018427387904 && leb (w .frames) 4611686018427387904) e in
+    let b = each-true (leb (w .taken) 4611686018427387904) (leb (w .frames) 4611686018427387904) (a .1) in
     record {
-      live = open-walk (w .refused) (a .0);
+      live = not-true (w .refused) (a .0);
       taken = omega (arith, leb-true (w .taken) 4611686018427387904 (b .0));
       frames = omega (arith, leb-true (w .frames) 4611686018427387904 (b .1));
     }

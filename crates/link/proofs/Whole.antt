@@ -12,6 +12,7 @@ use borrow.Author.Tests.{lt-ltb, le-ltb, le-leb, ltb-true, ltb-false, leb-true, 
 use Rattle.buffer.specs.Le.{numberAt, Bytes}
 use Rattle.buffer.proofs.Numbers.{number-take, word-read, bytes-take, bytes-drop}
 use Rattle.buffer.proofs.Turn.{take-min}
+use Rattle.buffer.proofs.Parts.{drop-take}
 use Rattle.refusal.specs.Refusals.{Judged, fine}
 use Rattle.banner.specs.Bits.{missing}
 use Rattle.banner.specs.Banner.{judgeOwn}
@@ -23,6 +24,7 @@ use Rattle.receiver.specs.Calls.{Call, Chained, takenBy, stateBy, storeBy, repo
 use Rattle.text.specs.Line.{Piece, textOf}
 use Rattle.text.specs.Page.{page, puts}
 use Rattle.text.specs.Law.{EveryLine}
+use Rattle.text.proofs.Laws.{puts-append}
 use Rattle.link.specs.declared.Walk.{Walk}
 use Rattle.link.specs.declared.Part.{Part}
 use Rattle.link.specs.declared.Part.the-variants.{Count, Table, Bodies, Ended}
@@ -34,9 +36,8 @@ use Rattle.link.specs.File.{countOf, sumOf, tableOf, lengthOf, behindTab
 use Rattle.link.specs.Walks.{lastOf, framesOf, endAt}
 use Rattle.link.specs.Reads.{newWalk, begun, wantedBy, wantedOf, countOutcome, tableOutcome, bodiesOutcome, filledTo, linkAfter, lastPieces, Settled, ready, BodiesRead, TableRead, WalkRead, ReadBy, ReadOn}
 use Rattle.link.specs.Links.{Read, Reading, linkBy, writtenBy, askedBy, Checked, EveryLink}
-use Rattle.link.proofs.Counts.{puts-append, last-append, frames-append, lines-append, refused-append, end-append}
+use Rattle.link.proofs.Counts.{last-append, frames-append, lines-append, refused-append, end-append}
 use Rattle.link.proofs.Ends.{at-refused, at-bad, at-open}
-use Rattle.link.proofs.Chains.{drop-take}
 use Rattle.link.proofs.Lists.{taken-append, state-append, store-append, chained-append, reported-append}
 use Rattle.link.proofs.Widths.{text-append, text-of, roomy, roomy-last}
 

@@ -1,4 +1,5 @@
 pub mod Faults
 pub mod Laws
+pub mod Headers
 pub mod Back
 pub mod Spelling

@@ -15,7 +15,7 @@ use Rattle.refusal.specs.declared.Refusal.the-variants as refusal
 use Rattle.refusal.specs.Refusals.{fine}
 use Rattle.refusal.proofs.Judgements.{passed}
 use Rattle.preamble.specs.declared.Header.{Header}
-use Rattle.preamble.specs.Layout.{segmentFields, frontList, preambleFront, preambleBytes}
+use Rattle.preamble.specs.Layout.{segmentFields, preambleFront, preambleBytes}
 use Rattle.preamble.specs.Judge.{flagFault, judgeFlags, segmentAt, headerOf}
 use Rattle.preamble.proofs.Laws.{length-front}
 

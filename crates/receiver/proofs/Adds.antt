@@ -13,6 +13,7 @@ use Rattle.refusal.specs.declared.Numbers.{Numbers}
 use Rattle.refusal.specs.Refusals.{Judged, fine, refused, row, isFine}
 use Rattle.banner.specs.declared.Features.{Features}
 use Rattle.banner.specs.Banner.{judgeMagic, judgeLength, judgeFeatures, featuresOf}
+use Rattle.banner.proofs.Lengths.{long-enough}
 use Rattle.preamble.specs.Layout.{total}
 use Rattle.preamble.specs.Judge.{headerOf, judgePreamble}
 use Rattle.body.specs.Body.{segmentSum, noFirstSum, firstSumLength, noEpilogue, wireLength}
@@ -32,7 +33,6 @@ use Rattle.receiver.specs.Step.{at, withPeer, withHeader, withFirst, abs
 use Rattle.receiver.specs.Every.{AnyCall, Handed, allTaken, lengthOf, allReported, cameBefore, unfinished, unfinishedAfter, unfinishedBy, Refuses}
 use Rattle.body.proofs.Ends.{no-length}
 use Rattle.receiver.proofs.Frames.{rest-silent}
-use Rattle.receiver.proofs.Streams.{long-enough}
 use Rattle.receiver.proofs.Live.{Rules, Gone, After, live, inside-of, chunk-after, feed-after, refused-gone, agree-own}
 use Rattle.receiver.proofs.Every.{feeding, shortened, refuses, gone-answer}
 

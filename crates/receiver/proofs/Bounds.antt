@@ -1,12 +1,9 @@
 -- Where the bytes of a stage go, and that there is room for them.
-use Prim.Native.Nat.{ℕ, _+_, _≤_, _<_, zero-le}
-use mathlib.Core.List.{List, [], _∷_, _++_}
-use mathlib.Core.Path.{_≡_, refl, sym, ap, _∙_}
+use Prim.Native.Nat.{ℕ, _≤_, zero-le}
+use mathlib.Core.Path.{_≡_}
 use mathlib.Core.Bool.{Bool, true, false, cond}
 use native.Mathlib.Omega.{arith}
 use native.Mathlib.Nat.{le-refl}
-use lib.ListN.{length, take, drop, take-append-drop}
-use lib.Seq.{length-take-le}
 use lib.Dec.{leb}
 use Rattle.banner.specs.declared.Revision.{Revision}
 use Rattle.banner.specs.declared.Revision.the-variants.{Msgr20, Msgr21}
@@ -17,13 +14,7 @@ use Rattle.receiver.specs.declared.Stage.the-variants as stage
 use Rattle.receiver.specs.declared.Place.{Place}
 use Rattle.receiver.specs.declared.Place.the-variants as place
 use Rattle.receiver.specs.declared.Known.{Known}
-use Rattle.receiver.specs.declared.State.{State}
-use Rattle.receiver.specs.declared.Report.{Report}
-use Rattle.receiver.specs.declared.Report.the-variants as report
 use Rattle.receiver.specs.State.{sizeOf, placeOf, needed}
-use Rattle.receiver.specs.Step.{size, Stepped, chunk, Answer, answered, onward, feed, isMore}
-use Rattle.refusal.proofs.Booleans.{wrong}
-use Rattle.receiver.proofs.Chunks.{feed-chunk}
 
 least-epilogue : (revision : Revision) (h : Header) → epilogueLength revision h ≤ 32
 least-epilogue Msgr20 h = omega arith
@@ -56,24 +47,3 @@ block-room k v e = rw e at (room k v)
 
 pub store-room : (k : Stage) (v : Known) → placeOf k ≡ place.Store → sizeOf k v ≤ needed k v
 store-room k v e = rw e at (room k v)
-
--- a piece from its first m bytes on
-pub feed-step : (st : State) (s piece : List ℕ) (m : ℕ) → 0 < m → m ≤ length piece → st .position .got + m ≤ size st
-    → feed st s piece ≡ (let x = chunk st s (take m piece) in onward (x .report) m x (feed (x .state) (x .store) (drop m piece)))
-feed-step st s piece m h l k =
-    ap (feed st s) (sym (take-append-drop m piece)) ∙ go (take m piece) (length-take-le m piece l)
-  where
-    go : (xs : List ℕ) → length xs ≡ m → feed st s (xs ++ drop m piece) ≡ (let x = chunk st s xs in onward (x .report) m x (feed (x .state) (x .store) (drop m piece)))
-    go [] e = absurd (omega arith)
-    go (b ∷ bs) e =
-        let x = chunk st s (b ∷ bs) in
-        feed-chunk st s b bs (drop m piece) (omega arith) ∙ ap (λ (n : ℕ). onward (x .report) n x (feed (x .state) (x .store) (drop m piece))) e
-
--- with a report, or without
-pub onward-report : (r : Report) (k : ℕ) (x : Stepped) (a : Answer) → isMore r ≡ false → onward r k x a ≡ answered (x .state) k r (x .store)
-onward-report report.More k x a e = wrong (sym e)
-onward-report (report.Event v) k x a e = refl
-
-pub is-more : (r : Report) → isMore r ≡ true → r ≡ report.More
-is-more report.More e = refl
-is-more (report.Event v) e = wrong e

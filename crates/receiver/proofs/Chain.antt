@@ -24,7 +24,7 @@ use Rattle.receiver.proofs.Machine.{Machine, refusedAgain}
 use Rattle.receiver.proofs.Machine as machine
 use Rattle.receiver.proofs.Lists.{Comes, Standing, running, gone, stays, every-list, uncut, same-end}
 use Rattle.receiver.proofs.Scan.{byteStep, scan, plain, plain-feed}
-use Rattle.receiver.proofs.Stages.{traceBy}
+use Rattle.receiver.proofs.Gathers.{traceBy}
 use Rattle.receiver.proofs.Stages as stages
 use Rattle.receiver.proofs.Streams.{stream-trace}
 use Rattle.receiver.proofs.Live.{Gone, byte-after, start-running, start-gone}

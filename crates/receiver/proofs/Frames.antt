@@ -8,7 +8,7 @@ use native.Mathlib.Nat.{add-zero, zero-add}
 use lib.ListN.{length, take, drop, replicate, length-append, length-drop, length-replicate, drop-of-length-le}
 use lib.Seq.{sets, take-all, take-nil, take-add, drop-drop, length-take-le}
 use lib.Dec.{lit<, lit≤, ltb, eqb}
-use borrow.Author.Tests.{lt-ltb, le-ltb, ltb-true, ltb-false, le-leb, lt-leb, eqb-false}
+use borrow.Author.Tests.{lt-ltb, le-ltb, ltb-true, ltb-false, le-leb, lt-leb, eqb-false, not-true}
 use Rattle.buffer.specs.Le.{numberAt}
 use Rattle.buffer.specs.Splice.{replaceFront}
 use Rattle.refusal.specs.Refusals.{row}
@@ -28,10 +28,12 @@ use Rattle.receiver.specs.declared.Report.the-variants as report
 use Rattle.receiver.specs.State.{blank, hasFirstSum}
 use Rattle.receiver.specs.Step.{at, nextFrame, refusedState, silent, refuse, endFrame, beginEpilogue, beginRest, beginBody, reportFirst, behindFirstSum, withFirst, finish}
 use Rattle.receiver.proofs.Scan.{scan}
-use Rattle.receiver.proofs.Placed.{sets-front, sets-behind, take-sets, take-over, over-over, over-longer}
+use Rattle.receiver.proofs.Placed.{sets-front, sets-behind, take-sets, take-over, over-over}
 use Rattle.buffer.proofs.Numbers.{number-take, number-drop}
+use Rattle.buffer.proofs.Parts.{over-longer}
 use Rattle.body.proofs.Ends.{no-length, has-length, ending-take, ending-none}
-use Rattle.receiver.proofs.Stages.{traceBy, noteTrace, run, short, full, gone}
+use Rattle.receiver.proofs.Gathers.{traceBy, noteTrace}
+use Rattle.receiver.proofs.Stages.{run, short, full, gone}
 
 -- ---- an epilogue is read by its own bytes
 
@@ -110,15 +112,11 @@ first-epilogue : (r : Revision) (h : Header) → noFirstSum r h ≡ false → lt
 first-epilogue Msgr20 h e c = refl
 first-epilogue Msgr21 h e c = lt-leb (h .count) 1 (ltb-true 1 (h .count) c)
 
-pub not-so : (b : Bool) → not b ≡ true → b ≡ false
-not-so true e = sym e
-not-so false e = refl
-
 pub rest-silent : (v : Known) (got : ℕ) (s : List ℕ) → hasFirstSum v ≡ true → ltb 1 (v .header .count) ≡ true → beginRest v got s .report ≡ report.More
 rest-silent v got s e c = go (ltb got (total (v .header)))
   where
     has : noEpilogue (v .revision) (v .header) ≡ false
-    has = first-epilogue (v .revision) (v .header) (not-so (noFirstSum (v .revision) (v .header)) e) c
+    has = first-epilogue (v .revision) (v .header) (not-true (noFirstSum (v .revision) (v .header)) e) c
 
     go : (b : Bool) → cond b (silent (at stage.Rest got v) s) (beginEpilogue v s) .report ≡ report.More
     go true = refl
@@ -265,7 +263,7 @@ module _ (y : Known) (P : ℕ) (b s : List ℕ) (next : List ℕ → Trace)
   abbrev n₁ : ℕ
   n₁ = y .header .s1 .len
 
-  -- what follows, as the later stages endBanner it
+  -- what follows, as the later stages have it
   after-at : (got k : ℕ) → k ≡ got + firstSumLength (y .revision) h → got ≤ total h
       → After (y .revision) (P + 32 + k + (total h - got) + epilogueLength (y .revision) h) (drop (epilogueLength (y .revision) h) (drop (total h - got) (drop k b))) next
   after-at got k hk l =

@@ -3,8 +3,9 @@ pub mod Entries
 pub mod Machine
 pub mod Lists
 pub mod Scan
-pub mod Chunks
 pub mod Placed
+pub mod Gathers
+pub mod Gathered
 pub mod Stages
 pub mod Frames
 pub mod Streams
@@ -14,6 +15,7 @@ pub mod Bounds
 pub mod Every
 pub mod Adds
 pub mod Chain
+pub mod Feeding
 pub mod FeedLoop
 pub mod CallLoop
 pub mod Tied

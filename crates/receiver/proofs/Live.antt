@@ -7,7 +7,7 @@ use native.Mathlib.Omega.{arith}
 use lib.ListN.{length, take, drop, getD}
 use lib.Seq.{length-sets}
 use lib.Dec.{lit<, leb, ltb, eqb}
-use borrow.Author.Tests.{lt-ltb, ltb-true, leb-true, leb-false, le-leb}
+use borrow.Author.Tests.{lt-ltb, ltb-true, leb-true, leb-false, le-leb, not-true}
 use Rattle.buffer.specs.Le.{numberAt}
 use Rattle.crc32c.specs.Crc.{crcOf}
 use Rattle.refusal.specs.declared.Numbers.{Numbers}
@@ -37,19 +37,20 @@ use Rattle.receiver.specs.declared.Known.{Known}
 use Rattle.receiver.specs.declared.State.{State}
 use Rattle.receiver.specs.declared.Report.{Report}
 use Rattle.receiver.specs.declared.Report.the-variants as report
-use Rattle.receiver.specs.State.{sizeOf, placeOf, isRefused, inBody, needed, blank, noRefusal, sameRevision, hasFirstSum, given, ownRule, payloadRule, peerRule, revisionRule, headerRule, firstRule, markRule, refusalRule, rules, leastOf, countRule, isZeros, inBlock, blockRule, agreesAt, agrees}
+use Rattle.buffer.specs.Zeros.{allZero}
+use Rattle.receiver.specs.State.{sizeOf, placeOf, isRefused, inBody, needed, blank, noRefusal, sameRevision, hasFirstSum, given, ownRule, payloadRule, peerRule, revisionRule, headerRule, firstRule, markRule, refusalRule, rules, leastOf, countRule, inBlock, blockRule, agreesAt, agrees}
 use Rattle.receiver.specs.Step.{at, onlyOwn, withPayload, withPeer, withRevision, withHeader, withFirst, nextFrame, refusedState, blockWith, storeWith, absorbed, stored, size, Stepped, silent, refuse, unlessRefused, endBanner, endFrame, beginEpilogue, beginRest, beginBody, reportFirst, behindFirstSum, reached, chunk, finish, onByte, feed, Running}
 use Rattle.refusal.proofs.Booleans.{wrong, both-left, both-right}
 use Rattle.receiver.proofs.Zeros.{zeros-later, drop-sets}
 use Rattle.receiver.proofs.Allowed.{Allowed, AllowedEnd, allowed-fine, allowed-cond, allowed-or, end-whole, end-dropped, end-turned, end-by, end-or}
 use Rattle.body.proofs.Ends.{has-length}
-use Rattle.receiver.proofs.Frames.{first-some, not-so, rest-silent}
+use Rattle.receiver.proofs.Frames.{first-some, rest-silent}
 use Rattle.receiver.proofs.Machine as machine
 use Rattle.receiver.proofs.Scan.{byteStep, plain-feed}
 
 -- ---- refusals that a receiver gives
 
--- a refusal of bytes that segmentBytes, and not of our own features
+-- a refusal of bytes that came, and not of our own features
 abbrev pub ofBytes : Numbers → Bool
 ofBytes n = given n && not (eqb (n .number) 16)
 
@@ -214,7 +215,7 @@ judged-after fine v s x o k f = f refl
 judged-after (refused n) v s x o k f = refused-after v n s o (both-left (given n) (not (eqb (n .number) 16)) (k .gives n refl))
 
 module _ (k : Stage) (got : ℕ) (v : Known) (s : List ℕ) (o : isRefused k ≡ false) where
-  running-at : Rules k v → leastOf k v ≤ got → got < sizeOf k v → needed k v ≤ length s → isZeros (drop (inBlock (placeOf k) got) blank) ≡ true → Running (at k got v) s
+  running-at : Rules k v → leastOf k v ≤ got → got < sizeOf k v → needed k v ≤ length s → allZero (drop (inBlock (placeOf k) got) blank) ≡ true → Running (at k got v) s
   running-at r l i f z =
       record { agree = agree-live k got blank v o (record { rule = r; least = l; inside = i; zeros = z }); live = o; fits = f }
 
@@ -293,7 +294,7 @@ body-after v s f u fits = go (hasFirstSum v) refl
     go false e = rest-after v s f (rw (u, e)) fits 0 (rw e zero-le)
     go true e =
         running-at stage.First 0 v s refl (record { own = f .own; payload = f .payload; peer = refl; revision = f .revision; header = f .header; first = e; mark = rw u; refusal = f .refusal }) zero-le
-        (first-some (v .revision) (v .header) (not-so (noFirstSum (v .revision) (v .header)) e)) fits refl
+        (first-some (v .revision) (v .header) (not-true (noFirstSum (v .revision) (v .header)) e)) fits refl
 
 -- segment 1 is reported early
 first-after : (v : Known) (s : List ℕ) → Framed v → hasFirstSum v ≡ true → total (v .header) ≤ length s → AfterStep (behindFirstSum v s)
@@ -360,9 +361,9 @@ finish-after stage.Refused b v s r o f = absurd (let z : _≡_ {A = ℕ} 0 1 = c
 
 -- ---- bytes of a stage leave the rest as it was
 
-block-kept : (p : Place) (got : ℕ) (b xs : List ℕ) → isZeros (drop (inBlock p got) b) ≡ true
-    → isZeros (drop (inBlock p (got + length xs)) (blockWith p got b xs)) ≡ true
-block-kept place.Block got b xs e = ap isZeros (drop-sets b got xs) ∙ zeros-later b got (length xs) e
+block-kept : (p : Place) (got : ℕ) (b xs : List ℕ) → allZero (drop (inBlock p got) b) ≡ true
+    → allZero (drop (inBlock p (got + length xs)) (blockWith p got b xs)) ≡ true
+block-kept place.Block got b xs e = ap allZero (drop-sets b got xs) ∙ zeros-later b got (length xs) e
 block-kept place.Store got b xs e = e
 block-kept place.Nowhere got b xs e = e
 

@@ -1,13 +1,21 @@
 -- Bytes placed in a store or in a block, as lists.
-use Prim.Native.Nat.{ℕ, _+_, _-_, _≤_}
-use mathlib.Core.List.{List, _++_, append-nil}
+use Prim.Native.Nat.{ℕ, suc, _+_, _-_, _≤_}
+use mathlib.Core.List.{List, [], _∷_, _++_, append-nil}
 use mathlib.Core.Path.{_≡_, sym, subst, ap, _∙_}
 use native.Mathlib.Omega.{arith}
-use native.Mathlib.Nat.{zero-add}
+use native.Mathlib.Nat.{zero-add, add-zero, add-suc, suc-add}
 use lib.ListN.{length, take, drop, drop-of-length-le}
-use lib.Seq.{sets, sets-eq, take-at, drop-at, drop-drop, drop-append-add}
+use lib.Seq.{sets, sets-eq, take-at, drop-at}
 use Rattle.buffer.specs.Splice.{replaceFront, splice, overwrite}
 use Rattle.buffer.proofs.Parts.{rest, replaceFront-next, length-replaceFront, length-rest, overwrite-fits, placed}
+
+-- one behind the other
+pub sets-append : (l : List ℕ) (i : ℕ) (xs ys : List ℕ) → sets (sets l i xs) (i + length xs) ys ≡ sets l i (xs ++ ys)
+sets-append l i [] ys = rw add-zero
+sets-append l i (x ∷ xs) ys = rw (add-suc i (length xs), ← (suc-add i (length xs))) (sets-append l′ (suc i) xs ys)
+  where
+    l′ : List ℕ
+    l′ = sets l i (x ∷ [])
 
 -- at the front
 pub sets-front : (s xs : List ℕ) → length xs ≤ length s → sets s 0 xs ≡ replaceFront xs s
@@ -34,16 +42,6 @@ take-over xs s n e = take-at xs (drop (length xs) s) n e
 -- a front that is replaced again by one as long
 pub over-over : (xs ys s : List ℕ) → length xs ≡ length ys → replaceFront ys (replaceFront xs s) ≡ replaceFront ys s
 over-over xs ys s e = ap (λ (t : List ℕ). ys ++ t) (drop-at xs (drop (length xs) s) (length ys) e ∙ ap (λ (n : ℕ). drop n s) e)
-
--- a front that is replaced again by a longer one
-pub over-longer : (xs ys s : List ℕ) → length xs ≤ length ys → replaceFront ys (replaceFront xs s) ≡ replaceFront ys s
-over-longer xs ys s h =
-    let n : length xs + (length ys - length xs) ≡ length ys = omega arith in
-    ap (λ (t : List ℕ). ys ++ t)
-    (ap (λ (k : ℕ). drop k (replaceFront xs s)) (sym n)
-    ∙ drop-append-add xs (drop (length xs) s) (length ys - length xs)
-    ∙ drop-drop (length ys - length xs) (length xs) s
-    ∙ ap (λ (k : ℕ). drop k s) n)
 
 -- bytes put into the part of a block from n on, of which the length is known as N
 pub block-put : (l xs ys : List ℕ) (n N : ℕ) → length l ≡ N → ys ≡ overwrite xs (take (N - n) (drop n l)) → n + length xs ≤ N

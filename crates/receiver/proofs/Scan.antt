@@ -9,8 +9,11 @@ use Rattle.receiver.specs.declared.Report.the-variants as report
 use Rattle.receiver.specs.Step.{Stepped, onByte, Answer, onward, feed}
 use Rattle.receiver.proofs.Machine as machine
 
+abbrev pub bare : Stepped → machine.Stepped State
+bare x = record { state = x .state; store = x .store; report = x .report }
+
 abbrev pub byteStep : State → List ℕ → ℕ → machine.Stepped State
-byteStep st s b = record { state = onByte st s b .state; store = onByte st s b .store; report = onByte st s b .report }
+byteStep st s b = bare (onByte st s b)
 
 abbrev pub Scanned : Type 0
 Scanned = machine.Scanned State
@@ -27,8 +30,7 @@ scan-append = machine.scan-append byteStep
 abbrev pub plain : Answer → machine.Answer State
 plain a = record { state = a .received .state; taken = a .received .taken; report = a .received .report; store = a .store }
 
-plain-onward : (r : Report) (x : Stepped) (a : Answer)
-    → plain (onward r 1 x a) ≡ machine.onward r (record { state = x .state; store = x .store; report = x .report }) (plain a)
+plain-onward : (r : Report) (x : Stepped) (a : Answer) → plain (onward r 1 x a) ≡ machine.onward r (bare x) (plain a)
 plain-onward report.More x a = refl
 plain-onward (report.Event e) x a = refl
 

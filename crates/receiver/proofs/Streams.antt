@@ -2,7 +2,7 @@
 use Prim.Native.Nat.{ℕ, zero, suc, _+_, _-_, _≤_, _<_}
 use mathlib.Core.List.{List, [], _∷_}
 use mathlib.Core.Path.{_≡_, refl, sym, ap, _∙_}
-use mathlib.Core.Bool.{Bool, true, false, cond, _&&_}
+use mathlib.Core.Bool.{Bool, true, false, cond}
 use native.Mathlib.Omega.{arith}
 use native.Mathlib.Nat.{zero-add}
 use lib.ListN.{length, take, drop, length-drop}
@@ -10,12 +10,11 @@ use lib.Seq.{sets, drop-drop, length-take-le}
 use lib.Dec.{lit<, lit≤, leb, ltb}
 use borrow.Author.Tests.{lt-ltb, le-ltb, ltb-true, ltb-false, leb-true, leb-false, le-leb, lt-leb}
 use Rattle.buffer.specs.Le.{numberAt}
-use Rattle.refusal.specs.declared.Refusal.the-variants as refusal
 use Rattle.refusal.specs.Refusals.{Judged, fine, refused}
-use Rattle.refusal.proofs.Judgements.{passed}
 use Rattle.banner.specs.declared.Features.{Features}
 use Rattle.banner.specs.declared.Revision.{Revision}
 use Rattle.banner.specs.Banner.{judgeMagic, judgeLength, judgeFeatures, revisionOf, featuresOf}
+use Rattle.banner.proofs.Lengths.{long-enough}
 use Rattle.preamble.specs.Judge.{headerOf, judgePreamble}
 use Rattle.preamble.proofs.Laws.{accepted-preamble, store-fits}
 use Rattle.body.specs.Body.{bodyLength, wireLength}
@@ -27,12 +26,12 @@ use Rattle.receiver.specs.declared.Known.{Known}
 use Rattle.receiver.specs.declared.State.{State}
 use Rattle.receiver.specs.State.{blank, noHeader, noRefusal}
 use Rattle.receiver.specs.Step.{Stepped, at, onlyOwn, refusedState, withPayload, withPeer, withRevision, withHeader, silent, unlessRefused, endBanner, beginBody, finish}
-use Rattle.refusal.proofs.Booleans.{both-left}
 use Rattle.receiver.proofs.Machine.{scan-none}
 use Rattle.receiver.proofs.Scan.{byteStep, scan}
 use Rattle.receiver.proofs.Placed.{sets-whole, take-sets}
 use Rattle.buffer.proofs.Numbers.{number-take, number-drop}
-use Rattle.receiver.proofs.Stages.{traceBy, run, short, full, gone}
+use Rattle.receiver.proofs.Gathers.{traceBy}
+use Rattle.receiver.proofs.Stages.{run, short, full, gone}
 use Rattle.receiver.proofs.Frames.{After, body-run}
 
 -- a judgement, on both sides
@@ -190,9 +189,6 @@ module _ (f : ℕ) (y : Known) (s ys : List ℕ) (hf : length ys ≤ f) (low : 1
       go false c false u = skipped (ltb-false (length ys) 16 c) (leb-false (y .payload) 16 u)
 
 -- ---- the whole stream
-
-pub long-enough : (n : ℕ) → judgeLength n ≡ fine → 16 ≤ n
-long-enough n e = leb-true 16 n (both-left (leb 16 n) (leb n 1024) (passed (leb 16 n && leb n 1024) (refusal.BannerLength n) e))
 
 module _ (own : Features) (bytes s : List ℕ) where
   abbrev L : ℕ

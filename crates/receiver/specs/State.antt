@@ -1,9 +1,10 @@
 -- What a receiver's state is between two calls: what its next bytes are, what a stage reads, and the rules behind refusal 26 (docs/STATE.md says them in words).
-use mathlib.Core.List.{List, [], _∷_}
+use mathlib.Core.List.{List}
 use mathlib.Core.Bool.{Bool, true, false, not, cond, _&&_, _||_}
 use Prim.Native.Nat.{ℕ, _-_}
 use lib.ListN.{drop, replicate}
 use lib.Dec.{leb, ltb, eqb}
+use Rattle.buffer.specs.Zeros.{allZero}
 use Rattle.refusal.specs.declared.Numbers.{Numbers}
 use Rattle.refusal.specs.Refusals.{row, isFine}
 use Rattle.banner.specs.declared.Features.{Features}
@@ -179,17 +180,13 @@ abbrev pub countRule : Stage → Known → ℕ → Bool
 countRule k v got = cond (isRefused k) (eqb got 0) (leb (leastOf k v) got && ltb got (sizeOf k v))
 
 -- the block holds those that came, where they go there, and zeros behind them
-abbrev pub isZeros : List ℕ → Bool
-isZeros [] = true
-isZeros (b ∷ bs) = eqb b 0 && isZeros bs
-
 abbrev pub inBlock : Place → ℕ → ℕ
 inBlock place.Block got = got
 inBlock place.Store got = 0
 inBlock place.Nowhere got = 0
 
 abbrev pub blockRule : Stage → ℕ → List ℕ → Bool
-blockRule k got block = isZeros (drop (inBlock (placeOf k) got) block)
+blockRule k got block = allZero (drop (inBlock (placeOf k) got) block)
 
 -- A STATE AGREES WITH ITSELF where all rules hold; 26 is for any other
 unfoldable pub agreesAt : Stage → ℕ → List ℕ → Known → Bool

@@ -24,7 +24,8 @@ ghost use mathlib.Core.Path.{_≡_};
 ghost use mathlib.Core.Bool.{cond, _&&_};
 ghost use Prim.Native.Nat.{_-_};
 ghost use lib.ListN.{drop};
-ghost use Rattle.receiver.specs.State.{rank, sizeOf, placeOf, isRefused, inBody, liveFrom, needed, noRefusal, isMsgr21, sameRevision, isNoFeatures, isNoSegment, isNoHeader, isNoRefusal, given, ownRule, payloadRule, peerRule, revisionRule, headerRule, hasFirstSum, firstRule, markRule, refusalRule, rules, leastOf, countRule, isZeros, inBlock, blockRule, agrees};
+ghost use Rattle.buffer.specs.Zeros.{allZero};
+ghost use Rattle.receiver.specs.State.{rank, sizeOf, placeOf, isRefused, inBody, liveFrom, needed, noRefusal, isMsgr21, sameRevision, isNoFeatures, isNoSegment, isNoHeader, isNoRefusal, given, ownRule, payloadRule, peerRule, revisionRule, headerRule, hasFirstSum, firstRule, markRule, refusalRule, rules, leastOf, countRule, inBlock, blockRule, agrees};
 ghost use Rattle.receiver.specs.declared.Stage.the-variants as stage;
 ghost use Rattle.receiver.specs.Step.{at, onlyOwn, withPayload, withPeer, withRevision, withHeader, withFirst, nextFrame};
 
@@ -425,7 +426,7 @@ fn in_block(place: Place, got: usize) -> usize
 
 // Zeros from a place on. Every byte is looked at, so that the loop has no branch.
 fn zeros_from(block: &[u8], from: usize) -> bool
-    ensures { λ r. ⌜ r ≡ isZeros (drop from (now (block .entry))) ⌝ }
+    ensures { λ r. ⌜ r ≡ allZero (drop from (now (block .entry))) ⌝ }
 {
     let mut fine = true;
     let mut i: usize = 0;

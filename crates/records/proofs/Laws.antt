@@ -13,7 +13,7 @@ use lib.Seq.{drop-cons, set-at, take-suc, take-suc-set}
 use Rattle.buffer.specs.Le.{leOf}
 use Rattle.fields.specs.Field.{wordsOf}
 use Rattle.text.specs.Line.{Piece}
-use Rattle.text.specs.Page.{Page, page, put, puts}
+use Rattle.text.specs.Page.{Page, page}
 use Rattle.records.specs.declared.Step.{Step}
 use Rattle.records.specs.Records.{Record, Did, sized, whole, isWhole, badRecord, lineThen, readAll, print, prints, counted}
 
@@ -66,12 +66,6 @@ pub first : (a b : Bool) → (a && b) ≡ true → a ≡ true
 first true b e = refl
 first false b e = e
 
--- ---- pieces and lines, one behind the other
-
-pub puts-append : (xs ys : List Piece) (p : Page) → puts (xs ++ ys) p ≡ puts ys (puts xs p)
-puts-append [] ys p = refl
-puts-append (x ∷ xs) ys p = puts-append xs ys (put x p)
-
 -- what is left of a record that is run as it is read: d from the page q on is all of it from the page p on
 pub record Left (all d : Record) (p q : Page) : Type 0 where
   pub size : d .size ≡ all .size
@@ -96,11 +90,6 @@ module _ {all : Record} {s before : List ℕ} {at : ℕ} {after : List ℕ} {r :
   did-broken l t p = record { taken = t ∙ l .size; printed = p ∙ l .lines; within = omega arith }
 
 -- ---- lists
-
-pub length-words : (n : ℕ) (t : List ℕ) → length (wordsOf n t) ≡ n
-unfolding wordsOf
-length-words zero t = refl
-length-words (suc n) t = ap suc (length-words n (drop 4 t))
 
 pub words-take : (n m : ℕ) (t : List ℕ) → n ≤ m → take n (wordsOf m t) ≡ wordsOf n t
 unfolding wordsOf

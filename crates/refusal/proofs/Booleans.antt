@@ -14,6 +14,9 @@ pub both-right : (a b : Bool) → (a && b) ≡ true → b ≡ true
 both-right true b e = e
 both-right false b e = wrong e
 
+pub each-true : (a b : Bool) → (a && b) ≡ true → (a ≡ true) × (b ≡ true)
+each-true a b e = (both-left a b e, both-right a b e)
+
 pub both-true : (a b : Bool) → a ≡ true → b ≡ true → (a && b) ≡ true
 both-true true b p q = q
 both-true false b p q = p

@@ -1,7 +1,7 @@
 -- Laws of the messages that a session holds.
 use mathlib.Core.Logic.{_≢_}
 use mathlib.Core.Path.{_≡_, refl, sym, ap, _∙_}
-use mathlib.Core.Bool.{Bool, true, false, _&&_, true≢false}
+use mathlib.Core.Bool.{Bool, true, false}
 use mathlib.Core.List.{List, [], _∷_, _++_}
 use Prim.Native.Nat.{ℕ, zero, suc, _+_, _-_, _≤_, _<_, _%_}
 use native.Mathlib.Omega.{arith}
@@ -16,22 +16,13 @@ use Rattle.refusal.specs.declared.Verdict.the-variants as verdict
 use Rattle.refusal.specs.declared.Refusal.the-variants as why
 use Rattle.refusal.specs.Refusals.{Judged, fine, numbersOf, judgedBy, unless}
 use Rattle.refusal.proofs.Judgements.{passed, all-fine}
+use Rattle.refusal.proofs.Booleans.{both-left, both-right}
 use Rattle.session.specs.declared.Session.{Session}
 use Rattle.session.specs.declared.Message.{Message}
 use Rattle.session.specs.declared.Report.the-variants as report
 use Rattle.session.specs.declared.Held.the-variants as held
 use Rattle.session.specs.Laws.{above}
 use Rattle.session.specs.Calls.{places, finalNumber, message, messageAt, heldFrom, heldOf, agrees, judgeState, judgeAccept, found, outcome, unlessRefused}
-
--- ---- tests
-
-pub both-left : (a b : Bool) → (a && b) ≡ true → a ≡ true
-both-left true b e = refl
-both-left false b e = e
-
-pub both-right : (a b : Bool) → (a && b) ≡ true → b ≡ true
-both-right true b e = e
-both-right false b e = absurd (true≢false (sym e))
 
 -- ---- the messages of the k numbers above n
 

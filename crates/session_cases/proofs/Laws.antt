@@ -15,8 +15,9 @@ use Rattle.session.specs.Calls.{acceptOf, ackOf, reconnectOf, resetOf, heldAt}
 use Rattle.session.specs.Laws.{answersOf}
 use Rattle.text.specs.Line.{codes}
 use Rattle.text.specs.Page.{Page, page, puts}
+use Rattle.text.proofs.Laws.{puts-append}
 use Rattle.records.specs.Records.{Record, print, badRecord, lineThen, readAll}
-use Rattle.records.proofs.Laws.{puts-append, first, Left, left-is, left-next}
+use Rattle.records.proofs.Laws.{first, Left, left-is, left-next}
 use Rattle.session_cases.specs.declared.Called.{Called}
 use Rattle.session_cases.specs.Session.{heldPieces, resentPieces, heldLine, Answer, reported, answerOf, Reported, CallDid, valueAt, callGood, answerAt, callsFrom, sessionAfter, sessionRecord}
 

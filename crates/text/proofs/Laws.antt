@@ -78,6 +78,10 @@ write-none : (p : Page) → p ≡ write [] p
 unfolding write page
 write-none p = pages refl (omega arith)
 
+pub puts-append : (xs ys : List Piece) (p : Page) → puts (xs ++ ys) p ≡ puts ys (puts xs p)
+puts-append [] ys p = refl
+puts-append (x ∷ xs) ys p = puts-append xs ys (put x p)
+
 pub puts-text : (xs : List Piece) (p : Page) → puts xs p ≡ write (textOf xs) p
 unfolding textOf put
 puts-text [] p = write-none p

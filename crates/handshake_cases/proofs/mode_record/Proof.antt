@@ -7,10 +7,11 @@ use borrow.Author.Needs.{needs}
 use borrow.Author.Tests.{not-true, not-false}
 use lib.ListN.{length, drop, getD}
 use lib.Seq.{length-take-le}
+use Rattle.fields.proofs.Skips.{length-words}
 use Rattle.handshake.specs.declared.Picked.{Picked}
 use Rattle.handshake_cases.proofs.Laws.{preferred-few, own-few, mode-picked}
 use Rattle.handshake_cases.specs.Modes.{ownAt, modeLine, modeSize, pickedOf, modeRecord}
-use Rattle.records.proofs.Laws.{length-words, did-bad, did-whole}
+use Rattle.records.proofs.Laws.{did-bad, did-whole}
 use Rattle.records.specs.Records.{isWhole, print, prints}
 use Rattle.text.specs.Page.{page}
 use Rattle.handshake_cases.proofs.mode_record.Statement.{statement}

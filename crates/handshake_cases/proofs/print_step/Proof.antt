@@ -1,6 +1,6 @@
 use borrow.Author.Needs.{needs}
+use Rattle.text.proofs.Laws.{puts-append}
 use Rattle.handshake_cases.specs.Steps.{stepLine}
-use Rattle.records.proofs.Laws.{puts-append}
 use Rattle.handshake_cases.proofs.print_step.Statement.{statement}
 use Rattle.handshake_cases.proofs.print_step.Tie as tie
 

@@ -5,7 +5,8 @@ use borrow.Author.Needs.{needs}
 use lib.ListN.{length, take, drop, length-set}
 use lib.Seq.{take-all}
 use Rattle.fields.specs.Field.{wordsOf}
-use Rattle.records.proofs.Laws.{length-words, stored-more}
+use Rattle.fields.proofs.Skips.{length-words}
+use Rattle.records.proofs.Laws.{stored-more}
 use Rattle.records.proofs.read_words.Statement.{statement}
 use Rattle.records.proofs.read_words.Tie as tie
 

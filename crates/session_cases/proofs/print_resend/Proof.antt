@@ -1,5 +1,5 @@
 use borrow.Author.Needs.{needs}
-use Rattle.records.proofs.Laws.{puts-append}
+use Rattle.text.proofs.Laws.{puts-append}
 use Rattle.session_cases.proofs.print_resend.Statement.{statement}
 use Rattle.session_cases.proofs.print_resend.Tie as tie
 

@@ -6,7 +6,7 @@ use lib.ListN.{length, drop}
 use Rattle.body_cases.proofs.Laws.{each-more, each-none}
 use Rattle.body_cases.specs.Reading.{eachNumber}
 use Rattle.fields.specs.Reading.{numbersIn}
-use Rattle.records.proofs.Laws.{length-words}
+use Rattle.fields.proofs.Skips.{length-words}
 use Rattle.text.specs.Page.{page, puts}
 use Rattle.body_cases.proofs.reading.put_each.Statement.{statement}
 use Rattle.body_cases.proofs.reading.put_each.Tie as tie

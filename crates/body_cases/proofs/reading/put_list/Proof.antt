@@ -1,6 +1,6 @@
 use borrow.Author.Needs.{needs}
 use lib.ListN.{drop}
-use Rattle.records.proofs.Laws.{length-words}
+use Rattle.fields.proofs.Skips.{length-words}
 use Rattle.body_cases.proofs.reading.put_list.Statement.{statement}
 use Rattle.body_cases.proofs.reading.put_list.Tie as tie
 

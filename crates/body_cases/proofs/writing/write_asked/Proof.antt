@@ -7,7 +7,7 @@ use lib.Seq.{length-take-le}
 use Rattle.bodies.specs.Write.{writeBody}
 use Rattle.body_cases.proofs.Requests.{fields-same}
 use Rattle.fields.specs.Field.{Field}
-use Rattle.records.proofs.Laws.{length-words}
+use Rattle.fields.proofs.Skips.{length-words}
 use Rattle.body_cases.proofs.writing.write_asked.Statement.{statement}
 use Rattle.body_cases.proofs.writing.write_asked.Tie as tie
 

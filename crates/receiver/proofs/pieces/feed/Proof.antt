@@ -1,11 +1,12 @@
-use Rattle.receiver.proofs.FeedLoop.{Midway, begin, taken, some, inside, further, reported, finished}
-use Rattle.receiver.proofs.Live.{inside-of}
-use lib.ListN.{length}
-use borrow.Author.Tests.{not-true, not-false}
-use borrow.Author.Needs.{needs}
-use native.Mathlib.Omega.{arith}
 use Prim.Native.Nat.{_-_}
 use mathlib.Core.Path.{_∙_, sym}
+use native.Mathlib.Omega.{arith}
+use lib.ListN.{length}
+use borrow.Author.Needs.{needs}
+use borrow.Author.Tests.{not-true, not-false}
+use Rattle.receiver.proofs.Live.{inside-of}
+use Rattle.receiver.proofs.Feeding.{begin, progress, within, again}
+use Rattle.receiver.proofs.FeedLoop.{lasting, Midway, Turn, turn, reported, finished}
 use Rattle.receiver.proofs.pieces.feed.Statement.{statement}
 use Rattle.receiver.proofs.pieces.feed.Tie as tie
 
@@ -15,8 +16,20 @@ Inv-loop piece store₀ st₀ at₀ store st at = Midway piece store₀ st₀ st
 abbrev μ-loop : tie.MeasureT-loop
 μ-loop piece store₀ st₀ at₀ store st at = length piece - at
 
+-- a turn of the loop, where its step is done
+abbrev Stepped : Type 0
+Stepped = tie.After-step Inv-loop μ-loop
+
+abbrev start : Stepped → tie.Start Inv-loop μ-loop
+start a = a .before .before .before .before .before .before .before
+
+done : (a : Stepped)
+    → (let z = start a .args in let m = a .before .before .before .before .loop in
+    Turn (z .piece .now) (z .store .now) (z .state) (m .store) (m .st) (m .at) (a .step .result) (a .step .last .1 .1 .0))
+done a = turn (a .before .before .before .before .loop .inv) (a .before .before .before .loop-test .taken) (a .step .ensures) (a .step .kept .1 .1 .0)
+
 loop-holds : tie.Need-loop-holds Inv-loop μ-loop
-loop-holds c = begin (c .before .before .args .piece .now) (c .before .before .args .store .now) (c .before .before .args .state) (c .before .before .pre)
+loop-holds c = (let z = c .before .before in begin lasting (z .args .piece .now) (z .args .store .now) (z .args .state) (z .pre))
 
 sub-step : tie.Need-sub-step Inv-loop μ-loop
 sub-step c = search needs
@@ -28,31 +41,35 @@ part-step-end : tie.Need-part-step-end Inv-loop μ-loop
 part-step-end c = search needs
 
 step-requires : tie.Need-step-requires Inv-loop μ-loop
-step-requires c κs = (inside-of (c .before .before .before .loop .inv .running), c .before .before .before .loop .inv .running .fits)
+step-requires c κs = (let r = c .before .before .before .loop .inv .running in (inside-of r, r .fits))
 
 add-at : tie.Need-add-at Inv-loop μ-loop
-add-at c = (let i = inside (c .before .before .before .before .before .before .before .before .before .before .args .piece .now) (c .before .before .before .before .before .before .before .before .before .before .args .store .now) (c .before .before .before .before .before .before .before .before .before .before .args .state) (c .before .before .before .before .before .before .before .loop .store) (c .before .before .before .before .before .before .before .loop .st) (c .before .before .before .before .before .before .before .loop .at) (c .before .before .before .before .before .before .before .loop .inv) (c .before .before .before .before .before .before .loop-test .taken) (c .before .before .before .step .result) (c .before .before .before .step .last .1 .1 .0) (c .before .before .before .step .ensures) (c .before .before .before .step .kept .1 .1 .0) in omega (arith, i, c .before .before .before .before .before .before .before .before .before .before .good .1 .0 .0))
+add-at c = (let a = c .before .before .before in omega (arith, within (done a), start a .good .1 .0 .0))
 
 is-more-requires : tie.Need-is-more-requires Inv-loop μ-loop
 is-more-requires c κs = search needs
 
 same-length : tie.Need-same-length Inv-loop μ-loop
-same-length c = c .before .before .before .before .before .before .step .kept .1 .1 .0 ∙ c .before .before .before .before .before .before .before .before .before .before .loop .inv .same
+same-length c = (let t = done (c .before .before .before .before .before .before) in t .kept ∙ t .midway .same)
 
 returns : tie.Need-returns Inv-loop μ-loop
-returns c = reported (c .before .before .before .before .before .before .before .before .before .before .before .before .before .args .piece .now) (c .before .before .before .before .before .before .before .before .before .before .before .before .before .args .store .now) (c .before .before .before .before .before .before .before .before .before .before .before .before .before .args .state) (c .before .before .before .before .before .before .before .before .before .before .loop .store) (c .before .before .before .before .before .before .before .before .before .before .loop .st) (c .before .before .before .before .before .before .before .before .before .before .loop .at) (c .before .before .before .before .before .before .before .before .before .before .loop .inv) (c .before .before .before .before .before .before .before .before .before .loop-test .taken) (c .before .before .before .before .before .before .step .result) (c .before .before .before .before .before .before .step .last .1 .1 .0) (c .before .before .before .before .before .before .step .ensures) (c .before .before .before .before .before .before .step .kept .1 .1 .0) (sym (c .before .is-more .ensures) ∙ not-true (c .before .is-more .result) (c .if1 .taken))
+returns c =
+    reported (done (c .before .before .before .before .before .before))
+    (sym (c .before .is-more .ensures) ∙ not-true (c .before .is-more .result) (c .if1 .taken))
 
 loop-less : tie.Need-loop-less Inv-loop μ-loop
-loop-less c = (let t = taken (c .before .before .before .before .before .before .before .before .before .before .before .before .before .args .piece .now) (c .before .before .before .before .before .before .before .before .before .before .before .before .before .args .store .now) (c .before .before .before .before .before .before .before .before .before .before .before .before .before .args .state) (c .before .before .before .before .before .before .before .before .before .before .loop .store) (c .before .before .before .before .before .before .before .before .before .before .loop .st) (c .before .before .before .before .before .before .before .before .before .before .loop .at) (c .before .before .before .before .before .before .before .before .before .before .loop .inv) (c .before .before .before .before .before .before .before .before .before .loop-test .taken) (c .before .before .before .before .before .before .step .result) (c .before .before .before .before .before .before .step .last .1 .1 .0) (c .before .before .before .before .before .before .step .ensures) (c .before .before .before .before .before .before .step .kept .1 .1 .0) in let k = some (c .before .before .before .before .before .before .before .before .before .before .before .before .before .args .piece .now) (c .before .before .before .before .before .before .before .before .before .before .before .before .before .args .store .now) (c .before .before .before .before .before .before .before .before .before .before .before .before .before .args .state) (c .before .before .before .before .before .before .before .before .before .before .loop .store) (c .before .before .before .before .before .before .before .before .before .before .loop .st) (c .before .before .before .before .before .before .before .before .before .before .loop .at) (c .before .before .before .before .before .before .before .before .before .before .loop .inv) (c .before .before .before .before .before .before .before .before .before .loop-test .taken) (c .before .before .before .before .before .before .step .result) (c .before .before .before .before .before .before .step .last .1 .1 .0) (c .before .before .before .before .before .before .step .ensures) (c .before .before .before .before .before .before .step .kept .1 .1 .0) in omega (arith, t, k, c .before .before .before .before .before .before .before .before .before .loop-test .taken))
+loop-less c = (let t = done (c .before .before .before .before .before .before) in omega (arith, within t, progress t))
 
 loop-again : tie.Need-loop-again Inv-loop μ-loop
-loop-again c = further (c .before .before .before .before .before .before .before .before .before .before .before .before .before .args .piece .now) (c .before .before .before .before .before .before .before .before .before .before .before .before .before .args .store .now) (c .before .before .before .before .before .before .before .before .before .before .before .before .before .args .state) (c .before .before .before .before .before .before .before .before .before .before .loop .store) (c .before .before .before .before .before .before .before .before .before .before .loop .st) (c .before .before .before .before .before .before .before .before .before .before .loop .at) (c .before .before .before .before .before .before .before .before .before .before .loop .inv) (c .before .before .before .before .before .before .before .before .before .loop-test .taken) (c .before .before .before .before .before .before .step .result) (c .before .before .before .before .before .before .step .last .1 .1 .0) (c .before .before .before .before .before .before .step .ensures) (c .before .before .before .before .before .before .step .kept .1 .1 .0) (sym (c .before .is-more .ensures) ∙ not-false (c .before .is-more .result) (c .if1 .left))
+loop-again c =
+    again (done (c .before .before .before .before .before .before))
+    (sym (c .before .is-more .ensures) ∙ not-false (c .before .is-more .result) (c .if1 .left))
 
 same-length-2 : tie.Need-same-length-2 Inv-loop μ-loop
 same-length-2 c = c .before .loop .inv .same
 
 returns-2 : tie.Need-returns-2 Inv-loop μ-loop
-returns-2 c = finished (c .before .before .before .before .args .piece .now) (c .before .before .before .before .args .store .now) (c .before .before .before .before .args .state) (c .before .loop .store) (c .before .loop .st) (c .before .loop .at) (c .before .loop .inv) (c .loop-test .left)
+returns-2 c = finished (c .before .loop .inv) (c .loop-test .left)
 
 pub feed-spec : {M : Type 1} → statement M
 feed-spec =

@@ -35,7 +35,7 @@ returns c =
     let h = held-piece st s p l in
     let eb = c .before .before .before .before .fill-block .ensures ∙ ap (λ (q : Place). step.blockWith q (st .position .got) (st .position .block) p) (c .before .before .before .before .before .before .place-of .ensures) in
     let es = c .before .before .fill-store .ensures ∙ ap (λ (q : Place). step.storeWith q (st .position .got) s p) (c .before .before .before .before .before .before .place-of .ensures) in
-    record { received = rw (h, eb, c .before .before .before .before .before .before .before .before .before .before .before .pre .1); store = rw h es }
+    record { received = rw (eb, c .before .before .before .before .before .before .before .before .before .before .before .pre .1) (h .received); store = es ∙ h .store }
 
 pub hold-spec : {M : Type 1} → statement M
 hold-spec =

@@ -3,17 +3,17 @@ use mathlib.Core.List.{List}
 use native.Mathlib.Nat.{zero-add}
 use Prim.Native.Nat.{ℕ, _-_}
 use mathlib.Core.Path.{_≡_, sym, ap, _∙_}
-use mathlib.Core.Bool.{Bool, _&&_, _||_}
+use mathlib.Core.Bool.{Bool, _&&_, _||_, and-true}
 use native.Mathlib.Omega.{arith}
 use lib.ListN.{length, drop, getD, drop-of-length-le}
 use lib.Dec.{ltb, eqb}
-use Rattle.receiver.specs.State.{isZeros}
-use Rattle.receiver.proofs.Zeros.{past, past-from, past-step, and-true}
+use Rattle.buffer.specs.Zeros.{allZero}
+use Rattle.receiver.proofs.Zeros.{past, past-from, past-step}
 use Rattle.receiver.proofs.states.zeros_from.Statement.{statement}
 use Rattle.receiver.proofs.states.zeros_from.Tie as tie
 
 abbrev Inv-loop : tie.InvT-loop
-Inv-loop block from fine₀ i₀ fine i = (fine && past from i (drop i block)) ≡ isZeros (drop from block)
+Inv-loop block from fine₀ i₀ fine i = (fine && past from i (drop i block)) ≡ allZero (drop from block)
 
 abbrev μ-loop : tie.MeasureT-loop
 μ-loop block from fine₀ i₀ fine i = length block - i
