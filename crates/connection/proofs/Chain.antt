@@ -9,6 +9,7 @@ use lib.Dec.{eqb, leb}
 use lib.ListN.{length, getD, take, drop, take-append-drop}
 use lib.Seq.{take-take, length-take-le}
 use borrow.Author.Tests.{leb-true, leb-false}
+use Rattle.buffer.proofs.Parts.{drop-take}
 use Rattle.refusal.specs.declared.Numbers.{Numbers}
 use Rattle.refusal.specs.declared.Refusal.the-variants as refusal
 use Rattle.refusal.specs.Refusals.{Judged, fine, refused, unless}
@@ -30,18 +31,18 @@ use Rattle.receiver.proofs.Machine.{Scanned, scan, scan-append, scan-behind}
 use Rattle.receiver.proofs.Machine as machine
 use Rattle.receiver.proofs.Lists.{Comes, Standing, running, gone, stays, every-list, uncut}
 use Rattle.receiver.proofs.Live as crc-live
-use Rattle.sealed_receiver.proofs.Lists.{drop-take}
 use Rattle.sealed_receiver.proofs.Live.{switched-running}
 use Rattle.secure.specs.Reading.{sealedTrace}
 use Rattle.connection.specs.declared.State.{State}
 use Rattle.connection.specs.declared.Mode.the-variants as mode
-use Rattle.connection.specs.Switched.{Switch, none, behind, spliced, traceWith}
+use Rattle.connection.specs.Switched.{Switch, none, behind, spliced, traceWith, closesAt, choseMsgr21, behindFrame, maySwitch}
 use Rattle.connection.specs.Step.{isSecure, noSecure, begun, agrees, mayBeSwitched, judgeSwitch, switchedState}
-use Rattle.connection.specs.Calls.{Piece, Try, Call, Chained, takenBy, stateBy, storeBy, reportedBy, counted, switchBy, Each, Repeats, OneMade, AsSwitched, SwitchedDemand3}
+use Rattle.connection.specs.Calls.{Piece, Try, Call, Chained, takenBy, stateBy, storeBy, reportedBy, counted, switchBy, Each, Repeats, OneMade, Tries, AsSwitched, SwitchedDemand3}
 use Rattle.connection.proofs.Machines.{crcByte, secureByte, crcSide, secureSide, CrcRunning, SecureRunning, CrcGone, before}
-use Rattle.connection.proofs.Scans.{trace, crc-trace, secure-trace, LastCloses, Just, ready-just}
+use Rattle.connection.proofs.Scans.{trace, crc-trace, secure-trace, LastCloses, Just, ready-just, ready-closes, revision-chosen}
 use Rattle.connection.proofs.Splices.{passed-not, closings, spliced-there, AllBy, skipped, ahead-only, takes-some, lent-nothing}
 use Rattle.connection.proofs.Parted.{runs, refuses, crc-agrees, secure-agrees, Fed, takenOf, stateOf, storeOf, reportedOf, EachOf, reportedThen, countedBy, Unmade, Made, Parted, unmade, made, parted}
+use Rattle.connection.proofs.Tried.{tries-answered}
 
 -- ---- runs of pieces
 
@@ -195,8 +196,6 @@ module _ (own : Features) (store : List ℕ) (ok : judgeOwn (own .supported) (ow
   traced₁ : (bytes : List ℕ) → trace (scan crcByte start store 0 bytes) ≡ traceOf own bytes store
   traced₁ bytes = crc-trace own start store bytes ok refl
 
-  -- ---- without a switch
-
   scanned₀ : (stream : List ℕ) (ps : List Piece) → Fed stream start store 0 ps
       → scan crcByte start store 0 (take (takenOf 0 ps) stream) ≡ record { entries = reportedOf 0 ps; state = stateOf start ps; store = storeOf store ps }
   scanned₀ stream ps f = rw (sub-zero (takenOf 0 ps)) at (run₁ stream ps f .reached .scanned)
@@ -207,6 +206,48 @@ module _ (own : Features) (store : List ℕ) (ok : judgeOwn (own .supported) (ow
 
   parted′ : (stream : List ℕ) (cs : List Call) → Chained stream (begun own) store 0 cs → Parted stream start store 0 0 cs
   parted′ stream cs ch = parted stream start store 0 0 cs (runs start-runs) (subst (λ (x : State). Chained stream x store 0 cs) begun-fine ch)
+
+  -- ---- the tries to switch
+
+  -- a refused receiver is not ready
+  gone-unready : {n : Numbers} {st : State} → CrcGone n st → st .ready ≡ false
+  gone-unready {n} {st} g = go (st .ready) refl
+    where
+      go : (b : Bool) → st .ready ≡ b → b ≡ false
+      go false e = refl
+      go true e =
+          let q : (not (isSecure (st .mode)) && before (st .crc)) ≡ true = ap (λ (b : Bool). cond b (not (isSecure (st .mode)) && before (st .crc)) true) (sym e) ∙ g .rule in
+          let b = both-right (not (isSecure (st .mode))) (before (st .crc)) q in
+          wrong (sym (ap (λ k. eqb (rank k) 4 && eqb (st .crc .position .got) 0) (g .gone .stage)) ∙ b)
+
+  may-where : (stream : List ℕ) (ps : List Piece) → Fed stream start store 0 ps
+      → (agrees (stateOf start ps) ≡ true) × (mayBeSwitched (stateOf start ps) ≡ maySwitch own stream store (takenOf 0 ps))
+  may-where stream ps f =
+      let es = reportedOf 0 ps in
+      let st = stateOf start ps in
+      let t = takenOf 0 ps in
+      let r = run₁ stream ps f in
+      let q = scanned₀ stream ps f in
+      let l : 0 + length (take t stream) ≡ t = zero-add _ ∙ length-take-le t stream (r .reached .within) in
+      let n : traceOf own (take t stream) store .entries ≡ es = ap (λ (y : Trace). y .entries) (sym (traced₁ (take t stream)) ∙ ap trace q) in
+      let c : st .ready ≡ closesAt t es = rw (q, l) at (ready-closes start store 0 (take t stream) refl) in
+      (standing-agrees (r .standing), may-stands stream ps f c (r .standing) ∙ ap (behindFrame t) (sym n))
+    where
+      may-stands : (stream : List ℕ) (ps : List Piece) → Fed stream start store 0 ps → stateOf start ps .ready ≡ closesAt (takenOf 0 ps) (reportedOf 0 ps)
+          → Standing crcSide (stateOf start ps) (storeOf store ps) (reportedOf 0 ps) → mayBeSwitched (stateOf start ps) ≡ behindFrame (takenOf 0 ps) (reportedOf 0 ps)
+      may-stands stream ps f c (running live clean) =
+          let q = scanned₀ stream ps f in
+          let v = revision-chosen start store 0 (take (takenOf 0 ps) stream) start-runs (ap (λ (y : Scanned State). refusedIn (y .entries)) q ∙ clean) in
+          ap₂ _&&_ c (rw q at v)
+      may-stands stream ps f c (gone n g) =
+          let z = gone-unready g in
+          ap (λ (b : Bool). b && isMsgr21 (stateOf start ps .crc .known .revision)) z ∙ sym (ap (λ (b : Bool). b && choseMsgr21 (reportedOf 0 ps)) (sym c ∙ z))
+
+  tries₀ : (stream : List ℕ) (cs : List Call) → Chained stream (begun own) store 0 cs → Tries (maySwitch own stream store) 0 cs
+  tries₀ stream cs ch =
+      tries-answered stream start store (maySwitch own stream store) (may-where stream) cs (subst (λ (x : State). Chained stream x store 0 cs) begun-fine ch)
+
+  -- ---- without a switch
 
   same-unmade : (stream stream′ : List ℕ) (cs cs′ : List Call) (ps ps′ : List Piece) → Unmade stream start store 0 0 cs ps → Unmade stream′ start store 0 0 cs′ ps′
       → take (takenBy 0 cs′) stream′ ≡ take (takenBy 0 cs) stream → (stateBy start cs′ ≡ stateBy start cs) × (storeBy store cs′ ≡ storeBy store cs)
@@ -219,8 +260,8 @@ module _ (own : Features) (store : List ℕ) (ok : judgeOwn (own .supported) (ow
         b .store ∙ ap (λ (c : Scanned State). c .store) z ∙ sym (a .store),
       )
 
-  defined-unmade : (stream : List ℕ) (cs : List Call) (ps : List Piece) → Unmade stream start store 0 0 cs ps → AsSwitched own stream store cs none
-  defined-unmade stream cs ps x =
+  defined-unmade : (stream : List ℕ) (cs : List Call) (ps : List Piece) → Unmade stream start store 0 0 cs ps → Tries (maySwitch own stream store) 0 cs → AsSwitched own stream store cs none
+  defined-unmade stream cs ps x tr =
       let a = x .erased in
       let r = run₁ stream ps (a .fed) in
       let w = traced₁ stream in
@@ -240,6 +281,7 @@ module _ (own : Features) (store : List ℕ) (ok : judgeOwn (own .supported) (ow
             (rw ok (a .reported ∙ u .0 ∙ ap (λ (t : Trace). t .entries) w), a .store ∙ u .1 ∙ ap (λ (t : Trace). t .store) w);
         same = λ stream′ cs′ ch′ q e. rw begun-fine (go stream′ cs′ q e (parted′ stream′ cs′ ch′));
         one = x .one;
+        tries = tr;
         agreeing = rw begun-fine (ap agrees (a .state) ∙ standing-agrees (r .standing));
       }
     where
@@ -281,10 +323,7 @@ module _ (own : Features) (store : List ℕ) (ok : judgeOwn (own .supported) (ow
       where
         go : Standing crcSide st₁ s₁ es → refusedIn es ≡ false
         go (running l clean) = clean
-        go (gone n g) =
-            let q : (not (isSecure (st₁ .mode)) && before (st₁ .crc)) ≡ true = ap (λ (b : Bool). cond b (not (isSecure (st₁ .mode)) && before (st₁ .crc)) true) (sym ready₁) ∙ g .rule in
-            let b = both-right (not (isSecure (st₁ .mode))) (before (st₁ .crc)) q in
-            wrong (sym (ap (λ k. eqb (rank k) 4 && eqb (st₁ .crc .position .got) 0) (g .gone .stage)) ∙ b)
+        go (gone n g) = wrong (sym (gone-unready g) ∙ ready₁)
 
     within₁ : t₁ ≤ length stream
     within₁ = r₁ .reached .within
@@ -468,9 +507,9 @@ module _ (own : Features) (store : List ℕ) (ok : judgeOwn (own .supported) (ow
           x′ .store ∙ ap (λ (y : Scanned State). y .store) z ∙ sym (x .store),
         )
 
-  defined-made : (stream : List ℕ) (cs : List Call) (ps qs : List Piece) (c : Try) → (x : Made stream start store 0 0 cs ps qs c)
+  defined-made : (stream : List ℕ) (cs : List Call) (ps qs : List Piece) (c : Try) → (x : Made stream start store 0 0 cs ps qs c) → Tries (maySwitch own stream store) 0 cs
       → AsSwitched own stream store cs (behind (countedBy 0 ps) (c .key) (c .receiving))
-  defined-made stream cs ps qs c x =
+  defined-made stream cs ps qs c x tr =
       let d = so-far stream cs ps qs c x in
       record {
         within = rw (x .taken) (r₂ stream cs ps qs c x .reached .within);
@@ -480,6 +519,7 @@ module _ (own : Features) (store : List ℕ) (ok : judgeOwn (own .supported) (ow
         whole = λ e. let u = whole₂ stream cs ps qs c x (rw ok at e) in (rw ok (u .0), u .1);
         same = λ stream′ cs′ ch′ q e. rw begun-fine (go stream′ cs′ q e (parted′ stream′ cs′ ch′));
         one = x .one;
+        tries = tr;
         agreeing = rw begun-fine (agreeing₂ stream cs ps qs c x);
       }
     where
@@ -494,8 +534,8 @@ module _ (own : Features) (store : List ℕ) (ok : judgeOwn (own .supported) (ow
   defined-live stream cs ch = go (parted′ stream cs ch)
     where
       go : Parted stream start store 0 0 cs → AsSwitched own stream store cs (switchBy 0 cs)
-      go (unmade ps x) = subst (AsSwitched own stream store cs) (sym (x .none)) (defined-unmade stream cs ps x)
-      go (made ps qs c x) = subst (AsSwitched own stream store cs) (sym (x .made)) (defined-made stream cs ps qs c x)
+      go (unmade ps x) = subst (AsSwitched own stream store cs) (sym (x .none)) (defined-unmade stream cs ps x (tries₀ stream cs ch))
+      go (made ps qs c x) = subst (AsSwitched own stream store cs) (sym (x .made)) (defined-made stream cs ps qs c x (tries₀ stream cs ch))
 
 -- ---- a start that is refused
 
@@ -522,6 +562,18 @@ module _ (own : Features) (store : List ℕ) (n : Numbers) (not16 : judgeOwn (ow
       let a = all-fine (unless (agrees (stateOf stopped ps)) refusal.StateContradicts ∷ unless (mayBeSwitched (stateOf stopped ps)) refusal.SwitchRefused ∷ []) (x .judged) in
       let r = both-left (stateOf stopped ps .ready) (isMsgr21 (stateOf stopped ps .crc .known .revision)) (passed (mayBeSwitched (stateOf stopped ps)) refusal.SwitchRefused (a .1 .0)) in
       wrong (sym (ap (λ (y : State). y .ready) q) ∙ r)
+
+  tries-refused : (stream : List ℕ) (cs : List Call) → Chained stream (begun own) store 0 cs → Tries (maySwitch own stream store) 0 cs
+  tries-refused stream cs ch =
+      tries-answered stream stopped store (maySwitch own stream store) nowhere cs (subst (λ (y : State). Chained stream y store 0 cs) begun-refused ch)
+    where
+      nowhere : (ps : List Piece) → Fed stream stopped store 0 ps → (agrees (stateOf stopped ps) ≡ true) × (mayBeSwitched (stateOf stopped ps) ≡ maySwitch own stream store (takenOf 0 ps))
+      nowhere ps f =
+          let q = stays crcSide n stream 0 stopped store ps start-gone f .state in
+          let t = takenOf 0 ps in (
+            ap agrees q ∙ crc-agrees {st = stopped} {s = store} (refuses n start-gone),
+            ap mayBeSwitched q ∙ sym (ap (λ (y : Trace). behindFrame t (y .entries)) (trace-refused (take t stream))),
+          )
 
   record Still (stream : List ℕ) (cs : List Call) : Type 0 where
     taken : takenBy 0 cs ≡ 0
@@ -553,6 +605,7 @@ module _ (own : Features) (store : List ℕ) (n : Numbers) (not16 : judgeOwn (ow
         whole = λ e. wrong (rw not16 at e);
         same = λ stream′ cs′ ch′ q e. let k′ = still stream′ cs′ ch′ in (rw begun-refused (k′ .state ∙ sym (k .state)), k′ .final ∙ sym (k .final));
         one = k .one;
+        tries = tries-refused stream cs ch;
         agreeing = rw begun-refused (ap agrees (k .state) ∙ crc-agrees {st = stopped} {s = store} (refuses n start-gone));
       })
 

@@ -29,10 +29,10 @@ secure-gave st a r e =
     ap (λ (x : sealed-received.Received). record { state = record { mode = st .mode; ready = st .ready; crc = st .crc; secure = x .state }; taken = x .taken; report = x .report }) e
 
 module _ (st : State) (s piece : List ℕ) where
-  abbrev contradicts : Answer
+  abbrev pub contradicts : Answer
   contradicts = answered st 0 (report.Event (event.Refused (numbersOf refusal.StateContradicts))) s
 
-  by-rule : (b : Bool) → readyRule st ≡ b → answer st s piece ≡ cond b (byMode st s piece) contradicts
+  pub by-rule : (b : Bool) → readyRule st ≡ b → answer st s piece ≡ cond b (byMode st s piece) contradicts
   unfolding answer
   by-rule b e = ap (λ (x : Bool). cond x (byMode st s piece) contradicts) e
 
@@ -48,7 +48,7 @@ module _ (st : State) (s piece : List ℕ) where
   gave : (a : Answer) (r : Received) (s′ : List ℕ) → answer st s piece ≡ a → Gave a r s′ → Answered st s piece r s′
   gave a r s′ e g = record { received = g .received ∙ sym (ap (λ (x : Answer). x .received) e); store = g .store ∙ sym (ap (λ (x : Answer). x .store) e) }
 
-  mode-is : (b : Bool) → readyRule st ≡ true → isSecure (st .mode) ≡ b
+  pub mode-is : (b : Bool) → readyRule st ≡ true → isSecure (st .mode) ≡ b
       → answer st s piece ≡ cond b (bySecure st (sealed.answer (st .secure) s piece)) (byCrc st (crc.answer (st .crc) s piece))
   mode-is b e m = by-rule true e ∙ ap (λ (x : Bool). cond x (bySecure st (sealed.answer (st .secure) s piece)) (byCrc st (crc.answer (st .crc) s piece))) m
 

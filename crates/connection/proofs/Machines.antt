@@ -2,17 +2,18 @@
 use Prim.Native.Nat.{ℕ, suc, _+_, zero-le}
 use mathlib.Core.List.{List, [], _∷_}
 use mathlib.Core.Path.{_≡_, refl, ap, _∙_}
-use mathlib.Core.Bool.{Bool, true, false, not, cond, _&&_, _||_}
+use mathlib.Core.Bool.{Bool, true, false, not, cond, _&&_, _||_, and-true}
 use native.Mathlib.Numerals.{one-add}
 use native.Mathlib.Omega.{arith}
 use lib.Dec.{eqb, leb, ltb}
 use lib.ListN.{length, take}
-use borrow.Author.Tests.{le-ltb, ne-eqb}
+use borrow.Author.Tests.{le-ltb, ne-eqb, not-true}
 use Rattle.refusal.specs.declared.Numbers.{Numbers}
 use Rattle.refusal.specs.declared.Refusal.the-variants as refusal
 use Rattle.refusal.specs.Refusals.{Judged, fine, refused, numbersOf}
-use Rattle.refusal.proofs.Booleans.{wrong}
+use Rattle.refusal.proofs.Booleans.{wrong, both-left}
 use Rattle.buffer.specs.Le.{numberAt}
+use Rattle.banner.specs.declared.Revision.{Revision}
 use Rattle.banner.specs.Banner.{judgeFeatures, judgeMagic, judgeLength, revisionOf, featuresOf}
 use Rattle.preamble.specs.declared.Header.{Header}
 use Rattle.preamble.specs.Layout.{total}
@@ -28,9 +29,9 @@ use Rattle.receiver.specs.declared.Known.{Known}
 use Rattle.receiver.specs.declared.Stage.{Stage}
 use Rattle.receiver.specs.declared.Stage.the-variants as stage
 use Rattle.receiver.specs.declared.State as crc-state
-use Rattle.receiver.specs.State.{rank, hasFirstSum}
+use Rattle.receiver.specs.State.{rank, isMsgr21, hasFirstSum, revisionRule, rules, countRule, blockRule}
+use Rattle.receiver.specs.State as crc-states
 use Rattle.receiver.specs.Step as crc
-use Rattle.receiver.proofs.Zeros.{and-true}
 use Rattle.receiver.proofs.Machine.{Machine, After, Silent, refusedAgain, scan-silent}
 use Rattle.receiver.proofs.Machine as machine
 use Rattle.receiver.proofs.Live as crc-live
@@ -38,7 +39,7 @@ use Rattle.receiver.proofs.Every as crc-every
 use Rattle.sealed_receiver.specs.declared.State as sealed-state
 use Rattle.sealed_receiver.specs.declared.Stage.the-variants as part
 use Rattle.sealed_receiver.specs.Step as sealed
-use Rattle.sealed_receiver.proofs.Gathers as gathers
+use Rattle.receiver.proofs.Gathers as gathers
 use Rattle.sealed_receiver.proofs.Gathered as gathered
 use Rattle.sealed_receiver.proofs.Traces as traces
 use Rattle.sealed_receiver.proofs.Live as sealed-live
@@ -50,85 +51,118 @@ use Rattle.connection.specs.Switched.{closes}
 use Rattle.connection.specs.Step.{isSecure, closing, readyAfter, readyRule, Answer, answered, byCrc, bySecure, byMode, answer, Answered}
 use Rattle.connection.specs.Calls.{Piece}
 
--- ---- a frame's end leaves the receiver before the next preamble
+-- ---- a frame's end leaves the receiver before the next preamble, and the revision is the banner's from the banner on
 
 abbrev pub before : crc-state.State → Bool
 before st = eqb (rank (st .position .stage)) 4 && eqb (st .position .got) 0
 
-record Lands (x : crc.Stepped) : Type 0 where
+-- the revision behind a report, by the one before it
+abbrev pub Kept : Report → Revision → Revision → Type 0
+Kept report.More v w = w ≡ v
+Kept (report.Event (event.Banner p r)) v w = (isMsgr21 v ≡ false) × (w ≡ r)
+Kept (report.Event (event.First h)) v w = w ≡ v
+Kept (report.Event (event.Frame h)) v w = w ≡ v
+Kept (report.Event (event.Dropped h)) v w = w ≡ v
+Kept (report.Event (event.Refused n)) v w = Unit {0}
+
+record Lands (v : Revision) (x : crc.Stepped) : Type 0 where
   there : closing (x .report) ≡ true → before (x .state) ≡ true
+  kept : Kept (x .report) v (x .state .known .revision)
 
-lands-unless : (j : Judged) (v : Known) (s : List ℕ) (x : crc.Stepped) → Lands x → Lands (crc.unlessRefused j v s x)
-lands-unless fine v s x l = l
-lands-unless (refused n) v s x l = record { there = λ e. wrong e }
+lands-refused : (w : Known) (n : Numbers) (s : List ℕ) {v : Revision} → Lands v (crc.refuse w n s)
+lands-refused w n s = record { there = λ e. wrong e; kept = tt }
 
-lands-cond : (b : Bool) (x y : crc.Stepped) → Lands x → Lands y → Lands (cond b x y)
+lands-unless : (j : Judged) (w : Known) (s : List ℕ) {v : Revision} (x : crc.Stepped) → Lands v x → Lands v (crc.unlessRefused j w s x)
+lands-unless fine w s x l = l
+lands-unless (refused n) w s x l = lands-refused w n s
+
+lands-cond : (b : Bool) {v : Revision} (x y : crc.Stepped) → Lands v x → Lands v y → Lands v (cond b x y)
 lands-cond true x y l m = l
 lands-cond false x y l m = m
 
-lands-end : (e : Ended) (v : Known) (s : List ℕ) → Lands (crc.endFrame e v s)
-lands-end whole v s = record { there = λ e. refl }
-lands-end dropped v s = record { there = λ e. refl }
-lands-end (turnedAway n) v s = record { there = λ e. wrong e }
+lands-end : (e : Ended) (v : Known) (s : List ℕ) → Lands (v .revision) (crc.endFrame e v s)
+lands-end whole v s = record { there = λ e. refl; kept = refl }
+lands-end dropped v s = record { there = λ e. refl; kept = refl }
+lands-end (turnedAway n) v s = lands-refused v n (zeroed (v .header) s)
 
-lands-silent : (st : crc-state.State) (s : List ℕ) → Lands (crc.silent st s)
-lands-silent st s = record { there = λ e. wrong e }
+lands-silent : (st : crc-state.State) (s : List ℕ) → Lands (st .known .revision) (crc.silent st s)
+lands-silent st s = record { there = λ e. wrong e; kept = refl }
 
-lands-banner : (v : Known) (s : List ℕ) → Lands (crc.endBanner v s)
-lands-banner v s =
+lands-banner : (v : Known) (s : List ℕ) → isMsgr21 (v .revision) ≡ false → Lands (v .revision) (crc.endBanner v s)
+lands-banner v s h =
     let r = revisionOf (v .own .supported) (v .peer .supported) in
     lands-unless (judgeFeatures (v .own .supported) (v .own .required) (v .peer .supported) (v .peer .required)) v s
-    (crc.stepped (crc.at stage.Preamble 0 (crc.withRevision v r)) s (report.Event (event.Banner (v .peer) r))) (record { there = λ e. wrong e })
+    (crc.stepped (crc.at stage.Preamble 0 (crc.withRevision v r)) s (report.Event (event.Banner (v .peer) r))) (record { there = λ e. wrong e; kept = (h, refl) })
 
-lands-epilogue : (v : Known) (s : List ℕ) → Lands (crc.beginEpilogue v s)
+lands-epilogue : (v : Known) (s : List ℕ) → Lands (v .revision) (crc.beginEpilogue v s)
 lands-epilogue v s =
     lands-cond (noEpilogue (v .revision) (v .header)) (crc.endFrame whole v s) (crc.silent (crc.at stage.Epilogue 0 v) s)
     (lands-end whole v s) (lands-silent (crc.at stage.Epilogue 0 v) s)
 
-lands-rest : (v : Known) (got : ℕ) (s : List ℕ) → Lands (crc.beginRest v got s)
+lands-rest : (v : Known) (got : ℕ) (s : List ℕ) → Lands (v .revision) (crc.beginRest v got s)
 lands-rest v got s =
     lands-cond (ltb got (total (v .header))) (crc.silent (crc.at stage.Rest got v) s) (crc.beginEpilogue v s)
     (lands-silent (crc.at stage.Rest got v) s) (lands-epilogue v s)
 
-lands-body : (v : Known) (s : List ℕ) → Lands (crc.beginBody v s)
+lands-body : (v : Known) (s : List ℕ) → Lands (v .revision) (crc.beginBody v s)
 lands-body v s =
     lands-cond (hasFirstSum v) (crc.silent (crc.at stage.First 0 v) s) (crc.beginRest v 0 s) (lands-silent (crc.at stage.First 0 v) s) (lands-rest v 0 s)
 
-lands-first : (b : Bool) (h : Header) (x : crc.Stepped) → Lands x → Lands (crc.reportFirst b h x)
-lands-first true h x l = record { there = λ e. wrong e }
-lands-first false h x l = l
+-- behind segment 1 no refusal is given, and so the revision is kept
+rest-revision : (v : Known) (got : ℕ) (s : List ℕ) → crc.beginRest v got s .state .known .revision ≡ v .revision
+rest-revision v got s = go (ltb got (total (v .header))) (noEpilogue (v .revision) (v .header))
+  where
+    go : (b c : Bool) → cond b (crc.silent (crc.at stage.Rest got v) s) (cond c (crc.endFrame whole v s) (crc.silent (crc.at stage.Epilogue 0 v) s)) .state .known .revision ≡ v .revision
+    go true c = refl
+    go false true = refl
+    go false false = refl
 
-lands-finish : (k : Stage) (b : List ℕ) (v : Known) (s : List ℕ) → Lands (crc.finish k b v s)
+lands-first : (b : Bool) (h : Header) {v : Revision} (x : crc.Stepped) → x .state .known .revision ≡ v → Lands v x → Lands v (crc.reportFirst b h x)
+lands-first true h x q l = record { there = λ e. wrong e; kept = q }
+lands-first false h x q l = l
+
+-- a banner is reported where no revision is known yet
+lands-finish : (k : Stage) (b : List ℕ) (v : Known) (s : List ℕ) → revisionRule k v ≡ true → Lands (v .revision) (crc.finish k b v s)
 unfolding crc.finish
-lands-finish stage.Magic b v s =
+lands-finish stage.Magic b v s h =
     lands-unless (judgeMagic (take 8 b)) v s (crc.silent (crc.at stage.Length 0 v) s) (lands-silent (crc.at stage.Length 0 v) s)
-lands-finish stage.Length b v s =
+lands-finish stage.Length b v s h =
     let st = crc.at stage.Payload 0 (crc.withPayload v (numberAt 2 0 b)) in
     lands-unless (judgeLength (numberAt 2 0 b)) v s (crc.silent st s) (lands-silent st s)
-lands-finish stage.Payload b v s =
+lands-finish stage.Payload b v s h =
     let w = crc.withPeer v (featuresOf (take 16 b)) in
-    lands-cond (leb (v .payload) 16) (crc.endBanner w s) (crc.silent (crc.at stage.Skip 0 w) s) (lands-banner w s) (lands-silent (crc.at stage.Skip 0 w) s)
-lands-finish stage.Skip b v s = lands-banner v s
-lands-finish stage.Preamble b v s =
+    lands-cond (leb (v .payload) 16) (crc.endBanner w s) (crc.silent (crc.at stage.Skip 0 w) s) (lands-banner w s (not-true (isMsgr21 (v .revision)) h)) (lands-silent (crc.at stage.Skip 0 w) s)
+lands-finish stage.Skip b v s h = lands-banner v s (not-true (isMsgr21 (v .revision)) h)
+lands-finish stage.Preamble b v s h =
     let w = crc.withHeader v (headerOf b) in
     lands-unless (judgePreamble b (length s)) v s (crc.beginBody w s) (lands-body w s)
-lands-finish stage.First b v s = lands-silent (crc.at stage.FirstSum 0 v) s
-lands-finish stage.FirstSum b v s =
+lands-finish stage.First b v s h = lands-silent (crc.at stage.FirstSum 0 v) s
+lands-finish stage.FirstSum b v s h =
     let n = v .header .s1 .len in
+    let w = crc.withFirst v in
     lands-cond (eqb (numberAt 4 0 b) (segmentSum (take n s))) (crc.behindFirstSum v s) (crc.refuse v (numbersOf (refusal.SegmentChecksum 1)) (zeroed (v .header) s))
-    (lands-first (ltb 1 (v .header .count)) (v .header) (crc.beginRest (crc.withFirst v) n s) (lands-rest (crc.withFirst v) n s))
-    (record { there = λ e. wrong e })
-lands-finish stage.Rest b v s = lands-epilogue v s
-lands-finish stage.Epilogue b v s = lands-end (ending (v .revision) (v .header) b (take (total (v .header)) s)) v s
-lands-finish stage.Refused b v s = lands-silent (crc.at stage.Refused 0 v) s
+    (lands-first (ltb 1 (v .header .count)) (v .header) (crc.beginRest w n s) (rest-revision w n s) (lands-rest w n s))
+    (lands-refused v (numbersOf (refusal.SegmentChecksum 1)) (zeroed (v .header) s))
+lands-finish stage.Rest b v s h = lands-epilogue v s
+lands-finish stage.Epilogue b v s h = lands-end (ending (v .revision) (v .header) b (take (total (v .header)) s)) v s
+lands-finish stage.Refused b v s h = lands-silent (crc.at stage.Refused 0 v) s
 
-lands-reached : (st : crc-state.State) (s : List ℕ) (t : Bool) → Lands (crc.reached st s t)
-lands-reached st s true = lands-silent st s
-lands-reached st s false = lands-finish (st .position .stage) (st .position .block) (st .known) s
+lands-reached : (st : crc-state.State) (s : List ℕ) (t : Bool) → revisionRule (st .position .stage) (st .known) ≡ true → Lands (st .known .revision) (crc.reached st s t)
+lands-reached st s true h = lands-silent st s
+lands-reached st s false h = lands-finish (st .position .stage) (st .position .block) (st .known) s h
 
-lands-byte : (st : crc-state.State) (s : List ℕ) (b : ℕ) → Lands (crc.onByte st s b)
+revision-agreed : (st : crc-state.State) → crc-states.agrees st ≡ true → revisionRule (st .position .stage) (st .known) ≡ true
+unfolding crc-states.agreesAt
+revision-agreed st e =
+    let p = st .position in
+    let k = p .stage in
+    let v = st .known in
+    let a = both-left (rules k v && countRule k v (p .got)) (blockRule k (p .got) (p .block)) e in
+    crc-live.rules-of k v (both-left (rules k v) (countRule k v (p .got)) a) .revision
+
+lands-byte : (st : crc-state.State) (s : List ℕ) (b : ℕ) → crc-states.agrees st ≡ true → Lands (st .known .revision) (crc.onByte st s b)
 unfolding crc.onByte
-lands-byte st s b = lands-reached (crc.absorbed st (b ∷ [])) (crc.stored st s (b ∷ [])) (ltb (st .position .got + 1) (crc.size st))
+lands-byte st s b e = lands-reached (crc.absorbed st (b ∷ [])) (crc.stored st s (b ∷ [])) (ltb (st .position .got + 1) (crc.size st)) (revision-agreed st e)
 
 -- ---- crc frames
 
@@ -165,8 +199,12 @@ pub crc-keeps : (st : State) (s : List ℕ) (b : ℕ) → CrcRunning st s → Af
 crc-keeps st s b r =
     let y = crcByte st s b in
     crc-after (y .report) (y .state) (y .store) (r .mode)
-    (rule-after (closing (y .report)) (before (crc.onByte (st .crc) s b .state)) (st .mode) (r .mode) (lands-byte (st .crc) s b .there))
+    (rule-after (closing (y .report)) (before (crc.onByte (st .crc) s b .state)) (st .mode) (r .mode) (lands-byte (st .crc) s b (r .live .agree) .there))
     (crc-live.byte-after (st .crc) s b (r .live))
+
+pub crc-kept : (st : State) (s : List ℕ) (b : ℕ) → CrcRunning st s
+    → Kept (crcByte st s b .report) (st .crc .known .revision) (crcByte st s b .state .crc .known .revision)
+crc-kept st s b r = lands-byte (st .crc) s b (r .live .agree) .kept
 
 pub crc-silent-byte : (st : State) (s : List ℕ) (b : ℕ) → st .crc .position .stage ≡ stage.Refused → Silent {State = State} (λ x. x .crc .position .stage ≡ stage.Refused) s (crcByte st s b)
 unfolding crc.onByte crc.finish
@@ -181,11 +219,11 @@ crcLifted st a = record {
   store = a .store;
 }
 
-or-false : (a b : Bool) → b ≡ false → (a || b) ≡ a
+pub or-false : (a b : Bool) → b ≡ false → (a || b) ≡ a
 or-false true b e = refl
 or-false false b e = e
 
-and-false : (a : Bool) → (a && false) ≡ false
+pub and-false : (a : Bool) → (a && false) ≡ false
 and-false true = refl
 and-false false = refl
 
@@ -223,7 +261,7 @@ told c a = rw (a .received, a .store)
 abbrev contradicts : State → List ℕ → Answer
 contradicts st s = answered st 0 (report.Event (event.Refused (numbersOf refusal.StateContradicts))) s
 
-crc-answer : (st : State) (s piece : List ℕ) → st .mode ≡ mode.Crc → readyRule st ≡ true → answer st s piece ≡ byCrc st (crc.answer (st .crc) s piece)
+pub crc-answer : (st : State) (s piece : List ℕ) → st .mode ≡ mode.Crc → readyRule st ≡ true → answer st s piece ≡ byCrc st (crc.answer (st .crc) s piece)
 unfolding answer
 crc-answer st s piece m q =
     ap (λ (b : Bool). cond b (byMode st s piece) (contradicts st s)) q
@@ -316,7 +354,7 @@ secure-feed st s (b ∷ bs) =
 secure-rule : (st : State) → st .ready ≡ false → readyRule st ≡ true
 secure-rule st e = ap (λ (b : Bool). cond b (not (isSecure (st .mode)) && before (st .crc)) true) e
 
-secure-answer : (st : State) (s piece : List ℕ) → st .mode ≡ mode.Secure → st .ready ≡ false → answer st s piece ≡ bySecure st (sealed.answer (st .secure) s piece)
+pub secure-answer : (st : State) (s piece : List ℕ) → st .mode ≡ mode.Secure → st .ready ≡ false → answer st s piece ≡ bySecure st (sealed.answer (st .secure) s piece)
 unfolding answer
 secure-answer st s piece m q =
     ap (λ (b : Bool). cond b (byMode st s piece) (contradicts st s)) (secure-rule st q)

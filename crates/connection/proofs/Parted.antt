@@ -42,7 +42,7 @@ after-stands m (report.Event (event.Frame h)) x s a = runs a
 after-stands m (report.Event (event.Dropped h)) x s a = runs a
 after-stands m (report.Event (event.Refused n)) x s a = refuses n a
 
-next-stands : (m : Machine) (x : m .State) (s piece : List ℕ) (c : m .Call) → Stands m x s → m .Answered x s piece c → Stands m (m .answer c .state) (m .answer c .store)
+pub next-stands : (m : Machine) (x : m .State) (s piece : List ℕ) (c : m .Call) → Stands m x s → m .Answered x s piece c → Stands m (m .answer c .state) (m .answer c .store)
 next-stands m x s piece c (runs r) a =
     let f = feed (m .onByte) x s piece in
     subst (λ (y : machine.Answer (m .State)). Stands m (y .state) (y .store)) (sym (m .feeds x s piece c r a))
@@ -76,7 +76,7 @@ pub judged-27 : (st : State) → agrees st ≡ true → judgeSwitch st ≡ unles
 unfolding judgeSwitch
 judged-27 st a = rw a (or-else-last (unless (mayBeSwitched st) refusal.SwitchRefused))
 
-unless-number : (b : Bool) (n : Numbers) → unless b refusal.SwitchRefused ≡ refused n → n ≡ numbersOf refusal.SwitchRefused
+pub unless-number : (b : Bool) (n : Numbers) → unless b refusal.SwitchRefused ≡ refused n → n ≡ numbersOf refusal.SwitchRefused
 unless-number true n e = absurd (let z : _≡_ {A = ℕ} 0 1 = cc in omega arith)
 unless-number false n e = sym (let i : numbersOf refusal.SwitchRefused ≡ n = cc in i)
 
@@ -180,9 +180,9 @@ module _ (stream : List ℕ) where
     repeats = x .repeats;
   }
 
-  left-alone : (st : State) (key receiving sending : List ℕ) (c : Try) (n : Numbers) → SwitchedWith st (c .key) (c .receiving) (c .sending) (c .switched) → judgeSwitch st ≡ refused n
+  pub left-alone : (st : State) (c : Try) (n : Numbers) → SwitchedWith st (c .key) (c .receiving) (c .sending) (c .switched) → judgeSwitch st ≡ refused n
       → c .switched .state ≡ st
-  left-alone st key receiving sending c n w e = w .state ∙ ap (λ (j : Judged). switchedState j st (c .key) (c .receiving)) e
+  left-alone st c n w e = w .state ∙ ap (λ (j : Judged). switchedState j st (c .key) (c .receiving)) e
 
   -- behind a switch every try is denied
   later-calls : (st : State) (s : List ℕ) (t : ℕ) (cs : List Call) → Stands secureSide st s → Chained stream st s t cs → (ps : List Piece) × (Erased stream st s t cs ps × Denied cs)
@@ -192,7 +192,7 @@ module _ (stream : List ℕ) where
       (c ∷ ih .0, (erased-piece st s t c cs (ih .0) ch (ih .1 .0), ih .1 .1))
   later-calls st s t (switching c ∷ cs) h ch =
       let j = secure-denied st (secure-agrees h) (secure-ready h) in
-      let q = left-alone st (c .key) (c .receiving) (c .sending) c (numbersOf refusal.SwitchRefused) (ch .0) j in
+      let q = left-alone st c (numbersOf refusal.SwitchRefused) (ch .0) j in
       let ih = later-calls st s t cs h (subst (λ (y : State). Chained stream y s t cs) q (ch .1)) in
       (ih .0, (erased-try st s t c cs (ih .0) q (ih .1 .0), (ch .0 .verdict ∙ j, ih .1 .1)))
 
@@ -235,17 +235,22 @@ module _ (stream : List ℕ) where
   })
 
   -- the switch is made here
+  pub behind-switch : (st : State) (s : List ℕ) (t : ℕ) (c : Try) (cs : List Call) → judgeSwitch st ≡ fine → Chained stream st s t (switching c ∷ cs)
+      → (c .switched .state ≡ switchedState fine st (c .key) (c .receiving)) × ((ps : List Piece) × (Erased stream (c .switched .state) s t cs ps × Denied cs))
+  behind-switch st s t c cs j ch =
+      let q : c .switched .state ≡ switchedState fine st (c .key) (c .receiving) = ch .0 .state ∙ ap (λ (i : Judged). switchedState i st (c .key) (c .receiving)) j in
+      let h : Stands secureSide (c .switched .state) s = rw q (runs (record { mode = refl; rule = refl; live = switched-running (c .key) (c .receiving) s })) in
+      (q, later-calls (c .switched .state) s t cs h (ch .1))
+
   made-here : (st : State) (s : List ℕ) (t k : ℕ) (c : Try) (cs : List Call) → judgeSwitch st ≡ fine → Chained stream st s t (switching c ∷ cs) → Parted stream st s t k (switching c ∷ cs)
   made-here st s t k c cs j ch =
-      let w = ch .0 in
-      let q : c .switched .state ≡ switchedState fine st (c .key) (c .receiving) = w .state ∙ ap (λ (i : Judged). switchedState i st (c .key) (c .receiving)) j in
-      let v : judgedBy (c .switched .verdict) ≡ fine = w .verdict ∙ j in
-      let h : Stands secureSide (c .switched .state) s = rw q (runs (record { mode = refl; rule = refl; live = switched-running (c .key) (c .receiving) s })) in
-      let l = later-calls (c .switched .state) s t cs h (ch .1) in
+      let v : judgedBy (c .switched .verdict) ≡ fine = ch .0 .verdict ∙ j in
+      let b = behind-switch st s t c cs j ch in
+      let l = b .1 in
       made [] (l .0) c (record {
         fed = tt;
         judged = j;
-        switched = q;
+        switched = b .0;
         later = l .1 .0 .fed;
         taken = l .1 .0 .taken;
         state = l .1 .0 .state;
@@ -266,6 +271,6 @@ module _ (stream : List ℕ) where
       go : (j : Judged) → judgeSwitch st ≡ j → (Chained stream st s t cs → Parted stream st s t k cs) → Parted stream st s t k (switching c ∷ cs)
       go fine j ih = made-here st s t k c cs j ch
       go (refused n) j ih =
-          let q = left-alone st (c .key) (c .receiving) (c .sending) c n (ch .0) j in
+          let q = left-alone st c n (ch .0) j in
           with-try st s t k c cs n (ch .0 .verdict ∙ j) (unless-number (mayBeSwitched st) n (sym (judged-27 st (crc-agrees h)) ∙ j)) q
           (ih (subst (λ (y : State). Chained stream y s t cs) q (ch .1)))

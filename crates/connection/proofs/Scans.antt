@@ -1,22 +1,27 @@
 -- What the bytes come to on either side of a switch: the entries and the stores are those of the definitions, and a receiving side that is ready has just reported a frame.
-use Prim.Native.Nat.{ℕ, suc, _+_, _-_}
+use Prim.Native.Nat.{ℕ, suc, _+_, _<_}
 use mathlib.Core.List.{List, [], _∷_}
-use mathlib.Core.Path.{_≡_, refl, ap, _∙_}
-use mathlib.Core.Bool.{Bool, true}
+use mathlib.Core.Path.{_≡_, refl, sym, ap, _∙_}
+use mathlib.Core.Bool.{Bool, true, false, _&&_, _||_, and-true}
 use native.Mathlib.Omega.{arith}
 use native.Mathlib.Numerals.{add-one}
 use lib.ListN.{length}
+use borrow.Author.Tests.{eq-eqb, ne-eqb}
 use Rattle.refusal.specs.Refusals.{fine}
 use Rattle.refusal.proofs.Booleans.{wrong}
 use Rattle.banner.specs.declared.Features.{Features}
+use Rattle.banner.specs.declared.Revision.{Revision}
+use Rattle.banner.specs.declared.Revision.the-variants.{Msgr20, Msgr21}
 use Rattle.banner.specs.Banner.{judgeOwn}
+use Rattle.stream.specs.declared.Event.the-variants as event
 use Rattle.stream.specs.Stream.{Entry, Trace, traceOf}
 use Rattle.receiver.specs.declared.Report.{Report}
 use Rattle.receiver.specs.declared.Report.the-variants as report
 use Rattle.receiver.specs.declared.Stage.the-variants as stage
 use Rattle.receiver.specs.declared.State as crc-state
-use Rattle.receiver.specs.State.{noRefusal}
+use Rattle.receiver.specs.State.{noRefusal, isMsgr21}
 use Rattle.receiver.specs.Step as crc
+use Rattle.receiver.specs.Calls.{refusedIn}
 use Rattle.receiver.proofs.Entries.{noted}
 use Rattle.receiver.proofs.Machine.{Scanned}
 use Rattle.receiver.proofs.Machine as machine
@@ -24,14 +29,14 @@ use Rattle.receiver.proofs.Scan as crc-scan
 use Rattle.receiver.proofs.Streams.{stream-trace}
 use Rattle.sealed_receiver.specs.declared.State as sealed-state
 use Rattle.sealed_receiver.specs.Step as sealed
-use Rattle.sealed_receiver.proofs.Gathers as gathers
+use Rattle.receiver.proofs.Gathers as gathers
 use Rattle.sealed_receiver.proofs.Gathered as gathered
 use Rattle.sealed_receiver.proofs.Traces.{sealed-trace}
 use Rattle.secure.specs.Reading.{sealedTrace}
 use Rattle.connection.specs.declared.State.{State}
-use Rattle.connection.specs.Switched.{closes}
+use Rattle.connection.specs.Switched.{closes, closesAt, choseMsgr21}
 use Rattle.connection.specs.Step.{closing}
-use Rattle.connection.proofs.Machines.{crcByte, secureByte}
+use Rattle.connection.proofs.Machines.{crcByte, secureByte, CrcRunning, CrcGone, Kept, crc-keeps, crc-kept, or-false, and-false}
 
 abbrev pub trace : {A : Type 0} → Scanned A → Trace
 trace c = record { entries = c .entries; store = c .store }
@@ -85,6 +90,71 @@ ready-just st s P (b ∷ c ∷ cs) e =
     let z = machine.scan crcByte (y .state) (y .store) (suc P) (c ∷ cs) in
     let n : suc P + length (c ∷ cs) ≡ P + length (b ∷ c ∷ cs) = omega arith in
     last-noted (y .report) (suc P) (y .store) (z .entries) (P + length (b ∷ c ∷ cs)) (z .store) (rw n at (ready-just (y .state) (y .store) (suc P) (c ∷ cs) e))
+
+-- so it is ready exactly where the last entry is one, at the last byte
+abbrev readyBy : Bool → List ℕ → Bool → Bool
+readyBy ready [] closed = ready
+readyBy ready (b ∷ bs) closed = closed
+
+closes-here : (r : Report) (at : ℕ) (s : List ℕ) → closing r ≡ closesAt at (noted r at s [])
+closes-here report.More at s = refl
+closes-here (report.Event e) at s = sym (ap (λ (b : Bool). closes e && b) (eq-eqb at at refl) ∙ and-true (closes e))
+
+closes-later : (r : Report) (at : ℕ) (s : List ℕ) (es : List Entry) (t : ℕ) → at < t → closesAt t (noted r at s es) ≡ closesAt t es
+closes-later report.More at s es t h = refl
+closes-later (report.Event e) at s [] t h = ap (λ (b : Bool). closes e && b) (ne-eqb at t (λ z. absurd (omega (arith, h)))) ∙ and-false (closes e)
+closes-later (report.Event e) at s (f ∷ es) t h = refl
+
+ready-is : (st : State) (s : List ℕ) (P : ℕ) (bs : List ℕ)
+    → (let c = machine.scan crcByte st s P bs in c .state .ready ≡ readyBy (st .ready) bs (closesAt (P + length bs) (c .entries)))
+unfolding machine.scan
+ready-is st s P [] = refl
+ready-is st s P (b ∷ []) = rw (add-one P) (closes-here (crcByte st s b .report) (suc P) (crcByte st s b .store))
+ready-is st s P (b ∷ c ∷ cs) =
+    let y = crcByte st s b in
+    let z = machine.scan crcByte (y .state) (y .store) (suc P) (c ∷ cs) in
+    let n : suc P + length (c ∷ cs) ≡ P + length (b ∷ c ∷ cs) = omega arith in
+    let l : suc P < P + length (b ∷ c ∷ cs) = omega arith in
+    (rw n at (ready-is (y .state) (y .store) (suc P) (c ∷ cs))) ∙ sym (closes-later (y .report) (suc P) (y .store) (z .entries) (P + length (b ∷ c ∷ cs)) l)
+
+pub ready-closes : (st : State) (s : List ℕ) (P : ℕ) (bs : List ℕ) → st .ready ≡ false
+    → (let c = machine.scan crcByte st s P bs in c .state .ready ≡ closesAt (P + length bs) (c .entries))
+unfolding machine.scan
+ready-closes st s P [] e = e
+ready-closes st s P (b ∷ bs) e = ready-is st s P (b ∷ bs)
+
+-- and its revision is msgr2.1 exactly where a banner chose that
+clean-onward : (r : Report) (at : ℕ) (st : State) (s : List ℕ) (es : List Entry) → refusedIn (noted r at s es) ≡ false → machine.After CrcRunning CrcGone r st s
+    → (refusedIn es ≡ false) × CrcRunning st s
+clean-onward report.More at st s es e a = (e, a)
+clean-onward (report.Event (event.Banner p r)) at st s es e a = (e, a)
+clean-onward (report.Event (event.First h)) at st s es e a = (e, a)
+clean-onward (report.Event (event.Frame h)) at st s es e a = (e, a)
+clean-onward (report.Event (event.Dropped h)) at st s es e a = (e, a)
+clean-onward (report.Event (event.Refused n)) at st s es e a = wrong (sym e)
+
+chose-noted : (r : Report) (v w : Revision) (at : ℕ) (s : List ℕ) (es : List Entry) → refusedIn (noted r at s es) ≡ false → Kept r v w
+    → (isMsgr21 w || choseMsgr21 es) ≡ (isMsgr21 v || choseMsgr21 (noted r at s es))
+chose-noted report.More v w at s es e k = ap (λ (x : Revision). isMsgr21 x || choseMsgr21 es) k
+chose-noted (report.Event (event.Banner p Msgr20)) v w at s es e k =
+    ap (λ (x : Revision). isMsgr21 x || choseMsgr21 es) (k .1) ∙ sym (ap (λ (b : Bool). b || choseMsgr21 es) (k .0))
+chose-noted (report.Event (event.Banner p Msgr21)) v w at s es e k =
+    ap (λ (x : Revision). isMsgr21 x || choseMsgr21 es) (k .1) ∙ sym (ap (λ (b : Bool). b || true) (k .0))
+chose-noted (report.Event (event.First h)) v w at s es e k = ap (λ (x : Revision). isMsgr21 x || choseMsgr21 es) k
+chose-noted (report.Event (event.Frame h)) v w at s es e k = ap (λ (x : Revision). isMsgr21 x || choseMsgr21 es) k
+chose-noted (report.Event (event.Dropped h)) v w at s es e k = ap (λ (x : Revision). isMsgr21 x || choseMsgr21 es) k
+chose-noted (report.Event (event.Refused n)) v w at s es e k = wrong (sym e)
+
+pub revision-chosen : (st : State) (s : List ℕ) (P : ℕ) (bs : List ℕ) → CrcRunning st s → refusedIn (machine.scan crcByte st s P bs .entries) ≡ false
+    → (let c = machine.scan crcByte st s P bs in isMsgr21 (c .state .crc .known .revision) ≡ (isMsgr21 (st .crc .known .revision) || choseMsgr21 (c .entries)))
+unfolding machine.scan
+revision-chosen st s P [] r clean = sym (or-false (isMsgr21 (st .crc .known .revision)) false refl)
+revision-chosen st s P (b ∷ bs) r clean =
+    let y = crcByte st s b in
+    let z = machine.scan crcByte (y .state) (y .store) (suc P) bs in
+    let q = clean-onward (y .report) (suc P) (y .state) (y .store) (z .entries) clean (crc-keeps st s b r) in
+    revision-chosen (y .state) (y .store) (suc P) bs (q .1) (q .0)
+    ∙ chose-noted (y .report) (st .crc .known .revision) (y .state .crc .known .revision) (suc P) (y .store) (z .entries) clean (crc-kept st s b r)
 
 -- ---- sealed frames
 

@@ -2,7 +2,7 @@
 -- switch that was made as its argument; with none it is the definition as it stood.
 use mathlib.Core.Path.{_≡_}
 use mathlib.Core.List.{List, [], _∷_}
-use mathlib.Core.Bool.{true, cond}
+use mathlib.Core.Bool.{Bool, true, false, cond}
 use Prim.Native.Nat.{ℕ, suc, _+_, _≤_}
 use lib.ListN.{length, take}
 use Rattle.refusal.specs.declared.Numbers.{Numbers}
@@ -18,7 +18,7 @@ use Rattle.receiver.specs.Calls.{pieceAt, entered, dueTaken, dueReport, refused
 use Rattle.connection.specs.declared.State.{State}
 use Rattle.connection.specs.declared.Received.{Received}
 use Rattle.connection.specs.declared.Switched.{Switched}
-use Rattle.connection.specs.Switched.{Switch, none, behind, traceWith}
+use Rattle.connection.specs.Switched.{Switch, none, behind, traceWith, maySwitch}
 use Rattle.connection.specs.Step.{begun, closing, agrees, Answered, SwitchedWith}
 
 -- ---- lists of calls
@@ -104,6 +104,17 @@ OneMade [] = Unit {0}
 OneMade (taking c ∷ cs) = OneMade cs
 OneMade (switching c ∷ cs) = madeOrDenied (judgedBy (c .switched .verdict)) (Denied cs) (OneMade cs)
 
+-- what each try answers: it is made where it may be, and every later one gives 27; elsewhere it gives 27
+abbrev pub triedAt : Bool → Judged → Type 0 → Type 0 → Type 0
+triedAt true j later rest = (j ≡ fine) × later
+triedAt false j later rest = (j ≡ refused (numbersOf refusal.SwitchRefused)) × rest
+
+-- by whether a switch may be made with so many bytes taken
+abbrev pub Tries : (ℕ → Bool) → ℕ → List Call → Type 0
+Tries may t [] = Unit {0}
+Tries may t (taking c ∷ cs) = Tries may (t + c .received .taken) cs
+Tries may t (switching c ∷ cs) = triedAt (may t) (judgedBy (c .switched .verdict)) (Denied cs) (Tries may t cs)
+
 -- ---- what is due
 
 abbrev pub Each : List Entry → List ℕ → ℕ → List Call → Type 0
@@ -142,6 +153,8 @@ pub record AsSwitched (own : Features) (stream store : List ℕ) (cs : List Call
       → (stateBy (begun own) cs′ ≡ stateBy (begun own) cs) × (storeBy store cs′ ≡ storeBy store cs)
   -- one switch is made at most, and every other try gave 27
   pub one : OneMade cs
+  -- and the first try behind a frame of a msgr2.1 stream, before any byte of the next, is the one that is made
+  pub tries : Tries (maySwitch own stream store) 0 cs
   -- no call gave 26
   pub agreeing : agrees (stateBy (begun own) cs) ≡ true
 

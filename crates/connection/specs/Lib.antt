@@ -1,4 +1,5 @@
 pub mod Switched
 pub mod Step
 pub mod Calls
+pub mod Every
 pub mod Worked

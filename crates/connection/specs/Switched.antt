@@ -1,11 +1,12 @@
 -- Demand 3's definition for a stream with a switch to secure (02, K4): up to and including the frame behind which it is made the entries are those of the
 -- definition as it stood, and behind it those of sealed frames. No receiver, no state and no call is in sight.
 use mathlib.Core.List.{List, [], _∷_}
-use mathlib.Core.Bool.{Bool, true, false, cond, _&&_}
+use mathlib.Core.Bool.{Bool, true, false, cond, _&&_, _||_}
 use Prim.Native.Nat.{ℕ, _-_}
-use lib.ListN.{drop}
+use lib.ListN.{take, drop}
 use lib.Dec.{eqb}
 use Rattle.banner.specs.declared.Features.{Features}
+use Rattle.banner.specs.declared.Revision.the-variants.{Msgr20, Msgr21}
 use Rattle.stream.specs.declared.Event.{Event}
 use Rattle.stream.specs.declared.Event.the-variants as event
 use Rattle.stream.specs.Stream.{Entry, Trace, ended, traceOf}
@@ -38,3 +39,31 @@ abbrev pub traceWith : Switch → Features → List ℕ → List ℕ → Trace
 traceWith none own stream store = traceOf own stream store
 traceWith (behind n key nonce) own stream store =
     spliced n (λ at s. sealedTrace key nonce 0 at (drop at stream) s) (traceOf own stream store .entries) (traceOf own stream store .store)
+
+-- ---- where a switch may be made (02, K4): after a reported or dropped frame, before any byte of the next, on a stream of msgr2.1
+
+-- the last entry is a frame or a drop, and its byte is the t-th
+abbrev pub closesAt : ℕ → List Entry → Bool
+closesAt t [] = false
+closesAt t (e ∷ []) = closes (e .event) && eqb (e .at) t
+closesAt t (e ∷ f ∷ es) = closesAt t (f ∷ es)
+
+abbrev pub choosesMsgr21 : Event → Bool
+choosesMsgr21 (event.Banner p Msgr20) = false
+choosesMsgr21 (event.Banner p Msgr21) = true
+choosesMsgr21 (event.First h) = false
+choosesMsgr21 (event.Frame h) = false
+choosesMsgr21 (event.Dropped h) = false
+choosesMsgr21 (event.Refused n) = false
+
+-- a banner that chose msgr2.1 is among the entries
+abbrev pub choseMsgr21 : List Entry → Bool
+choseMsgr21 [] = false
+choseMsgr21 (e ∷ es) = choosesMsgr21 (e .event) || choseMsgr21 es
+
+abbrev pub behindFrame : ℕ → List Entry → Bool
+behindFrame t es = closesAt t es && choseMsgr21 es
+
+-- with t bytes of the stream taken and no switch made. Where our own features are refused there is no entry, and so no such byte
+abbrev pub maySwitch : Features → List ℕ → List ℕ → ℕ → Bool
+maySwitch own stream store t = behindFrame t (traceOf own (take t stream) store .entries)

@@ -27,6 +27,7 @@ ghost use Rattle.sealed_receiver.specs.Step as sealed;
 ghost use Rattle.connection.specs.Switched.{closes};
 ghost use Rattle.connection.specs.Step.{isSecure, noSecure, closing, readyRule, agreesInUse, byCrc, bySecure, mayBeSwitched, judgeSwitch, switchedState, Gave, BegunWith, Answered, SwitchedWith};
 ghost use Rattle.connection.specs.Calls.{SwitchedDemand3};
+ghost use Rattle.connection.specs.Every.{EveryCall};
 ghost use Rattle.connection.specs.Worked.{WorkedSwitches};
 
 // Which frames come next.
@@ -271,6 +272,12 @@ pub fn switch(state: State, key: [u8; 16], receiving: [u8; 12], sending: [u8; 12
 // the promise is a theorem.
 pub fn every_cutting()
     ensures { λ _. ⌜ SwitchedDemand3 ⌝ }
+{}
+
+// What holds of every call and of every try to switch, as a promise: 26 exactly for a state that contradicts itself, which no start, no switch and no other
+// call hands back; a refused stream stays refused, whatever the later calls lend; 10 where a store became too short; at least one byte of a piece that is not empty.
+pub fn every_call()
+    ensures { λ _. ⌜ EveryCall ⌝ }
 {}
 
 // Behind which frame sealed frames begin, and which states may be switched, by worked examples.

@@ -6,8 +6,8 @@ use native.Mathlib.Omega.{arith}
 use borrow.Author.Tests.{leb-true, eqb-true}
 use lib.Dec.{leb, eqb}
 use Rattle.refusal.specs.declared.Refusal.the-variants.{SourceLength, NoRoom, NoncesSpent}
-use Rattle.refusal.specs.Refusals.{Judged, fine, refused, orElse}
-use Rattle.refusal.proofs.Judgements.{all-fine, passed}
+use Rattle.refusal.specs.Refusals.{fine}
+use Rattle.refusal.proofs.Judgements.{all-fine, passed, both-fine}
 use Rattle.preamble.specs.declared.Header.{Header}
 use Rattle.preamble.specs.Layout.{total}
 use Rattle.preamble.specs.Judge.{judgeHeader}
@@ -16,10 +16,6 @@ use Rattle.builder.specs.Build.{judgeAbort}
 use Rattle.secure.specs.Layout.{allNonces, sealedLength, partCount}
 use Rattle.sealed_builder.specs.declared.Sending.{Sending}
 use Rattle.sealed_builder.specs.Build.{spentOf, judgements, judgeEarlier, judgeNonces, judgeSealed}
-
-pub both-fine : (a b : Judged) → orElse a b ≡ fine → (a ≡ fine) × (b ≡ fine)
-both-fine fine b e = (refl, e)
-both-fine (refused n) b e = (e, cc)
 
 pub record Accepted (s : Sending) (h : Header) (abort : Bool) (source space queued : ℕ) : Type 0 where
   pub header : judgeHeader h ≡ fine

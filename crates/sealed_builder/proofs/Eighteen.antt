@@ -11,7 +11,7 @@ use Rattle.refusal.specs.declared.Numbers.{Numbers}
 use Rattle.refusal.specs.declared.Refusal.{Refusal}
 use Rattle.refusal.specs.declared.Refusal.the-variants as refusal
 use Rattle.refusal.specs.Refusals.{Judged, fine, refused, numbersOf, row, orElse, firstOf, unless}
-use Rattle.refusal.proofs.Judgements.{by-judgement, AllFine, all-fine, passed}
+use Rattle.refusal.proofs.Judgements.{by-judgement, AllFine, all-fine, passed, both-fine}
 use Rattle.banner.specs.declared.Revision.the-variants.{Msgr21}
 use Rattle.preamble.specs.declared.Header.{Header}
 use Rattle.preamble.specs.Layout.{total}
@@ -20,10 +20,10 @@ use Rattle.builder.specs.Build.{turnedAway, answered, judgeSource, judgeAbort, 
 use Rattle.secure.specs.Layout.{allNonces, sealedLength, partCount}
 use Rattle.sealed_builder.specs.declared.Sending.{Sending}
 use Rattle.sealed_builder.specs.Build.{Done, spentOf, agrees, sentMore, judgeSending, judgeSwitched, judgeNonces, judgeEarlier, judgements, judgeSealed}
-use Rattle.secure.specs.Reading.{allZero}
+use Rattle.buffer.specs.Zeros.{allZero}
 use Rattle.sealed_builder.specs.States.{Sound}
 use Rattle.sealed_builder.specs.Nonces.{Build, Meets, left, Exactly}
-use Rattle.sealed_builder.proofs.Accepted.{accepted, both-fine, counted}
+use Rattle.sealed_builder.proofs.Accepted.{accepted, counted}
 use Rattle.secure.proofs.Counts.{came-round}
 use Rattle.sealed_builder.proofs.Once.{some, judged, came, when-fine, when-refused}
 

@@ -7,7 +7,8 @@ use native.Mathlib.Nat.{mod-eq-of-lt}
 use native.Mathlib.Omega.{arith}
 use borrow.Author.Tests.{leb-true, leb-false}
 use lib.Dec.{leb}
-use lib.ListN.{length}
+use lib.ListN.{length, length-append}
+use Rattle.buffer.specs.Splice.{splice}
 use Rattle.refusal.specs.declared.Numbers.{Numbers}
 use Rattle.refusal.specs.Refusals.{Judged, fine, refused}
 use Rattle.refusal.proofs.Judgements.{by-judgement}
@@ -17,7 +18,7 @@ use Rattle.builder.specs.Build.{Answer, wrote, turnedAway, answered}
 use Rattle.secure.specs.Layout.{allNonces, noncesOf, sealedParts, sealedLength, partCount, noRest, noLast, unlessNone, laterTexts, texts}
 use Rattle.sealed_builder.specs.declared.Sending.{Sending}
 use Rattle.sealed_builder.specs.Build.{Done, done, spentOf, freshSending, sentMore, sentParts, judgeSealed, outcome, sealedDone}
-use Rattle.sealed_builder.specs.Nonces.{Build, Meets, Chained, usedIn, usedBy, used, left, AllDifferent}
+use Rattle.sealed_builder.specs.Nonces.{Build, Meets, Chained, usedIn, usedBy, used, sendingAfter, left, AllDifferent}
 use Rattle.sealed_builder.proofs.Accepted.{accepted, counted}
 use Rattle.sealed_builder.proofs.Runs.{run, length-run, run-of, run-on, all-different}
 
@@ -66,6 +67,12 @@ module _ (s : Sending) (b : Build) (m : Meets s b) where
   pub unspent : (r : Numbers) → answered (b .answer .built) ≡ turnedAway r → b .answer .sending ≡ s
   unspent r a =
       by-judgement (judged s b) (λ e. let w = when-fine e .0 in let z : _≡_ {A = ℕ} 0 1 = cc in absurd (omega arith)) (λ q e. when-refused q e .1)
+
+  pub bytes : (n : ℕ) → answered (b .answer .built) ≡ wrote n
+      → b .after ≡ splice (b .buffer) (b .queued) (sealedParts (keyExpansion (s .key)) (sentParts s (b .header) (b .abort) (b .source)))
+  bytes n a =
+      by-judgement (judged s b) (λ e. ap (λ (d : Done). d .buffer) (came fine e))
+      (λ q e. let w = when-refused q e .0 in let z : _≡_ {A = ℕ} 0 1 = cc in absurd (omega arith))
 
 -- ---- the count
 
@@ -136,3 +143,31 @@ different key nonce bs c =
     let s : Sending = freshSending key nonce in
     let l = line s bs c (omega arith) in
     rw (l .is) (all-different (l .count) nonce (omega (arith, l .fits)))
+
+-- ---- as many are spent as were used
+
+counts : (s : Sending) (bs : List Build) → Chained s bs → spentOf s ≤ allNonces → spentOf (sendingAfter s bs) ≡ spentOf s + length (used s bs)
+counts s [] c h = omega arith
+counts s (b ∷ bs) c h =
+    let later = used (b .answer .sending) bs in
+    let both : length (usedBy s b ++ later) ≡ length (usedBy s b) + length later = length-append (usedBy s b) later in
+    by-judgement (judged s b)
+    (λ e.
+    let f = accepted s (b .header) (b .abort) (length (b .source)) (length (b .buffer)) (b .queued) e in
+    let w = when-fine s b (c .0) e in
+    let k : ℕ = partCount (b .header) in
+    let spent : spentOf (b .answer .sending) ≡ spentOf s + k = ap spentOf (w .1) ∙ spent-more s k (some (b .header)) (f .left) in
+    let here : length (usedBy s b) ≡ k = ap (λ (a : Answer). length (usedIn a (sentParts s (b .header) (b .abort) (b .source)))) (w .0) ∙ needs s (b .header) (b .abort) (b .source) in
+    let rest = counts (b .answer .sending) bs (c .1) (rw spent (f .left)) in
+    omega (arith, both, spent, here, rest))
+    (λ r e.
+    let w = when-refused s b (c .0) r e in
+    let here : length (usedBy s b) ≡ 0 = ap (λ (a : Answer). length (usedIn a (sentParts s (b .header) (b .abort) (b .source)))) (w .0) in
+    let spent : spentOf (b .answer .sending) ≡ spentOf s = ap spentOf (w .1) in
+    let rest = counts (b .answer .sending) bs (c .1) (rw spent h) in
+    omega (arith, both, spent, here, rest))
+
+pub counted-all : (key nonce : List ℕ) (bs : List Build) → Chained (freshSending key nonce) bs
+    → spentOf (sendingAfter (freshSending key nonce) bs) ≡ length (used (freshSending key nonce) bs)
+unfolding freshSending
+counted-all key nonce bs c = let rest = counts (freshSending key nonce) bs c (omega arith) in omega (arith, rest)

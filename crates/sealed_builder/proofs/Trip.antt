@@ -15,6 +15,7 @@ use Rattle.refusal.proofs.Judgements.{by-judgement, passed}
 use Rattle.preamble.specs.declared.Header.{Header}
 use Rattle.preamble.specs.Judge.{judgeHeader}
 use Rattle.preamble.specs.Reading.{HeaderFits}
+use Rattle.preamble.proofs.Headers.{some-segment}
 use Rattle.banner.specs.declared.Revision.the-variants.{Msgr21}
 use Rattle.aes.specs.Aes.{State, keyExpansion}
 use Rattle.builder.specs.Build.{wrote, answered, judgeAbort}
@@ -22,7 +23,7 @@ use Rattle.secure.specs.Layout.{allNonces, nonceAfter, sealedFrame, sealedLengt
 use Rattle.secure.specs.Reading.{frames}
 use Rattle.secure.specs.Trip.{Sent, SealedTrip}
 use Rattle.secure.proofs.Lengths.{length-frame}
-use Rattle.secure.proofs.Trip.{trip, some-segment}
+use Rattle.secure.proofs.Trip.{trip}
 use Rattle.sealed_builder.specs.declared.Sending.{Sending}
 use Rattle.sealed_builder.specs.Build.{Done, sentMore}
 use Rattle.sealed_builder.specs.Nonces.{Build, Meets}

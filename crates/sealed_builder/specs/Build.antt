@@ -15,7 +15,7 @@ use Rattle.preamble.specs.Judge.{judgeHeader}
 use Rattle.builder.specs.Build.{Answer, wrote, turnedAway, answered, judgeSource, judgeAbort, judgeRoom}
 use Rattle.aes.specs.Aes.{keyExpansion}
 use Rattle.secure.specs.Layout.{allNonces, nonceAfter, Part, frameParts, sealedParts, sealedLength, partCount}
-use Rattle.secure.specs.Reading.{allZero}
+use Rattle.buffer.specs.Zeros.{allZero}
 use Rattle.sealed_builder.specs.declared.Sending.{Sending}
 use Rattle.sealed_builder.specs.declared.Sealed.{Sealed}
 

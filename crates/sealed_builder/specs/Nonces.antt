@@ -5,10 +5,13 @@ use mathlib.Core.Bool.{Bool}
 use Prim.Native.Nat.{ℕ, _-_, _<_}
 use lib.ListN.{length}
 use Rattle.refusal.specs.declared.Numbers.{Numbers}
-use Rattle.refusal.specs.Refusals.{fine, row}
+use Rattle.refusal.specs.declared.Refusal.the-variants as refusal
+use Rattle.refusal.specs.Refusals.{fine, numbersOf}
 use Rattle.preamble.specs.declared.Header.{Header}
+use Rattle.buffer.specs.Splice.{splice}
+use Rattle.aes.specs.Aes.{keyExpansion}
 use Rattle.builder.specs.Build.{Answer, wrote, turnedAway, answered}
-use Rattle.secure.specs.Layout.{allNonces, Part, noncesOf, partCount}
+use Rattle.secure.specs.Layout.{allNonces, Part, noncesOf, sealedParts, partCount}
 use Rattle.sealed_builder.specs.declared.Sending.{Sending}
 use Rattle.sealed_builder.specs.declared.Sealed.{Sealed}
 use Rattle.sealed_builder.specs.Build.{spentOf, freshSending, sentParts, judgeEarlier, BuiltSealed}
@@ -45,6 +48,10 @@ abbrev pub used : Sending → List Build → List (List ℕ)
 used s [] = []
 used s (b ∷ bs) = usedBy s b ++ used (b .answer .sending) bs
 
+abbrev pub sendingAfter : Sending → List Build → Sending
+sendingAfter s [] = s
+sendingAfter s (b ∷ bs) = sendingAfter (b .answer .sending) bs
+
 -- ---- THE CLAIM
 
 abbrev pub NoneIs : List ℕ → List (List ℕ) → Type 0
@@ -60,13 +67,19 @@ left s = allNonces - spentOf s
 
 -- 18 is given exactly when nothing earlier in the order applies and the frame needs more nonces than are left
 pub record Exactly (s : Sending) (b : Build) : Type 0 where
-  pub given : answered (b .answer .built) ≡ turnedAway (row 18 0 0 0)
+  pub given : answered (b .answer .built) ≡ turnedAway (numbersOf refusal.NoncesSpent)
       → (judgeEarlier s (b .header) (b .abort) (length (b .source)) (length (b .buffer)) (b .queued) ≡ fine) × (left s < partCount (b .header))
   pub due : judgeEarlier s (b .header) (b .abort) (length (b .source)) (length (b .buffer)) (b .queued) ≡ fine → left s < partCount (b .header)
-      → answered (b .answer .built) ≡ turnedAway (row 18 0 0 0)
+      → answered (b .answer .built) ≡ turnedAway (numbersOf refusal.NoncesSpent)
 
 pub record NoNonceTwice : Type 0 where
   pub different : (key nonce : List ℕ) (bs : List Build) → Chained (freshSending key nonce) bs → AllDifferent (used (freshSending key nonce) bs)
+  -- what a build wrote are those parts, sealed each with its own nonce
+  pub wrote : (s : Sending) (b : Build) (n : ℕ) → Meets s b → answered (b .answer .built) ≡ wrote n
+      → b .after ≡ splice (b .buffer) (b .queued) (sealedParts (keyExpansion (s .key)) (sentParts s (b .header) (b .abort) (b .source)))
+  -- a switch's state has spent none, and from then on as many are spent as were used
+  pub counted : (key nonce : List ℕ) (bs : List Build) → Chained (freshSending key nonce) bs
+      → spentOf (sendingAfter (freshSending key nonce) bs) ≡ length (used (freshSending key nonce) bs)
   -- a frame needs a nonce for each of its parts
   pub needs : (s : Sending) (h : Header) (abort : Bool) (source : List ℕ) → length (noncesOf (sentParts s h abort source)) ≡ partCount h
   pub eighteen : (s : Sending) (b : Build) → Meets s b → Exactly s b

@@ -7,14 +7,13 @@ use native.Mathlib.Omega.{arith}
 use lib.ListN.{length, take, drop, length-append, length-drop, take-append-drop}
 use lib.Seq.{take-at, drop-append-le, length-take-le}
 use Rattle.buffer.specs.Splice.{splice}
-use Rattle.buffer.proofs.Parts.{length-splice, splice-next}
+use Rattle.buffer.proofs.Parts.{length-splice, splice-next, drop-take}
 use Rattle.refusal.specs.Refusals.{fine}
 use Rattle.refusal.proofs.Judgements.{by-judgement}
 use Rattle.aes.specs.Aes.{keyExpansion}
 use Rattle.builder.specs.Build.{wrote}
 use Rattle.secure.specs.Layout.{sealedFrame, sealedLength, partCount}
 use Rattle.secure.proofs.Lengths.{length-frame}
-use Rattle.sealed_receiver.proofs.Lists.{drop-take}
 use Rattle.sealed_builder.specs.declared.Sending.{Sending}
 use Rattle.sealed_builder.specs.Build.{Done, sentMore}
 use Rattle.sealed_builder.specs.Nonces.{Build}

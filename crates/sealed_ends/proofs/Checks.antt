@@ -6,8 +6,8 @@ use Prim.Native.Nat.{ℕ, zero, suc, _+_, _-_, _≤_, _<_}
 use native.Mathlib.Nat.{zero-add, add-zero}
 use native.Mathlib.Numerals.{add-one}
 use native.Mathlib.Omega.{arith}
-use borrow.Author.Tests.{ltb-true, lt-ltb, eqb-true, eq-eqb}
-use lib.Dec.{lit<, ltb, eqb}
+use borrow.Author.Tests.{lt-ltb, eqb-true, eq-eqb}
+use lib.Dec.{lit<, eqb}
 use lib.ListN.{length, take, drop, getD, length-drop}
 use lib.Seq.{drop-drop, getD-drop, getD-take, length-take-le}
 use Rattle.buffer.specs.Le.{numberAt}
@@ -25,11 +25,15 @@ use Rattle.body.specs.End.{Ended, whole, dropped, lateOf}
 use Rattle.aes.specs.Aes.{State}
 use Rattle.gcm.specs.Gcm.{plain, openedBy}
 use Rattle.secure.specs.Layout.{allNonces, nextNonce, roundUp, padding, inlineLength, lastLengths, firstLength, noRest, noLast, restPart, restPartLength, lastPart, lastPartLength, sealedLength, partCount, needed}
-use Rattle.secure.specs.Reading.{judgeNonce, allZero, judgePadding, judgeFirst, paddingOf, lateIn, byLateStatus, lastEnded}
+use Rattle.buffer.specs.Zeros.{allZero}
+use Rattle.secure.specs.Reading.{judgeNonce, judgePadding, judgeFirst, paddingOf, lateIn, byLateStatus, lastEnded}
+use Rattle.secure.proofs.Trip.{no-padding}
 use Rattle.sealed_receiver.specs.Step.{textOf}
 use Rattle.sealed_receiver.proofs.Lists.{zeros-append}
+use Rattle.sealed_receiver.proofs.Traces.{not-spent}
+use Rattle.sealed_receiver.proofs.Openings.{text-length}
 use Rattle.sealed_ends.specs.Handed.{textIn, Opens, firstBytes, firstIn, headerIn, restBytes, restIn, lastBytes, lastNonce, lastIn, lengthAt, placeAt, lateBy, ZerosAt, CheckedPreamble, CheckedSealed}
-use Rattle.sealed_ends.proofs.Judging.{PartReads, plain-length, JudgesAt, least, first-length}
+use Rattle.sealed_ends.proofs.Judging.{PartReads, JudgesAt, least, first-length}
 
 -- ---- zeros
 
@@ -76,9 +80,6 @@ module _ (n r p : ℕ) (l : List ℕ) (fits : p + r ≤ length l) where
 padding-fine : (bytes : List ℕ) → judgePadding bytes ≡ fine → allZero bytes ≡ true
 padding-fine bytes e = passed (allZero bytes) refusal.Padding e
 
-fine-padding : (bytes : List ℕ) → allZero bytes ≡ true → judgePadding bytes ≡ fine
-fine-padding bytes e = ap (λ (b : Bool). unless b refusal.Padding) e
-
 -- ---- the first part
 
 module _ (text : List ℕ) (store : ℕ) (size : length text ≡ 80) where
@@ -117,7 +118,7 @@ module _ (text : List ℕ) (store : ℕ) (size : length text ≡ 80) where
       let sum : judgeChecksum text ≡ fine =
       ap (λ (b : Bool). unless b refusal.PreambleChecksum) (eq-eqb (crcOf 0 (take 28 text)) (numberAt 4 28 text) (c .checksum)) in
       let pad : judgePadding (drop (32 + h₁ .s1 .len) text) ≡ fine =
-      fine-padding (drop (32 + h₁ .s1 .len) text) (from-zeros (32 + h₁ .s1 .len) text (λ j a b. z j a (omega arith))) in
+      no-padding (drop (32 + h₁ .s1 .len) text) (from-zeros (32 + h₁ .s1 .len) text (λ j a b. z j a (omega arith))) in
       fine-all judgements (sum, (c .shape, (c .flags, (c .tag, (c .limits, (c .room, (pad, tt)))))))
 
 -- ---- the last part
@@ -233,9 +234,6 @@ dropped-end false l b j e f = rw (e, f refl)
 
 -- ---- nonces
 
-unspent : (n : ℕ) → judgeNonce n ≡ fine → n < allNonces
-unspent n j = ltb-true n allNonces (passed (ltb n allNonces) refusal.NoncesSpent j)
-
 judged-unspent : (n : ℕ) → n < allNonces → judgeNonce n ≡ fine
 judged-unspent n l = ap (λ (b : Bool). unless b refusal.NoncesSpent) (lt-ltb n allNonces l)
 
@@ -267,7 +265,7 @@ module _ (w : List State) (nonce : List ℕ) (n : ℕ) (X : List ℕ) (store : �
       let d = length-drop firstLength X in
       let t : length (restBytes h X) ≡ restPartLength h = length-take-le (restPartLength h) (drop firstLength X) (omega arith) in
       let z : restPartLength h ≡ restPart h = ap (λ (b : Bool). cond b 0 (restPart h)) e in
-      plain-length w (nextNonce nonce) (restBytes h X) rest o ∙ omega arith
+      text-length w (nextNonce nonce) (restBytes h X) rest o ∙ omega arith
 
   last-length : sealedLength h ≤ length X → noLast h ≡ false → openedBy w (lastNonce h nonce) (lastBytes h X) ≡ plain last → length last ≡ placeAt h 3 + 16
   unfolding sealedLength
@@ -276,7 +274,7 @@ module _ (w : List State) (nonce : List ℕ) (n : ℕ) (X : List ℕ) (store : �
       let d = length-drop k X in
       let t : length (lastBytes h X) ≡ lastPartLength h = length-take-le (lastPartLength h) (drop k X) (omega arith) in
       let z : lastPartLength h ≡ lastPart h = ap (λ (b : Bool). cond b 0 (lastPart h)) e in
-      plain-length w (lastNonce h nonce) (lastBytes h X) last o ∙ omega arith
+      text-length w (lastNonce h nonce) (lastBytes h X) last o ∙ omega arith
 
   opened-text : (o bytes : List ℕ) → Opens w o bytes → openedBy w o bytes ≡ plain (textIn w o bytes)
   opened-text o bytes e = e .1 ∙ ap plain (sym (ap textOf (e .1)))
@@ -315,7 +313,7 @@ module _ (w : List State) (nonce : List ℕ) (n : ℕ) (X : List ℕ) (store : �
       let p = first-parts (first-length w nonce n X l₁ (g .first)) (g .judged) in
       record {
         arrived = j .long;
-        nonces = λ k l. each-unspent n k (noRest h) (noLast h) l (unspent n (g .first .fresh)) (λ e. unspent (suc n) (g .rest e .fresh)) (λ e. unspent (n + (1 + cond (noRest h) 0 1)) (g .last e .fresh));
+        nonces = λ k l. each-unspent n k (noRest h) (noLast h) l (not-spent n (g .first .fresh)) (λ e. not-spent (suc n) (g .rest e .fresh)) (λ e. not-spent (n + (1 + cond (noRest h) 0 1)) (g .last e .fresh));
         first = (first, g .first .opens);
         rest = λ e. (rest, g .rest e .opens);
         last = λ e. (last, g .last e .opens);
@@ -347,7 +345,7 @@ module _ (w : List State) (nonce : List ℕ) (n : ℕ) (X : List ℕ) (store : �
           first = f;
           judged = parts-first (first-length w nonce n X l₁ f) (c .preamble) (c .padding .inline);
           rest = λ e. record { fresh = judged-unspent (suc n) (rest-unspent e (c .nonces)); opens = opened-text (nextNonce nonce) (restBytes h X) (c .rest e) };
-          padded = λ e. fine-padding (drop (h .s1 .len - inlineLength) rest)
+          padded = λ e. no-padding (drop (h .s1 .len - inlineLength) rest)
               (from-zeros (h .s1 .len - inlineLength) rest (λ i a b. let z = rest-length (c .arrived) e (opened-text (nextNonce nonce) (restBytes h X) (c .rest e)) in c .padding .behindRest e i a (omega arith)));
           last = λ e. record { fresh = judged-unspent (n + (1 + cond (noRest h) 0 1)) (last-unspent e (c .nonces)); opens = opened-text (lastNonce h nonce) (lastBytes h X) (c .last e) };
           end = end-is ∙ ends pads-fine (late-said ∙ c .late);
@@ -362,7 +360,7 @@ module _ (w : List State) (nonce : List ℕ) (n : ℕ) (X : List ℕ) (store : �
 
       pads-fine : noLast h ≡ false → judgePadding pads₃ ≡ fine
       pads-fine e =
-          fine-padding pads₃
+          no-padding pads₃
           (padded-back h last (last-length (c .arrived) e (opened-text (lastNonce h nonce) (lastBytes h X) (c .last e))) (c .padding .segments e) (c .padding .epilogue e))
 
   pub whole-checked : JudgesAt whole w nonce n X store → CheckedSealed late.Complete w nonce n X store

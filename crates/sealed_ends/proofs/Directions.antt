@@ -8,13 +8,17 @@ use lib.ListN.{length}
 use Rattle.secure.specs.Layout.{nextNonce, nonceAfter}
 use Rattle.sealed_receiver.specs.State.{freshReceiving}
 use Rattle.sealed_builder.specs.declared.Sending.{Sending}
-use Rattle.sealed_builder.specs.Build.{freshSending}
-use Rattle.sealed_builder.specs.Nonces.{used, NoneIs}
+use Rattle.sealed_builder.specs.Build.{Done, freshSending, refusedSending, agrees, judgeEarlier, judgeSealed}
+use Rattle.builder.specs.Build.{turnedAway, answered}
+use Rattle.sealed_builder.specs.Nonces.{Build, Meets, Chained, used, NoneIs}
 use Rattle.sealed_builder.proofs.Runs.{run, length-run, after-next, counter, counter-after}
-use Rattle.sealed_builder.proofs.Once.{Line, line}
+use Rattle.sealed_builder.proofs.Once.{judged, came, when-refused, Line, line}
+use Rattle.connection.specs.declared.State.{State}
 use Rattle.connection.specs.Step.{switchedSending}
-use Rattle.refusal.specs.Refusals.{Judged}
-use Rattle.sealed_ends.specs.Openings.{openings, noncesOf}
+use Rattle.connection.specs.Calls.{Try}
+use Rattle.refusal.specs.declared.Refusal.the-variants.{SwitchRefused}
+use Rattle.refusal.specs.Refusals.{Judged, refused, numbersOf}
+use Rattle.sealed_ends.specs.Openings.{openings, noncesOf, Made}
 use Rattle.sealed_ends.specs.Directions.{fixedPart, counterAt, Apart, fixed, ranges, NoneShared, TwoDirections}
 use Rattle.sealed_ends.proofs.Openings.{from-switch}
 
@@ -50,15 +54,53 @@ none-shared a b zero k o d = tt
 none-shared a b (suc m) k o d =
     (none-run (nonceAfter o a) b k 0 (λ j l. d o j (omega arith) (omega arith)), rw (sym (after-next o a)) (none-shared a b m k (suc o) (λ i j l h. d i j (omega arith) h)))
 
-pub two-directions : TwoDirections
-unfolding TwoDirections freshReceiving freshSending nonceAfter
-two-directions st c bs cs m ch ch′ d =
+-- two lists that are such runs
+shared : (a b : List ℕ) (m k : ℕ) (xs ys : List (List ℕ)) → xs ≡ run m a → ys ≡ run k b → Apart a (length xs) b (length ys) → NoneShared xs ys
+unfolding nonceAfter
+shared a b m k xs ys e f d =
+    let lx : length xs ≡ m = ap length e ∙ length-run m a in
+    let ly : length ys ≡ k = ap length f ∙ length-run k b in
+    rw (e, f) (none-shared a b m k 0 (λ i j x y. never d i j (omega arith) (omega arith)))
+
+-- ---- what is sealed from a switch on
+
+record Sealed (c : Try) (bs : List Build) : Type 0 where
+  count : ℕ
+  is : used (c .switched .sending) bs ≡ run count (c .sending)
+
+from-sending : (st : State) (c : Try) (bs : List Build) → Made st c → Chained (c .switched .sending) bs → Sealed c bs
+unfolding freshSending
+from-sending st c bs m ch =
     let w = m .switched in
     let s : Sending = c .switched .sending in
     let q : s ≡ freshSending (c .key) (c .sending) = w .sends ∙ ap (λ (j : Judged). switchedSending j (c .key) (c .sending)) (sym (w .verdict) ∙ m .verdict) in
     let l : Line s (used s bs) = line s bs ch (rw q (omega arith)) in
-    let r = from-switch st c cs m ch′ in
-    let u : used s bs ≡ run (l .count) (c .sending) = l .is ∙ ap (λ (x : Sending). run (l .count) (x .nonce)) q in
-    let lu : length (used s bs) ≡ l .count = ap length u ∙ length-run (l .count) (c .sending) in
-    let lr : length (noncesOf (openings (c .switched .state) cs)) ≡ r .count = ap length (r .is) ∙ length-run (r .count) (c .receiving) in
-    rw (u, r .is) (none-shared (c .sending) (c .receiving) (l .count) (r .count) 0 (λ i j x y. never d i j (omega arith) (omega arith)))
+    record { count = l .count; is = l .is ∙ ap (λ (x : Sending). run (l .count) (x .nonce)) q }
+
+-- nothing is, with what a refused try hands back
+not-sealed : (b : Build) → judged refusedSending b ≡ refused (numbersOf SwitchRefused)
+unfolding judgeSealed judgeEarlier refusedSending agrees
+not-sealed b = refl
+
+with-refused : (s : Sending) (b : Build) → s ≡ refusedSending → Meets s b
+    → (answered (b .answer .built) ≡ turnedAway (numbersOf SwitchRefused)) × (b .answer .sending ≡ s) × (b .after ≡ b .buffer)
+with-refused s b q m =
+    let j : judged s b ≡ refused (numbersOf SwitchRefused) = ap (λ (x : Sending). judged x b) q ∙ not-sealed b in
+    let k = when-refused s b m (numbersOf SwitchRefused) j in
+    (k .0, k .1, ap (λ (d : Done). d .buffer) (came s b m (refused (numbersOf SwitchRefused)) j))
+
+pub two-directions : TwoDirections
+unfolding freshReceiving
+two-directions =
+    record {
+      opened = λ st c bs cs m ch ch′ d.
+          let l = from-sending st c bs m ch in
+          let r = from-switch st c cs m ch′ in
+          shared (c .sending) (c .receiving) (l .count) (r .count) (used (c .switched .sending) bs) (noncesOf (openings (c .switched .state) cs)) (l .is) (r .is) d;
+      sealed = λ st st′ c c′ bs bs′ m m′ ch ch′ d.
+          let l = from-sending st c bs m ch in
+          let r = from-sending st′ c′ bs′ m′ ch′ in
+          shared (c .sending) (c′ .sending) (l .count) (r .count) (used (c .switched .sending) bs) (used (c′ .switched .sending) bs′) (l .is) (r .is) d;
+      none = λ st c n b w v m.
+          with-refused (c .switched .sending) b (w .sends ∙ ap (λ (j : Judged). switchedSending j (c .key) (c .sending)) (sym (w .verdict) ∙ v)) m;
+    }

@@ -7,7 +7,7 @@ use native.Mathlib.Nat.{zero-add, suc-add, add-zero, mod-lt}
 use native.Mathlib.Numerals.{add-one}
 use native.Mathlib.Omega.{arith}
 use borrow.Author.Tests.{le-ltb, leb-true}
-use lib.Dec.{lit<, leb, ltb}
+use lib.Dec.{lit<, ltb}
 use lib.ListN.{length, take, drop, replicate, length-take, length-drop, length-append, length-replicate}
 use lib.Seq.{drop-drop, length-take-le}
 use Rattle.buffer.specs.Splice.{replaceFront, splice}
@@ -20,14 +20,14 @@ use Rattle.body.specs.Body.{restLength}
 use Rattle.body.specs.End.{Ended, whole}
 use Rattle.stream.specs.Stream.{Trace, ended, refusedAt, unlessRefused}
 use Rattle.aes.specs.Aes.{State}
-use Rattle.aes.specs.Counter.{gctr}
-use Rattle.aes.proofs.Counters.{gctr-length}
-use Rattle.gcm.specs.Gcm.{Opened, plain, fail, tagFits, openedBy}
+use Rattle.gcm.specs.Gcm.{Opened, plain, fail, openedBy}
 use Rattle.secure.specs.Layout.{nextNonce, nonceAfter, padding, roundUp, inlineLength, lastLengths, firstLength, noRest, noLast, restPart, restPartLength, lastPart, lastPartLength, sealedLength, partCount, needed}
 use Rattle.secure.specs.Reading.{Next, judgeNonce, judgePadding, judgeFirst, unpadded, lastEnded, zeroed, byOpening, partTrace, atEnd, lastTrace, restTrace, frames}
 use Rattle.secure.proofs.Trip.{one-segment, without-rest, at-end-same}
 use Rattle.sealed_receiver.specs.Step.{textOf}
 use Rattle.sealed_receiver.proofs.FirstPart.{first-fits, first-header}
+use Rattle.sealed_receiver.proofs.Openings.{text-length}
+use Rattle.sealed_receiver.proofs.Live.{taken-most}
 use Rattle.sealed_ends.specs.Handed.{textIn, firstBytes, firstIn, headerIn, restBytes, restIn, lastBytes, lastNonce, lastIn, segmentsOf, segmentsIn}
 
 -- ---- nonces
@@ -38,22 +38,6 @@ after-add zero k nonce = ap (λ (i : ℕ). nonceAfter i nonce) (sym (zero-add k)
 after-add (suc j) k nonce = after-add j k (nextNonce nonce) ∙ ap (λ (i : ℕ). nonceAfter i nonce) (sym (suc-add j k))
 
 -- ---- one part
-
--- a text is its tag shorter than its part
-pub plain-length : (w : List State) (nonce bytes text : List ℕ) → openedBy w nonce bytes ≡ plain text → length text ≡ length bytes - 16
-unfolding openedBy
-plain-length w nonce bytes text e =
-    let n : ℕ = length bytes - 16 in
-    go (cond-of (leb 16 (length bytes)) (tagFits w nonce n bytes)) (gctr w nonce (take n bytes)) n
-    (gctr-length w nonce 0 (take n bytes) ∙ length-take-le n bytes (omega arith)) e
-  where
-    cond-of : Bool → Bool → Bool
-    cond-of true b = b
-    cond-of false b = false
-
-    go : (b : Bool) (c : List ℕ) (n : ℕ) → length c ≡ n → cond b (plain c) fail ≡ plain text → length text ≡ n
-    go true c n l q = let i : c ≡ text = cc in ap length (sym i) ∙ l
-    go false c n l q = let z : _≡_ {A = ℕ} 0 1 = cc in absurd (omega arith)
 
 -- a part whose nonce was not used and whose tag is good
 pub record PartReads (w : List State) (nonce : List ℕ) (n : ℕ) (bytes : List ℕ) : Type 0 where
@@ -157,9 +141,6 @@ module _ (w : List State) (h : Header) (nonce : List ℕ) (n P : ℕ) (ys first 
 
 -- ---- lengths
 
-take-short : (n : ℕ) (l : List ℕ) → length (take n l) ≤ n
-take-short n l = omega (arith, length-take n l)
-
 unpadded-short : (a b c : ℕ) (text : List ℕ) → length (unpadded (a ∷ b ∷ c ∷ []) text) ≤ a + b + c
 unpadded-short a b c text =
     let t₂ : List ℕ = drop (roundUp a) text in
@@ -169,9 +150,9 @@ unpadded-short a b c text =
     let l₁ : length (take a text ++ u₂) ≡ length (take a text) + length u₂ = length-append (take a text) u₂ in
     let l₂ : length u₂ ≡ length (take b t₂) + length u₃ = length-append (take b t₂) u₃ in
     let l₃ : length u₃ ≡ length (take c t₃) = ap length (append-nil (take c t₃)) in
-    let s₁ = take-short a text in
-    let s₂ = take-short b t₂ in
-    let s₃ = take-short c t₃ in
+    let s₁ = taken-most a text in
+    let s₂ = taken-most b t₂ in
+    let s₃ = taken-most c t₃ in
     omega arith
 
 empty : (xs : List ℕ) → length xs ≤ 0 → xs ≡ []
@@ -188,7 +169,7 @@ segment1-short n first rest e =
     let a = length-append (take n (drop 32 first)) (take (n - inlineLength) rest) in
     let b = length-take n (drop 32 first) in
     let d = length-drop 32 first in
-    let c = take-short (n - inlineLength) rest in
+    let c = taken-most (n - inlineLength) rest in
     omega arith
 
 -- the segments as they are read, one behind the other
@@ -250,7 +231,7 @@ module _ (w : List State) (nonce : List ℕ) (n : ℕ) (X : List ℕ) where
 
   -- what an accepted first part tells
   pub first-length : firstLength ≤ length X → PartReads w nonce n (firstBytes X) → length (firstIn w nonce X) ≡ 80
-  first-length l p = plain-length w nonce (firstBytes X) (firstIn w nonce X) (p .opens) ∙ ap (λ (k : ℕ). k - 16) (length-take-le firstLength X l)
+  first-length l p = text-length w nonce (firstBytes X) (firstIn w nonce X) (p .opens) ∙ ap (λ (k : ℕ). k - 16) (length-take-le firstLength X l)
 
   pub fits : (store : ℕ) → judgeFirst (firstIn w nonce X) store ≡ fine → needed (headerIn w nonce X) ≤ store
   unfolding headerIn

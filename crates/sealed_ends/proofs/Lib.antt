@@ -8,3 +8,4 @@ pub mod Checks
 pub mod Handover
 pub mod Openings
 pub mod Directions
+pub mod Adding

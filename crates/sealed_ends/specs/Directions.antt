@@ -4,8 +4,13 @@ use mathlib.Core.List.{List, [], _∷_}
 use Prim.Native.Nat.{ℕ, _+_, _%_, _^_, _<_}
 use lib.ListN.{length, getD}
 use Rattle.buffer.specs.Le.{numberAt}
-use Rattle.sealed_builder.specs.Nonces.{Build, Chained, used, NoneIs}
+use Rattle.refusal.specs.declared.Numbers.{Numbers}
+use Rattle.refusal.specs.declared.Refusal.the-variants.{SwitchRefused}
+use Rattle.refusal.specs.Refusals.{refused, numbersOf, judgedBy}
+use Rattle.builder.specs.Build.{turnedAway, answered}
+use Rattle.sealed_builder.specs.Nonces.{Build, Meets, Chained, used, NoneIs}
 use Rattle.connection.specs.declared.State.{State}
+use Rattle.connection.specs.Step.{SwitchedWith}
 use Rattle.connection.specs.Calls.{Try}
 use Rattle.sealed_ends.specs.Openings as calls
 use Rattle.sealed_ends.specs.Openings.{Call, openings, noncesOf, Made}
@@ -27,9 +32,17 @@ abbrev pub NoneShared : List (List ℕ) → List (List ℕ) → Type 0
 NoneShared [] ys = Unit {0}
 NoneShared (x ∷ xs) ys = NoneIs x ys × NoneShared xs ys
 
--- from a switch on: any builds with its sending state, and any calls
-unfoldable pub TwoDirections : Type 0
-TwoDirections =
-    (st : State) (c : Try) (bs : List Build) (cs : List Call) → Made st c → Chained (c .switched .sending) bs → calls.Chained (c .switched .state) cs
-    → Apart (c .sending) (length (used (c .switched .sending) bs)) (c .receiving) (length (noncesOf (openings (c .switched .state) cs)))
-    → NoneShared (used (c .switched .sending) bs) (noncesOf (openings (c .switched .state) cs))
+pub record TwoDirections : Type 0 where
+  -- from a switch on: any builds with its sending state, and any calls
+  pub opened : (st : State) (c : Try) (bs : List Build) (cs : List Call) → Made st c → Chained (c .switched .sending) bs → calls.Chained (c .switched .state) cs
+      → Apart (c .sending) (length (used (c .switched .sending) bs)) (c .receiving) (length (noncesOf (openings (c .switched .state) cs)))
+      → NoneShared (used (c .switched .sending) bs) (noncesOf (openings (c .switched .state) cs))
+  -- and what the two ends seal, each from its own switch on, whether it has come in or not
+  pub sealed : (st st′ : State) (c c′ : Try) (bs bs′ : List Build) → Made st c → Made st′ c′
+      → Chained (c .switched .sending) bs → Chained (c′ .switched .sending) bs′
+      → Apart (c .sending) (length (used (c .switched .sending) bs)) (c′ .sending) (length (used (c′ .switched .sending) bs′))
+      → NoneShared (used (c .switched .sending) bs) (used (c′ .switched .sending) bs′)
+  -- nothing is sealed with what a refused try hands back: every build gives 27 and changes nothing
+  pub none : (st : State) (c : Try) (n : Numbers) (b : Build) → SwitchedWith st (c .key) (c .receiving) (c .sending) (c .switched) → judgedBy (c .switched .verdict) ≡ refused n
+      → Meets (c .switched .sending) b
+      → (answered (b .answer .built) ≡ turnedAway (numbersOf SwitchRefused)) × (b .answer .sending ≡ c .switched .sending) × (b .after ≡ b .buffer)

@@ -4,3 +4,4 @@ pub mod Trip
 pub mod Ends
 pub mod Openings
 pub mod Directions
+pub mod Adds

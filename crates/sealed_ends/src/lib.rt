@@ -5,6 +5,7 @@ ghost use Rattle.sealed_ends.specs.Trip.{SealedRoundTrip};
 ghost use Rattle.sealed_ends.specs.Ends.{SealedTwoEnds};
 ghost use Rattle.sealed_ends.specs.Openings.{NoNonceOpenedTwice};
 ghost use Rattle.sealed_ends.specs.Directions.{TwoDirections};
+ghost use Rattle.sealed_ends.specs.Adds.{SwitchedAddUp};
 
 // A sealed frame is reported at its place if and only if the checks hold there, and so is a drop.
 pub fn handed_over()
@@ -26,7 +27,13 @@ pub fn no_nonce_opened_twice()
     ensures { λ _. ⌜ NoNonceOpenedTwice ⌝ }
 {}
 
-// The two directions never use the same nonce under the one key, as long as the nonces' first 4 bytes differ or the counters that are spent.
+// The two directions never use the same nonce under the one key, as long as the nonces' first 4 bytes differ or the counters that are spent; a refused try to switch
+// seals nothing.
 pub fn two_directions()
     ensures { λ _. ⌜ TwoDirections ⌝ }
+{}
+
+// On every link, switched or not, each report stands at the byte of the one before it plus its own length on the wire, and no early report comes behind a switch.
+pub fn bytes_add_up()
+    ensures { λ _. ⌜ SwitchedAddUp ⌝ }
 {}

@@ -2,10 +2,9 @@
 use mathlib.Core.Path.{_≡_, refl, sym, ap, _∙_}
 use mathlib.Core.List.{List, [], _∷_, _++_, append-assoc}
 use mathlib.Core.Bool.{Bool}
-use Prim.Native.Nat.{ℕ, zero, suc, _+_, _-_, _≤_}
+use Prim.Native.Nat.{ℕ, _+_, _-_, _≤_}
 use native.Mathlib.Omega.{arith}
-use borrow.Author.Tests.{eqb-true, ltb-false, le-leb}
-use lib.Dec.{ltb, eqb}
+use borrow.Author.Tests.{le-leb}
 use lib.ListN.{length, take, drop, getD, length-take}
 use lib.Seq.{take-at}
 use Rattle.buffer.specs.Splice.{replaceFront, overwrite}
@@ -13,14 +12,14 @@ use Rattle.buffer.proofs.Parts.{overwrite-fits}
 use Rattle.refusal.specs.declared.Numbers.{Numbers}
 use Rattle.refusal.specs.declared.Refusal.the-variants as refusal
 use Rattle.refusal.specs.Refusals.{Judged, fine, refused, orElse, unless}
-use Rattle.refusal.proofs.Judgements.{all-fine, fine-all, or-else-last, passed}
+use Rattle.refusal.proofs.Judgements.{all-fine, fine-all, or-else-last}
 use Rattle.preamble.specs.declared.Header.{Header}
 use Rattle.preamble.specs.Layout.{total}
-use Rattle.preamble.specs.Judge.{sumLimit, segmentLimit, above, firstFault, limitFault, headerOf, judgeChecksum, judgeShape, judgeFlags, judgeTag, judgeLimits, judgeStore, judgeHeader, judgeFields, judgePreamble}
+use Rattle.preamble.specs.Judge.{sumLimit, headerOf, judgeChecksum, judgeShape, judgeFlags, judgeTag, judgeLimits, judgeStore, judgeHeader, judgeFields, judgePreamble}
 use Rattle.preamble.proofs.Laws.{store-fits}
+use Rattle.preamble.proofs.Headers.{within-limits}
 use Rattle.secure.specs.Layout.{needed}
 use Rattle.secure.specs.Reading.{judgePadding, judgeFirst}
-use Rattle.secure.proofs.Trip.{first-zero, no-fault}
 use Rattle.sealed_receiver.specs.declared.Stage.the-variants as stage
 use Rattle.sealed_receiver.specs.declared.Receiving.{Receiving}
 use Rattle.sealed_receiver.specs.declared.Known.{Known}
@@ -30,24 +29,6 @@ use Rattle.sealed_receiver.proofs.Openings.{part-text-length}
 use Rattle.sealed_receiver.proofs.Rooms.{segments-fit}
 
 -- ---- a frame within the limits fits into any store of 2 ^ 32 bytes
-
-no-faults : (fs : List ℕ) (i : ℕ) → firstFault fs ≡ 0 → getD fs i 0 ≡ 0
-no-faults [] i e = refl
-no-faults (f ∷ fs) zero e = first-zero f (firstFault fs) e .0
-no-faults (f ∷ fs) (suc i) e = no-faults fs i (first-zero f (firstFault fs) e .1)
-
-within-limits : (h : Header) → judgeLimits h ≡ fine → total h ≤ sumLimit
-unfolding limitFault
-within-limits h e =
-    let z : limitFault h ≡ 0 = eqb-true (limitFault h) 0 (passed (eqb (limitFault h) 0) (refusal.Limit (limitFault h)) e) in
-    let n : ℕ = h .s1 .len in
-    let m : ℕ = h .s1 .len + h .s2 .len in
-    let k : ℕ = h .s1 .len + h .s2 .len + h .s3 .len in
-    let last : above sumLimit 20 (total h) ≡ 0 =
-    no-faults
-    (above segmentLimit 2 (h .s1 .len) ∷ above segmentLimit 8 (h .s2 .len) ∷ above segmentLimit 14 (h .s3 .len) ∷ above segmentLimit 20 (h .s4 .len)
-    ∷ above sumLimit 2 n ∷ above sumLimit 8 m ∷ above sumLimit 14 k ∷ above sumLimit 20 (total h) ∷ []) 7 z in
-    ltb-false sumLimit (total h) (no-fault (ltb sumLimit (total h)) 19 last)
 
 total-fits : (h : Header) → judgeLimits h ≡ fine → judgeStore (total h) 4294967296 ≡ fine
 total-fits h e =

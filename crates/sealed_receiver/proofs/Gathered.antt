@@ -4,19 +4,18 @@ use mathlib.Core.List.{List, [], _∷_, _++_}
 use mathlib.Core.Path.{_≡_, refl, sym, ap, subst, _∙_}
 use mathlib.Core.Bool.{Bool, true, false}
 use native.Mathlib.Nat.{add-assoc}
-use lib.ListN.{length, length-append}
+use lib.ListN.{length}
 use lib.Seq.{sets}
-use lib.Dec.{ltb}
 use Rattle.receiver.specs.declared.Report.{Report}
 use Rattle.receiver.specs.declared.Report.the-variants as report
 use Rattle.receiver.proofs.Machine as machine
+use Rattle.receiver.proofs.Placed.{sets-append}
+use Rattle.receiver.proofs.Gathers.{Gathering, got-append, byteStep}
+use Rattle.receiver.proofs.Feeding.{Lasting}
 use Rattle.sealed_receiver.specs.declared.State.{State}
 use Rattle.sealed_receiver.specs.State.{isFirst, inFrame, placeOf}
-use Rattle.sealed_receiver.specs.Step.{Stepped, finish, blockWith, storeWith, absorbed, stored, reached, size, chunk, onByte, Answer, onward, feed, Running}
-use Rattle.sealed_receiver.proofs.Gathers.{sets-append, Gathering, byteStep}
-use Rattle.sealed_receiver.proofs.Gathers as gathers
+use Rattle.sealed_receiver.specs.Step.{Stepped, blockWith, storeWith, absorbed, stored, reached, size, chunk, onByte, Answer, onward, feed, Running}
 use Rattle.sealed_receiver.proofs.Live.{Gone, After, inside-of, chunk-leaves}
-use Rattle.sealed_receiver.proofs.Feeding.{Lasting}
 
 abbrev pub bare : Stepped → machine.Stepped State
 bare y = record { state = y .state; store = y .store; report = y .report }
@@ -39,10 +38,7 @@ store-none false place s = refl
 pub absorbed-twice : (st : State) (xs ys : List ℕ) → absorbed (absorbed st xs) ys ≡ absorbed st (xs ++ ys)
 absorbed-twice st xs ys =
     let p = st .position in
-    let n : (p .got + length xs) + length ys ≡ p .got + length (xs ++ ys) =
-    add-assoc (p .got) (length xs) (length ys) ∙ ap (λ (k : ℕ). p .got + k) (sym (length-append xs ys))
-    in
-    rw (n, block-append (isFirst (p .stage)) (p .got) (p .block) xs ys)
+    rw (got-append (p .got) xs ys, block-append (isFirst (p .stage)) (p .got) (p .block) xs ys)
 
 abbrev pub parts : Gathering
 parts = record {
@@ -51,7 +47,8 @@ parts = record {
   size = size;
   absorbed = absorbed;
   stored = stored;
-  finishing = λ st s. bare (finish (st .position .stage) (st .position .block) (st .known) s);
+  reached = λ st s t. bare (reached st s t);
+  silent = λ st s. refl;
   got-absorbed = λ st xs. refl;
   size-absorbed = λ st xs. refl;
   absorbed-append = absorbed-twice;
@@ -60,17 +57,8 @@ parts = record {
   stored-none = λ st s. store-none (inFrame (st .position .stage)) (placeOf (st .position .stage) (st .known .header) + st .position .got) s;
 }
 
--- its chunks are the gathered ones
-bare-reached : (st : State) (s : List ℕ) (t : Bool) → bare (reached st s t) ≡ gathers.reached parts st s t
-bare-reached st s true = refl
-bare-reached st s false = refl
-
-pub bare-chunk : (st : State) (s xs : List ℕ) → bare (chunk st s xs) ≡ gathers.chunk parts st s xs
-bare-chunk st s xs = bare-reached (absorbed st xs) (stored st s xs) (ltb (st .position .got + length xs) (size st))
-
-pub chunk-keeps : (st : State) (s xs : List ℕ) → Running st s → (let y = gathers.chunk parts st s xs in After (y .report) (y .state) (y .store))
-chunk-keeps st s xs r =
-    subst (λ (y : machine.Stepped State). After (y .report) (y .state) (y .store)) (bare-chunk st s xs) (chunk-leaves st s xs r .after)
+pub chunk-keeps : (st : State) (s xs : List ℕ) → Running st s → (let y = chunk st s xs in After (y .report) (y .state) (y .store))
+chunk-keeps st s xs r = chunk-leaves st s xs r .after
 
 abbrev pub lasting : Lasting parts
 lasting = record { Running = Running; Gone = Gone; unfilled = inside-of; keeps = chunk-keeps }
@@ -90,8 +78,6 @@ plain-feed st s (b ∷ bs) =
     let x = chunk st s (b ∷ []) in
     plain-onward (x .report) x (feed (x .state) (x .store) bs)
     ∙ ap (machine.onward (x .report) (bare x)) (plain-feed (x .state) (x .store) bs)
-    ∙ ap (λ (y : machine.Stepped State). machine.onward (y .report) y (machine.feed (byteStep parts) (y .state) (y .store) bs))
-    (bare-chunk st s (b ∷ []))
 
 pub feed-after : (st : State) (s piece : List ℕ) → Running st s
     → After (feed st s piece .received .report) (feed st s piece .received .state) (feed st s piece .store)

@@ -1,14 +1,14 @@
 -- The last part: its segments and what pads them, its end, and its segments one behind the other.
 use mathlib.Core.Path.{_≡_, refl, sym, ap, ap₂, _∙_}
 use mathlib.Core.List.{List, [], _∷_, _++_, append-assoc, append-nil}
-use mathlib.Core.Bool.{Bool, false, _&&_}
+use mathlib.Core.Bool.{Bool, false, _&&_, and-assoc}
 use Prim.Native.Nat.{ℕ, _+_, _-_, _≤_}
 use native.Mathlib.Nat.{add-zero}
 use native.Mathlib.Omega.{arith}
 use lib.ListN.{length, take, drop, getD, length-append, length-take, length-drop}
 use lib.Seq.{take-take, take-add, drop-drop, getD-drop, length-take-le}
 use Rattle.buffer.specs.Splice.{splice}
-use Rattle.buffer.proofs.Parts.{splice-next}
+use Rattle.buffer.proofs.Parts.{splice-next, drop-take}
 use Rattle.refusal.specs.declared.Numbers.{Numbers}
 use Rattle.refusal.specs.declared.Refusal.the-variants as refusal
 use Rattle.refusal.specs.Refusals.{fine, refused, unless}
@@ -17,13 +17,14 @@ use Rattle.preamble.specs.Layout.{total}
 use Rattle.banner.specs.declared.Revision.the-variants.{Msgr21}
 use Rattle.body.specs.End.{Ended, whole, lateOf}
 use Rattle.secure.specs.Layout.{padding, roundUp, noLast, lastLengths, lastPart, lastPartLength, needed}
-use Rattle.secure.specs.Reading.{allZero, unpadded, paddingOf, lateIn, byLateStatus, lastEnded, zeroed}
+use Rattle.buffer.specs.Zeros.{allZero}
+use Rattle.secure.specs.Reading.{unpadded, paddingOf, lateIn, byLateStatus, lastEnded, zeroed}
 use Rattle.sealed_receiver.specs.declared.Stage.the-variants as stage
 use Rattle.sealed_receiver.specs.declared.Receiving.{Receiving}
 use Rattle.sealed_receiver.specs.declared.Known.{Known}
 use Rattle.sealed_receiver.specs.State.{openedMore}
 use Rattle.sealed_receiver.specs.Step.{Stepped, refuse, judgePart, partText, endFrame, behindLast, finish, ClosedUp}
-use Rattle.sealed_receiver.proofs.Lists.{drop-take, splice-upto, splice-behind, and-assoc, zeros-append}
+use Rattle.sealed_receiver.proofs.Lists.{splice-upto, splice-behind, zeros-append}
 use Rattle.sealed_receiver.proofs.Regions.{end-same, after, after-length, after-before, after-behind, part-refused, part-opened}
 use Rattle.sealed_receiver.proofs.Rooms.{segments-fit, moves-fit, round-up, last-size, last-fits}
 

@@ -7,8 +7,6 @@ pub mod RestPart
 pub mod LastPart
 pub mod Live
 pub mod Bounds
-pub mod Gathers
-pub mod Feeding
 pub mod Gathered
 pub mod FeedLoop
 pub mod Every

@@ -1,24 +1,17 @@
 -- Lists with a part replaced, bytes moved towards the front, and zeros.
 use mathlib.Core.Path.{_≡_, refl, sym, ap, ap₂, _∙_}
 use mathlib.Core.List.{List, [], _∷_, _++_, append-assoc}
-use mathlib.Core.Bool.{Bool, true, false, _&&_}
-use Prim.Native.Nat.{ℕ, zero, suc, _+_, _-_, _≤_, _<_}
-use native.Mathlib.Nat.{zero-add, suc-add}
+use mathlib.Core.Bool.{Bool, true, _&&_, and-assoc}
+use Prim.Native.Nat.{ℕ, _+_, _-_, _≤_, _<_}
 use native.Mathlib.Numerals.{add-one}
 use native.Mathlib.Omega.{arith}
 use borrow.Author.Tests.{eqb-true}
 use lib.Dec.{eqb}
 use lib.ListN.{length, take, drop, getD, set, replicate, length-append, length-drop}
-use lib.Seq.{take-nil, take-at, drop-at, drop-append-add, drop-drop, length-take-le, getD-drop, paste, paste-suc, drop-paste}
+use lib.Seq.{take-at, drop-at, drop-append-add, drop-drop, length-take-le, getD-drop, paste, paste-suc, drop-paste}
 use Rattle.buffer.specs.Splice.{splice}
 use Rattle.refusal.proofs.Booleans.{both-left, both-right}
-use Rattle.secure.specs.Reading.{allZero}
-
--- what stands behind n elements, of the first n + m
-pub drop-take : (n m : ℕ) (l : List ℕ) → drop n (take (n + m) l) ≡ take m (drop n l)
-drop-take zero m l = ap (λ (k : ℕ). take k l) (zero-add m)
-drop-take (suc n) m [] = ap (drop (suc n)) (take-nil {A = ℕ} (suc n + m)) ∙ sym (take-nil m)
-drop-take (suc n) m (x ∷ l) = ap (λ (k : ℕ). drop (suc n) (take k (x ∷ l))) (suc-add n m) ∙ drop-take n m l
+use Rattle.buffer.specs.Zeros.{allZero}
 
 -- ---- a part that was replaced
 
@@ -97,10 +90,6 @@ pub only-zeros : (l : List ℕ) → allZero l ≡ true → l ≡ replicate (leng
 only-zeros [] e = refl
 only-zeros (x ∷ l) e =
     ap₂ (λ (a : ℕ) (t : List ℕ). a ∷ t) (eqb-true x 0 (both-left (eqb x 0) (allZero l) e)) (only-zeros l (both-right (eqb x 0) (allZero l) e))
-
-pub and-assoc : (a b c : Bool) → (a && b && c) ≡ (a && (b && c))
-and-assoc true b c = refl
-and-assoc false b c = refl
 
 pub zeros-append : (xs ys : List ℕ) → allZero (xs ++ ys) ≡ (allZero xs && allZero ys)
 zeros-append [] ys = refl

@@ -2,7 +2,7 @@
 use Prim.Native.Nat.{ℕ, _+_, _-_, _≤_, _<_, zero-le}
 use mathlib.Core.List.{List, [], _∷_, _++_}
 use mathlib.Core.Path.{_≡_, refl, sym, ap, _∙_}
-use mathlib.Core.Bool.{Bool, true, false, not, cond, _&&_, _||_}
+use mathlib.Core.Bool.{Bool, true, false, not, cond, _&&_, _||_, not-or-self}
 use native.Mathlib.Omega.{arith}
 use lib.ListN.{length, take, drop, getD, replicate, length-take, length-append, length-replicate}
 use lib.Seq.{length-sets}
@@ -31,7 +31,8 @@ use Rattle.receiver.proofs.Machine as machine
 use Rattle.gcm.specs.Gcm.{Opened, plain, fail, opened}
 use Rattle.secure.specs.Layout.{allNonces, padding, noRest, noLast, lastLengths, restPart, lastPart}
 use Rattle.secure.specs.Layout as layout
-use Rattle.secure.specs.Reading.{allZero, judgeNonce, judgePadding, judgeFirst, unpadded, paddingOf, lateIn, byLateStatus, droppedBy, lastEnded, zeroed, holding}
+use Rattle.buffer.specs.Zeros.{allZero}
+use Rattle.secure.specs.Reading.{judgeNonce, judgePadding, judgeFirst, unpadded, paddingOf, lateIn, byLateStatus, droppedBy, lastEnded, zeroed, holding}
 use Rattle.secure.proofs.Counts.{came-round}
 use Rattle.sealed_receiver.specs.declared.Stage.{Stage}
 use Rattle.sealed_receiver.specs.declared.Stage.the-variants as stage
@@ -102,15 +103,11 @@ opened-opens r bytes e =
     let f : judgeNonce (openedOf r) ≡ fine = both-fine (judgeNonce (openedOf r)) (judgeOpened (opened (r .key) (r .nonce) bytes)) e .0 in
     let l : openedOf r < allNonces = ltb-true (openedOf r) allNonces (passed (ltb (openedOf r) allNonces) refusal.NoncesSpent f) in
     ap (λ (b : Bool). not (leb allNonces (r .opened + 1)) || b) (came-round (r .opened) 1 (omega arith) (left (r .exhausted) l))
-    ∙ either-way (leb allNonces (r .opened + 1))
+    ∙ not-or-self (leb allNonces (r .opened + 1))
   where
     left : (b : Bool) → cond b allNonces (r .opened) < allNonces → r .opened + 1 ≤ allNonces
     left true l = absurd (omega arith)
     left false l = omega arith
-
-    either-way : (b : Bool) → (not b || b) ≡ true
-    either-way true = refl
-    either-way false = refl
 
 -- ---- the rules, one by one
 
@@ -217,7 +214,7 @@ judged-leaves (refused n) s x m k e f = rw e at (refuse-leaves n s (k .gives n r
 
 -- ---- the store's length
 
-taken-most : (n : ℕ) (l : List ℕ) → length (take n l) ≤ n
+pub taken-most : (n : ℕ) (l : List ℕ) → length (take n l) ≤ n
 taken-most n l = omega (arith, length-take n l)
 
 length-zeroed : (h : Header) (s : List ℕ) → layout.needed h ≤ length s → length (zeroed h s) ≡ length s

@@ -37,7 +37,7 @@ text-of : (b : Bool) (x text : List ℕ) → cond b (plain x) fail ≡ plain tex
 text-of true x text e = cc
 text-of false x text e = cc
 
-text-length : (w : List State) (nonce s text : List ℕ) → openedBy w nonce s ≡ plain text → length text ≡ length s - 16
+pub text-length : (w : List State) (nonce s text : List ℕ) → openedBy w nonce s ≡ plain text → length text ≡ length s - 16
 unfolding openedBy
 text-length w nonce s text e =
     let x : List ℕ = gctr w nonce (take (length s - 16) s) in

@@ -7,7 +7,7 @@ use native.Mathlib.Omega.{arith}
 use lib.ListN.{length, take, drop, replicate, length-append, length-drop, length-replicate, replicate-append-replicate}
 use lib.Seq.{take-take, take-add, drop-drop, length-take-le}
 use Rattle.buffer.specs.Splice.{splice, overwrite}
-use Rattle.buffer.proofs.Parts.{rest, back, length-rest, overwrite-fits, placed}
+use Rattle.buffer.proofs.Parts.{rest, back, length-rest, overwrite-fits, placed, drop-take}
 use Rattle.refusal.specs.declared.Numbers.{Numbers}
 use Rattle.refusal.specs.declared.Refusal.the-variants as refusal
 use Rattle.refusal.specs.Refusals.{fine, refused, numbersOf, unless}
@@ -16,14 +16,15 @@ use Rattle.preamble.specs.Layout.{total}
 use Rattle.preamble.specs.Judge.{judgeHeader}
 use Rattle.body.specs.End.{whole}
 use Rattle.secure.specs.Layout.{padding, inlineLength, noRest, noLast, restPart, restPartLength, needed}
-use Rattle.secure.specs.Reading.{allZero, judgePadding, zeroed}
+use Rattle.buffer.specs.Zeros.{allZero}
+use Rattle.secure.specs.Reading.{judgePadding, zeroed}
 use Rattle.secure.proofs.Trip.{one-segment}
 use Rattle.sealed_receiver.specs.declared.Stage.the-variants as stage
 use Rattle.sealed_receiver.specs.declared.Receiving.{Receiving}
 use Rattle.sealed_receiver.specs.declared.Known.{Known}
 use Rattle.sealed_receiver.specs.State.{openedMore}
 use Rattle.sealed_receiver.specs.Step.{Stepped, refuse, unlessRefused, silent, at, knowing, judgePart, partText, endFrame, beginLast, behindRest, finish}
-use Rattle.sealed_receiver.proofs.Lists.{drop-take, only-zeros}
+use Rattle.sealed_receiver.proofs.Lists.{only-zeros}
 use Rattle.sealed_receiver.proofs.Regions.{zeroed-same, after, after-length, after-behind, after-again, part-refused, part-opened}
 use Rattle.sealed_receiver.proofs.Rooms.{rest-beyond, rest-size, rest-fits, pads-fit}
 

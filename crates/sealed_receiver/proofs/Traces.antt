@@ -2,40 +2,40 @@
 use Prim.Native.Nat.{ℕ, zero, suc, _+_, _-_, _%_, _≤_, _<_, zero-le}
 use mathlib.Core.List.{List, [], _∷_, _++_, append-assoc}
 use mathlib.Core.Path.{_≡_, refl, sym, ap, ap₂, _∙_}
-use mathlib.Core.Bool.{Bool, true, false, cond, _&&_}
+use mathlib.Core.Bool.{Bool, true, false, cond}
 use native.Mathlib.Omega.{arith}
-use native.Mathlib.Nat.{le-refl, add-zero, zero-add, mod-lt, mod-eq-of-lt}
-use lib.ListN.{length, take, drop, getD, replicate, length-take, length-drop, length-append, length-replicate}
+use native.Mathlib.Nat.{le-refl, add-zero, zero-add, mod-eq-of-lt}
+use lib.ListN.{length, take, drop, replicate, length-take, length-drop, length-append, length-replicate}
 use lib.Seq.{sets, sets-eq, length-take-le, take-at}
 use lib.Dec.{lit<, ltb, leb}
 use borrow.Author.Tests.{le-ltb, ltb-true, ltb-false, leb-true, leb-false}
 use Rattle.buffer.specs.Splice.{replaceFront, splice}
-use Rattle.buffer.proofs.Parts.{replaceFront-next, length-replaceFront}
+use Rattle.buffer.proofs.Parts.{replaceFront-next, length-replaceFront, over-longer}
 use Rattle.refusal.specs.declared.Refusal.the-variants as refusal
 use Rattle.refusal.specs.Refusals.{Judged, fine, refused, orElse}
-use Rattle.refusal.proofs.Judgements.{both-fine, all-fine, passed}
+use Rattle.refusal.proofs.Judgements.{both-fine, passed}
 use Rattle.preamble.specs.declared.Header.{Header}
-use Rattle.preamble.specs.Judge.{headerOf, judgeChecksum, judgeShape, judgeFlags, judgeTag, judgeLimits, judgeStore}
-use Rattle.preamble.proofs.Laws.{store-fits}
+use Rattle.preamble.specs.Judge.{headerOf}
 use Rattle.body.specs.End.{Ended, whole, dropped, turnedAway}
 use Rattle.stream.specs.declared.Event.the-variants as event
 use Rattle.stream.specs.Stream.{Trace, ended, after}
 use Rattle.stream.specs.Stream as stream
 use Rattle.receiver.specs.declared.Report.the-variants as report
-use Rattle.receiver.proofs.Placed.{sets-whole, take-over, over-longer}
+use Rattle.receiver.proofs.Placed.{sets-whole, take-over}
 use Rattle.receiver.proofs.Machine.{Silent, scan, scan-none, scan-silent}
+use Rattle.receiver.proofs.Gathers.{traceBy, run, byteStep, short, full}
 use Rattle.aes.specs.Aes.{keyExpansion}
-use Rattle.aes.specs.Counter.{gctr}
-use Rattle.aes.proofs.Counters.{gctr-length}
-use Rattle.gcm.specs.Gcm.{Opened, plain, fail, tagFits, openedBy}
-use Rattle.secure.specs.Layout.{allNonces, nextNonce, padding, roundUp, inlineLength, firstLength, noRest, noLast, restPart, lastPart, restPartLength, lastPartLength, lastLengths, needed}
+use Rattle.gcm.specs.Gcm.{Opened, plain, fail, openedBy}
+use Rattle.secure.specs.Layout.{allNonces, nextNonce, padding, inlineLength, firstLength, noRest, noLast, restPart, lastPart, restPartLength, lastPartLength, lastLengths, needed}
 use Rattle.secure.specs.Reading.{judgeNonce, judgePadding, judgeFirst, unpadded, lastEnded, zeroed, holding, byOpening, partTrace, atEnd, lastTrace, restTrace, frames, sealedTrace}
 use Rattle.sealed_receiver.specs.declared.Stage.the-variants as stage
 use Rattle.sealed_receiver.specs.declared.Receiving.{Receiving}
 use Rattle.sealed_receiver.specs.declared.State.{State}
 use Rattle.sealed_receiver.specs.State.{openedOf, freshReceiving, openedMore}
 use Rattle.sealed_receiver.specs.Step.{blank, at, knowing, nextFrame, switched, refusedState, Stepped, unlessRefused, judgeOpened, textOf, judgePart, partText, endFrame, beginLast, beginRest, behindFirst, behindRest, behindLast, finish, stored}
-use Rattle.sealed_receiver.proofs.Gathers.{traceBy, run, byteStep, short, full}
+use Rattle.sealed_receiver.proofs.Rooms.{segments-fit, rest-beyond, rest-size, rest-fits, last-size, last-fits}
+use Rattle.sealed_receiver.proofs.Openings.{part-text-length}
+use Rattle.sealed_receiver.proofs.FirstPart.{first-fits}
 use Rattle.sealed_receiver.proofs.Gathered.{bare, parts}
 use Rattle.sealed_receiver.proofs.Stores.{front-there, part-there, again, zeroed-over, holding-over}
 
@@ -80,7 +80,7 @@ part-next (refused n) P s x y h = refl
 
 -- ---- nonces
 
-not-spent : (n : ℕ) → judgeNonce n ≡ fine → n < allNonces
+pub not-spent : (n : ℕ) → judgeNonce n ≡ fine → n < allNonces
 not-spent n j = ltb-true n allNonces (passed (ltb n allNonces) refusal.NoncesSpent j)
 
 one-more : (exhausted : Bool) (n : ℕ) → cond exhausted allNonces n < allNonces
@@ -97,38 +97,6 @@ unfolding judgePart openedMore
 opened-next r bytes j =
     one-more (r .exhausted) (r .opened)
     (not-spent (openedOf r) (both-fine (judgeNonce (openedOf r)) (judgeOpened (openedBy (keyExpansion (r .key)) (r .nonce) bytes)) j .0))
-
--- an opened part's text
-opened-length : (b : Bool) (c : List ℕ) (n : ℕ) → length c ≡ n → judgeOpened (cond b (plain c) fail) ≡ fine → length (textOf (cond b (plain c) fail)) ≡ n
-opened-length true c n l e = l
-opened-length false c n l e = absurd (let z : _≡_ {A = ℕ} 0 1 = cc in omega arith)
-
-pub text-length : (r : Receiving) (bytes : List ℕ) → judgePart r bytes ≡ fine → length (partText r bytes) ≡ length bytes - 16
-unfolding judgePart partText openedBy
-text-length r bytes j =
-    let w = keyExpansion (r .key) in
-    let n = length bytes - 16 in
-    opened-length (leb 16 (length bytes) && tagFits w (r .nonce) n bytes) (gctr w (r .nonce) (take n bytes)) n
-    (gctr-length w (r .nonce) 0 (take n bytes) ∙ length-take-le n bytes (omega arith))
-    (both-fine (judgeNonce (openedOf r)) (judgeOpened (openedBy w (r .nonce) bytes)) j .1)
-
--- the second part has room in what the frame needs
-padding-lt : (m : ℕ) → padding m < 16
-padding-lt m = let h : 0 < 16 = lit< tt in mod-lt (16 - m % 16) h
-
-second-room : (n q p rest : ℕ) → inlineLength < n → q < 16 → inlineLength + ((n - inlineLength) + q + 16) ≤ (n + p) + rest + 32
-second-room n q p rest h k = omega arith
-
-sums : (a b c d : ℕ) → (a + (b + c + d)) + 32 ≡ a + b + c + d + 32
-sums a b c d = omega arith
-
--- what is asked of a first part
-first-accepted : (text : List ℕ) (n : ℕ) → judgeFirst text n ≡ fine → needed (headerOf text) ≤ n
-unfolding judgeFirst
-first-accepted text n j =
-    let h = headerOf text in
-    store-fits (all-fine (judgeChecksum text ∷ judgeShape h ∷ judgeFlags (getD text 26 0) (getD text 27 0) ∷ judgeTag (h .tag) ∷ judgeLimits h ∷ judgeStore (needed h) n
-    ∷ judgePadding (drop (32 + h .s1 .len) text) ∷ []) j .1 .1 .1 .1 .1 .0)
 
 -- what of segment 1 stands in the inline buffer
 inline-size : (text : List ℕ) (h : Header) (b : Bool) → noRest h ≡ b → length text ≡ 80 → length (take (h .s1 .len) (drop 32 text)) ≡ cond b (h .s1 .len) inlineLength
@@ -166,29 +134,22 @@ module _ (f : ℕ) (below : Below f) where
     abbrev xs : List ℕ
     xs = take (lastPart h) ys
 
-    last-room : n₁ + lastPart h ≤ needed h
-    unfolding needed
-    last-room = omega arith
-
-    last-size : noLast h ≡ false → lastPartLength h ≡ lastPart h
-    last-size e = ap (λ (b : Bool). cond b 0 (lastPart h)) e
-
     last-placed : (zs : List ℕ) → length zs ≤ lastPart h → stored (at stage.Last (knowing r h)) s zs ≡ splice s n₁ zs
-    last-placed zs l = ap (λ (k : ℕ). sets s k zs) (add-zero n₁) ∙ sets-eq zs s n₁ (let q = last-room in omega (arith, q))
+    last-placed zs l = ap (λ (k : ℕ). sets s k zs) (add-zero n₁) ∙ sets-eq zs s n₁ (let q = last-fits h in omega (arith, q))
 
     last-finish : noLast h ≡ false → lastPart h ≤ length ys
         → finish stage.Last blank (knowing r h) (splice s n₁ xs)
         ≡ unlessRefused (judgePart r xs) (zeroed h s) (endFrame (lastEnded h (partText r xs)) (openedMore r) h (first ++ unpadded (lastLengths h) (partText r xs)) s)
     unfolding finish behindLast
     last-finish e l =
-        let q = last-room in
+        let q = last-fits h in
         let n : length xs ≡ lastPart h = length-take-le (lastPart h) ys l in
         let k : n₁ ≤ length s = omega (arith, q) in
         let m : n₁ + length xs ≤ needed h = omega (arith, q) in
         let x = lastEnded h (partText r xs) in
         let u = unpadded (lastLengths h) (partText r xs) in
         ap₂ (λ (b z : List ℕ). unlessRefused (judgePart r b) z (behindLast (openedMore r) h (partText r b) (splice s n₁ xs)))
-        (part-there s xs n₁ k (lastPartLength h) (n ∙ sym (last-size e))) (zeroed-over h s xs n₁ k m)
+        (part-there s xs n₁ k (lastPartLength h) (n ∙ sym (last-size h e))) (zeroed-over h s xs n₁ k m)
         ∙ ap (unlessRefused (judgePart r xs) (zeroed h s))
         (end-over x (openedMore r) h (take n₁ (splice s n₁ xs) ++ u) s xs n₁ k m ∙ ap (λ (p : List ℕ). endFrame x (openedMore r) h (p ++ u) s) (front-there s xs n₁ k ∙ stands))
 
@@ -205,7 +166,7 @@ module _ (f : ℕ) (below : Below f) where
         let len : length (drop (lastPart h) ys) ≤ f = omega (arith, length-drop (lastPart h) ys) in
         let T = partText r xs in
         let p = first ++ unpadded (lastLengths h) T in
-        full parts (at stage.Last (knowing r h)) s P (lastPart h) ys some (zero-add (lastPart h) ∙ sym (last-size e)) l
+        full parts (at stage.Last (knowing r h)) s P (lastPart h) ys some (zero-add (lastPart h) ∙ sym (last-size h e)) l
         ∙ ap (λ (t : List ℕ). runs (finish stage.Last blank (knowing r h) t) (P + lastPart h) (drop (lastPart h) ys)) (last-placed xs (omega (arith, n)))
         ∙ ap (λ (y : Stepped). runs y (P + lastPart h) (drop (lastPart h) ys)) (last-finish e l)
         ∙ run-unless (judgePart r xs) (zeroed h s) (endFrame (lastEnded h T) (openedMore r) h p s) (P + lastPart h) (drop (lastPart h) ys)
@@ -218,7 +179,7 @@ module _ (f : ℕ) (below : Below f) where
 
     last-cut : noLast h ≡ false → length ys < lastPart h → traced (at stage.Last (knowing r h)) s P ys ≡ ended (splice s n₁ ys)
     last-cut e l =
-        let k : 0 + length ys < lastPartLength h = rw (last-size e) (omega arith) in
+        let k : 0 + length ys < lastPartLength h = rw (last-size h e) (omega arith) in
         short parts (at stage.Last (knowing r h)) s P ys k ∙ ap ended (last-placed ys (omega arith))
 
     last-by : (b c : Bool) → noLast h ≡ b → ltb (length ys) (lastPart h) ≡ c
@@ -255,35 +216,16 @@ module _ (f : ℕ) (below : Below f) where
         (lastTrace (keyExpansion (r .key)) h (nextNonce (r .nonce)) (suc (openedOf r)) (P + restPart h) (drop (restPart h) ys) (first ++ take m₁ text)
         (replaceFront (first ++ take m₁ text ++ replicate (padding m₁ + 16) 0) s) (frames f (keyExpansion (r .key))))
 
-    first-fits : h .s1 .len ≤ needed h
-    unfolding needed
-    first-fits = omega arith
-
-    rest-long : noRest h ≡ false → inlineLength < h .s1 .len
-    rest-long e = leb-false (h .s1 .len) inlineLength e
-
-    rest-room : noRest h ≡ false → inlineLength + restPart h ≤ needed h
-    unfolding needed
-    rest-room e =
-        let r₂ = roundUp (h .s2 .len) in
-        let r₃ = roundUp (h .s3 .len) in
-        let r₄ = roundUp (h .s4 .len) in
-        let q : (roundUp (h .s1 .len) + (r₂ + r₃ + r₄)) + 32 ≡ needed h = sums (roundUp (h .s1 .len)) r₂ r₃ r₄ in
-        rw q at (second-room (h .s1 .len) (padding m₁) (padding (h .s1 .len)) (r₂ + r₃ + r₄) (rest-long e) (padding-lt m₁))
-
-    rest-size : noRest h ≡ false → restPartLength h ≡ restPart h
-    rest-size e = ap (λ (b : Bool). cond b 0 (restPart h)) e
-
     module _ (e : noRest h ≡ false) (size₁ : length first ≡ inlineLength) where
       inline-fits : length inline ≡ length s
-      inline-fits = length-replaceFront first s (let q = rest-room e in omega (arith, q))
+      inline-fits = length-replaceFront first s (let q = rest-fits h e in omega (arith, q))
 
       rest-placed : (zs : List ℕ) → length zs ≤ restPart h → stored (at stage.Rest (knowing r h)) inline zs ≡ splice inline inlineLength zs
-      rest-placed zs l = ap (λ (k : ℕ). sets inline k zs) (add-zero inlineLength) ∙ sets-eq zs inline inlineLength (let q = rest-room e in let i = inline-fits in omega (arith, q, i))
+      rest-placed zs l = ap (λ (k : ℕ). sets inline k zs) (add-zero inlineLength) ∙ sets-eq zs inline inlineLength (let q = rest-fits h e in let i = inline-fits in omega (arith, q, i))
 
       rest-cut : length ys < restPart h → traced (at stage.Rest (knowing r h)) inline P ys ≡ ended (splice inline inlineLength ys)
       rest-cut l =
-          let k : 0 + length ys < restPartLength h = rw (rest-size e) (omega arith) in
+          let k : 0 + length ys < restPartLength h = rw (rest-size h e) (omega arith) in
           short parts (at stage.Rest (knowing r h)) inline P ys k ∙ ap ended (rest-placed ys (omega arith))
 
       module _ (l : restPart h ≤ length ys) where
@@ -291,11 +233,11 @@ module _ (f : ℕ) (below : Below f) where
         rest-n = length-take-le (restPart h) ys l
 
         inline-room : inlineLength ≤ length inline
-        inline-room = let q = rest-room e in let i = inline-fits in omega (arith, q, i)
+        inline-room = let q = rest-fits h e in let i = inline-fits in omega (arith, q, i)
 
         rest-zeroed : zeroed h (splice inline inlineLength rs) ≡ zeroed h s
         rest-zeroed =
-            let q = rest-room e in
+            let q = rest-fits h e in
             let z = length-replicate {A = ℕ} (needed h) 0 in
             zeroed-over h inline rs inlineLength inline-room (let n = rest-n in omega (arith, q, n)) ∙ over-longer first (replicate (needed h) 0) s (omega (arith, z, q, size₁))
 
@@ -304,7 +246,7 @@ module _ (f : ℕ) (below : Below f) where
         unfolding finish
         rest-finish =
             ap₂ (λ (b z : List ℕ). unlessRefused (judgePart r b) z (behindRest (openedMore r) h (partText r b) (splice inline inlineLength rs)))
-            (part-there inline rs inlineLength inline-room (restPartLength h) (rest-n ∙ sym (rest-size e))) rest-zeroed
+            (part-there inline rs inlineLength inline-room (restPartLength h) (rest-n ∙ sym (rest-size h e))) rest-zeroed
 
         -- an opened one, and what is behind it
         module _ (j : judgePart r rs ≡ fine) where
@@ -318,10 +260,10 @@ module _ (f : ℕ) (below : Below f) where
           zeros₁ = replicate (padding m₁ + 16) 0
 
           rest-length : length (take m₁ text₁) ≡ m₁
-          rest-length = length-take-le m₁ text₁ (let k = text-length r rs j in let n = rest-n in omega (arith, k, n))
+          rest-length = length-take-le m₁ text₁ (let k = part-text-length r rs j in let n = rest-n in omega (arith, k, n))
 
           whole-length : length whole₁ ≡ h .s1 .len
-          whole-length = length-append first (take m₁ text₁) ∙ (let k = rest-length in let l₁ = rest-long e in omega (arith, k, l₁, size₁))
+          whole-length = length-append first (take m₁ text₁) ∙ (let k = rest-length in let l₁ = rest-beyond h e in omega (arith, k, l₁, size₁))
 
           rest-store : splice (splice inline inlineLength rs) inlineLength (take m₁ text₁ ++ zeros₁) ≡ replaceFront (whole₁ ++ zeros₁) s
           rest-store =
@@ -334,13 +276,13 @@ module _ (f : ℕ) (below : Below f) where
               ∙ replaceFront-next s first (take m₁ text₁ ++ zeros₁)
               ∙ ap (λ (t : List ℕ). replaceFront t s) (sym (append-assoc first (take m₁ text₁) zeros₁))
 
-          rest-fits : length (replaceFront (whole₁ ++ zeros₁) s) ≡ length s
-          rest-fits =
+          rest-kept : length (replaceFront (whole₁ ++ zeros₁) s) ≡ length s
+          rest-kept =
               let a = length-append whole₁ zeros₁ in
               let z = length-replicate {A = ℕ} (padding m₁ + 16) 0 in
               let k = whole-length in
-              let q = rest-room e in
-              let l₁ = rest-long e in
+              let q = rest-fits h e in
+              let l₁ = rest-beyond h e in
               length-replaceFront (whole₁ ++ zeros₁) s (omega (arith, a, z, k, q, l₁))
 
           rest-stands : take (h .s1 .len) (replaceFront (whole₁ ++ zeros₁) s) ≡ whole₁
@@ -360,7 +302,7 @@ module _ (f : ℕ) (below : Below f) where
               ap₂ (λ (z t : List ℕ). runs (unlessRefused pad z (beginLast (openedMore r) h t)) P′ zs) rest-zeroed rest-store
               ∙ run-unless pad (zeroed h s) (beginLast (openedMore r) h s″) P′ zs
               ∙ ap (stream.unlessRefused pad P′ (zeroed h s))
-              (last-run (openedMore r) h P′ zs whole₁ s″ (rw rest-fits fits) rest-stands k
+              (last-run (openedMore r) h P′ zs whole₁ s″ (rw rest-kept fits) rest-stands k
               ∙ ap (λ (n : ℕ). lastTrace (keyExpansion (r .key)) h (nextNonce (r .nonce)) n P′ zs whole₁ s″ (frames f (keyExpansion (r .key)))) (opened-next r rs j))
 
         rest-whole : traced (at stage.Rest (knowing r h)) inline P ys
@@ -369,7 +311,7 @@ module _ (f : ℕ) (below : Below f) where
             let some : 0 < restPart h = omega arith in
             let len : length (drop (restPart h) ys) ≤ f = omega (arith, length-drop (restPart h) ys) in
             let s′ = splice inline inlineLength rs in
-            full parts (at stage.Rest (knowing r h)) inline P (restPart h) ys some (zero-add (restPart h) ∙ sym (rest-size e)) l
+            full parts (at stage.Rest (knowing r h)) inline P (restPart h) ys some (zero-add (restPart h) ∙ sym (rest-size h e)) l
             ∙ ap (λ (t : List ℕ). runs (finish stage.Rest blank (knowing r h) t) (P + restPart h) (drop (restPart h) ys)) (rest-placed rs (let n = rest-n in omega (arith, n)))
             ∙ ap (λ (y : Stepped). runs y (P + restPart h) (drop (restPart h) ys)) rest-finish
             ∙ run-unless (judgePart r rs) (zeroed h s) (behindRest (openedMore r) h (partText r rs) s′) (P + restPart h) (drop (restPart h) ys)
@@ -385,7 +327,7 @@ module _ (f : ℕ) (below : Below f) where
         ≡ cond b (lastTrace (keyExpansion (r .key)) h (r .nonce) (openedOf r) P ys first inline (frames f (keyExpansion (r .key))))
         (cond c (ended (splice inline inlineLength ys)) (partTrace (keyExpansion (r .key)) (r .nonce) (openedOf r) rs (P + restPart h) (zeroed h s) behind₁))
     rest-by true c e q k =
-        let l : length first ≤ length s = (let z = first-fits in omega (arith, z)) in
+        let l : length first ≤ length s = (let z = segments-fit h in omega (arith, z)) in
         last-run r h P ys first inline (rw (length-replaceFront first s l) fits) (take-over first s (h .s1 .len) k) left
     rest-by false true e q k = rest-cut e k (ltb-true (length ys) (restPart h) q)
     rest-by false false e q k = rest-whole e k (ltb-false (length ys) (restPart h) q)
@@ -409,8 +351,8 @@ module _ (f : ℕ) (below : Below f) where
       let first = take (h .s1 .len) (drop 32 text) in
       run-unless (judgeFirst text (length s)) s (beginRest (openedMore r) h (replaceFront first s)) P ys
       ∙ part-next (judgeFirst text (length s)) P s _ _
-      (λ q. rest-run (openedMore r) h P ys first s (first-accepted text (length s) q) left
-      (inline-size text h (noRest h) refl (text-length r bytes j ∙ rw n))
+      (λ q. rest-run (openedMore r) h P ys first s (first-fits text (length s) q) left
+      (inline-size text h (noRest h) refl (part-text-length r bytes j ∙ rw n))
       ∙ ap (λ (m : ℕ). restTrace (keyExpansion (r .key)) h (nextNonce (r .nonce)) m P ys first s (frames f (keyExpansion (r .key)))) (opened-next r bytes j))
 
   module _ (r : Receiving) (P : ℕ) (ys s : List ℕ) (left : length ys ≤ suc f) where

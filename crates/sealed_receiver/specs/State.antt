@@ -10,7 +10,7 @@ use Rattle.preamble.specs.declared.Header.{Header}
 use Rattle.preamble.specs.Judge.{judgeHeader}
 use Rattle.receiver.specs.State.{isNoHeader, isNoRefusal}
 use Rattle.secure.specs.Layout.{allNonces, nextNonce, inlineLength, firstLength, restPartLength, lastPartLength}
-use Rattle.secure.specs.Reading.{allZero}
+use Rattle.buffer.specs.Zeros.{allZero}
 use Rattle.secure.specs.Layout as layout
 use Rattle.sealed_receiver.specs.declared.Stage.{Stage}
 use Rattle.sealed_receiver.specs.declared.Stage.the-variants as stage

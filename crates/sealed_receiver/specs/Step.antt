@@ -236,10 +236,6 @@ pub record Ready (k : Stage) (v : Known) (s : List ℕ) : Type 0 where
   pub header : inFrame k ≡ true → isFine (judgeHeader (v .header)) ≡ true
   pub some : 0 < sizeOf k (v .header)
 
-abbrev pub isMore : Report → Bool
-isMore report.More = true
-isMore (report.Event e) = false
-
 -- as many bytes as the part still has, or as the piece has
 abbrev pub fitting : State → List ℕ → ℕ
 fitting st piece = min (size st - st .position .got) (length piece)

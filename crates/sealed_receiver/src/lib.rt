@@ -20,6 +20,7 @@ ghost use mathlib.Core.Path.{_≡_};
 ghost use mathlib.Core.List.{List};
 ghost use Prim.Native.Nat.{ℕ};
 ghost use Rattle.sealed_receiver.specs.Step.{switched, refuseUnchanged, Answered};
+ghost use Rattle.sealed_receiver.specs.Worked.{WorkedStates};
 
 // Which part the next bytes of the stream are of.
 pub enum Stage {
@@ -111,3 +112,8 @@ pub fn receive(state: State, piece: &[u8], store: &mut [u8]) -> Received
     }
     take_piece(state, piece, store)
 }
+
+// Which states agree with themselves, by worked examples of each rule.
+pub fn worked_states()
+    ensures { λ _. ⌜ WorkedStates ⌝ }
+{}

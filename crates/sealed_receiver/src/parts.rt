@@ -53,7 +53,8 @@ ghost use Rattle.preamble.specs.Judge.{judgeHeader};
 ghost use Rattle.preamble.specs.Layout.{total};
 ghost use Rattle.body.specs.End.{whole, dropped, endedAs};
 ghost use Rattle.secure.specs.Layout.{inlineLength, roundUp, noRest, noLast, restPart, lastPart, needed};
-ghost use Rattle.secure.specs.Reading.{judgeFirst, byLateStatus, lastEnded, allZero, zeroed};
+ghost use Rattle.buffer.specs.Zeros.{allZero};
+ghost use Rattle.secure.specs.Reading.{judgeFirst, byLateStatus, lastEnded, zeroed};
 ghost use Rattle.sealed_receiver.specs.declared.Stage.the-variants as stage;
 ghost use Rattle.sealed_receiver.specs.Step.{stepped, silent, refuse, endFrame, beginLast, beginRest, behindFirst, behindRest, behindLast, finish, judgedAs, OpenedPart, ClosedUp, Ready};
 

@@ -15,7 +15,8 @@ ghost use mathlib.Core.Path.{_≡_};
 ghost use mathlib.Core.Bool.{true};
 ghost use Prim.Native.Nat.{_+_, _≤_, _<_};
 ghost use lib.ListN.{length};
-ghost use Rattle.sealed_receiver.specs.Step.{blockWith, storeWith, isMore, Chunked, Fed, Running};
+ghost use Rattle.receiver.specs.Step.{isMore};
+ghost use Rattle.sealed_receiver.specs.Step.{blockWith, storeWith, Chunked, Fed, Running};
 
 // The block with a first part's next bytes, of which it had so many.
 fn fill_block(first: bool, block: [u8; 96], at: usize, bytes: &[u8]) -> [u8; 96]

@@ -9,20 +9,22 @@ use native.Mathlib.Omega.{arith}
 use borrow.Author.Tests.{lt-ltb, le-ltb, le-leb, lt-leb, leb-true, leb-false, eqb-true}
 use lib.Dec.{leb, ltb, eqb}
 use lib.ListN.{length, take, drop, getD, replicate, length-take, length-drop, length-append, length-replicate, take-append-drop, drop-of-length-le}
-use lib.Seq.{length-take-le, take-all, take-at, drop-at, drop-append-add, drop-drop}
+use lib.Seq.{length-take-le, take-all, take-at, drop-at, drop-drop}
 use Rattle.buffer.specs.Splice.{replaceFront, splice}
+use Rattle.buffer.proofs.Parts.{over-longer}
 use Rattle.refusal.specs.declared.Refusal.the-variants as refusal
 use Rattle.refusal.specs.Refusals.{Judged, fine, unless}
-use Rattle.refusal.proofs.Judgements.{all-fine, fine-all, passed}
+use Rattle.refusal.proofs.Judgements.{all-fine, fine-all}
+use Rattle.refusal.proofs.Booleans.{both-left, both-right, wrong}
 use Rattle.preamble.specs.declared.Header.{Header}
 use Rattle.preamble.specs.declared.Preamble.{Preamble}
 use Rattle.preamble.specs.declared.Segment.{Segment}
 use Rattle.preamble.specs.Layout.{preambleBytes}
-use Rattle.preamble.specs.Judge as judge
 use Rattle.preamble.specs.Judge.{firstFault, faultWhen, lengthWrong, alignWrong, segmentFault, countFault, shapeFault, headerOf, judgeHeader, judgeChecksum, judgeShape, judgeFlags, judgeTag, judgeLimits, judgeStore}
 use Rattle.preamble.specs.Reading.{HeaderFits, ReadsBack}
 use Rattle.preamble.proofs.Laws.{length-preamble}
 use Rattle.preamble.proofs.Back.{reads-back}
+use Rattle.preamble.proofs.Headers.{first-zero, no-fault, shape-fine}
 use Rattle.body.specs.Body.{restLength, lateByte, restSent}
 use Rattle.body.proofs.Laws.{length-sent}
 use Rattle.body.specs.End.{Ended, whole, dropped, turnedAway, lateOf}
@@ -35,7 +37,8 @@ use Rattle.gcm.proofs.Placing.{sealed-length}
 use Rattle.gcm.proofs.There.{lists}
 use Rattle.secure.specs.Layout.{allNonces, nextNonce, nonceAfter, padding, roundUp, padded, inlined, paddedFrom, firstText, restText, lastText, lastLengths, noRest, noLast, unlessNone, laterTexts, texts, partsFrom, sealedParts, sealedFrame, restPart, lastPart, sealedLength, partCount, needed}
 use Rattle.secure.proofs.Lengths.{length-segment, length-inlined, length-first-text, length-rest-text, length-last-text}
-use Rattle.secure.specs.Reading.{Next, allZero, judgePadding, judgeFirst, unpadded, paddingOf, lateIn, byLateStatus, lastEnded, zeroed, holding, byOpening, partTrace, atEnd, lastTrace, restTrace, frames}
+use Rattle.buffer.specs.Zeros.{allZero}
+use Rattle.secure.specs.Reading.{Next, judgePadding, judgeFirst, unpadded, paddingOf, lateIn, byLateStatus, lastEnded, zeroed, holding, byOpening, partTrace, atEnd, lastTrace, restTrace, frames}
 use Rattle.secure.specs.Trip.{Sent, ComesBack, SealedTrip}
 
 -- ---- zeros and padding
@@ -44,7 +47,7 @@ pub zeros-are : (n : ℕ) → allZero (replicate n 0) ≡ true
 zeros-are zero = refl
 zeros-are (suc n) = zeros-are n
 
-no-padding : (bytes : List ℕ) → allZero bytes ≡ true → judgePadding bytes ≡ fine
+pub no-padding : (bytes : List ℕ) → allZero bytes ≡ true → judgePadding bytes ≡ fine
 no-padding bytes e = ap (λ (b : Bool). unless b refusal.Padding) e
 
 -- ---- a part that is read
@@ -228,15 +231,7 @@ module _ (n : ℕ) (bytes : List ℕ) (h : n ≤ length bytes) (later : List ℕ
 
 both-zero : (xs ys : List ℕ) → allZero xs ≡ true → allZero ys ≡ true → allZero (xs ++ ys) ≡ true
 both-zero [] ys e f = f
-both-zero (x ∷ xs) ys e f = ap₂ _&&_ (left (eqb x 0) (allZero xs) e) (both-zero xs ys (right (eqb x 0) (allZero xs) e) f)
-  where
-    left : (a b : Bool) → (a && b) ≡ true → a ≡ true
-    left true b e = refl
-    left false b e = e
-
-    right : (a b : Bool) → (a && b) ≡ true → b ≡ true
-    right true b e = e
-    right false b e = cc
+both-zero (x ∷ xs) ys e f = ap₂ _&&_ (both-left (eqb x 0) (allZero xs) e) (both-zero xs ys (both-right (eqb x 0) (allZero xs) e) f)
 
 enough : (n m k : ℕ) → k ≡ n + m → n ≤ k
 enough n m k e = omega arith
@@ -307,22 +302,15 @@ module _ (h : Header) (late : ℕ) (bytes : List ℕ) (e : length bytes ≡ rest
 
 -- ---- the store: what a part left in it is covered in the end
 
-over-front : (xs ys l : List ℕ) → length xs ≤ length ys → replaceFront ys (replaceFront xs l) ≡ replaceFront ys l
-over-front xs ys l h =
-    let k : length xs + (length ys - length xs) ≡ length ys = omega arith in
-    ap (λ (n : ℕ). ys ++ drop n (xs ++ drop (length xs) l)) (sym k)
-    ∙ ap (λ (t : List ℕ). ys ++ t) (drop-append-add xs (drop (length xs) l) (length ys - length xs) ∙ drop-drop (length ys - length xs) (length xs) l)
-    ∙ ap (λ (n : ℕ). ys ++ drop n l) k
-
 module _ (h : Header) (payload xs store : List ℕ) (p : length payload ≤ needed h) (x : length xs ≤ needed h) where
   zeroed-same : zeroed h (replaceFront xs store) ≡ zeroed h store
-  zeroed-same = over-front xs (replicate (needed h) 0) store (omega (arith, length-replicate {A = ℕ} (needed h) 0))
+  zeroed-same = over-longer xs (replicate (needed h) 0) store (omega (arith, length-replicate {A = ℕ} (needed h) 0))
 
   holding-same : holding h payload (replaceFront xs store) ≡ holding h payload store
   holding-same =
       let zs : List ℕ = replicate (needed h - length payload) 0 in
       let l : length (payload ++ zs) ≡ needed h = length-append payload zs ∙ omega (arith, length-replicate {A = ℕ} (needed h - length payload) 0) in
-      over-front xs (payload ++ zs) store (omega arith)
+      over-longer xs (payload ++ zs) store (omega arith)
 
   pub at-end-same : (o : Ended) (at : ℕ) (next : List ℕ → Trace) → atEnd o h at payload (replaceFront xs store) next ≡ atEnd o h at payload store next
   at-end-same whole at next = ap (λ (s : List ℕ). after (Frame h) at s (next s)) holding-same
@@ -399,34 +387,22 @@ module _ (w : List State) (h : Header) (late : ℕ) (first bytes tail store : Li
 
 -- ---- a header with one segment has no others
 
-pub first-zero : (a b : ℕ) → judge.first a b ≡ 0 → (a ≡ 0) × (b ≡ 0)
-first-zero zero b e = (refl, e)
-first-zero (suc a) b e = absurd (omega arith)
-
-pub no-fault : (b : Bool) (p : ℕ) → cond b (suc p) 0 ≡ 0 → b ≡ false
-no-fault true p e = absurd (omega arith)
-no-fault false p e = refl
-
 unused : (count k p : ℕ) (s : Segment) → count < k → segmentFault count k (suc p) s ≡ 0 → s .len ≡ 0
 unused count k p s h e =
-    let wrong : lengthWrong count k (s .len) ≡ false =
+    let right : lengthWrong count k (s .len) ≡ false =
     no-fault (lengthWrong count k (s .len)) p
     (first-zero (faultWhen (lengthWrong count k (s .len)) (suc p)) (faultWhen (alignWrong count k (s .align)) (suc p + 4)) e .0) in
     empty (eqb (s .len) 0) refl
-    (sym (ap (λ (b : Bool). cond b (not (eqb (s .len) 0)) (eqb k count && ltb 1 count && eqb (s .len) 0)) (lt-ltb count k h)) ∙ wrong)
+    (sym (ap (λ (b : Bool). cond b (not (eqb (s .len) 0)) (eqb k count && ltb 1 count && eqb (s .len) 0)) (lt-ltb count k h)) ∙ right)
   where
     empty : (b : Bool) → eqb (s .len) 0 ≡ b → not (eqb (s .len) 0) ≡ false → s .len ≡ 0
     empty true t n = eqb-true (s .len) 0 t
-    empty false t n = let z : true ≡ false = sym (ap not t) ∙ n in absurd (never z)
-      where
-        never : true ≡ false → ⊥
-        never e = let z : _≡_ {A = ℕ} 0 1 = cc in omega arith
+    empty false t n = wrong (sym n ∙ ap not t)
 
 pub one-segment : (h : Header) → judgeHeader h ≡ fine → noLast h ≡ true → restLength h ≡ 0
-unfolding judgeHeader shapeFault
+unfolding shapeFault
 one-segment h j e =
-    let a = all-fine (judgeShape h ∷ judgeTag (h .tag) ∷ judgeLimits h ∷ []) j in
-    let z : shapeFault h ≡ 0 = eqb-true (shapeFault h) 0 (passed (eqb (shapeFault h) 0) (refusal.Shape (shapeFault h)) (a .0)) in
+    let z : shapeFault h ≡ 0 = shape-fine h j in
     let c : h .count ≤ 1 = leb-true (h .count) 1 e in
     let n : ℕ = h .count in
     let g₁ : ℕ = segmentFault n 1 2 (h .s1) in
@@ -442,22 +418,6 @@ one-segment h j e =
     let u₃ = unused n 3 13 (h .s3) (omega arith) (f₄ .0) in
     let u₄ = unused n 4 19 (h .s4) (omega arith) (f₅ .0) in
     omega arith
-
-pub some-segment : (h : Header) → judgeHeader h ≡ fine → 1 ≤ h .count
-unfolding judgeHeader shapeFault
-some-segment h j =
-    let a = all-fine (judgeShape h ∷ judgeTag (h .tag) ∷ judgeLimits h ∷ []) j in
-    let z : shapeFault h ≡ 0 = eqb-true (shapeFault h) 0 (passed (eqb (shapeFault h) 0) (refusal.Shape (shapeFault h)) (a .0)) in
-    let n : ℕ = h .count in
-    let c = first-zero (countFault n) (firstFault (segmentFault n 1 2 (h .s1) ∷ segmentFault n 2 8 (h .s2) ∷ segmentFault n 3 14 (h .s3) ∷ segmentFault n 4 20 (h .s4) ∷ [])) z .0 in
-    known (leb 1 n) (leb n 4) refl (no-fault (not (leb 1 n && leb n 4)) 0 c)
-  where
-    known : (x y : Bool) → leb 1 (h .count) ≡ x → not (x && y) ≡ false → 1 ≤ h .count
-    known true y e t = leb-true 1 (h .count) e
-    known false y e t = absurd (never t)
-      where
-        never : true ≡ false → ⊥
-        never e = let z : _≡_ {A = ℕ} 0 1 = cc in omega arith
 
 -- ---- whole frames
 

@@ -6,7 +6,7 @@ use mathlib.Core.Bool.{false}
 use native.Mathlib.Omega.{arith}
 use lib.ListN.{length, drop, getD}
 use borrow.Author.Tests.{eq-eqb, ne-eqb}
-use Rattle.secure.specs.Reading.{allZero}
+use Rattle.buffer.specs.Zeros.{allZero}
 
 -- one byte further on, past a zero
 pub zero-step : (l : List ℕ) (i : ℕ) → i < length l → getD l i 0 ≡ 0 → allZero (drop (suc i) l) ≡ allZero (drop i l)

@@ -1,11 +1,12 @@
 -- Sealed frames read from a stream (02, K4): which entries its bytes give, at which byte, and the store then.
 -- It is written from the layouts alone: no receiver, no state and no call is in sight.
 use mathlib.Core.List.{List, [], _∷_, _++_}
-use mathlib.Core.Bool.{Bool, true, cond, _&&_}
+use mathlib.Core.Bool.{cond}
 use Prim.Native.Nat.{ℕ, zero, suc, _+_, _-_}
 use lib.ListN.{length, take, drop, getD, replicate}
-use lib.Dec.{ltb, eqb}
+use lib.Dec.{ltb}
 use Rattle.buffer.specs.Splice.{replaceFront, splice}
+use Rattle.buffer.specs.Zeros.{allZero}
 use Rattle.refusal.specs.declared.Refusal.the-variants as refusal
 use Rattle.refusal.specs.Refusals.{Judged, fine, refused, numbersOf, firstOf, unless}
 use Rattle.banner.specs.declared.Revision.the-variants.{Msgr21}
@@ -25,10 +26,6 @@ use Rattle.secure.specs.Layout.{allNonces, nextNonce, padding, roundUp, 
 -- a nonce that was not used before: n parts were sealed with those before it
 abbrev pub judgeNonce : ℕ → Judged
 judgeNonce n = unless (ltb n allNonces) refusal.NoncesSpent
-
-abbrev pub allZero : List ℕ → Bool
-allZero [] = true
-allZero (b ∷ bs) = eqb b 0 && allZero bs
 
 abbrev pub judgePadding : List ℕ → Judged
 judgePadding bytes = unless (allZero bytes) refusal.Padding

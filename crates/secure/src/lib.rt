@@ -6,13 +6,14 @@ use preamble::Header;
 ghost use mathlib.Core.Path.{_≡_};
 ghost use mathlib.Core.Bool.{cond};
 ghost use Prim.Native.Nat.{_+_, _-_, _<_, _≤_};
-ghost use Rattle.secure.specs.Reading.{allZero};
+ghost use Rattle.buffer.specs.Zeros.{allZero};
 ghost use Rattle.secure.specs.Trip.{SealedTrip};
 ghost use Rattle.secure.specs.Layout.{nonceOf, nextNonce, padding, roundUp, noRest, noLast, restPartLength, lastPartLength, sealedLength, partCount, needed};
 
 // ---- nonces
 
-fn nonce_of(start: [u8; 12], n: u64) -> [u8; 12]
+// A nonce with another counter.
+pub fn nonce_of(start: [u8; 12], n: u64) -> [u8; 12]
     ensures { λ r. ⌜ r ≡ nonceOf start n ⌝ }
 {
     [

@@ -9,15 +9,15 @@ use Rattle.crc32c.specs.Crc.{crcOf, steps, step}
 use Rattle.preamble.specs.Judge.{shapeFault, limitFault, headerOf}
 use Rattle.stream.specs.declared.Event.the-variants.{Frame}
 use Rattle.stream.specs.Stream.{after}
-use Rattle.stream.specs.Rows.{Holds}
+use Rattle.stream.specs.Rows.{Holds, segment, header}
 use Rattle.aes.specs.Aes.{keyExpansion}
 use Rattle.gcm.specs.Gcm.{plain, fail}
 use Rattle.secure.specs.Layout.{nextNonce, needed}
 use Rattle.secure.specs.Reading.{judgeFirst, lastEnded, frames, sealedTrace}
 use Rattle.secure.proofs.Opening.{read-first, read-rest, read-last}
-use Rattle.secure_examples.specs.Parts.{key, nonce0, nonce1, nonce2, two0Text, none0Text, sumAndShape0Text, shapeAndFlags0Text, flagsAndTag0Text, tagAndLimit0Text, limitAndStore0Text, padded0Text, two1Text, padded1Text, none1Text, two2Text, aborted2Text, high2Text, highAborted2Text, lateAndPadding2Text, paddingAndDrop2Text, padded2Text, two0, none0, sumAndShape0, shapeAndFlags0, flagsAndTag0, tagAndLimit0, limitAndStore0, padded0, two1, padded1, none1, two2, aborted2, high2, highAborted2, lateAndPadding2, paddingAndDrop2, padded2}
-use Rattle.secure_examples.specs.Examples.{zeros, seg1, seg2, two, none, store, front, frameAt, dropAt, refusalAt, frameRows, firstRows, laterRows, cutRows}
-use Rattle.secure_examples.proofs.Seals.{opened-two0, opened-two1, opened-two2, opened-none0, opened-none1, opened-aborted2, opened-high2, opened-highAborted2, wrong-sumAndShape0, wrong-two0, opened-sumAndShape0, opened-shapeAndFlags0, opened-flagsAndTag0, opened-tagAndLimit0, opened-limitAndStore0, opened-padded0, wrong-padded1, opened-padded1, wrong-lateAndPadding2, opened-lateAndPadding2, opened-paddingAndDrop2, opened-padded2}
+use Rattle.secure_examples.specs.Parts.{key, nonce0, nonce1, nonce2, two0Text, none0Text, sumAndShape0Text, shapeAndFlags0Text, flagsAndTag0Text, tagAndLimit0Text, limitAndStore0Text, padded0Text, full0Text, blocks0Text, two1Text, padded1Text, blocks1Text, full1Text, late1Text, none1Text, two2Text, aborted2Text, high2Text, highAborted2Text, lateAndPadding2Text, paddingAndDrop2Text, padded2Text, two0, none0, sumAndShape0, shapeAndFlags0, flagsAndTag0, tagAndLimit0, limitAndStore0, padded0, full0, blocks0, two1, padded1, blocks1, full1, late1, none1, two2, aborted2, high2, highAborted2, lateAndPadding2, paddingAndDrop2, padded2}
+use Rattle.secure_examples.specs.Examples.{zeros, seg1, seg2, seg64, two, none, full, fullSegments, store, front, frameAt, dropAt, refusalAt, frameRows, firstRows, laterRows, cutRows}
+use Rattle.secure_examples.proofs.Seals.{opened-two0, opened-two1, opened-two2, opened-none0, opened-none1, opened-aborted2, opened-high2, opened-highAborted2, wrong-sumAndShape0, wrong-two0, opened-sumAndShape0, opened-shapeAndFlags0, opened-flagsAndTag0, opened-tagAndLimit0, opened-limitAndStore0, opened-padded0, wrong-padded1, opened-padded1, wrong-lateAndPadding2, opened-lateAndPadding2, opened-paddingAndDrop2, opened-padded2, opened-full0, opened-full1, opened-late1, opened-blocks0, opened-blocks1}
 
 -- a table, row by row
 pub held : {A : Type 0} {a b : A} {xs ys : List A} → a ≡ b → xs ≡ ys → a ∷ xs ≡ b ∷ ys
@@ -75,9 +75,15 @@ frame-7 =
     ∙ read-rest (keyExpansion key) nonce1 1 154 (two1 ++ two2) (plain two1Text) two (take 48 seg1) (take 112 store) (frames 175 (keyExpansion key)) opened-two1
     ∙ read-last (keyExpansion key) nonce2 2 186 (two2) (plain two2Text) two seg1 (overStore (take 112 store)) (frames 175 (keyExpansion key)) opened-two2
 
+frame-8 : sealedTrace key nonce0 0 58 (full0 ++ full1) store ≡ record { entries = frameAt 250 full (front (fullSegments ++ zeros 89)) ∷ []; store = front (fullSegments ++ zeros 89) }
+unfolding numberAt crcOf steps step shapeFault limitFault headerOf nextNonce needed judgeFirst lastEnded frames sealedTrace
+frame-8 =
+    read-first (keyExpansion key) nonce0 0 58 (full0 ++ full1) (plain full0Text) 191 store opened-full0
+    ∙ read-last (keyExpansion key) nonce1 1 154 (full1) (plain full1Text) full (take 2 fullSegments) (replaceFront (take 2 fullSegments) store) (frames 191 (keyExpansion key)) opened-full1
+
 pub frameRows-hold : Holds frameRows
 unfolding frameRows
-frameRows-hold = held frame-1 (held frame-2 (held frame-3 (held frame-4 (held frame-5 (held frame-6 (held frame-7 refl))))))
+frameRows-hold = held frame-1 (held frame-2 (held frame-3 (held frame-4 (held frame-5 (held frame-6 (held frame-7 (held frame-8 refl)))))))
 
 first-1 : sealedTrace key nonce0 18446744073709551616 58 ((set two0 95 0xf8)) store ≡ record { entries = refusalAt 154 18 0 (store) ∷ []; store = store }
 unfolding numberAt crcOf steps step shapeFault limitFault headerOf nextNonce needed judgeFirst lastEnded frames sealedTrace
@@ -188,9 +194,15 @@ later-8 =
     ∙ read-rest (keyExpansion key) nonce1 1 154 (two1 ++ padded2) (plain two1Text) two (take 48 seg1) store (frames 175 (keyExpansion key)) opened-two1
     ∙ read-last (keyExpansion key) nonce2 2 186 (padded2) (plain padded2Text) two seg1 (overStore store) (frames 175 (keyExpansion key)) opened-padded2
 
+later-9 : sealedTrace key nonce0 0 58 (full0 ++ late1) store ≡ record { entries = refusalAt 250 12 31 (front (zeros 112)) ∷ []; store = front (zeros 112) }
+unfolding numberAt crcOf steps step shapeFault limitFault headerOf nextNonce needed judgeFirst lastEnded frames sealedTrace
+later-9 =
+    read-first (keyExpansion key) nonce0 0 58 (full0 ++ late1) (plain full0Text) 191 store opened-full0
+    ∙ read-last (keyExpansion key) nonce1 1 154 (late1) (plain late1Text) full (take 2 fullSegments) (replaceFront (take 2 fullSegments) store) (frames 191 (keyExpansion key)) opened-late1
+
 pub laterRows-hold : Holds laterRows
 unfolding laterRows
-laterRows-hold = held later-1 (held later-2 (held later-3 (held later-4 (held later-5 (held later-6 (held later-7 (held later-8 refl)))))))
+laterRows-hold = held later-1 (held later-2 (held later-3 (held later-4 (held later-5 (held later-6 (held later-7 (held later-8 (held later-9 refl))))))))
 
 cut-1 : sealedTrace key nonce0 0 58 (take 95 two0) store ≡ record { entries = []; store = store }
 unfolding numberAt crcOf steps step shapeFault limitFault headerOf nextNonce needed judgeFirst lastEnded frames sealedTrace
@@ -229,6 +241,22 @@ unfolding numberAt crcOf steps step shapeFault limitFault headerOf nextNonce nee
 cut-7 =
     read-first (keyExpansion key) nonce0 0 58 (none0 ++ take 95 none1) (plain none0Text) 190 store opened-none0
 
+cut-8 : sealedTrace key nonce0 0 58 (full0) store ≡ record { entries = []; store = front (take 2 fullSegments) }
+unfolding numberAt crcOf steps step shapeFault limitFault headerOf nextNonce needed judgeFirst lastEnded frames sealedTrace
+cut-8 =
+    read-first (keyExpansion key) nonce0 0 58 (full0) (plain full0Text) 95 store opened-full0
+
+cut-9 : sealedTrace key nonce0 0 58 (full0 ++ take 5 full1) store ≡ record { entries = []; store = front (take 2 fullSegments ++ take 5 full1) }
+unfolding numberAt crcOf steps step shapeFault limitFault headerOf nextNonce needed judgeFirst lastEnded frames sealedTrace
+cut-9 =
+    read-first (keyExpansion key) nonce0 0 58 (full0 ++ take 5 full1) (plain full0Text) 100 store opened-full0
+
+cut-10 : sealedTrace key nonce0 0 58 (blocks0 ++ blocks1) store ≡ record { entries = []; store = front (seg64 ++ zeros 16) }
+unfolding numberAt crcOf steps step shapeFault limitFault headerOf nextNonce needed judgeFirst lastEnded frames sealedTrace
+cut-10 =
+    read-first (keyExpansion key) nonce0 0 58 (blocks0 ++ blocks1) (plain blocks0Text) 127 store opened-blocks0
+    ∙ read-rest (keyExpansion key) nonce1 1 154 (blocks1) (plain blocks1Text) (header 17 2 (segment 64 8) (segment 1 8) (segment 0 0) (segment 0 0)) (take 48 seg1) store (frames 127 (keyExpansion key)) opened-blocks1
+
 pub cutRows-hold : Holds cutRows
 unfolding cutRows
-cutRows-hold = held cut-1 (held cut-2 (held cut-3 (held cut-4 (held cut-5 (held cut-6 (held cut-7 refl))))))
+cutRows-hold = held cut-1 (held cut-2 (held cut-3 (held cut-4 (held cut-5 (held cut-6 (held cut-7 (held cut-8 (held cut-9 (held cut-10 refl)))))))))

@@ -155,6 +155,34 @@ sealed-padded0 = seal-is nonce0 parts.padded0Text (take 80 parts.padded0) (drop 
 pub opened-padded0 : openedBy (keyExpansion key) nonce0 parts.padded0 ≡ plain parts.padded0Text
 opened-padded0 = open-is nonce0 parts.padded0Text parts.padded0 sealed-padded0
 
+mask-full0 : gctr w nonce0 parts.full0Text ≡ take 80 parts.full0
+unfolding gctrFrom streamByte
+mask-full0 = rw (block0-2, block0-3, block0-4, block0-5, block0-6)
+
+tag-full0 : tagOf w nonce0 (take 80 parts.full0) ≡ drop 80 parts.full0
+unfolding tagged step mulFrom quadAt blockAt ghashFrom ghash columnNumber blockNumber blockBytes
+tag-full0 = tag-is (take 80 parts.full0) nonce0 _ block0-1 ∙ refl
+
+pub sealed-full0 : sealedBy (keyExpansion key) nonce0 parts.full0Text ≡ parts.full0
+sealed-full0 = seal-is nonce0 parts.full0Text (take 80 parts.full0) (drop 80 parts.full0) mask-full0 tag-full0
+
+pub opened-full0 : openedBy (keyExpansion key) nonce0 parts.full0 ≡ plain parts.full0Text
+opened-full0 = open-is nonce0 parts.full0Text parts.full0 sealed-full0
+
+mask-blocks0 : gctr w nonce0 parts.blocks0Text ≡ take 80 parts.blocks0
+unfolding gctrFrom streamByte
+mask-blocks0 = rw (block0-2, block0-3, block0-4, block0-5, block0-6)
+
+tag-blocks0 : tagOf w nonce0 (take 80 parts.blocks0) ≡ drop 80 parts.blocks0
+unfolding tagged step mulFrom quadAt blockAt ghashFrom ghash columnNumber blockNumber blockBytes
+tag-blocks0 = tag-is (take 80 parts.blocks0) nonce0 _ block0-1 ∙ refl
+
+pub sealed-blocks0 : sealedBy (keyExpansion key) nonce0 parts.blocks0Text ≡ parts.blocks0
+sealed-blocks0 = seal-is nonce0 parts.blocks0Text (take 80 parts.blocks0) (drop 80 parts.blocks0) mask-blocks0 tag-blocks0
+
+pub opened-blocks0 : openedBy (keyExpansion key) nonce0 parts.blocks0 ≡ plain parts.blocks0Text
+opened-blocks0 = open-is nonce0 parts.blocks0Text parts.blocks0 sealed-blocks0
+
 mask-two1 : gctr w nonce1 parts.two1Text ≡ take 16 parts.two1
 unfolding gctrFrom streamByte
 mask-two1 = rw (block1-2)
@@ -194,6 +222,48 @@ unfolding sameAs tagFits openedBy
 wrong-padded1 =
     ap (λ (x : List State). openedBy x nonce1 (set parts.padded1 31 0x4a)) keys
     ∙ ap (λ (t : List ℕ). cond (sameAs t (set (drop 16 parts.padded1) 15 0x4a)) (plain (gctr w nonce1 (take 16 parts.padded1))) fail) tag-padded1
+
+mask-blocks1 : gctr w nonce1 parts.blocks1Text ≡ take 16 parts.blocks1
+unfolding gctrFrom streamByte
+mask-blocks1 = rw (block1-2)
+
+tag-blocks1 : tagOf w nonce1 (take 16 parts.blocks1) ≡ drop 16 parts.blocks1
+unfolding tagged step mulFrom quadAt blockAt ghashFrom ghash columnNumber blockNumber blockBytes
+tag-blocks1 = tag-is (take 16 parts.blocks1) nonce1 _ block1-1 ∙ refl
+
+pub sealed-blocks1 : sealedBy (keyExpansion key) nonce1 parts.blocks1Text ≡ parts.blocks1
+sealed-blocks1 = seal-is nonce1 parts.blocks1Text (take 16 parts.blocks1) (drop 16 parts.blocks1) mask-blocks1 tag-blocks1
+
+pub opened-blocks1 : openedBy (keyExpansion key) nonce1 parts.blocks1 ≡ plain parts.blocks1Text
+opened-blocks1 = open-is nonce1 parts.blocks1Text parts.blocks1 sealed-blocks1
+
+mask-full1 : gctr w nonce1 parts.full1Text ≡ take 80 parts.full1
+unfolding gctrFrom streamByte
+mask-full1 = rw (block1-2, block1-3, block1-4, block1-5, block1-6)
+
+tag-full1 : tagOf w nonce1 (take 80 parts.full1) ≡ drop 80 parts.full1
+unfolding tagged step mulFrom quadAt blockAt ghashFrom ghash columnNumber blockNumber blockBytes
+tag-full1 = tag-is (take 80 parts.full1) nonce1 _ block1-1 ∙ refl
+
+pub sealed-full1 : sealedBy (keyExpansion key) nonce1 parts.full1Text ≡ parts.full1
+sealed-full1 = seal-is nonce1 parts.full1Text (take 80 parts.full1) (drop 80 parts.full1) mask-full1 tag-full1
+
+pub opened-full1 : openedBy (keyExpansion key) nonce1 parts.full1 ≡ plain parts.full1Text
+opened-full1 = open-is nonce1 parts.full1Text parts.full1 sealed-full1
+
+mask-late1 : gctr w nonce1 parts.late1Text ≡ take 80 parts.late1
+unfolding gctrFrom streamByte
+mask-late1 = rw (block1-2, block1-3, block1-4, block1-5, block1-6)
+
+tag-late1 : tagOf w nonce1 (take 80 parts.late1) ≡ drop 80 parts.late1
+unfolding tagged step mulFrom quadAt blockAt ghashFrom ghash columnNumber blockNumber blockBytes
+tag-late1 = tag-is (take 80 parts.late1) nonce1 _ block1-1 ∙ refl
+
+pub sealed-late1 : sealedBy (keyExpansion key) nonce1 parts.late1Text ≡ parts.late1
+sealed-late1 = seal-is nonce1 parts.late1Text (take 80 parts.late1) (drop 80 parts.late1) mask-late1 tag-late1
+
+pub opened-late1 : openedBy (keyExpansion key) nonce1 parts.late1 ≡ plain parts.late1Text
+opened-late1 = open-is nonce1 parts.late1Text parts.late1 sealed-late1
 
 mask-none1 : gctr w nonce1 parts.none1Text ≡ take 80 parts.none1
 unfolding gctrFrom streamByte

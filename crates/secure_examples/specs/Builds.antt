@@ -27,6 +27,7 @@ lengthRows =
     ∷ sealedLength (sized 4 20 70 0 350) ⇒ 560
     ∷ sealedLength (sized 1 105 0 0 0) ⇒ 176
     ∷ sealedLength (sized 4 105 70 0 350) ⇒ 640
+    ∷ sealedLength (sized 4 1 17 33 49) ⇒ 272
     ∷ partCount (sized 1 0 0 0 0) ⇒ 1
     ∷ partCount (sized 1 48 0 0 0) ⇒ 1
     ∷ partCount (sized 1 49 0 0 0) ⇒ 2
@@ -35,7 +36,10 @@ lengthRows =
     ∷ needed (sized 1 0 0 0 0) ⇒ 32
     ∷ needed (sized 1 16 0 0 0) ⇒ 48
     ∷ needed (sized 1 17 0 0 0) ⇒ 64
+    ∷ needed (sized 1 48 0 0 0) ⇒ 80
+    ∷ needed (sized 2 0 70 0 0) ⇒ 112
     ∷ needed (sized 4 105 70 0 350) ⇒ 576
+    ∷ needed (sized 4 1 17 33 49) ⇒ 192
     ∷ []
 
 -- the counter is little-endian and wraps; the first four bytes stay

@@ -3,12 +3,14 @@ use mathlib.Core.List.{List, [], _∷_, _++_}
 use Prim.Native.Nat.{ℕ}
 use lib.ListN.{length, take, drop, set, replicate}
 use Rattle.refusal.specs.Refusals.{row}
+use Rattle.banner.specs.declared.Revision.the-variants.{Msgr21}
 use Rattle.preamble.specs.declared.Header.{Header}
-use Rattle.stream.specs.declared.Event.the-variants.{Frame, Dropped, Refused}
+use Rattle.stream.specs.declared.Event.the-variants.{Banner, Frame, Dropped, Refused}
 use Rattle.stream.specs.Stream.{Entry, entry, Trace}
-use Rattle.stream.specs.Rows.{Row, _⇒_, segment, header}
+use Rattle.stream.specs.Rows.{Row, _⇒_, features, segment, header}
 use Rattle.secure.specs.Reading.{sealedTrace}
-use Rattle.secure_examples.specs.Parts.{key, nonce0, two0, none0, sumAndShape0, shapeAndFlags0, flagsAndTag0, tagAndLimit0, limitAndStore0, padded0, two1, padded1, none1, two2, aborted2, high2, highAborted2, lateAndPadding2, paddingAndDrop2, padded2}
+use Rattle.connection.specs.Switched.{behind, traceWith}
+use Rattle.secure_examples.specs.Parts.{key, nonce0, two0, none0, none0Text, sumAndShape0, shapeAndFlags0, flagsAndTag0, tagAndLimit0, limitAndStore0, padded0, full0, blocks0, two1, padded1, blocks1, blocks1Text, full1, late1, none1, two2, aborted2, high2, highAborted2, lateAndPadding2, paddingAndDrop2, padded2}
 
 -- ---- what the rows are made of
 
@@ -31,7 +33,20 @@ two = header 17 2 (segment 49 8) (segment 1 8) (segment 0 0) (segment 0 0)
 abbrev pub none : Header
 none = header 16 1 (segment 0 8) (segment 0 0) (segment 0 0) (segment 0 0)
 
--- a store, two bytes longer than that frame needs, and with bytes at its front
+-- a frame of four segments, none empty, and theirs one behind the other
+abbrev pub full : Header
+full = header 17 4 (segment 2 8) (segment 1 8) (segment 17 8) (segment 3 8)
+
+abbrev pub fullSegments : List ℕ
+fullSegments = 0x61 ∷ 0x62 ∷ 0x63
+    ∷ 0x70 ∷ 0x71 ∷ 0x72 ∷ 0x73 ∷ 0x74 ∷ 0x75 ∷ 0x76 ∷ 0x77 ∷ 0x78 ∷ 0x79 ∷ 0x7a ∷ 0x7b ∷ 0x7c ∷ 0x7d ∷ 0x7e ∷ 0x7f ∷ 0x80
+    ∷ 0x81 ∷ 0x82 ∷ 0x83 ∷ []
+
+-- segment 1 of the frame 64+1: its rest is a whole block
+abbrev pub seg64 : List ℕ
+seg64 = take 48 seg1 ++ blocks1Text
+
+-- a store, two bytes longer than the frames 49+1 and 2+1+17+3 need, and with bytes at its front
 abbrev pub store : List ℕ
 store = replicate 114 0xaa
 
@@ -70,6 +85,8 @@ frameRows =
     ∷ reading 18446744073709551613 (two0 ++ two1 ++ two2) store (frameAt 234 two (front (seg1 ++ seg2 ++ zeros 62)) ∷ []) (front (seg1 ++ seg2 ++ zeros 62))
     -- a store with no byte to spare
     ∷ reading 0 (two0 ++ two1 ++ two2) (take 112 store) (frameAt 234 two (take 112 (front (seg1 ++ seg2 ++ zeros 62))) ∷ []) (take 112 (front (seg1 ++ seg2 ++ zeros 62)))
+    -- two parts, with padding behind each of segments 2 to 4: the segments one behind the other
+    ∷ reading 0 (full0 ++ full1) store (frameAt 250 full (front (fullSegments ++ zeros 89)) ∷ []) (front (fullSegments ++ zeros 89))
     ∷ []
 
 -- byte 96: 18, 17, 5, 6, 7, 8, 9, 10, 19. A row with two numbers has both faults at once: the order decides
@@ -118,6 +135,8 @@ laterRows =
     ∷ reading 0 (two0 ++ two1 ++ paddingAndDrop2) store (refusalAt 234 19 0 (front (zeros 112)) ∷ []) (front (zeros 112))
     -- 19 behind a segment, although the frame is complete
     ∷ reading 0 (two0 ++ two1 ++ padded2) store (refusalAt 234 19 0 (front (zeros 112)) ∷ []) (front (zeros 112))
+    -- 12 behind three segments: the detail is the whole byte
+    ∷ reading 0 (full0 ++ late1) store (refusalAt 250 12 31 (front (zeros 112)) ∷ []) (front (zeros 112))
     ∷ []
 
 -- streams that end before a judgement
@@ -137,4 +156,26 @@ cutRows =
     ∷ reading 0 (two0 ++ two1 ++ take 47 two2) store ([]) (front (seg1 ++ take 47 two2))
     -- a frame, and a part of the next one
     ∷ reading 0 (none0 ++ take 95 none1) store (frameAt 154 none (front (zeros 32)) ∷ []) (front (zeros 32))
+    -- a short segment 1, opened, and nothing else
+    ∷ reading 0 (full0) store ([]) (front (take 2 fullSegments))
+    -- sealed bytes of the last part right behind it
+    ∷ reading 0 (full0 ++ take 5 full1) store ([]) (front (take 2 fullSegments ++ take 5 full1))
+    -- a segment 1 that needs no padding, and zeros in the tag's place
+    ∷ reading 0 (blocks0 ++ blocks1) store ([]) (front (seg64 ++ zeros 16))
+    ∷ []
+
+-- ---- a stream from its first byte on
+
+-- the peer's banner and an empty frame of msgr2.1-crc
+abbrev pub clear : List ℕ
+clear = (0x63 ∷ 0x65 ∷ 0x70 ∷ 0x68 ∷ 0x20 ∷ 0x76 ∷ 0x32 ∷ 0x0a ∷ 0x10 ∷ 0x00 ∷ 0x01 ∷ zeros 15) ++ take 32 none0Text
+
+abbrev pub bannerEntry : Entry
+bannerEntry = entry (Banner (features 1 0) Msgr21) 26 store
+
+-- the switch behind that frame, and a sealed one
+unfoldable pub switchedRows : List (Row Trace)
+switchedRows =
+    traceWith (behind 1 key nonce0) (features 1 0) (clear ++ none0) store
+    ⇒ record { entries = bannerEntry ∷ frameAt 58 none store ∷ frameAt 154 none (front (zeros 32)) ∷ []; store = front (zeros 32) }
     ∷ []

@@ -1,6 +1,6 @@
 -- All tables of worked examples.
 use Rattle.stream.specs.Rows.{Holds}
-use Rattle.secure_examples.specs.Examples.{frameRows, firstRows, laterRows, cutRows}
+use Rattle.secure_examples.specs.Examples.{frameRows, firstRows, laterRows, cutRows, switchedRows}
 use Rattle.secure_examples.specs.Builds.{lengthRows, nonceRows, textRows, sealedRows, agreeRows, spendRows, orderRows, buildRows}
 
 -- THE CLAIM: each table holds
@@ -13,6 +13,7 @@ pub record Worked : Type 0 where
   pub first : Holds firstRows
   pub later : Holds laterRows
   pub cut : Holds cutRows
+  pub switched : Holds switchedRows
   pub agree : Holds agreeRows
   pub spend : Holds spendRows
   pub order : Holds orderRows

@@ -1,4 +1,5 @@
 use Rattle.secure_examples.proofs.Rows.{frameRows-hold, firstRows-hold, laterRows-hold, cutRows-hold}
+use Rattle.secure_examples.proofs.Switched.{switchedRows-hold}
 use Rattle.secure_examples.proofs.Made.{lengthRows-hold, nonceRows-hold, textRows-hold, sealedRows-hold, agreeRows-hold, spendRows-hold, orderRows-hold, buildRows-hold}
 use Rattle.secure_examples.proofs.worked.Statement.{statement}
 use Rattle.secure_examples.proofs.worked.Tie as tie
@@ -14,6 +15,7 @@ returns c =
       first = firstRows-hold;
       later = laterRows-hold;
       cut = cutRows-hold;
+      switched = switchedRows-hold;
       agree = agreeRows-hold;
       spend = spendRows-hold;
       order = orderRows-hold;

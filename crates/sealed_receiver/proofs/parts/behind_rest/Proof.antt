@@ -2,7 +2,7 @@ use mathlib.Core.Path.{_≡_, _∙_, sym, ap}
 use mathlib.Core.Bool.{true, false}
 use lib.ListN.{take, drop}
 use native.Mathlib.Omega.{arith}
-use Rattle.secure.specs.Reading.{allZero}
+use Rattle.buffer.specs.Zeros.{allZero}
 use Rattle.sealed_receiver.proofs.RestPart.{rest-padded, rest-unpadded}
 use Rattle.sealed_receiver.proofs.Rooms.{rest-beyond, pads-fit}
 use borrow.Author.Needs.{needs}

@@ -3,7 +3,8 @@ use mathlib.Core.Bool.{_&&_}
 use Rattle.body.specs.declared.Late.{Late}
 use Rattle.refusal.specs.declared.Refusal.the-variants as refusal
 use Rattle.refusal.specs.Refusals.{unless}
-use Rattle.secure.specs.Reading.{allZero, byLateStatus}
+use Rattle.buffer.specs.Zeros.{allZero}
+use Rattle.secure.specs.Reading.{byLateStatus}
 use Rattle.sealed_receiver.proofs.LastPart.{last-ended}
 use borrow.Author.Needs.{needs}
 use Rattle.sealed_receiver.proofs.parts.end_of_last.Statement.{statement}

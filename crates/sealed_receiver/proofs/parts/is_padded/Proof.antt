@@ -1,5 +1,5 @@
 use mathlib.Core.Path.{_∙_, ap}
-use Rattle.secure.specs.Reading.{allZero}
+use Rattle.buffer.specs.Zeros.{allZero}
 use Rattle.sealed_receiver.proofs.LastPart.{pads}
 use borrow.Author.Needs.{needs}
 use Rattle.sealed_receiver.proofs.parts.is_padded.Statement.{statement}

@@ -7,7 +7,7 @@ use Rattle.refusal.specs.Refusals.{orElse, unless}
 use Rattle.preamble.specs.declared.Header.{Header}
 use Rattle.preamble.specs.Judge.{judgeStore}
 use Rattle.secure.specs.Layout.{needed}
-use Rattle.secure.specs.Reading.{allZero}
+use Rattle.buffer.specs.Zeros.{allZero}
 use Rattle.sealed_receiver.proofs.FirstPart.{judged-first}
 use borrow.Author.Needs.{needs}
 use Rattle.sealed_receiver.proofs.parts.judge_first.Statement.{statement}

@@ -4,7 +4,9 @@ use native.Mathlib.Omega.{arith}
 use lib.ListN.{length}
 use borrow.Author.Needs.{needs}
 use borrow.Author.Tests.{not-true, not-false}
-use Rattle.sealed_receiver.proofs.FeedLoop.{Midway, begin, Turn, progress, within, again, reported, finished}
+use Rattle.receiver.proofs.Feeding.{begin, progress, within, again}
+use Rattle.sealed_receiver.proofs.Gathered.{lasting}
+use Rattle.sealed_receiver.proofs.FeedLoop.{Midway, Turn, turn, reported, finished}
 use Rattle.sealed_receiver.proofs.pieces.take_piece.Statement.{statement}
 use Rattle.sealed_receiver.proofs.pieces.take_piece.Tie as tie
 
@@ -21,19 +23,13 @@ Stepped = tie.After-step Inv-loop μ-loop
 abbrev start : Stepped → tie.Start Inv-loop μ-loop
 start a = a .before .before .before .before .before .before .before
 
-turn : (a : Stepped)
+done : (a : Stepped)
     → (let z = start a .args in let m = a .before .before .before .before .loop in
     Turn (z .piece .now) (z .store .now) (z .state) (m .store) (m .st) (m .at) (a .step .result) (a .step .last .1 .1 .0))
-turn a =
-    record {
-      midway = a .before .before .before .before .loop .inv;
-      some = a .before .before .before .loop-test .taken;
-      chunk = a .step .ensures;
-      kept = a .step .kept .1 .1 .0;
-    }
+done a = turn (a .before .before .before .before .loop .inv) (a .before .before .before .loop-test .taken) (a .step .ensures) (a .step .kept .1 .1 .0)
 
 loop-holds : tie.Need-loop-holds Inv-loop μ-loop
-loop-holds c = (let z = c .before .before in begin (z .args .piece .now) (z .args .store .now) (z .args .state) (z .pre))
+loop-holds c = (let z = c .before .before in begin lasting (z .args .piece .now) (z .args .store .now) (z .args .state) (z .pre))
 
 sub-step : tie.Need-sub-step Inv-loop μ-loop
 sub-step c = search needs
@@ -48,25 +44,25 @@ step-requires : tie.Need-step-requires Inv-loop μ-loop
 step-requires c κs = c .before .before .before .loop .inv .running
 
 add-at : tie.Need-add-at Inv-loop μ-loop
-add-at c = (let a = c .before .before .before in omega (arith, within (turn a), start a .good .1 .0 .0))
+add-at c = (let a = c .before .before .before in omega (arith, within (done a), start a .good .1 .0 .0))
 
 is-more-requires : tie.Need-is-more-requires Inv-loop μ-loop
 is-more-requires c κs = search needs
 
 same-length : tie.Need-same-length Inv-loop μ-loop
-same-length c = (let t = turn (c .before .before .before .before .before .before) in t .kept ∙ t .midway .same)
+same-length c = (let t = done (c .before .before .before .before .before .before) in t .kept ∙ t .midway .same)
 
 returns : tie.Need-returns Inv-loop μ-loop
 returns c =
-    reported (turn (c .before .before .before .before .before .before))
+    reported (done (c .before .before .before .before .before .before))
     (sym (c .before .is-more .ensures) ∙ not-true (c .before .is-more .result) (c .if1 .taken))
 
 loop-less : tie.Need-loop-less Inv-loop μ-loop
-loop-less c = (let t = turn (c .before .before .before .before .before .before) in omega (arith, within t, progress t))
+loop-less c = (let t = done (c .before .before .before .before .before .before) in omega (arith, within t, progress t))
 
 loop-again : tie.Need-loop-again Inv-loop μ-loop
 loop-again c =
-    again (turn (c .before .before .before .before .before .before))
+    again (done (c .before .before .before .before .before .before))
     (sym (c .before .is-more .ensures) ∙ not-false (c .before .is-more .result) (c .if1 .left))
 
 same-length-2 : tie.Need-same-length-2 Inv-loop μ-loop

@@ -1,0 +1,358 @@
+-- What holds of every single call and of every try to switch.
+use Prim.Native.Nat.{ℕ, _<_}
+use mathlib.Core.List.{List, [], _∷_}
+use mathlib.Core.Path.{_≡_, refl, sym, ap, subst, _∙_}
+use mathlib.Core.Bool.{Bool, true, false, _&&_, and-true}
+use native.Mathlib.Omega.{arith}
+use lib.Dec.{eqb, ltb}
+use lib.ListN.{length}
+use borrow.Author.Tests.{eqb-true, ltb-true, ltb-false}
+use Rattle.refusal.specs.declared.Numbers.{Numbers}
+use Rattle.refusal.specs.declared.Refusal.the-variants as refusal
+use Rattle.refusal.specs.Refusals.{Judged, fine, refused, numbersOf, unless}
+use Rattle.refusal.proofs.Booleans.{wrong, both-left, both-right}
+use Rattle.banner.specs.declared.Features.{Features}
+use Rattle.stream.specs.declared.Event.the-variants as event
+use Rattle.receiver.specs.declared.Report.{Report}
+use Rattle.receiver.specs.declared.Report.the-variants as report
+use Rattle.receiver.specs.declared.State as crc-state
+use Rattle.receiver.specs.State.{rank, isMsgr21}
+use Rattle.receiver.specs.State as crc-states
+use Rattle.receiver.specs.Step as crc
+use Rattle.receiver.proofs.Machine.{Machine, After, feed, feed-after}
+use Rattle.receiver.proofs.Machine as machine
+use Rattle.receiver.proofs.Live as crc-live
+use Rattle.receiver.proofs.Every as crc-every
+use Rattle.sealed_receiver.specs.declared.State as sealed-state
+use Rattle.sealed_receiver.specs.State as sealed-states
+use Rattle.sealed_receiver.specs.Step as sealed
+use Rattle.sealed_receiver.proofs.Live as sealed-live
+use Rattle.sealed_receiver.proofs.Live.{switched-running}
+use Rattle.sealed_receiver.proofs.Every as sealed-every
+use Rattle.connection.specs.declared.Mode.{Mode}
+use Rattle.connection.specs.declared.Mode.the-variants as mode
+use Rattle.connection.specs.declared.State.{State}
+use Rattle.connection.specs.declared.Received.{Received}
+use Rattle.connection.specs.declared.Switched.{Switched}
+use Rattle.connection.specs.Step.{readyRule, agreesInUse, agrees, begun, Answer, answered, byCrc, bySecure, answer, Answered, mayBeSwitched, judgeSwitch, switchedState, SwitchedWith}
+use Rattle.connection.specs.Calls.{Piece, SwitchedDemand3}
+use Rattle.connection.specs.Every.{contradiction, refusedInUse, neededInUse, shortStore, stopped, Running, Refuses, Sound, SoundSwitch, EveryCall}
+use Rattle.connection.proofs.Machines.{crcSide, secureSide, CrcRunning, CrcGone, SecureRunning, SecureGone, before, crc-answer, secure-answer}
+use Rattle.connection.proofs.Parted.{Stands, runs, refuses, next-stands, crc-agrees, secure-agrees, judged-27, unless-number}
+use Rattle.connection.proofs.Laws.{by-rule}
+use Rattle.connection.proofs.Chain.{switched-demand3}
+
+-- ---- a machine that stands, and one call on it
+
+module _ (m : Machine) (x : m .State) (s piece : List ℕ) (c : m .Call) where
+  fed-after : m .Running x s → m .Answered x s piece c → (let a = m .answer c in After (m .Running) (m .Gone) (a .report) (a .state) (a .store))
+  fed-after r a =
+      subst (λ (y : machine.Answer (m .State)). After (m .Running) (m .Gone) (y .report) (y .state) (y .store)) (sym (m .feeds x s piece c r a))
+      (feed-after (m .Running) (m .Gone) (m .onByte) (m .keeps) x s piece r)
+
+  -- behind a refusal it is refused
+  gone-next : Stands m x s → m .Answered x s piece c → (n : Numbers) → m .answer c .report ≡ report.Event (event.Refused n) → m .Gone n (m .answer c .state)
+  gone-next (runs r) a n q = rw q at (fed-after r a)
+  gone-next (refuses k g) a n q =
+      let e = m .repeats k x s piece c g a in
+      let w : report.Event (event.Refused k) ≡ report.Event (event.Refused n) = sym (ap (λ (y : machine.Answer (m .State)). y .report) e) ∙ q in
+      let i : k ≡ n = cc in
+      subst (m .Gone n) (sym (ap (λ (y : machine.Answer (m .State)). y .state) e)) (subst (λ (j : Numbers). m .Gone j x) i g)
+
+-- a piece is begun
+module _ {A : Type 0} (onByte : A → List ℕ → ℕ → machine.Stepped A) where
+  onward-some : (r : Report) (y : machine.Stepped A) (a : machine.Answer A) → 0 < machine.onward r y a .taken
+  onward-some report.More y a = omega arith
+  onward-some (report.Event e) y a = omega arith
+
+  feed-some : (x : A) (s piece : List ℕ) → 0 < length piece → 0 < feed onByte x s piece .taken
+  unfolding feed
+  feed-some x s [] h = absurd (omega arith)
+  feed-some x s (b ∷ bs) h = onward-some (onByte x s b .report) (onByte x s b) (feed onByte (onByte x s b .state) (onByte x s b .store) bs)
+
+  feed-none : (x : A) (s piece : List ℕ) → length piece ≡ 0 → (feed onByte x s piece .taken ≡ 0) × (feed onByte x s piece .report ≡ report.More)
+  unfolding feed
+  feed-none x s [] h = (refl, refl)
+  feed-none x s (b ∷ bs) h = absurd (omega arith)
+
+-- ---- the part in use, by the mode
+
+abbrev stateOf : Mode → Bool → crc-state.State → sealed-state.State → State
+stateOf k ready c x = record { mode = k; ready = ready; crc = c; secure = x }
+
+rule-of : (st : State) → agrees st ≡ true → readyRule st ≡ true
+unfolding agrees
+rule-of st e = both-left (readyRule st) (agreesInUse st) e
+
+in-use-of : (st : State) → agrees st ≡ true → agreesInUse st ≡ true
+unfolding agrees
+in-use-of st e = both-right (readyRule st) (agreesInUse st) e
+
+-- sealed frames are read by one that is not ready
+secure-unready : (ready : Bool) (c : crc-state.State) (x : sealed-state.State) → readyRule (stateOf mode.Secure ready c x) ≡ true → ready ≡ false
+secure-unready false c x e = refl
+secure-unready true c x e = wrong e
+
+-- before a preamble no store is needed, and so one that needs it is not ready
+before-needs : (c : crc-state.State) → before c ≡ true → crc.neededBy c ≡ 0
+before-needs c e =
+    let q : rank (c .position .stage) ≡ 4 = eqb-true (rank (c .position .stage)) 4 (both-left (eqb (rank (c .position .stage)) 4) (eqb (c .position .got) 0) e) in
+    rw q
+
+crc-unready : (ready : Bool) (c : crc-state.State) (x : sealed-state.State) (n : ℕ) → readyRule (stateOf mode.Crc ready c x) ≡ true → n < crc.neededBy c → ready ≡ false
+crc-unready false c x n e l = refl
+crc-unready true c x n e l = let z = before-needs c e in absurd (omega (arith, l, z))
+
+refused-unready : (k : Mode) (ready : Bool) (c : crc-state.State) (x : sealed-state.State)
+    → (let st = stateOf k ready c x in readyRule st ≡ true → refusedInUse st ≡ true → ready ≡ false)
+refused-unready mode.Crc false c x e l = refl
+refused-unready mode.Crc true c x e l =
+    let p = eqb-true (rank (c .position .stage)) 4 (both-left (eqb (rank (c .position .stage)) 4) (eqb (c .position .got) 0) e) in
+    let q = eqb-true (rank (c .position .stage)) 9 l in
+    let z : _≡_ {A = ℕ} 4 9 = sym p ∙ q in
+    absurd (omega (arith, z))
+refused-unready mode.Secure ready c x e l = secure-unready ready c x e
+
+pub data Gone (n : Numbers) (st : State) : Type 0 where
+  goneCrc : CrcGone n st → Gone n st
+  goneSecure : SecureGone n st → Gone n st
+
+module _ (s piece : List ℕ) where
+  -- ---- a store that became too short
+
+  abbrev refusing : State → Numbers → Answer
+  refusing st n = answered st 0 (report.Event (event.Refused n)) s
+
+  short-by : (k : Mode) (ready : Bool) (c : crc-state.State) (x : sealed-state.State) → (let st = stateOf k ready c x in
+      agrees st ≡ true → refusedInUse st ≡ false → length s < neededInUse st → answer st s piece ≡ refusing (stopped st (shortStore st)) (shortStore st))
+  short-by mode.Crc ready c x e l t =
+      let st = stateOf mode.Crc ready c x in
+      crc-answer st s piece refl (rule-of st e)
+      ∙ ap (byCrc st) (crc-every.shortened c s piece (in-use-of st e) l t)
+      ∙ ap (λ (b : Bool). refusing (stateOf mode.Crc b (crc.refusedState (c .known) (crc.shortStore c)) x) (crc.shortStore c)) (and-true ready)
+  short-by mode.Secure ready c x e l t =
+      let st = stateOf mode.Secure ready c x in
+      secure-answer st s piece refl (secure-unready ready c x (rule-of st e)) ∙ ap (bySecure st) (sealed-every.shortened x s piece (in-use-of st e) l t)
+
+  short-gone : (k : Mode) (ready : Bool) (c : crc-state.State) (x : sealed-state.State) → (let st = stateOf k ready c x in
+      agrees st ≡ true → refusedInUse st ≡ false → length s < neededInUse st → Gone (shortStore st) (stopped st (shortStore st)))
+  short-gone mode.Crc ready c x e l t =
+      let st = stateOf mode.Crc ready c x in
+      let u = crc-unready ready c x (length s) (rule-of st e) t in
+      goneCrc (record { mode = refl; rule = rw u; gone = crc-live.agree-own c (in-use-of st e) l (crc.shortStore c) refl })
+  short-gone mode.Secure ready c x e l t =
+      let st = stateOf mode.Secure ready c x in
+      goneSecure (record { mode = refl; rule = secure-unready ready c x (rule-of st e); gone = sealed-live.gone-at (sealed.shortStore x) refl })
+
+  -- ---- 26
+
+  crc-contradicting : (c : crc-state.State) → crc-states.agrees c ≡ false → crc.answer c s piece ≡ crc.refuseUnchanged c contradiction s
+  unfolding crc.answer
+  crc-contradicting c e = rw e
+
+  second-false : (a b : Bool) → (a && b) ≡ false → a ≡ true → b ≡ false
+  second-false true b e q = e
+  second-false false b e q = wrong q
+
+  in-use-not : (st : State) → agrees st ≡ false → readyRule st ≡ true → agreesInUse st ≡ false
+  unfolding agrees
+  in-use-not st e q = second-false (readyRule st) (agreesInUse st) e q
+
+  contradicting-by : (k : Mode) (ready : Bool) (c : crc-state.State) (x : sealed-state.State) → (let st = stateOf k ready c x in
+      agrees st ≡ false → readyRule st ≡ true → answer st s piece ≡ refusing st contradiction)
+  contradicting-by mode.Crc ready c x e q =
+      let st = stateOf mode.Crc ready c x in
+      crc-answer st s piece refl q
+      ∙ ap (byCrc st) (crc-contradicting c (in-use-not st e q))
+      ∙ ap (λ (b : Bool). refusing (stateOf mode.Crc b c x) contradiction) (and-true ready)
+  contradicting-by mode.Secure ready c x e q =
+      let st = stateOf mode.Secure ready c x in
+      secure-answer st s piece refl (secure-unready ready c x q) ∙ ap (bySecure st) (sealed-every.contradicting x s piece (in-use-not st e q))
+
+  contradicting : (st : State) → agrees st ≡ false → answer st s piece ≡ refusing st contradiction
+  contradicting st e = go (readyRule st) refl
+    where
+      go : (b : Bool) → readyRule st ≡ b → answer st s piece ≡ refusing st contradiction
+      go true q = contradicting-by (st .mode) (st .ready) (st .crc) (st .secure) e q
+      go false q = by-rule st s piece false q
+
+-- ---- what a state that agrees comes to
+
+data Placed (st : State) (s : List ℕ) : Type 0 where
+  onCrc : Stands crcSide st s → Placed st s
+  onSecure : Stands secureSide st s → Placed st s
+  tooShort : refusedInUse st ≡ false → length s < neededInUse st → Placed st s
+
+data Runs (st : State) (s : List ℕ) : Type 0 where
+  runsCrc : CrcRunning st s → Runs st s
+  runsSecure : SecureRunning st s → Runs st s
+
+running-by : (k : Mode) (ready : Bool) (c : crc-state.State) (x : sealed-state.State) (s : List ℕ) → Running (stateOf k ready c x) s → Runs (stateOf k ready c x) s
+running-by mode.Crc ready c x s r =
+    let st = stateOf mode.Crc ready c x in
+    runsCrc (record { mode = refl; rule = rule-of st (r .agree); live = record { agree = in-use-of st (r .agree); live = r .live; fits = r .fits } })
+running-by mode.Secure ready c x s r =
+    let st = stateOf mode.Secure ready c x in
+    runsSecure (record { mode = refl; rule = secure-unready ready c x (rule-of st (r .agree)); live = record { agree = in-use-of st (r .agree); live = r .live; fits = r .fits } })
+
+running-runs : (st : State) (s : List ℕ) → Running st s → Runs st s
+running-runs st s r = running-by (st .mode) (st .ready) (st .crc) (st .secure) s r
+
+gone-by : (k : Mode) (ready : Bool) (c : crc-state.State) (x : sealed-state.State) (s : List ℕ) → (let st = stateOf k ready c x in agrees st ≡ true → refusedInUse st ≡ true → Placed st s)
+gone-by mode.Crc ready c x s e l =
+    let st = stateOf mode.Crc ready c x in
+    onCrc (refuses (c .known .refusal) (record { mode = refl; rule = rule-of st e; gone = crc-live.refused-gone c (in-use-of st e) l }))
+gone-by mode.Secure ready c x s e l =
+    let st = stateOf mode.Secure ready c x in
+    onSecure (refuses (x .known .refusal) (record { mode = refl; rule = secure-unready ready c x (rule-of st e); gone = sealed-every.refused-gone x (in-use-of st e) l }))
+
+placed : (st : State) (s : List ℕ) → agrees st ≡ true → Placed st s
+placed st s e = go (refusedInUse st) refl (ltb (length s) (neededInUse st)) refl
+  where
+    live : Runs st s → Placed st s
+    live (runsCrc r) = onCrc (runs r)
+    live (runsSecure r) = onSecure (runs r)
+
+    go : (b : Bool) → refusedInUse st ≡ b → (t : Bool) → ltb (length s) (neededInUse st) ≡ t → Placed st s
+    go true l t u = gone-by (st .mode) (st .ready) (st .crc) (st .secure) s e l
+    go false l true u = tooShort l (ltb-true (length s) (neededInUse st) u)
+    go false l false u = live (running-runs st s (record { agree = e; live = l; fits = ltb-false (length s) (neededInUse st) u }))
+
+-- ---- a refused stream
+
+gone-agrees : {n : Numbers} {st : State} → Gone n st → agrees st ≡ true
+gone-agrees {n} {st} (goneCrc g) = crc-agrees {st = st} {s = []} (refuses n g)
+gone-agrees {n} {st} (goneSecure g) = secure-agrees {st = st} {s = []} (refuses n g)
+
+gone-not26 : {st : State} → Gone contradiction st → ⊥
+gone-not26 (goneCrc g) = (let e : crc-states.given contradiction ≡ true = g .gone .gives in wrong e)
+gone-not26 (goneSecure g) = (let e : sealed-states.given contradiction ≡ true = g .gone .gives in wrong e)
+
+repeated : {st : State} {s : List ℕ} {r : Received} {s′ : List ℕ} (n : Numbers)
+    → record { state = r .state; taken = r .taken; report = r .report; store = s′ } ≡ machine.refusedAgain n st s → Refuses st n s r s′
+repeated n e = record {
+  state = ap (λ (y : machine.Answer State). y .state) e;
+  taken = ap (λ (y : machine.Answer State). y .taken) e;
+  report = ap (λ (y : machine.Answer State). y .report) e;
+  store = ap (λ (y : machine.Answer State). y .store) e;
+}
+
+lasts : {n : Numbers} {st : State} → Gone n st → (s piece : List ℕ) (r : Received) (s′ : List ℕ) → Answered st s piece r s′ → Refuses st n s r s′
+lasts {n} {st} (goneCrc g) s piece r s′ a = repeated n (crcSide .repeats n st s piece (record { size = 0; received = r; store = s′ }) g a)
+lasts {n} {st} (goneSecure g) s piece r s′ a = repeated n (secureSide .repeats n st s piece (record { size = 0; received = r; store = s′ }) g a)
+
+-- ---- every call
+
+module _ (st : State) (s piece : List ℕ) (r : Received) (s′ : List ℕ) (a : Answered st s piece r s′) where
+  abbrev call : Piece
+  call = record { size = 0; received = r; store = s′ }
+
+  refusing-so : (st′ : State) (n : Numbers) → answer st s piece ≡ answered st′ 0 (report.Event (event.Refused n)) s → Refuses st′ n s r s′
+  refusing-so st′ n e =
+      let er : r ≡ record { state = st′; taken = 0; report = report.Event (event.Refused n) } = a .received ∙ ap (λ (x : Answer). x .received) e in
+      record {
+        state = ap (λ (x : Received). x .state) er;
+        taken = ap (λ (x : Received). x .taken) er;
+        report = ap (λ (x : Received). x .report) er;
+        store = a .store ∙ ap (λ (x : Answer). x .store) e;
+      }
+
+  short-so : agrees st ≡ true → refusedInUse st ≡ false → length s < neededInUse st → Refuses (stopped st (shortStore st)) (shortStore st) s r s′
+  short-so e l t = refusing-so (stopped st (shortStore st)) (shortStore st) (short-by s piece (st .mode) (st .ready) (st .crc) (st .secure) e l t)
+
+  -- it hands back a state that agrees, and behind a refusal one that is refused
+  record Well : Type 0 where
+    agree : agrees (r .state) ≡ true
+    gone : (n : Numbers) → r .report ≡ report.Event (event.Refused n) → Gone n (r .state)
+
+  well : agrees st ≡ true → Well
+  well e = go (placed st s e)
+    where
+      go : Placed st s → Well
+      go (onCrc h) = record {
+        agree = crc-agrees {st = r .state} {s = s′} (next-stands crcSide st s piece call h a);
+        gone = λ n q. goneCrc (gone-next crcSide st s piece call h a n q);
+      }
+      go (onSecure h) = record {
+        agree = secure-agrees {st = r .state} {s = s′} (next-stands secureSide st s piece call h a);
+        gone = λ n q. goneSecure (gone-next secureSide st s piece call h a n q);
+      }
+      go (tooShort l t) =
+          let z = short-so e l t in
+          let g = short-gone s piece (st .mode) (st .ready) (st .crc) (st .secure) e l t in
+          record {
+            agree = ap agrees (z .state) ∙ gone-agrees g;
+            gone = λ n q.
+                let w : report.Event (event.Refused (shortStore st)) ≡ report.Event (event.Refused n) = sym (z .report) ∙ q in
+                let i : shortStore st ≡ n = cc in
+                subst (λ (y : State). Gone n y) (sym (z .state)) (subst (λ (j : Numbers). Gone j (stopped st (shortStore st))) i g);
+          }
+
+  some : Running st s → 0 < length piece → 0 < r .taken
+  some l h = go (running-runs st s l)
+    where
+      go : Runs st s → 0 < r .taken
+      go (runsCrc x) = subst (λ (y : machine.Answer State). 0 < y .taken) (sym (crcSide .feeds st s piece call x a)) (feed-some (crcSide .onByte) st s piece h)
+      go (runsSecure x) = subst (λ (y : machine.Answer State). 0 < y .taken) (sym (secureSide .feeds st s piece call x a)) (feed-some (secureSide .onByte) st s piece h)
+
+  none : Running st s → length piece ≡ 0 → (r .taken ≡ 0) × (r .report ≡ report.More)
+  none l h = go (running-runs st s l)
+    where
+      go : Runs st s → (r .taken ≡ 0) × (r .report ≡ report.More)
+      go (runsCrc x) =
+          subst (λ (y : machine.Answer State). (y .taken ≡ 0) × (y .report ≡ report.More)) (sym (crcSide .feeds st s piece call x a)) (feed-none (crcSide .onByte) st s piece h)
+      go (runsSecure x) =
+          subst (λ (y : machine.Answer State). (y .taken ≡ 0) × (y .report ≡ report.More)) (sym (secureSide .feeds st s piece call x a)) (feed-none (secureSide .onByte) st s piece h)
+
+  sound : Sound st s piece r s′
+  sound = record {
+    contradicts = λ e. refusing-so st contradiction (contradicting s piece st e);
+    never26 = λ e q. gone-not26 (well e .gone contradiction q);
+    agreeing = λ e. well e .agree;
+    stays = λ n e q s₂ piece₂ r₂ s₃ a₂. lasts (well e .gone n q) s₂ piece₂ r₂ s₃ a₂;
+    short = short-so;
+    progress = some;
+    nothing = none;
+  }
+
+-- ---- every try to switch
+
+module _ (st : State) (key receiving sending : List ℕ) (r : Switched) (w : SwitchedWith st key receiving sending r) where
+  judged-26 : agrees st ≡ false → judgeSwitch st ≡ refused contradiction
+  unfolding judgeSwitch
+  judged-26 e = rw e
+
+  unchanged : (n : Numbers) → judgeSwitch st ≡ refused n → r .state ≡ st
+  unchanged n e = w .state ∙ ap (λ (j : Judged). switchedState j st key receiving) e
+
+  sound-switch : SoundSwitch st r
+  sound-switch = record {
+    contradicts = λ e. w .verdict ∙ judged-26 e;
+    never26 = λ e q.
+        let i : contradiction ≡ numbersOf refusal.SwitchRefused = unless-number (mayBeSwitched st) contradiction (sym (judged-27 st e) ∙ sym (w .verdict) ∙ q) in
+        let z : _≡_ {A = ℕ} 26 27 = ap (λ (n : Numbers). n .number) i in
+        absurd (omega (arith, z));
+    unchanged = λ n q. unchanged n (sym (w .verdict) ∙ q);
+    agreeing = λ e. go (judgeSwitch st) refl e;
+    stays = λ e l.
+        let u = refused-unready (st .mode) (st .ready) (st .crc) (st .secure) (rule-of st e) l in
+        w .verdict ∙ judged-27 st e ∙ ap (λ (b : Bool). unless (b && isMsgr21 (st .crc .known .revision)) refusal.SwitchRefused) u;
+  }
+    where
+      go : (j : Judged) → judgeSwitch st ≡ j → agrees st ≡ true → agrees (r .state) ≡ true
+      go fine q e =
+          let z : r .state ≡ switchedState fine st key receiving = w .state ∙ ap (λ (j : Judged). switchedState j st key receiving) q in
+          ap agrees z ∙ secure-agrees {st = switchedState fine st key receiving} {s = []} (runs (record { mode = refl; rule = refl; live = switched-running key receiving [] }))
+      go (refused n) q e = ap agrees (unchanged n q) ∙ e
+
+begun-agrees : (own : Features) → agrees (begun own) ≡ true
+unfolding SwitchedDemand3
+begun-agrees own = switched-demand3 own [] [] [] tt .agreeing
+
+pub every-call : EveryCall
+unfolding EveryCall
+every-call = (
+  λ own b h. record { state = h .state; verdict = h .verdict; agreeing = ap agrees (h .state) ∙ begun-agrees own },
+  λ st s piece r s′ a. sound st s piece r s′ a,
+  λ st key receiving sending r w. sound-switch st key receiving sending r w,
+)

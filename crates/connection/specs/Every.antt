@@ -1,0 +1,98 @@
+-- What holds of every call and of every try to switch, whatever its state, store and piece: 01's rules for a receiver, of the part in use.
+use mathlib.Core.Path.{_≡_}
+use mathlib.Core.List.{List}
+use mathlib.Core.Bool.{Bool, true, false, cond}
+use Prim.Native.Nat.{ℕ, _≤_, _<_}
+use lib.ListN.{length}
+use Rattle.refusal.specs.declared.Numbers.{Numbers}
+use Rattle.refusal.specs.declared.Refusal.the-variants as refusal
+use Rattle.refusal.specs.Refusals.{refused, numbersOf, judgedBy}
+use Rattle.banner.specs.declared.Features.{Features}
+use Rattle.banner.specs.Banner.{judgeOwn}
+use Rattle.stream.specs.declared.Event.the-variants as event
+use Rattle.receiver.specs.declared.Report.the-variants as report
+use Rattle.receiver.specs.State as plain
+use Rattle.receiver.specs.Step as plain-step
+use Rattle.sealed_receiver.specs.State as sealed
+use Rattle.sealed_receiver.specs.Step as sealed-step
+use Rattle.connection.specs.declared.State.{State}
+use Rattle.connection.specs.declared.Received.{Received}
+use Rattle.connection.specs.declared.Switched.{Switched}
+use Rattle.connection.specs.declared.Begun.{Begun}
+use Rattle.connection.specs.Step.{isSecure, begun, agrees, Answered, SwitchedWith, BegunWith}
+
+-- 26
+abbrev pub contradiction : Numbers
+contradiction = numbersOf refusal.StateContradicts
+
+-- ---- the part in use
+
+abbrev pub refusedInUse : State → Bool
+refusedInUse st = cond (isSecure (st .mode)) (sealed.isRefused (st .secure .position .stage)) (plain.isRefused (st .crc .position .stage))
+
+-- the store that its unfinished frame needs
+abbrev pub neededInUse : State → ℕ
+neededInUse st = cond (isSecure (st .mode)) (sealed-step.neededBy (st .secure)) (plain-step.neededBy (st .crc))
+
+abbrev pub shortStore : State → Numbers
+shortStore st = numbersOf (refusal.StoreShort (neededInUse st))
+
+-- refused from now on, with these numbers
+abbrev pub stopped : State → Numbers → State
+stopped st n =
+    cond (isSecure (st .mode)) (record { mode = st .mode; ready = st .ready; crc = st .crc; secure = sealed-step.refusedState n })
+    (record { mode = st .mode; ready = st .ready; crc = plain-step.refusedState (st .crc .known) n; secure = st .secure })
+
+-- not refused, its fields in order, and the store long enough
+pub record Running (st : State) (s : List ℕ) : Type 0 where
+  pub agree : agrees st ≡ true
+  pub live : refusedInUse st ≡ false
+  pub fits : neededInUse st ≤ length s
+
+-- ---- every call
+
+-- the whole answer: the state, the bytes taken, the refusal, and the store as it was
+pub record Refuses (st : State) (n : Numbers) (s : List ℕ) (r : Received) (s′ : List ℕ) : Type 0 where
+  pub state : r .state ≡ st
+  pub taken : r .taken ≡ 0
+  pub report : r .report ≡ report.Event (event.Refused n)
+  pub store : s′ ≡ s
+
+pub record Sound (st : State) (s piece : List ℕ) (r : Received) (s′ : List ℕ) : Type 0 where
+  -- 26 exactly where the fields contradict each other: it takes nothing, changes nothing and hands the state back
+  pub contradicts : agrees st ≡ false → Refuses st contradiction s r s′
+  pub never26 : agrees st ≡ true → r .report ≡ report.Event (event.Refused contradiction) → ⊥
+  -- and a call that does not give it hands back no such state
+  pub agreeing : agrees st ≡ true → agrees (r .state) ≡ true
+  -- any other refusal stays: every later call, with any store and any piece, takes nothing, changes nothing and repeats it
+  pub stays : (n : Numbers) → agrees st ≡ true → r .report ≡ report.Event (event.Refused n)
+      → (s₂ piece₂ : List ℕ) (r₂ : Received) (s₃ : List ℕ) → Answered (r .state) s₂ piece₂ r₂ s₃ → Refuses (r .state) n s₂ r₂ s₃
+  -- a store that became too short for the frame under way: 10 with the length that it needs, and nothing is taken or changed
+  pub short : agrees st ≡ true → refusedInUse st ≡ false → length s < neededInUse st → Refuses (stopped st (shortStore st)) (shortStore st) s r s′
+  -- where it runs, a piece that is not empty gives up at least one byte, and an empty one asks for more
+  pub progress : Running st s → 0 < length piece → 0 < r .taken
+  pub nothing : Running st s → length piece ≡ 0 → (r .taken ≡ 0) × (r .report ≡ report.More)
+
+-- ---- every start and every try to switch
+
+-- a start hands back the state from which the lists of calls begin, one that agrees, and tells whether our own features are refused
+pub record Starts (own : Features) (b : Begun) : Type 0 where
+  pub state : b .state ≡ begun own
+  pub verdict : judgedBy (b .verdict) ≡ judgeOwn (own .supported) (own .required)
+  pub agreeing : agrees (b .state) ≡ true
+
+pub record SoundSwitch (st : State) (r : Switched) : Type 0 where
+  -- 26 exactly where the fields contradict each other; refused, the state is handed back as it was
+  pub contradicts : agrees st ≡ false → judgedBy (r .verdict) ≡ refused contradiction
+  pub never26 : agrees st ≡ true → judgedBy (r .verdict) ≡ refused contradiction → ⊥
+  pub unchanged : (n : Numbers) → judgedBy (r .verdict) ≡ refused n → r .state ≡ st
+  pub agreeing : agrees st ≡ true → agrees (r .state) ≡ true
+  -- a refused stream stays refused: no switch is made on it
+  pub stays : agrees st ≡ true → refusedInUse st ≡ true → judgedBy (r .verdict) ≡ refused (numbersOf refusal.SwitchRefused)
+
+-- THE CLAIM
+unfoldable pub EveryCall : Type 0
+EveryCall =
+    ((own : Features) (b : Begun) → BegunWith own b → Starts own b)
+    × ((st : State) (s piece : List ℕ) (r : Received) (s′ : List ℕ) → Answered st s piece r s′ → Sound st s piece r s′)
+    × ((st : State) (key receiving sending : List ℕ) (r : Switched) → SwitchedWith st key receiving sending r → SoundSwitch st r)

@@ -1,0 +1,174 @@
+-- Bytes add up on a switched link.
+use mathlib.Core.List.{List, [], _∷_, _++_}
+use mathlib.Core.Path.{_≡_, refl}
+use mathlib.Core.Bool.{Bool, true, false, cond, _&&_}
+use Prim.Native.Nat.{ℕ, zero, suc, _+_, _-_, _<_}
+use native.Mathlib.Omega.{arith}
+use lib.ListN.{length, take, drop, replicate}
+use lib.Dec.{ltb, eqb}
+use Rattle.buffer.specs.Splice.{replaceFront, splice}
+use Rattle.refusal.specs.Refusals.{Judged, fine, refused}
+use Rattle.banner.specs.declared.Features.{Features}
+use Rattle.banner.specs.declared.Revision.{Revision}
+use Rattle.preamble.specs.declared.Header.{Header}
+use Rattle.preamble.specs.Judge.{headerOf}
+use Rattle.body.specs.End.{Ended, whole, dropped, turnedAway}
+use Rattle.stream.specs.declared.Event.{Event}
+use Rattle.stream.specs.declared.Event.the-variants.{Banner, First, Frame, Dropped, Refused}
+use Rattle.stream.specs.Stream.{Entry, Trace, ended, unlessRefused, traceOf}
+use Rattle.stream.specs.Adds.{AddsAt, Adds, AddsFirst, AddsUp, AllAddUp}
+use Rattle.stream.proofs.Sums.{all-add-up}
+use Rattle.aes.specs.Aes.{State, keyExpansion}
+use Rattle.gcm.specs.Gcm.{Opened, plain, fail, openedBy}
+use Rattle.secure.specs.Layout.{nextNonce, padding, inlineLength, lastLengths, firstLength, noRest, noLast, restPart, restPartLength, lastPart, lastPartLength, sealedLength}
+use Rattle.secure.specs.Reading.{judgeNonce, judgePadding, judgeFirst, unpadded, lastEnded, zeroed, byOpening, partTrace, Next, atEnd, lastTrace, restTrace, frames, sealedTrace}
+use Rattle.connection.specs.Switched.{Switch, none, behind, closes, spliced, traceWith}
+use Rattle.connection.specs.Calls.{takenBy, switchBy, SwitchedDemand3}
+use Rattle.connection.proofs.Chain.{switched-demand3}
+use Rattle.sealed_ends.specs.Adds.{SealedAdds, either, AddsBehind, FirstBehind, AllBehind, AddsWith, SwitchedAddUp}
+
+-- ---- sealed frames
+
+abbrev Good : ℕ → Trace → Type 0
+Good P t = SealedAdds P (t .entries)
+
+judged : (P at : ℕ) (j : Judged) (s : List ℕ) (t : Trace) → P < at → Good P t → Good P (unlessRefused j at s t)
+judged P at fine s t l g = g
+judged P at (refused n) s t l g = l
+
+opening : (P at : ℕ) (o : Opened) (s : List ℕ) (next : List ℕ → Trace) → P < at → ((x : List ℕ) → Good P (next x)) → Good P (byOpening o at s next)
+opening P at (plain x) s next l g = g x
+opening P at fail s next l g = l
+
+part : (P : ℕ) (w : List State) (nonce : List ℕ) (n : ℕ) (bytes : List ℕ) (at : ℕ) (s : List ℕ) (next : List ℕ → Trace) → P < at
+    → ((x : List ℕ) → Good P (next x)) → Good P (partTrace w nonce n bytes at s next)
+part P w nonce n bytes at s next l g = judged P at (judgeNonce n) s _ l (opening P at (openedBy w nonce bytes) s next l g)
+
+-- what follows a frame, wherever it ends
+abbrev Later : Next → Type 0
+Later next = (nonce : List ℕ) (n Q : ℕ) (rest s : List ℕ) → Good Q (next nonce n Q rest s)
+
+finished : (x : Ended) (h : Header) (P at : ℕ) (payload s : List ℕ) (next : List ℕ → Trace) → at ≡ P + sealedLength h → P < at
+    → ((t : List ℕ) → Good at (next t)) → Good P (atEnd x h at payload s next)
+finished whole h P at payload s next e l g = (e, g _)
+finished dropped h P at payload s next e l g = (e, g _)
+finished (turnedAway n) h P at payload s next e l g = l
+
+module _ (w : List State) (h : Header) (P : ℕ) (next : Next) (g : Later next) where
+  last-adds : (nonce : List ℕ) (n Q : ℕ) (rest first s : List ℕ) → Q + lastPartLength h ≡ P + sealedLength h → P < Q
+      → Good P (lastTrace w h nonce n Q rest first s next)
+  last-adds nonce n Q rest first s e l = go (noLast h) (ltb (length rest) (lastPart h)) refl
+    where
+      go : (b c : Bool) → noLast h ≡ b → Good P
+          (cond b (atEnd whole h Q first s (next nonce n Q rest))
+          (cond c (ended (splice s (h .s1 .len) rest))
+          (partTrace w nonce n (take (lastPart h) rest) (Q + lastPart h) (zeroed h s)
+          (λ text. atEnd (lastEnded h text) h (Q + lastPart h) (first ++ unpadded (lastLengths h) text) s
+          (next (nextNonce nonce) (suc n) (Q + lastPart h) (drop (lastPart h) rest))))))
+      go true c z =
+          let k : lastPartLength h ≡ 0 = rw z refl in
+          finished whole h P Q first s (next nonce n Q rest) (omega (arith, e, k)) l (λ t. g nonce n Q rest t)
+      go false true z = tt
+      go false false z =
+          let k : lastPartLength h ≡ lastPart h = rw z refl in
+          part P w nonce n (take (lastPart h) rest) (Q + lastPart h) (zeroed h s) _ (omega arith)
+          (λ text. finished (lastEnded h text) h P (Q + lastPart h) (first ++ unpadded (lastLengths h) text) s
+          (next (nextNonce nonce) (suc n) (Q + lastPart h) (drop (lastPart h) rest)) (omega (arith, e, k)) (omega arith)
+          (λ t. g (nextNonce nonce) (suc n) (Q + lastPart h) (drop (lastPart h) rest) t))
+
+  rest-adds : (nonce : List ℕ) (n : ℕ) (rest first s : List ℕ) → Good P (restTrace w h nonce n (P + firstLength) rest first s next)
+  unfolding sealedLength
+  rest-adds nonce n rest first s = go (noRest h) (ltb (length rest) (restPart h)) refl
+    where
+      go : (b c : Bool) → noRest h ≡ b → Good P
+          (cond b (lastTrace w h nonce n (P + firstLength) rest first (replaceFront first s) next)
+          (cond c (ended (splice (replaceFront first s) inlineLength rest))
+          (partTrace w nonce n (take (restPart h) rest) (P + firstLength + restPart h) (zeroed h s)
+          (λ text. unlessRefused (judgePadding (drop (h .s1 .len - inlineLength) text)) (P + firstLength + restPart h) (zeroed h s)
+          (lastTrace w h (nextNonce nonce) (suc n) (P + firstLength + restPart h) (drop (restPart h) rest)
+          (first ++ take (h .s1 .len - inlineLength) text)
+          (replaceFront (first ++ take (h .s1 .len - inlineLength) text ++ replicate (padding (h .s1 .len - inlineLength) + 16) 0) s)
+          next)))))
+      go true c z =
+          let k : restPartLength h ≡ 0 = rw z refl in
+          last-adds nonce n (P + firstLength) rest first (replaceFront first s) (omega (arith, k)) (omega arith)
+      go false true z = tt
+      go false false z =
+          let k : restPartLength h ≡ restPart h = rw z refl in
+          part P w nonce n (take (restPart h) rest) (P + firstLength + restPart h) (zeroed h s) _ (omega arith)
+          (λ text. judged P (P + firstLength + restPart h) (judgePadding (drop (h .s1 .len - inlineLength) text)) (zeroed h s) _ (omega arith)
+          (last-adds (nextNonce nonce) (suc n) (P + firstLength + restPart h) (drop (restPart h) rest) (first ++ take (h .s1 .len - inlineLength) text)
+          (replaceFront (first ++ take (h .s1 .len - inlineLength) text ++ replicate (padding (h .s1 .len - inlineLength) + 16) 0) s) (omega (arith, k)) (omega arith)))
+
+frames-add : (f : ℕ) (w : List State) → Later (frames f w)
+unfolding frames
+frames-add zero w nonce n P rest s = tt
+frames-add (suc f) w nonce n P rest s = go (ltb (length rest) firstLength) (frames-add f w)
+  where
+    go : (c : Bool) → Later (frames f w) → Good P
+        (cond c (ended s)
+        (partTrace w nonce n (take firstLength rest) (P + firstLength) s
+        (λ text. unlessRefused (judgeFirst text (length s)) (P + firstLength) s
+        (restTrace w (headerOf text) (nextNonce nonce) (suc n) (P + firstLength) (drop firstLength rest) (take (headerOf text .s1 .len) (drop 32 text)) s (frames f w)))))
+    go true g = tt
+    go false g =
+        part P w nonce n (take firstLength rest) (P + firstLength) s _ (omega arith)
+        (λ text. judged P (P + firstLength) (judgeFirst text (length s)) s _ (omega arith)
+        (rest-adds w (headerOf text) P (frames f w) g (nextNonce nonce) (suc n) (drop firstLength rest) (take (headerOf text .s1 .len) (drop 32 text)) s))
+
+sealed-add : (key nonce : List ℕ) (at : ℕ) (rest s : List ℕ) → Good at (sealedTrace key nonce 0 at rest s)
+unfolding sealedTrace
+sealed-add key nonce at rest s = frames-add (length rest) (keyExpansion key) nonce 0 at rest s
+
+-- ---- what is spliced behind crc frames
+
+module _ (next : ℕ → List ℕ → Trace) (store : List ℕ) (g : (at : ℕ) (s : List ℕ) → Good at (next at s)) where
+  behind-adds : (n : ℕ) (revision : Revision) (P : ℕ) (es : List Entry) → Adds revision P es → AddsBehind n revision P (spliced n next es store .entries)
+  unfolding spliced
+  behind-adds n revision P [] a = tt
+  behind-adds n revision P (e ∷ es) a = go (e .event) (e .at) (e .store) (λ m Q. behind-adds m revision Q es) a
+    where
+      go : (v : Event) (at : ℕ) (s : List ℕ) → ((m Q : ℕ) → Adds revision Q es → AddsBehind m revision Q (spliced m next es store .entries))
+          → AddsAt revision P v at (λ Q. Adds revision Q es)
+          → AddsAt revision P v at
+          (λ Q. either (closes v && eqb n 1) (SealedAdds Q (cond (closes v && eqb n 1) (next at s) (spliced (cond (closes v) (n - 1) n) next es store) .entries))
+          (AddsBehind (cond (closes v) (n - 1) n) revision Q (cond (closes v && eqb n 1) (next at s) (spliced (cond (closes v) (n - 1) n) next es store) .entries)))
+      go (Banner p r) at s ih a = absurd a
+      go (First h) at s ih a = (a .0, ih n P (a .1))
+      go (Frame h) at s ih a = (a .0, by (eqb n 1))
+        where
+          by : (b : Bool) → either b (SealedAdds at (cond b (next at s) (spliced (n - 1) next es store) .entries)) (AddsBehind (n - 1) revision at (cond b (next at s) (spliced (n - 1) next es store) .entries))
+          by true = g at s
+          by false = ih (n - 1) at (a .1)
+      go (Dropped h) at s ih a = (a .0, by (eqb n 1))
+        where
+          by : (b : Bool) → either b (SealedAdds at (cond b (next at s) (spliced (n - 1) next es store) .entries)) (AddsBehind (n - 1) revision at (cond b (next at s) (spliced (n - 1) next es store) .entries))
+          by true = g at s
+          by false = ih (n - 1) at (a .1)
+      go (Refused m) at s ih a = a
+
+  all-behind : (n : ℕ) (es : List Entry) → AddsUp es → AllBehind n (spliced n next es store .entries)
+  unfolding spliced
+  all-behind n [] a = tt
+  all-behind n (e ∷ es) a = go (e .event) (e .at) (e .store) a
+    where
+      go : (v : Event) (at : ℕ) (s : List ℕ) → AddsFirst v at es
+          → FirstBehind n v at (cond (closes v && eqb n 1) (next at s) (spliced (cond (closes v) (n - 1) n) next es store) .entries)
+      go (Banner p r) at s a = behind-adds n r at es a
+      go (First h) at s a = absurd a
+      go (Frame h) at s a = absurd a
+      go (Dropped h) at s a = absurd a
+      go (Refused m) at s a = tt
+
+with-adds : (sw : Switch) (own : Features) (stream store : List ℕ) → AddsWith sw (traceWith sw own stream store .entries)
+unfolding AllAddUp
+with-adds none own stream store = all-add-up own stream store
+with-adds (behind n key nonce) own stream store =
+    all-behind (λ at s. sealedTrace key nonce 0 at (drop at stream) s) (traceOf own stream store .store) (λ at s. sealed-add key nonce at (drop at stream) s) n
+    (traceOf own stream store .entries) (all-add-up own stream store)
+
+pub switched-add-up : SwitchedAddUp
+unfolding SwitchedAddUp SwitchedDemand3
+switched-add-up own stream store cs ch =
+    let d = switched-demand3 own stream store cs ch in
+    rw (d .reports) (with-adds (switchBy 0 cs) own (take (takenBy 0 cs) stream) store)
