@@ -6,13 +6,16 @@ use lib.ListN.{length, take, drop}
 use lib.Seq.{drop-at}
 use Rattle.refusal.specs.declared.Numbers.{Numbers}
 use Rattle.refusal.specs.Refusals.{Judged, refused}
+use Rattle.banner.specs.declared.Features.{Features}
 use Rattle.banner.specs.Banner.{judgeOwn}
-use Rattle.stream.specs.Stream.{Entry, entry, byOwn, streamTrace, traceOf}
-use Rattle.receiver.specs.declared.State.{State}
+use Rattle.stream.specs.Stream.{Entry, entry, Trace, ended, byOwn, streamTrace, traceOf}
 use Rattle.receiver.specs.declared.Report.{Report}
-use Rattle.receiver.specs.Step.{started}
-use Rattle.receiver.specs.Calls as receiver
-use Rattle.receiver.specs.Calls.{pieceAt, takenBy, stateBy, storeBy, Demand3}
+use Rattle.receiver.specs.Calls.{pieceAt}
+use Rattle.secure.specs.Reading.{sealedTrace}
+use Rattle.connection.specs.Switched.{Switch, none, behind, spliced, traceWith}
+use Rattle.connection.specs.Step.{begun, switchedSending}
+use Rattle.connection.specs.Calls as connection
+use Rattle.connection.specs.Calls.{Piece, Try, taking, switching, takenBy, switchBy, SwitchedDemand3}
 use Rattle.session.specs.declared.Session.{Session}
 use Rattle.session.specs.declared.Report as answer
 use Rattle.session.specs.Calls.{freshSession}
@@ -26,75 +29,72 @@ use Rattle.delivery.specs.declared.Asked.the-variants as asked
 use Rattle.delivery.specs.declared.Settled.{Settled}
 use Rattle.delivery.specs.declared.Delivered.{Delivered}
 use Rattle.delivery.specs.declared.Sent.{Sent}
-use Rattle.delivery.specs.Asked.{askedBy, askedByReport, settled, doneTo, receivedBy, Delivers, Called, ConnectedWith}
-use Rattle.delivery.specs.Calls.{Call, piece, accepted, handed, Chained, sessionAfter, Connection, Connects, sessionAfterAll, entriesUpTo, added, Cause, sends, receives, causesFrom, causesOf, callsAsked, callsBy, callsDue, played, historyOf, Does, nothing, one, Each, EachOf, toldBy, toldIn, toldOf, reportsIn, StartsOf, EveryRelease}
-use Rattle.delivery.proofs.Entries.{snoc, chained-snoc, taken-snoc, state-snoc, store-snoc, Adds, silent, again, reports, Grows, one-more}
+use Rattle.delivery.specs.Asked.{askedBy, askedByReport, settled, doneTo, receivedBy, switchedBy, Delivers, Called, ConnectedWith}
+use Rattle.delivery.specs.Calls.{Call, piece, tried, accepted, handed, Chained, sessionAfter, Connection, Connects, sessionAfterAll, onConnection, switchOf, entriesUpTo, added, Cause, sends, receives, causesFrom, causesOf, callsAsked, callsBy, callsDue, played, historyOf, Does, nothing, one, Each, EachOf, toldBy, toldIn, toldOf, reportsIn, StartsOf, Given, SwitchesOf, ReceivedOf, EveryRelease}
+use Rattle.delivery.proofs.Entries.{andTry, andPiece, taken-try, taken-piece, Adds, silent, again, reports, Grows, defined, grown}
 use Rattle.delivery.proofs.Reasons.{afterCalls, sent-held}
 use Rattle.delivery.proofs.Leaves.{left-of}
 
 -- ---- each call
 
--- the calls of `receive` so far, and what they left
-pub record Upto (k : Connection) (past : List receiver.Call) (st : State) (s : List ℕ) (t : ℕ) : Type 0 where
-  pub chained : receiver.Chained (k .stream) (started (k .own)) (k .store) 0 past
-  pub state : st ≡ stateBy (started (k .own)) past
-  pub store : s ≡ storeBy (k .store) past
-  pub taken : t ≡ takenBy 0 past
+-- the calls as those of the connection alone
+chained-on : (stream : List ℕ) (st : Delivery) (s : List ℕ) (t : ℕ) (cs : List Call) → Chained stream st s t cs → connection.Chained stream (st .receiver) s t (onConnection cs)
+chained-on stream st s t [] ch = tt
+chained-on stream st s t (piece size r s′ ∷ cs) ch = (ch .0 .received, chained-on stream (r .state) s′ (t + r .taken) cs (ch .1))
+chained-on stream st s t (tried key receiving sending r ∷ cs) ch = (ch .0 .switched, chained-on stream (r .state) s t cs (ch .1))
+chained-on stream st s t (accepted h r ∷ cs) ch = rw (ap (λ (o : Delivery). o .receiver) (ch .0 .state)) at (chained-on stream (r .state) s t cs (ch .1))
+chained-on stream st s t (handed n r ∷ cs) ch = rw (ap (λ (o : Delivery). o .receiver) (ch .0 .state)) at (chained-on stream (r .state) s t cs (ch .1))
 
--- none yet
-pub begun : (k : Connection) (s : Session) → ConnectedWith s (k .own) (k .connected) → Upto k [] (k .connected .state .receiver) (k .store) 0
-begun k s c = record { chained = tt; state = ap (λ (x : Delivery). x .receiver) (c .state); store = refl; taken = refl }
+abbrev pub OnConnection : Connection → Type 0
+OnConnection k = connection.Chained (k .stream) (begun (k .own)) (k .store) 0 (onConnection (k .calls))
+
+pub on-connection : (k : Connection) (s : Session) → ConnectedWith s (k .own) (k .connected) → Chained (k .stream) (k .connected .state) (k .store) 0 (k .calls) → OnConnection k
+on-connection k s c ch = rw (ap (λ (x : Delivery). x .receiver) (c .state)) at (chained-on (k .stream) (k .connected .state) (k .store) 0 (k .calls) ch)
 
 does : (s : Session) (d : Settled) (r : Report) (t′ : ℕ) (s′ : List ℕ) (new : List Entry) → d ≡ doneTo s (askedByReport r s′) → Adds r t′ s′ new → Does s t′ d new
 does s d r t′ s′ new e (silent q) = nothing (e ∙ ap (λ (x : Report). doneTo s (askedByReport x s′)) q)
 does s d r t′ s′ new e (again n q) = nothing (e ∙ ap (λ (x : Report). doneTo s (askedByReport x s′)) q)
 does s d r t′ s′ new e (reports w q) = one (entry w t′ s′) refl (e ∙ ap (λ (x : Report). doneTo s (askedByReport x s′)) q)
 
-module _ (demand : Demand3) (k : Connection) where
-  abbrev callBy : ℕ → Delivered → List ℕ → receiver.Call
-  callBy size r s′ = record { size = size; received = receivedBy r; store = s′ }
+module _ (demand : SwitchedDemand3) (k : Connection) (on : OnConnection k) where
+  -- a piece behind the calls past
+  module _ (past : List connection.Call) (st : Delivery) (s : List ℕ) (t size : ℕ) (r : Delivered) (s′ : List ℕ) (cs : List Call)
+      (all : past ++ onConnection (piece size r s′ ∷ cs) ≡ onConnection (k .calls)) (taken : t ≡ takenBy 0 past) (d : Delivers st s (pieceAt (k .stream) t size) r s′) where
+    abbrev c : Piece
+    c = record { size = size; received = receivedBy r; store = s′ }
 
-  module _ (past : List receiver.Call) (st : Delivery) (s : List ℕ) (t size : ℕ) (r : Delivered) (s′ : List ℕ) (u : Upto k past (st .receiver) s t) (d : Delivers st s (pieceAt (k .stream) t size) r s′) where
-    abbrev c : receiver.Call
-    c = callBy size r s′
+    grows : Grows (k .own) (k .stream) (k .store) (switchOf k) t c
+    grows =
+        rw (taken)
+        (subst (λ (l : List connection.Call). Grows (k .own) (k .stream) (k .store) (switchBy 0 l) (takenBy 0 past) c) all
+        (grown demand (k .own) (k .stream) (k .store) past (onConnection cs) c
+        (subst (λ (l : List connection.Call). connection.Chained (k .stream) (begun (k .own)) (k .store) 0 l) (sym all) on)))
 
-    next-chained : receiver.Chained (k .stream) (started (k .own)) (k .store) 0 (snoc c past)
-    next-chained = chained-snoc c (k .stream) (started (k .own)) (k .store) 0 past (u .chained) (rw (u .state, u .store, u .taken) at (d .received))
+    added-is : added k t (t + r .taken) ≡ grows .new
+    added-is = ap (drop (length (entriesUpTo k t))) (grows .grows) ∙ drop-at (entriesUpTo k t) (grows .new) (length (entriesUpTo k t)) refl
 
-    next-upto : Upto k (snoc c past) (r .state .receiver) s′ (t + r .taken)
-    next-upto = record {
-      chained = next-chained;
-      state = sym (state-snoc c (started (k .own)) past);
-      store = sym (store-snoc c (k .store) past);
-      taken = ap (λ (n : ℕ). n + r .taken) (u .taken) ∙ sym (taken-snoc c 0 past);
-    }
-
-    next-grows : Grows (k .own) (k .stream) (k .store) t c
-    next-grows = rw (u .taken) (one-more demand (k .own) (k .stream) (k .store) past c (u .chained) next-chained)
-
-    added-is : added k t (t + r .taken) ≡ next-grows .new
-    added-is = ap (drop (length (entriesUpTo k t))) (next-grows .grows) ∙ drop-at (entriesUpTo k t) (next-grows .new) (length (entriesUpTo k t)) refl
-
-    grown : entriesUpTo k (t + r .taken) ≡ entriesUpTo k t ++ added k t (t + r .taken)
-    grown = next-grows .grows ∙ ap (λ (es : List Entry). entriesUpTo k t ++ es) (sym added-is)
+    behind-them : entriesUpTo k (t + r .taken) ≡ entriesUpTo k t ++ added k t (t + r .taken)
+    behind-them = grows .grows ∙ ap (λ (es : List Entry). entriesUpTo k t ++ es) (sym added-is)
 
     done : Does (st .session) (t + r .taken) (settled (r .state .session) (r .effect)) (added k t (t + r .taken))
     done = subst (λ (es : List Entry). Does (st .session) (t + r .taken) (settled (r .state .session) (r .effect)) es) (sym added-is)
-        (does (st .session) (settled (r .state .session) (r .effect)) (r .report) (t + r .taken) s′ (next-grows .new) (d .done) (next-grows .adds))
+        (does (st .session) (settled (r .state .session) (r .effect)) (r .report) (t + r .taken) s′ (grows .new) (d .done) (grows .adds))
 
-  pub each : (past : List receiver.Call) (st : Delivery) (s : List ℕ) (t : ℕ) (cs : List Call) → Upto k past (st .receiver) s t → Chained (k .stream) st s t cs → Each k (st .session) t cs
-  each past st s t [] u ch = tt
-  each past st s t (piece size r s′ ∷ cs) u ch = (
-    grown past st s t size r s′ u (ch .0),
-    done past st s t size r s′ u (ch .0),
-    each (snoc (callBy size r s′) past) (r .state) s′ (t + r .taken) cs (next-upto past st s t size r s′ u (ch .0)) (ch .1),
-  )
-  each past st s t (accepted h r ∷ cs) u ch =
-      let e : r .state .receiver ≡ st .receiver = ap (λ (o : Delivery). o .receiver) (ch .0 .state) in
-      each past (r .state) s t cs (rw e u) (ch .1)
-  each past st s t (handed n r ∷ cs) u ch =
-      let e : r .state .receiver ≡ st .receiver = ap (λ (o : Delivery). o .receiver) (ch .0 .state) in
-      each past (r .state) s t cs (rw e u) (ch .1)
+  pub each : (past : List connection.Call) (st : Delivery) (s : List ℕ) (t : ℕ) (cs : List Call) → past ++ onConnection cs ≡ onConnection (k .calls) → t ≡ takenBy 0 past
+      → Chained (k .stream) st s t cs → Each k (st .session) t cs
+  each past st s t [] all n ch = tt
+  each past st s t (piece size r s′ ∷ cs) all n ch =
+      let c : Piece = record { size = size; received = receivedBy r; store = s′ } in (
+        behind-them past st s t size r s′ cs all n (ch .0),
+        done past st s t size r s′ cs all n (ch .0),
+        each (andPiece c past) (r .state) s′ (t + r .taken) cs (append-assoc past (taking c ∷ []) (onConnection cs) ∙ all)
+            (ap (λ (i : ℕ). i + r .taken) n ∙ sym (taken-piece c 0 past)) (ch .1),
+      )
+  each past st s t (tried key receiving sending r ∷ cs) all n ch =
+      let c : Try = record { key = key; receiving = receiving; sending = sending; switched = switchedBy r } in
+      each (andTry c past) (r .state) s t cs (append-assoc past (switching c ∷ []) (onConnection cs) ∙ all) (n ∙ sym (taken-try c 0 past)) (ch .1)
+  each past st s t (accepted h r ∷ cs) all n ch = each past (r .state) s t cs all n (ch .1)
+  each past st s t (handed h r ∷ cs) all n ch = each past (r .state) s t cs all n (ch .1)
 
 -- ---- the session after them, and what the caller is told
 
@@ -103,9 +103,9 @@ due-append [] ys = refl
 due-append (x ∷ xs) ys = ap (λ (cs : List session.Call). callsBy x ++ cs) (due-append xs ys) ∙ sym (append-assoc (callsBy x) (callsDue xs) (callsDue ys))
 
 -- calls of the session, one behind the other, lead from s to s′ and give these answers
-record Plays (s : Session) (calls : List session.Call) (s′ : Session) (answers : List answer.Report) : Type 0 where
-  leads : s′ ≡ afterCalls s calls
-  gives : answers ≡ reportsIn (played s calls)
+pub record Plays (s : Session) (calls : List session.Call) (s′ : Session) (answers : List answer.Report) : Type 0 where
+  pub leads : s′ ≡ afterCalls s calls
+  pub gives : answers ≡ reportsIn (played s calls)
 
 after-append : (s : Session) (xs ys : List session.Call) → afterCalls s (xs ++ ys) ≡ afterCalls (afterCalls s xs) ys
 after-append s [] ys = refl
@@ -142,7 +142,7 @@ does-plays s t′ d es (one w at e) =
 called-plays : (st : Delivery) (c : session.Call) (r : Sent) → Called st c r → Plays (st .session) (c ∷ []) (r .state .session) (r .report ∷ [])
 called-plays st c r x = record { leads = ap (λ (d : Delivery). d .session) (x .state); gives = ap (λ (q : answer.Report). q ∷ []) (x .report) }
 
-calls-play : (k : Connection) (st : Delivery) (s : List ℕ) (t : ℕ) (cs : List Call) → Chained (k .stream) st s t cs → Each k (st .session) t cs
+pub calls-play : (k : Connection) (st : Delivery) (s : List ℕ) (t : ℕ) (cs : List Call) → Chained (k .stream) st s t cs → Each k (st .session) t cs
     → Plays (st .session) (callsDue (causesFrom k t cs)) (sessionAfter (st .session) cs) (toldIn cs)
 calls-play k st s t [] ch e = record { leads = refl; gives = refl }
 calls-play k st s t (piece size r s′ ∷ cs) ch e =
@@ -150,17 +150,19 @@ calls-play k st s t (piece size r s′ ∷ cs) ch e =
     let ys = causesFrom k (t + r .taken) cs in
     subst (λ (l : List session.Call). Plays (st .session) l (sessionAfter (r .state .session) cs) (toldBy (r .effect) ++ toldIn cs)) (sym (due-append xs ys))
     (plays-then (does-plays (st .session) (t + r .taken) (settled (r .state .session) (r .effect)) (added k t (t + r .taken)) (e .1)) (calls-play k (r .state) s′ (t + r .taken) cs (ch .1) (e .2)))
+calls-play k st s t (tried key receiving sending r ∷ cs) ch e =
+    subst (λ (x : Session). Plays x (callsDue (causesFrom k t cs)) (sessionAfter (r .state .session) cs) (toldIn cs)) (ch .0 .session) (calls-play k (r .state) s t cs (ch .1) e)
 calls-play k st s t (accepted h r ∷ cs) ch e = plays-then (called-plays st (session.accept h) r (ch .0)) (calls-play k (r .state) s t cs (ch .1) e)
 calls-play k st s t (handed n r ∷ cs) ch e = plays-then (called-plays st (session.ack n) r (ch .0)) (calls-play k (r .state) s t cs (ch .1) e)
 
 -- ---- every connection
 
-each-of : Demand3 → (s : Session) (ks : List Connection) → Connects s ks → EachOf s ks
+each-of : SwitchedDemand3 → (s : Session) (ks : List Connection) → Connects s ks → EachOf s ks
 each-of demand s [] c = tt
 each-of demand s (k ∷ ks) c =
     let st = k .connected .state in
     let e : st .session ≡ s = ap (λ (x : Delivery). x .session) (c .0 .state) in
-    (subst (λ (x : Session). Each k x 0 (k .calls)) e (each demand k [] st (k .store) 0 (k .calls) (begun k s (c .0)) (c .1)), each-of demand (sessionAfter s (k .calls)) ks (c .2))
+    (subst (λ (x : Session). Each k x 0 (k .calls)) e (each demand k (on-connection k s (c .0) (c .1)) [] st (k .store) 0 (k .calls) refl refl (c .1)), each-of demand (sessionAfter s (k .calls)) ks (c .2))
 
 all-play : (s : Session) (ks : List Connection) → Connects s ks → EachOf s ks → Plays s (callsDue (causesOf ks)) (sessionAfterAll s ks) (toldOf ks)
 all-play s [] c e = record { leads = refl; gives = refl }
@@ -175,20 +177,51 @@ all-play s (k ∷ ks) c e =
     (plays-then now (all-play (sessionAfter s (k .calls)) ks (c .2) (e .1)))
 
 -- where our own features are refused, the definition has no entry
-no-entries : (k : Connection) (n : Numbers) (t : ℕ) → judgeOwn (k .own .supported) (k .own .required) ≡ refused n → entriesUpTo k t ≡ []
+no-trace : (own : Features) (n : Numbers) (bytes store : List ℕ) → judgeOwn (own .supported) (own .required) ≡ refused n → traceOf own bytes store ≡ ended store
 unfolding traceOf
-no-entries k n t e = ap (λ (j : Judged). byOwn j (streamTrace (k .own) (take t (k .stream)) (k .store)) (k .store) .entries) e
+no-trace own n bytes store e = ap (λ (j : Judged). byOwn j (streamTrace own bytes store) store) e
+
+no-entries : (sw : Switch) (own : Features) (n : Numbers) (bytes store : List ℕ) → judgeOwn (own .supported) (own .required) ≡ refused n → traceWith sw own bytes store .entries ≡ []
+unfolding spliced
+no-entries none own n bytes store e = ap (λ (y : Trace). y .entries) (no-trace own n bytes store e)
+no-entries (behind m key nonce) own n bytes store e =
+    ap (λ (y : Trace). spliced m (λ at s. sealedTrace key nonce 0 at (drop at bytes) s) (y .entries) (y .store) .entries) (no-trace own n bytes store e)
 
 starts-of : (s : Session) (ks : List Connection) → Connects s ks → StartsOf ks
 starts-of s [] c = tt
-starts-of s (k ∷ ks) c = (record { verdict = c .0 .verdict; refuses = λ n e t. no-entries k n t (sym (c .0 .verdict) ∙ e) }, starts-of (sessionAfter s (k .calls)) ks (c .2))
+starts-of s (k ∷ ks) c = (record { verdict = c .0 .verdict; refuses = λ n e t. no-entries (switchOf k) (k .own) n (take t (k .stream)) (k .store) (sym (c .0 .verdict) ∙ e) }, starts-of (sessionAfter s (k .calls)) ks (c .2))
+
+-- what each try to switch gives the builder
+given-of : (stream : List ℕ) (st : Delivery) (s : List ℕ) (t : ℕ) (cs : List Call) → Chained stream st s t cs → Given cs
+given-of stream st s t [] ch = tt
+given-of stream st s t (piece size r s′ ∷ cs) ch = given-of stream (r .state) s′ (t + r .taken) cs (ch .1)
+given-of stream st s t (tried key receiving sending r ∷ cs) ch =
+    let w = ch .0 .switched in
+    (w .sends ∙ ap (λ (j : Judged). switchedSending j key sending) (sym (w .verdict)), given-of stream (r .state) s t cs (ch .1))
+given-of stream st s t (accepted h r ∷ cs) ch = given-of stream (r .state) s t cs (ch .1)
+given-of stream st s t (handed n r ∷ cs) ch = given-of stream (r .state) s t cs (ch .1)
+
+received-of : SwitchedDemand3 → (s : Session) (ks : List Connection) → Connects s ks → ReceivedOf ks
+received-of demand s [] c = tt
+received-of demand s (k ∷ ks) c = (
+  defined demand (k .own) (k .stream) (k .store) (onConnection (k .calls)) (on-connection k s (c .0) (c .1)),
+  received-of demand (sessionAfter s (k .calls)) ks (c .2),
+)
+
+switches-of : SwitchedDemand3 → (s : Session) (ks : List Connection) → Connects s ks → SwitchesOf ks
+switches-of demand s [] c = tt
+switches-of demand s (k ∷ ks) c = (
+  defined demand (k .own) (k .stream) (k .store) (onConnection (k .calls)) (on-connection k s (c .0) (c .1)) .one,
+  given-of (k .stream) (k .connected .state) (k .store) 0 (k .calls) (c .1),
+  switches-of demand (sessionAfter s (k .calls)) ks (c .2),
+)
 
 played-chained : (s : Session) (cs : List session.Call) → history.Chained s (played s cs)
 played-chained s [] = tt
 played-chained s (c ∷ cs) = (refl, played-chained (callOf s c .session) cs)
 
 -- THE CLAIM
-pub every-release : Demand3 → EveryCall → EveryHistory → EveryRelease
+pub every-release : SwitchedDemand3 → EveryCall → EveryHistory → EveryRelease
 unfolding EveryRelease EveryHistory
 every-release demand calls histories ks c =
     let e = each-of demand freshSession ks c in
@@ -196,12 +229,14 @@ every-release demand calls histories ks c =
     let final : sessionAfterAll freshSession ks ≡ sessionBy freshSession (historyOf (causesOf ks)) = p .leads in
     let kept : Kept (historyOf (causesOf ks)) = histories (historyOf (causesOf ks)) (played-chained freshSession (callsDue (causesOf ks))) in
     record {
+      received = received-of demand freshSession ks c;
       each = e;
       leaves = left-of calls freshSession ks c e (record { agreeing = calls .fresh; sized = refl });
       final = final;
       kept = kept;
       told = p .gives;
       starts = starts-of freshSession ks c;
+      switches = switches-of demand freshSession ks c;
       released = λ before since h m q a.
           let d : callsDue (causesOf ks) ≡ callsDue before ++ (session.accept h ∷ callsDue since) = ap callsDue q ∙ due-append before (sends h ∷ since) in
           rw (final, kept .holds, d) (sent-held freshSession (callsDue before) since h m a);

@@ -1,68 +1,93 @@
--- One more call of the receiver: what its bytes add to the definition's list. From demand 3, of the calls before it and of the calls with it.
-use mathlib.Core.Path.{_≡_, refl, sym, ap, _∙_}
-use mathlib.Core.List.{List, [], _∷_, _++_, append-nil}
+-- One more call on a connection: what its bytes add to the definition's list, with the switch that is made before it or later. From demand 3, of the calls
+-- before it and of the calls with it.
+use mathlib.Core.Path.{_≡_, refl, sym, ap, subst, _∙_}
+use mathlib.Core.List.{List, [], _∷_, _++_, append-nil, append-assoc}
 use mathlib.Core.Bool.{Bool, true, false, cond, true≢false}
 use Prim.Native.Nat.{ℕ, _+_, _≤_}
 use native.Mathlib.Omega.{arith}
 use lib.ListN.{length, take}
 use borrow.Author.Tests.{le-leb}
 use Rattle.refusal.specs.declared.Numbers.{Numbers}
-use Rattle.refusal.specs.Refusals.{Judged, fine, refused}
+use Rattle.refusal.specs.Refusals.{Judged, fine, refused, judgedBy}
 use Rattle.banner.specs.declared.Features.{Features}
 use Rattle.banner.specs.Banner.{judgeOwn}
 use Rattle.stream.specs.declared.Event.{Event}
 use Rattle.stream.specs.declared.Event.the-variants as event
-use Rattle.stream.specs.Stream.{Entry, entry, traceOf}
-use Rattle.receiver.specs.declared.State.{State}
+use Rattle.stream.specs.Stream.{Entry, entry}
 use Rattle.receiver.specs.declared.Report.{Report}
 use Rattle.receiver.specs.declared.Report.the-variants as report
-use Rattle.receiver.specs.Step.{Answered, started}
-use Rattle.receiver.specs.Calls.{Call, pieceAt, Chained, takenBy, stateBy, storeBy, passing, entered, reportedBy, dueReport, Each, Repeats, refusedIn, AsDefined, Demand3}
+use Rattle.receiver.specs.Calls.{pieceAt, passing, entered, dueReport, refusedIn}
+use Rattle.connection.specs.declared.State.{State}
+use Rattle.connection.specs.Switched.{Switch, behind, traceWith}
+use Rattle.connection.specs.Step.{begun}
+use Rattle.connection.specs.Calls.{Piece, Try, Call, taking, switching, Chained, takenBy, reportedBy, listOf, counted, madeOr, switchBy, Each, Repeats, AsSwitched, SwitchedDemand3}
+use Rattle.delivery.proofs.Earlier.{upTo, trace-earlier}
+
+-- ---- the first calls of a list
+
+front : (stream : List ℕ) (st : State) (s : List ℕ) (t : ℕ) (xs ys : List Call) → Chained stream st s t (xs ++ ys) → Chained stream st s t xs
+front stream st s t [] ys ch = tt
+front stream st s t (taking c ∷ xs) ys ch = (ch .0, front stream (c .received .state) (c .store) (t + c .received .taken) xs ys (ch .1))
+front stream st s t (switching c ∷ xs) ys ch = (ch .0, front stream (c .switched .state) s t xs ys (ch .1))
 
 -- ---- a list of calls and one more
 
-module _ (c : Call) where
-  abbrev pub snoc : List Call → List Call
-  snoc cs = cs ++ (c ∷ [])
+abbrev pub andTry : Try → List Call → List Call
+andTry c cs = cs ++ (switching c ∷ [])
 
-  pub chained-snoc : (stream : List ℕ) (st : State) (s : List ℕ) (t : ℕ) (cs : List Call) → Chained stream st s t cs
-      → Answered (stateBy st cs) (storeBy s cs) (pieceAt stream (takenBy t cs) (c .size)) (c .received) (c .store) → Chained stream st s t (snoc cs)
-  chained-snoc stream st s t [] ch a = (a, tt)
-  chained-snoc stream st s t (d ∷ cs) ch a = (ch .0, chained-snoc stream (d .received .state) (d .store) (t + d .received .taken) cs (ch .1) a)
+module _ (c : Try) where
+  pub taken-try : (t : ℕ) (cs : List Call) → takenBy t (andTry c cs) ≡ takenBy t cs
+  taken-try t [] = refl
+  taken-try t (taking d ∷ cs) = taken-try (t + d .received .taken) cs
+  taken-try t (switching d ∷ cs) = taken-try t cs
 
-  pub taken-snoc : (t : ℕ) (cs : List Call) → takenBy t (snoc cs) ≡ takenBy t cs + c .received .taken
-  taken-snoc t [] = refl
-  taken-snoc t (d ∷ cs) = taken-snoc (t + d .received .taken) cs
+  reported-try : (t : ℕ) (cs : List Call) → reportedBy t (andTry c cs) ≡ reportedBy t cs
+  reported-try t [] = refl
+  reported-try t (taking d ∷ cs) = ap (entered (d .received .report) (t + d .received .taken) (d .store)) (reported-try (t + d .received .taken) cs)
+  reported-try t (switching d ∷ cs) = reported-try t cs
 
-  pub state-snoc : (st : State) (cs : List Call) → stateBy st (snoc cs) ≡ c .received .state
-  state-snoc st [] = refl
-  state-snoc st (d ∷ cs) = state-snoc (d .received .state) cs
+  list-try : (j : Judged) (cs : List Call) → listOf j (andTry c cs) ≡ listOf j cs
+  list-try fine cs = reported-try 0 cs
+  list-try (refused n) cs = refl
 
-  pub store-snoc : (s : List ℕ) (cs : List Call) → storeBy s (snoc cs) ≡ c .store
-  store-snoc s [] = refl
-  store-snoc s (d ∷ cs) = store-snoc (d .store) cs
+abbrev pub andPiece : Piece → List Call → List Call
+andPiece c cs = cs ++ (taking c ∷ [])
+
+module _ (c : Piece) where
+  pub taken-piece : (t : ℕ) (cs : List Call) → takenBy t (andPiece c cs) ≡ takenBy t cs + c .received .taken
+  taken-piece t [] = refl
+  taken-piece t (taking d ∷ cs) = taken-piece (t + d .received .taken) cs
+  taken-piece t (switching d ∷ cs) = taken-piece t cs
+
+  switch-piece : (k : ℕ) (cs : List Call) → switchBy k (andPiece c cs) ≡ switchBy k cs
+  switch-piece k [] = refl
+  switch-piece k (taking d ∷ cs) = switch-piece (counted k (d .received .report)) cs
+  switch-piece k (switching d ∷ cs) = ap (madeOr (judgedBy (d .switched .verdict)) (behind k (d .key) (d .receiving))) (switch-piece k cs)
 
   -- the last of them
-  each-last : (es : List Entry) (stream : List ℕ) (t : ℕ) (cs : List Call) → Each es stream t (snoc cs)
+  each-last : (es : List Entry) (stream : List ℕ) (t : ℕ) (cs : List Call) → Each es stream t (andPiece c cs)
       → c .received .report ≡ dueReport es (takenBy t cs) (length (pieceAt stream (takenBy t cs) (c .size)))
   each-last es stream t [] e = e .1
-  each-last es stream t (d ∷ cs) e = each-last es stream (t + d .received .taken) cs (e .2)
+  each-last es stream t (taking d ∷ cs) e = each-last es stream (t + d .received .taken) cs (e .2)
+  each-last es stream t (switching d ∷ cs) e = each-last es stream t cs e
 
-  repeats-last : (n : Numbers) (cs : List Call) → Repeats n (snoc cs) → c .received .report ≡ report.Event (event.Refused n)
+  repeats-last : (n : Numbers) (cs : List Call) → Repeats n (andPiece c cs) → c .received .report ≡ report.Event (event.Refused n)
   repeats-last n [] e = e .1
-  repeats-last n (d ∷ cs) e = repeats-last n cs (e .2)
+  repeats-last n (taking d ∷ cs) e = repeats-last n cs (e .2)
+  repeats-last n (switching d ∷ cs) e = repeats-last n cs e
 
   -- its report is entered, unless a refusal was
   abbrev lastly : ℕ → List Entry
   lastly t = entered (c .received .report) (t + c .received .taken) (c .store) []
 
-  reported-snoc : (t : ℕ) (cs : List Call) → reportedBy t (snoc cs) ≡ reportedBy t cs ++ cond (refusedIn (reportedBy t cs)) [] (lastly (takenBy t cs))
-  reported-snoc t [] = refl
-  reported-snoc t (d ∷ cs) = go (d .received .report) (reported-snoc (t + d .received .taken) cs)
+  reported-piece : (t : ℕ) (cs : List Call) → reportedBy t (andPiece c cs) ≡ reportedBy t cs ++ cond (refusedIn (reportedBy t cs)) [] (lastly (takenBy t cs))
+  reported-piece t [] = refl
+  reported-piece t (switching d ∷ cs) = reported-piece t cs
+  reported-piece t (taking d ∷ cs) = go (d .received .report) (reported-piece (t + d .received .taken) cs)
     where
       go : (r : Report)
-          → reportedBy (t + d .received .taken) (snoc cs) ≡ reportedBy (t + d .received .taken) cs ++ cond (refusedIn (reportedBy (t + d .received .taken) cs)) [] (lastly (takenBy (t + d .received .taken) cs))
-          → entered r (t + d .received .taken) (d .store) (reportedBy (t + d .received .taken) (snoc cs))
+          → reportedBy (t + d .received .taken) (andPiece c cs) ≡ reportedBy (t + d .received .taken) cs ++ cond (refusedIn (reportedBy (t + d .received .taken) cs)) [] (lastly (takenBy (t + d .received .taken) cs))
+          → entered r (t + d .received .taken) (d .store) (reportedBy (t + d .received .taken) (andPiece c cs))
           ≡ entered r (t + d .received .taken) (d .store) (reportedBy (t + d .received .taken) cs)
           ++ cond (refusedIn (entered r (t + d .received .taken) (d .store) (reportedBy (t + d .received .taken) cs))) [] (lastly (takenBy (t + d .received .taken) cs))
       go report.More ih = ih
@@ -81,13 +106,15 @@ UpTo t (e ∷ es) = (e .at ≤ t) × UpTo t es
 
 taken-more : (t : ℕ) (cs : List Call) → t ≤ takenBy t cs
 taken-more t [] = omega arith
-taken-more t (c ∷ cs) =
+taken-more t (switching c ∷ cs) = taken-more t cs
+taken-more t (taking c ∷ cs) =
     let h : t + c .received .taken ≤ takenBy (t + c .received .taken) cs = taken-more (t + c .received .taken) cs in
     omega arith
 
 up-to : (t : ℕ) (cs : List Call) → UpTo (takenBy t cs) (reportedBy t cs)
 up-to t [] = tt
-up-to t (c ∷ cs) = go (c .received .report) (up-to (t + c .received .taken) cs)
+up-to t (switching c ∷ cs) = up-to t cs
+up-to t (taking c ∷ cs) = go (c .received .report) (up-to (t + c .received .taken) cs)
   where
     go : (r : Report) → UpTo (takenBy (t + c .received .taken) cs) (reportedBy (t + c .received .taken) cs)
         → UpTo (takenBy (t + c .received .taken) cs) (entered r (t + c .received .taken) (c .store) (reportedBy (t + c .received .taken) cs))
@@ -129,68 +156,129 @@ pub data Adds (r : Report) (t′ : ℕ) (s′ : List ℕ) : List Entry → Type 
   again : (n : Numbers) → r ≡ report.Event (event.Refused n) → Adds r t′ s′ []
   reports : (e : Event) → r ≡ report.Event e → Adds r t′ s′ (entry e t′ s′ ∷ [])
 
--- t bytes were taken before it
-pub record Grows (own : Features) (stream store : List ℕ) (t : ℕ) (c : Call) : Type 0 where
+-- t bytes were taken before it, and sw is the switch that is made
+pub record Grows (own : Features) (stream store : List ℕ) (sw : Switch) (t : ℕ) (c : Piece) : Type 0 where
   pub new : List Entry
-  pub grows : traceOf own (take (t + c .received .taken) stream) store .entries ≡ traceOf own (take t stream) store .entries ++ new
+  pub grows : traceWith sw own (take (t + c .received .taken) stream) store .entries ≡ traceWith sw own (take t stream) store .entries ++ new
   pub adds : Adds (c .received .report) (t + c .received .taken) (c .store) new
 
-module _ (demand : Demand3) (own : Features) (stream store : List ℕ) (cs : List Call) (c : Call) (ch : Chained stream (started own) store 0 cs) (ch′ : Chained stream (started own) store 0 (snoc c cs)) where
-  abbrev t : ℕ
-  t = takenBy 0 cs
+module _ (demand : SwitchedDemand3) (own : Features) (stream store : List ℕ) where
+  abbrev E : Switch → ℕ → List Entry
+  E sw n = traceWith sw own (take n stream) store .entries
 
-  abbrev E : ℕ → List Entry
-  E n = traceOf own (take n stream) store .entries
+  abbrev Calls : List Call → Type 0
+  Calls cs = Chained stream (begun own) store 0 cs
 
-  D₀ : AsDefined own stream store cs
-  unfolding Demand3
-  D₀ = demand own stream store cs ch
+  pub defined : (cs : List Call) → Calls cs → AsSwitched own stream store cs (switchBy 0 cs)
+  unfolding SwitchedDemand3
+  defined cs ch = demand own stream store cs ch
 
-  D₁ : AsDefined own stream store (snoc c cs)
-  unfolding Demand3
-  D₁ = demand own stream store (snoc c cs) ch′
+  -- ---- with the switch that was made before
 
-  by-refused : (n : Numbers) → judgeOwn (own .supported) (own .required) ≡ refused n → Grows own stream store t c
-  by-refused n j =
-      let e₀ : [] ≡ E t = rw j at (D₀ .reports) in
-      let e₁ : [] ≡ E (t + c .received .taken) = rw (j, taken-snoc c 0 cs) at (D₁ .reports) in
-      record { new = []; grows = sym e₁ ∙ e₀ ∙ sym (append-nil (E t)); adds = again n (repeats-last c n cs (rw j at (D₁ .each))) }
+  module _ (cs : List Call) (c : Piece) (ch : Calls (andPiece c cs)) where
+    abbrev t : ℕ
+    t = takenBy 0 cs
 
-  module _ (j : judgeOwn (own .supported) (own .required) ≡ fine) where
-    e₀ : reportedBy 0 cs ≡ E t
-    e₀ = rw j at (D₀ .reports)
+    abbrev sw : Switch
+    sw = switchBy 0 cs
 
-    e₁ : reportedBy 0 cs ++ cond (refusedIn (reportedBy 0 cs)) [] (lastly c t) ≡ E (t + c .received .taken)
-    e₁ = sym (reported-snoc c 0 cs) ∙ rw (j, taken-snoc c 0 cs) at (D₁ .reports)
+    D₀ : AsSwitched own stream store cs sw
+    D₀ = defined cs (front stream (begun own) store 0 cs (taking c ∷ []) ch)
 
-    by-stopped : refusedIn (reportedBy 0 cs) ≡ true → Grows own stream store t c
-    by-stopped stop =
-        let w : reportedBy 0 cs ≡ traceOf own stream store .entries = rw j at (D₀ .whole (rw j stop)) .0 in
-        let l = each-last c (traceOf own stream store .entries) stream 0 cs (rw j at (D₁ .each)) in
-        let a = due-again (traceOf own stream store .entries) t (length (pieceAt stream t (c .size))) (rw w at (up-to 0 cs)) (rw w at stop) in
-        record { new = []; grows = sym (rw stop at e₁) ∙ ap (λ (es : List Entry). es ++ []) e₀; adds = again (a .refusal) (l ∙ a .is) }
+    D₁ : AsSwitched own stream store (andPiece c cs) sw
+    D₁ = subst (AsSwitched own stream store (andPiece c cs)) (switch-piece c 0 cs) (defined (andPiece c cs) ch)
 
-    by-live : refusedIn (reportedBy 0 cs) ≡ false → Grows own stream store t c
-    by-live live = go (c .received .report) refl
+    by-refused : (n : Numbers) → judgeOwn (own .supported) (own .required) ≡ refused n → Grows own stream store sw t c
+    by-refused n j =
+        let e₀ : [] ≡ E sw t = rw j at (D₀ .reports) in
+        let e₁ : [] ≡ E sw (t + c .received .taken) = rw (j, taken-piece c 0 cs) at (D₁ .reports) in
+        record { new = []; grows = sym e₁ ∙ e₀ ∙ sym (append-nil (E sw t)); adds = again n (repeats-last c n cs (rw j at (D₁ .each))) }
+
+    module _ (j : judgeOwn (own .supported) (own .required) ≡ fine) where
+      e₀ : reportedBy 0 cs ≡ E sw t
+      e₀ = rw j at (D₀ .reports)
+
+      e₁ : reportedBy 0 cs ++ cond (refusedIn (reportedBy 0 cs)) [] (lastly c t) ≡ E sw (t + c .received .taken)
+      e₁ = sym (reported-piece c 0 cs) ∙ rw (j, taken-piece c 0 cs) at (D₁ .reports)
+
+      by-stopped : refusedIn (reportedBy 0 cs) ≡ true → Grows own stream store sw t c
+      by-stopped stop =
+          let all = traceWith sw own stream store .entries in
+          let w : reportedBy 0 cs ≡ all = rw j at (D₀ .whole (rw j stop)) .0 in
+          let l = each-last c all stream 0 cs (rw j at (D₁ .each)) in
+          let a = due-again all t (length (pieceAt stream t (c .size))) (rw w at (up-to 0 cs)) (rw w at stop) in
+          record { new = []; grows = sym (rw stop at e₁) ∙ ap (λ (es : List Entry). es ++ []) e₀; adds = again (a .refusal) (l ∙ a .is) }
+
+      by-live : refusedIn (reportedBy 0 cs) ≡ false → Grows own stream store sw t c
+      by-live live = go (c .received .report) refl
+        where
+          go : (r : Report) → c .received .report ≡ r → Grows own stream store sw t c
+          go report.More e = record { new = []; grows = sym (rw (live, e) at e₁) ∙ ap (λ (es : List Entry). es ++ []) e₀; adds = silent e }
+          go (report.Event w) e = record {
+            new = entry w (t + c .received .taken) (c .store) ∷ [];
+            grows = sym (rw (live, e, none-behind w) at e₁) ∙ ap (λ (es : List Entry). es ++ (entry w (t + c .received .taken) (c .store) ∷ [])) e₀;
+            adds = reports w e;
+          }
+
+      by-fine : Grows own stream store sw t c
+      by-fine = go (refusedIn (reportedBy 0 cs)) refl
+        where
+          go : (b : Bool) → refusedIn (reportedBy 0 cs) ≡ b → Grows own stream store sw t c
+          go true e = by-stopped e
+          go false e = by-live e
+
+    one-more : Grows own stream store (switchBy 0 cs) (takenBy 0 cs) c
+    one-more = go (judgeOwn (own .supported) (own .required)) refl
       where
-        go : (r : Report) → c .received .report ≡ r → Grows own stream store t c
-        go report.More e = record { new = []; grows = sym (rw (live, e) at e₁) ∙ ap (λ (es : List Entry). es ++ []) e₀; adds = silent e }
-        go (report.Event w) e = record {
-          new = entry w (t + c .received .taken) (c .store) ∷ [];
-          grows = sym (rw (live, e, none-behind w) at e₁) ∙ ap (λ (es : List Entry). es ++ (entry w (t + c .received .taken) (c .store) ∷ [])) e₀;
-          adds = reports w e;
-        }
+        go : (j : Judged) → judgeOwn (own .supported) (own .required) ≡ j → Grows own stream store sw t c
+        go fine e = by-fine e
+        go (refused n) e = by-refused n e
 
-    by-fine : Grows own stream store t c
-    by-fine = go (refusedIn (reportedBy 0 cs)) refl
-      where
-        go : (b : Bool) → refusedIn (reportedBy 0 cs) ≡ b → Grows own stream store t c
-        go true e = by-stopped e
-        go false e = by-live e
+  -- ---- with the one that later calls make
 
-  pub one-more : Grows own stream store (takenBy 0 cs) c
-  one-more = go (judgeOwn (own .supported) (own .required)) refl
-    where
-      go : (j : Judged) → judgeOwn (own .supported) (own .required) ≡ j → Grows own stream store t c
-      go fine e = by-fine e
-      go (refused n) e = by-refused n e
+  -- up to a call the definition's entries do not depend on it
+  same-entries : (cs ds : List Call) → Calls (cs ++ ds) → E (switchBy 0 (cs ++ ds)) (takenBy 0 cs) ≡ E (switchBy 0 cs) (takenBy 0 cs)
+  same-entries cs [] ch = ap (λ (l : List Call). E (switchBy 0 l) (takenBy 0 cs)) (append-nil cs)
+  same-entries cs (taking c ∷ ds) ch =
+      let t = takenBy 0 cs in
+      let t′ = takenBy 0 (andPiece c cs) in
+      let q : cs ++ (taking c ∷ ds) ≡ andPiece c cs ++ ds = sym (append-assoc cs (taking c ∷ []) ds) in
+      let ih : E (switchBy 0 (andPiece c cs ++ ds)) t′ ≡ E (switchBy 0 (andPiece c cs)) t′ = same-entries (andPiece c cs) ds (subst Calls q ch) in
+      let n : t′ ≡ t + c .received .taken = taken-piece c 0 cs in
+      let h : t ≤ t′ = omega (arith, n) in
+      ap (λ (l : List Call). E (switchBy 0 l) t) q
+      ∙ trace-earlier (switchBy 0 (andPiece c cs ++ ds)) own stream store t t′ h
+      ∙ ap (upTo t) ih
+      ∙ sym (trace-earlier (switchBy 0 (andPiece c cs)) own stream store t t′ h)
+      ∙ ap (λ (sw : Switch). E sw t) (switch-piece c 0 cs)
+  same-entries cs (switching c ∷ ds) ch =
+      let t = takenBy 0 cs in
+      let q : cs ++ (switching c ∷ ds) ≡ andTry c cs ++ ds = sym (append-assoc cs (switching c ∷ []) ds) in
+      let ch′ : Calls (andTry c cs ++ ds) = subst Calls q ch in
+      let now = defined cs (front stream (begun own) store 0 cs (switching c ∷ ds) ch) in
+      let next = defined (andTry c cs) (front stream (begun own) store 0 (andTry c cs) ds ch′) in
+      ap (λ (l : List Call). E (switchBy 0 l) t) q
+      ∙ ap (E (switchBy 0 (andTry c cs ++ ds))) (sym (taken-try c 0 cs))
+      ∙ same-entries (andTry c cs) ds ch′
+      ∙ sym (next .reports)
+      ∙ list-try c (judgeOwn (own .supported) (own .required)) cs
+      ∙ now .reports
+
+  pub grown : (cs ds : List Call) (c : Piece) → Calls (cs ++ (taking c ∷ ds)) → Grows own stream store (switchBy 0 (cs ++ (taking c ∷ ds))) (takenBy 0 cs) c
+  grown cs ds c ch =
+      let t = takenBy 0 cs in
+      let sw = switchBy 0 (cs ++ (taking c ∷ ds)) in
+      let q : cs ++ (taking c ∷ ds) ≡ andPiece c cs ++ ds = sym (append-assoc cs (taking c ∷ []) ds) in
+      let ch′ : Calls (andPiece c cs ++ ds) = subst Calls q ch in
+      let g = one-more cs c (front stream (begun own) store 0 (andPiece c cs) ds ch′) in
+      let later : E sw (t + c .received .taken) ≡ E (switchBy 0 cs) (t + c .received .taken) =
+      ap (λ (l : List Call). E (switchBy 0 l) (t + c .received .taken)) q
+      ∙ ap (E (switchBy 0 (andPiece c cs ++ ds))) (sym (taken-piece c 0 cs))
+      ∙ same-entries (andPiece c cs) ds ch′
+      ∙ ap (E (switchBy 0 (andPiece c cs))) (taken-piece c 0 cs)
+      ∙ ap (λ (x : Switch). E x (t + c .received .taken)) (switch-piece c 0 cs) in
+      record {
+        new = g .new;
+        grows = later ∙ g .grows ∙ ap (λ (es : List Entry). es ++ g .new) (sym (same-entries cs (taking c ∷ ds) ch));
+        adds = g .adds;
+      }

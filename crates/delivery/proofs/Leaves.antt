@@ -20,7 +20,7 @@ use Rattle.delivery.specs.declared.Asked.{Asked}
 use Rattle.delivery.specs.declared.Asked.the-variants as asked
 use Rattle.delivery.specs.declared.Settled.{Settled}
 use Rattle.delivery.specs.Asked.{askedBy, settled, doneTo}
-use Rattle.delivery.specs.Calls.{Call, piece, accepted, handed, Chained, sessionAfter, Connection, Connects, added, Cause, hands, receives, callsAsked, callsBy, Does, nothing, one, Each, EachOf, Covered, Leaves, LeavesIn, LeavesOf}
+use Rattle.delivery.specs.Calls.{Call, piece, tried, accepted, handed, Chained, sessionAfter, Connection, Connects, added, Cause, hands, receives, callsAsked, callsBy, Does, nothing, one, Each, EachOf, Covered, Leaves, LeavesIn, LeavesOf}
 use Rattle.delivery.specs.Calls as calls
 use Rattle.delivery.proofs.Reasons.{releases, oneReleases, reason}
 
@@ -103,6 +103,10 @@ module _ (every : EveryCall) where
       let l = does-left (st .session) (t + r .taken) (settled (r .state .session) (r .effect)) (added k t (t + r .taken)) (e .1) g in
       let i = left-run k (r .state) s′ (t + r .taken) cs (ch .1) (e .2) (l .good) in
       record { leaves = (l .leaves, i .leaves); good = i .good }
+  left-run k st s t (tried key receiving sending r ∷ cs) ch e g =
+      let q : st .session ≡ r .state .session = sym (ch .0 .session) in
+      let i = left-run k (r .state) s t cs (ch .1) e (subst (λ (x : Session). Good x) q g) in
+      record { leaves = ((λ x m. inl (subst (λ (y : Session). List·Memᴰ x (heldOf y)) q m)), i .leaves); good = i .good }
   left-run k st s t (accepted h r ∷ cs) ch e g =
       let q : callOf (st .session) (session.accept h) .session ≡ r .state .session = sym (ap (λ (o : Delivery). o .session) (ch .0 .state)) in
       let i = left-run k (r .state) s t cs (ch .1) e (subst (λ (x : Session). Good x) q (call-good (st .session) (session.accept h) g)) in

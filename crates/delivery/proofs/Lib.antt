@@ -1,6 +1,9 @@
 pub mod Asks
+pub mod Earlier
 pub mod Entries
 pub mod Reasons
 pub mod Leaves
 pub mod Claim
 pub mod Quiet
+pub mod Uncovered
+pub mod Acks

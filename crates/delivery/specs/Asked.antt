@@ -13,11 +13,12 @@ use Rattle.fields.specs.Field.{Field, number, negative, numbers, sized, opaque,
 use Rattle.bodies.specs.Read.{Answer, whole, refused, readBody}
 use Rattle.stream.specs.declared.Event.{Event}
 use Rattle.stream.specs.declared.Event.the-variants as event
-use Rattle.receiver.specs.declared.State.{State}
 use Rattle.receiver.specs.declared.Report.{Report}
 use Rattle.receiver.specs.declared.Report.the-variants as report
-use Rattle.receiver.specs.declared.Received.{Received}
-use Rattle.receiver.specs.Step.{Answered, started}
+use Rattle.connection.specs.declared.State.{State}
+use Rattle.connection.specs.declared.Received.{Received}
+use Rattle.connection.specs.declared.Switched as connection
+use Rattle.connection.specs.Step.{begun, Answered, SwitchedWith}
 use Rattle.session.specs.declared.Session.{Session}
 use Rattle.session.specs.declared.Outcome.{Outcome}
 use Rattle.session.specs.Calls.{ackOf, reconnectOf, resetOf}
@@ -29,6 +30,7 @@ use Rattle.delivery.specs.declared.Effect.{Effect}
 use Rattle.delivery.specs.declared.Effect.the-variants as effect
 use Rattle.delivery.specs.declared.Settled.{Settled}
 use Rattle.delivery.specs.declared.Delivered.{Delivered}
+use Rattle.delivery.specs.declared.Switched.{Switched}
 use Rattle.delivery.specs.declared.Sent.{Sent}
 use Rattle.delivery.specs.declared.Connected.{Connected}
 
@@ -110,6 +112,14 @@ pub record Delivers (st : Delivery) (s piece : List ℕ) (r : Delivered) (s′ :
   pub received : Answered (st .receiver) s piece (receivedBy r) s′
   pub done : settled (r .state .session) (r .effect) ≡ doneTo (st .session) (askedByReport (r .report) s′)
 
+abbrev pub switchedBy : Switched → connection.Switched
+switchedBy r = record { state = r .state .receiver; sending = r .sending; verdict = r .verdict }
+
+-- `switch`: what a switch of the connection promises, and the session as it was
+pub record Switches (st : Delivery) (key receiving sending : List ℕ) (r : Switched) : Type 0 where
+  pub switched : SwitchedWith (st .receiver) key receiving sending (switchedBy r)
+  pub session : r .state .session ≡ st .session
+
 abbrev pub sentBy : Delivery → Outcome → Sent
 sentBy st o = record { state = delivery (st .receiver) (o .session); report = o .report }
 
@@ -120,5 +130,5 @@ pub record Called (st : Delivery) (c : Call) (r : Sent) : Type 0 where
 
 -- `connect`: a start, and the session as it was
 pub record ConnectedWith (s : Session) (own : Features) (r : Connected) : Type 0 where
-  pub state : r .state ≡ delivery (started own) s
+  pub state : r .state ≡ delivery (begun own) s
   pub verdict : judgedBy (r .verdict) ≡ judgeOwn (own .supported) (own .required)

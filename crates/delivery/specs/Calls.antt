@@ -1,5 +1,6 @@
 -- No message is released before its acknowledgement: one claim about every list of connections, each with its own start, stream and store, and of every list of
--- calls on them. What was received is said by the definition over the stream (stream/specs/Stream.antt), not by the receiver's reports.
+-- calls on them, in crc mode and sealed. What was received is said by the definition over the stream, with the switch that was made on it
+-- (connection/specs/Switched.antt), not by the receiver's reports.
 use mathlib.Core.Path.{_≡_}
 use mathlib.Core.Logic.{_⊎_}
 use mathlib.Core.List.{List, [], _∷_, _++_, map, List·Memᴰ}
@@ -13,8 +14,12 @@ use Rattle.preamble.specs.declared.Header.{Header}
 use Rattle.bodies.specs.Rows.{oneNumberOf, resetOf}
 use Rattle.bodies.specs.Read.{whole}
 use Rattle.stream.specs.declared.Event.the-variants.{Frame}
-use Rattle.stream.specs.Stream.{Entry, entry, traceOf}
+use Rattle.stream.specs.Stream.{Entry, entry}
 use Rattle.receiver.specs.Calls.{pieceAt}
+use Rattle.connection.specs.Switched.{Switch, traceWith}
+use Rattle.connection.specs.Step.{switchedSending}
+use Rattle.connection.specs.Calls as connection
+use Rattle.connection.specs.Calls.{taking, switching, switchBy, OneMade, AsSwitched}
 use Rattle.session.specs.declared.Session.{Session}
 use Rattle.session.specs.declared.Message.{Message}
 use Rattle.session.specs.declared.Report.{Report}
@@ -31,15 +36,18 @@ use Rattle.delivery.specs.declared.Effect.{Effect}
 use Rattle.delivery.specs.declared.Effect.the-variants as effect
 use Rattle.delivery.specs.declared.Settled.{Settled}
 use Rattle.delivery.specs.declared.Delivered.{Delivered}
+use Rattle.delivery.specs.declared.Switched.{Switched}
 use Rattle.delivery.specs.declared.Sent.{Sent}
 use Rattle.delivery.specs.declared.Connected.{Connected}
-use Rattle.delivery.specs.Asked.{bodyOf, askedBy, settled, doneTo, Delivers, Called, ConnectedWith}
+use Rattle.delivery.specs.Asked.{bodyOf, askedBy, settled, doneTo, receivedBy, switchedBy, Delivers, Switches, Called, ConnectedWith}
 
 -- ---- connections and the calls on them
 
 pub data Call : Type 0 where
   -- a piece of so many bytes was lent to `deliver`: what it handed back, and the store as it left it
   piece : ℕ → Delivered → List ℕ → Call
+  -- a try to switch, with a key and the nonce of each direction: what `switch` handed back
+  tried : (key receiving sending : List ℕ) → Switched → Call
   -- a message with this handle was sent: what `accept` handed back
   accepted : ℕ → Sent → Call
   -- a message's header had this number: what `acknowledge` handed back
@@ -49,12 +57,14 @@ pub data Call : Type 0 where
 abbrev pub Chained : List ℕ → Delivery → List ℕ → ℕ → List Call → Type 0
 Chained stream st s t [] = Unit {0}
 Chained stream st s t (piece size r s′ ∷ cs) = Delivers st s (pieceAt stream t size) r s′ × Chained stream (r .state) s′ (t + r .taken) cs
+Chained stream st s t (tried key receiving sending r ∷ cs) = Switches st key receiving sending r × Chained stream (r .state) s t cs
 Chained stream st s t (accepted h r ∷ cs) = Called st (session.accept h) r × Chained stream (r .state) s t cs
 Chained stream st s t (handed n r ∷ cs) = Called st (session.ack n) r × Chained stream (r .state) s t cs
 
 abbrev pub sessionAfter : Session → List Call → Session
 sessionAfter s [] = s
 sessionAfter s (piece size r s′ ∷ cs) = sessionAfter (r .state .session) cs
+sessionAfter s (tried key receiving sending r ∷ cs) = sessionAfter (r .state .session) cs
 sessionAfter s (accepted h r ∷ cs) = sessionAfter (r .state .session) cs
 sessionAfter s (handed n r ∷ cs) = sessionAfter (r .state .session) cs
 
@@ -80,9 +90,21 @@ sessionAfterAll s (k ∷ ks) = sessionAfterAll (sessionAfter s (k .calls)) ks
 
 -- ---- what the definition has received
 
--- the entries of a connection's first t bytes, all in crc mode: with a switch among the calls (02, K4) it is the definition with that switch
+-- the calls as those of the connection alone
+abbrev pub onConnection : List Call → List connection.Call
+onConnection [] = []
+onConnection (piece size r s′ ∷ cs) = taking (record { size = size; received = receivedBy r; store = s′ }) ∷ onConnection cs
+onConnection (tried key receiving sending r ∷ cs) = switching (record { key = key; receiving = receiving; sending = sending; switched = switchedBy r }) ∷ onConnection cs
+onConnection (accepted h r ∷ cs) = onConnection cs
+onConnection (handed n r ∷ cs) = onConnection cs
+
+-- the switch that was made on it, or none
+abbrev pub switchOf : Connection → Switch
+switchOf k = switchBy 0 (onConnection (k .calls))
+
+-- the entries of a connection's first t bytes
 abbrev pub entriesUpTo : Connection → ℕ → List Entry
-entriesUpTo k t = traceOf (k .own) (take t (k .stream)) (k .store) .entries
+entriesUpTo k t = traceWith (switchOf k) (k .own) (take t (k .stream)) (k .store) .entries
 
 -- those that the bytes behind t add, up to t′
 abbrev pub added : Connection → ℕ → ℕ → List Entry
@@ -97,6 +119,7 @@ pub data Cause : Type 0 where
 abbrev pub causesFrom : Connection → ℕ → List Call → List Cause
 causesFrom k t [] = []
 causesFrom k t (piece size r s′ ∷ cs) = map receives (added k t (t + r .taken)) ++ causesFrom k (t + r .taken) cs
+causesFrom k t (tried key receiving sending r ∷ cs) = causesFrom k t cs
 causesFrom k t (accepted h r ∷ cs) = sends h ∷ causesFrom k t cs
 causesFrom k t (handed n r ∷ cs) = hands n ∷ causesFrom k t cs
 
@@ -143,6 +166,7 @@ Each k s t (piece size r s′ ∷ cs) =
     (entriesUpTo k (t + r .taken) ≡ entriesUpTo k t ++ added k t (t + r .taken))
     × Does s (t + r .taken) (settled (r .state .session) (r .effect)) (added k t (t + r .taken))
     × Each k (r .state .session) (t + r .taken) cs
+Each k s t (tried key receiving sending r ∷ cs) = Each k (r .state .session) t cs
 Each k s t (accepted h r ∷ cs) = Each k (r .state .session) t cs
 Each k s t (handed n r ∷ cs) = Each k (r .state .session) t cs
 
@@ -161,6 +185,7 @@ toldBy (effect.Answer r) = r ∷ []
 abbrev pub toldIn : List Call → List Report
 toldIn [] = []
 toldIn (piece size r s′ ∷ cs) = toldBy (r .effect) ++ toldIn cs
+toldIn (tried key receiving sending r ∷ cs) = toldIn cs
 toldIn (accepted h r ∷ cs) = r .report ∷ toldIn cs
 toldIn (handed n r ∷ cs) = r .report ∷ toldIn cs
 
@@ -183,8 +208,27 @@ abbrev pub StartsOf : List Connection → Type 0
 StartsOf [] = Unit {0}
 StartsOf (k ∷ ks) = Starts k × StartsOf ks
 
+-- what a try to switch gives the builder is by its verdict: the key and the nonce where the switch was made, and else nothing to build with
+abbrev pub Given : List Call → Type 0
+Given [] = Unit {0}
+Given (piece size r s′ ∷ cs) = Given cs
+Given (tried key receiving sending r ∷ cs) = (r .sending ≡ switchedSending (judgedBy (r .verdict)) key sending) × Given cs
+Given (accepted h r ∷ cs) = Given cs
+Given (handed n r ∷ cs) = Given cs
+
+-- one switch is made at most, and every other try gave 27
+abbrev pub SwitchesOf : List Connection → Type 0
+SwitchesOf [] = Unit {0}
+SwitchesOf (k ∷ ks) = OneMade (onConnection (k .calls)) × Given (k .calls) × SwitchesOf ks
+
+-- each call takes and reports what demand 3 says of the connection's stream
+abbrev pub ReceivedOf : List Connection → Type 0
+ReceivedOf [] = Unit {0}
+ReceivedOf (k ∷ ks) = AsSwitched (k .own) (k .stream) (k .store) (onConnection (k .calls)) (switchOf k) × ReceivedOf ks
+
 -- ---- WHY A MESSAGE IS NO LONGER HELD
 
+-- an ack that the session refuses with 23 is a reason by this list too; `each` and `kept` say that it releases nothing
 pub data Reason (m : ℕ) : Cause → Type 0 where
   -- the definition has a whole frame of one segment with tag 20 or 15, and the number in its body is the message's or a higher one
   acknowledged : (h : Header) (at n : ℕ) (s : List ℕ) → (h .tag ≡ 20) ⊎ (h .tag ≡ 15) → h .count ≡ 1 → bodyOf h s ≡ whole (oneNumberOf n) → m ≤ n
@@ -206,6 +250,7 @@ Leaves s s′ causes = (x : Message) → List·Memᴰ x (heldOf s) → List·Mem
 abbrev pub LeavesIn : Connection → Session → ℕ → List Call → Type 0
 LeavesIn k s t [] = Unit {0}
 LeavesIn k s t (piece size r s′ ∷ cs) = Leaves s (r .state .session) (map receives (added k t (t + r .taken))) × LeavesIn k (r .state .session) (t + r .taken) cs
+LeavesIn k s t (tried key receiving sending r ∷ cs) = Leaves s (r .state .session) [] × LeavesIn k (r .state .session) t cs
 LeavesIn k s t (accepted h r ∷ cs) = Leaves s (r .state .session) [] × LeavesIn k (r .state .session) t cs
 LeavesIn k s t (handed n r ∷ cs) = Leaves s (r .state .session) (hands n ∷ []) × LeavesIn k (r .state .session) t cs
 
@@ -215,7 +260,9 @@ LeavesOf s (k ∷ ks) = LeavesIn k s 0 (k .calls) × LeavesOf (sessionAfter s (k
 
 -- THE CLAIM, of the connections ks, from a fresh session on
 pub record Acknowledged (ks : List Connection) : Type 0 where
-  -- each call of `deliver` does what the entry asks, if there is one, that its bytes add to the definition's list, and nothing else
+  -- each call of `deliver` takes and reports what demand 3 says of its connection's stream
+  pub received : ReceivedOf ks
+  -- it does what the entry asks, if there is one, that its bytes add to the definition's list, and nothing else
   pub each : EachOf freshSession ks
   -- and a message leaves at its reason's own call, and not before
   pub leaves : LeavesOf freshSession ks
@@ -225,8 +272,9 @@ pub record Acknowledged (ks : List Connection) : Type 0 where
   pub kept : Kept (historyOf (causesOf ks))
   -- and the answers that the caller is told are their answers, in order, none left out
   pub told : toldOf ks ≡ reportsIn (historyOf (causesOf ks))
-  -- each connection began as `connect` said
+  -- each connection began as `connect` said, and was switched once at most, as `switch` said
   pub starts : StartsOf ks
+  pub switches : SwitchesOf ks
   -- a message m that was sent, with the handle h, is still held, or one of the causes since then is a reason why it is not
   pub released : (before since : List Cause) (h m : ℕ) → causesOf ks ≡ before ++ (sends h ∷ since)
       → callOf (sessionBy freshSession (historyOf before)) (session.accept h) .report ≡ Accepted m

@@ -1,21 +1,26 @@
--- Worked streams, computed from the definitions: what their entries ask of the session. First the fault that this is about: a receiver filled what was split
+-- Worked streams, computed from the definitions: what their entries ask of the session, in crc mode and sealed. First the fault that this is about: a receiver filled what was split
 -- over two reads up with bytes of the frame before, took the result for an acknowledgement, and released a message that had never been written.
 use mathlib.Core.Path.{_≡_}
 use mathlib.Core.List.{List, [], _∷_, _++_, map}
 use mathlib.Core.Bool.{true, false}
-use Prim.Native.Nat.{ℕ}
-use lib.ListN.{take, drop, set, replicate}
+use Prim.Native.Nat.{ℕ, _<_}
+use lib.ListN.{length, take, drop, set, replicate}
 use Rattle.refusal.specs.Refusals.{row}
 use Rattle.banner.specs.declared.Features.{Features}
 use Rattle.banner.specs.Banner.{bannerBytes}
 use Rattle.stream.specs.Stream.{Entry, traceOf}
-use Rattle.stream.specs.Rows.{Row, _⇒_, Holds, features}
+use Rattle.stream.specs.Rows.{Row, _⇒_, Holds, features, segment, header}
+use Rattle.aes.specs.Aes.{keyExpansion}
+use Rattle.aes.specs.Counter.{gctr}
+use Rattle.gcm.specs.Gcm.{tagOf, sealed}
+use Rattle.connection.specs.Switched.{Switch, behind, traceWith}
+use Rattle.connection.specs.Calls.{takenBy, switchBy}
 use Rattle.session.specs.declared.Session.{Session}
 use Rattle.session.specs.declared.Message.{Message}
 use Rattle.session.specs.declared.Report.the-variants.{Done, Resend, Refused}
 use Rattle.session.specs.declared.Held.{Held}
 use Rattle.session.specs.declared.Held.the-variants.{At}
-use Rattle.session.specs.Calls.{heldOf, freshSession}
+use Rattle.session.specs.Calls.{heldOf, freshSession, ackOf}
 use Rattle.session.specs.Laws as session
 use Rattle.session.specs.Laws.{resentBy}
 use Rattle.session.specs.History.{sessionBy}
@@ -24,8 +29,8 @@ use Rattle.delivery.specs.declared.Asked.the-variants.{Nothing, Ack, Rec
 use Rattle.delivery.specs.declared.Effect.{Effect}
 use Rattle.delivery.specs.declared.Effect.the-variants as effect
 use Rattle.delivery.specs.declared.Connected.{Connected}
-use Rattle.delivery.specs.Asked.{askedBy, doneTo, ConnectedWith}
-use Rattle.delivery.specs.Calls.{Call, piece, accepted, handed, Chained, sessionAfter, receives, callsDue, played}
+use Rattle.delivery.specs.Asked.{askedByFrame, askedBy, doneTo, ConnectedWith}
+use Rattle.delivery.specs.Calls.{Call, piece, tried, accepted, handed, Chained, sessionAfter, onConnection, sends, hands, receives, callsDue, played, historyOf, toldIn, Covered}
 
 -- ---- what the rows are made of
 
@@ -42,9 +47,12 @@ asksOf e = askedBy (e .event) (e .store)
 abbrev pub asks : List ℕ → List Asked
 asks stream = map asksOf (traceOf ours stream store .entries)
 
--- a preamble with one segment, of a tag and a length, and its checksum
+-- a preamble with one segment, of a tag, a length and the two bytes of an alignment, and its checksum; most have an alignment of 8
+abbrev aligned : ℕ → ℕ → ℕ → ℕ → List ℕ → List ℕ
+aligned tag len low high sum = tag ∷ 1 ∷ len ∷ 0 ∷ 0 ∷ 0 ∷ low ∷ high ∷ (replicate 20 0 ++ sum)
+
 abbrev preamble : ℕ → ℕ → List ℕ → List ℕ
-preamble tag len sum = tag ∷ 1 ∷ len ∷ 0 ∷ 0 ∷ 0 ∷ 8 ∷ 0 ∷ (replicate 20 0 ++ sum)
+preamble tag len sum = aligned tag len 8 0 sum
 
 -- a number of eight bytes
 abbrev seq : ℕ → List ℕ
@@ -91,45 +99,59 @@ faultRows =
 abbrev pub split : List ℕ
 split = bannerBytes 1 0 ++ message ++ take 43 ack1
 
+-- and all of it
+abbrev pub acked : List ℕ
+acked = bannerBytes 1 0 ++ message ++ ack1
+
 -- the caller's own calls
 abbrev pub ownCalls : List Call → List session.Call
 ownCalls [] = []
 ownCalls (piece size r s ∷ cs) = ownCalls cs
+ownCalls (tried key receiving sending r ∷ cs) = ownCalls cs
 ownCalls (accepted h r ∷ cs) = session.accept h ∷ ownCalls cs
 ownCalls (handed n r ∷ cs) = session.ack n ∷ ownCalls cs
 
--- read under every cutting, it releases nothing: the session is where the caller's own calls lead
-abbrev pub ReleasesNothing : List ℕ → Type 0
-ReleasesNothing stream =
-    (s : Session) (k : Connected) (cs : List Call) → ConnectedWith s ours k → Chained stream (k .state) store 0 cs
+-- read under every cutting, with a switch of which this holds, a stream releases nothing: the session is where the caller's own calls lead
+abbrev pub ReleasesNothing : (Switch → Type 0) → List ℕ → Type 0
+ReleasesNothing Made stream =
+    (s : Session) (k : Connected) (cs : List Call) → ConnectedWith s ours k → Chained stream (k .state) store 0 cs → Made (switchBy 0 (onConnection cs))
     → sessionAfter s cs ≡ sessionBy s (played s (ownCalls cs))
+
+-- any switch, or none
+abbrev pub Any : Switch → Type 0
+Any sw = Unit {0}
 
 -- ---- what is released
 
 -- three messages were sent
-abbrev first : Message
+abbrev pub first : Message
 first = record { number = 1; handle = 7 }
 
-abbrev second : Message
+abbrev pub second : Message
 second = record { number = 2; handle = 8 }
 
-abbrev third : Message
+abbrev pub third : Message
 third = record { number = 3; handle = 9 }
 
-abbrev sent : Session
+abbrev pub sent : Session
 sent = sessionBy freshSession (played freshSession (session.accept 7 ∷ session.accept 8 ∷ session.accept 9 ∷ []))
 
--- what is then held, by what the entries of a stream ask
+-- what is then held, by what entries ask, and those of a stream
+abbrev pub heldBy : List Entry → List Message
+heldBy es = heldOf (sessionBy sent (played sent (callsDue (map receives es))))
+
 abbrev heldAfter : List ℕ → List Message
-heldAfter stream = heldOf (sessionBy sent (played sent (callsDue (map receives (traceOf ours stream store .entries)))))
+heldAfter stream = heldBy (traceOf ours stream store .entries)
 
 unfoldable pub heldRows : List (Row (List Message))
 heldRows =
     -- all but the last byte of an acknowledgement of 1, and all of it
     heldAfter split ⇒ (first ∷ second ∷ third ∷ [])
-    ∷ heldAfter (bannerBytes 1 0 ++ message ++ ack1) ⇒ (second ∷ third ∷ [])
+    ∷ heldAfter acked ⇒ (second ∷ third ∷ [])
     -- the fault: all three buffers, where one take was written
     ∷ heldAfter (bannerBytes 1 0 ++ filledUp) ⇒ []
+    -- a number that the caller hands in
+    ∷ heldOf (sessionBy freshSession (historyOf (sends 7 ∷ sends 8 ∷ sends 9 ∷ hands 2 ∷ []))) ⇒ (third ∷ [])
     ∷ []
 
 -- what is held after something is asked, what the caller is told, and what is sent again
@@ -169,6 +191,13 @@ resultRows =
 
 -- ---- other frames
 
+-- a number whose eight bytes all differ, and 0, as bodies with their checksums
+abbrev eight : List ℕ
+eight = 1 ∷ 2 ∷ 3 ∷ 4 ∷ 5 ∷ 6 ∷ 7 ∷ 8 ∷ 0x7E ∷ 0xE0 ∷ 0x76 ∷ 0xB9 ∷ []
+
+abbrev zeros : List ℕ
+zeros = seq 0 ++ (0x75 ∷ 0x4D ∷ 0xD7 ∷ 0x73 ∷ [])
+
 -- an acknowledgement of 1 in msgr2.0, by its late_flags; one with a second segment of one byte, up to that
 abbrev acked20 : ℕ → List ℕ
 acked20 late = take 40 ack1 ++ (late ∷ drop 40 ack1) ++ replicate 12 0
@@ -204,8 +233,88 @@ frameRows =
     -- a byte of the body, and one of the preamble, that differs
     ∷ behind21 (set ack1 32 3) (Nothing ∷ [])
     ∷ behind21 (set ack1 0 15) (Nothing ∷ [])
+    -- a refused stream, with a true acknowledgement behind the byte that differs
+    ∷ behind21 (set ack1 32 3 ++ ack1) (Nothing ∷ [])
+    -- every byte of a number counts, whatever the alignment; and 0 is one too
+    ∷ behind21 (aligned 20 8 0 1 (0xDC ∷ 0x91 ∷ 0xC1 ∷ 0xBD ∷ []) ++ eight) (Ack 578437695752307201 ∷ [])
+    ∷ behind21 (aligned 15 8 0 0 (0x23 ∷ 0x1A ∷ 0x0B ∷ 0x54 ∷ []) ++ eight) (Reconnect 578437695752307201 ∷ [])
+    ∷ behind21 (aligned 20 8 0 0 (0x31 ∷ 0xEC ∷ 0xCB ∷ 0xB0 ∷ []) ++ zeros) (Ack 0 ∷ [])
+    ∷ behind21 (preamble 15 8 (0x61 ∷ 0x82 ∷ 0x7C ∷ 0xBF ∷ []) ++ zeros) (Reconnect 0 ∷ [])
     ∷ []
+
+-- every tag, on a whole frame of one segment whose body is the number 1
+abbrev one : ℕ → Asked
+one tag = askedByFrame (header tag 1 (segment 8 8) (segment 0 0) (segment 0 0) (segment 0 0)) (seq 1 ++ store)
+
+unfoldable pub tagRows : List (Row (List Asked))
+tagRows =
+    map one (1 ∷ 2 ∷ 3 ∷ 4 ∷ 5 ∷ 6 ∷ 7 ∷ 8 ∷ 9 ∷ 10 ∷ 11 ∷ []) ⇒ replicate 11 Nothing
+    -- a reset has a body of one byte
+    ∷ map one (12 ∷ 13 ∷ 14 ∷ 15 ∷ []) ⇒ (Malformed (row 20 1 0 0) ∷ Nothing ∷ Nothing ∷ Reconnect 1 ∷ [])
+    ∷ map one (16 ∷ 17 ∷ 18 ∷ 19 ∷ 20 ∷ []) ⇒ (Nothing ∷ Nothing ∷ Nothing ∷ Nothing ∷ Ack 1 ∷ [])
+    ∷ []
+
+-- ---- what is no reason
+
+-- of these entries none is a reason why the message m is no longer held
+abbrev pub NoReason : ℕ → List Entry → Type 0
+NoReason m es = Covered m (map receives es) → ⊥
+
+-- a reset that is not full
+abbrev pub reset0 : List ℕ
+reset0 = bannerBytes 1 0 ++ preamble 12 1 (0x4A ∷ 0xBB ∷ 0x98 ∷ 0x19 ∷ []) ++ (0 ∷ 0xAE ∷ 0xAC ∷ 0x82 ∷ 0xAD ∷ [])
+
+pub record Reasons : Type 0 where
+  -- the split stream has none for any message, with any switch
+  pub unfinished : (sw : Switch) (m : ℕ) → NoReason m (traceWith sw ours split store .entries)
+  -- an acknowledgement of 1 is none for message 2
+  pub other : NoReason 2 (traceOf ours acked store .entries)
+  -- and a reset that is not full is none for any
+  pub notFull : (m : ℕ) → NoReason m (traceOf ours reset0 store .entries)
+
+-- ---- sealed acknowledgements, with any key and any nonce: behind the message the stream is switched
+
+-- the text of the first part, the only one: the preamble and the body of an acknowledgement of 1, and what pads it
+abbrev pub ackText : List ℕ
+ackText = take 40 ack1 ++ replicate 40 0
+
+-- sealed, it is masked, and its tag stands behind it
+abbrev pub masked : List ℕ → List ℕ → List ℕ
+masked key nonce = gctr (keyExpansion key) nonce ackText
+
+abbrev pub sealedAck : List ℕ → List ℕ → List ℕ
+sealedAck key nonce = sealed key nonce ackText
+
+abbrev pub behindMessage : List ℕ → List ℕ
+behindMessage bytes = bannerBytes 1 0 ++ message ++ bytes
+
+abbrev pub sealedEntries : List ℕ → List ℕ → List ℕ → List Entry
+sealedEntries key nonce bytes = traceWith (behind 1 key nonce) ours (behindMessage bytes) store .entries
+
+pub record SealedAck (key nonce : List ℕ) : Type 0 where
+  -- whole, it acknowledges: message 1 is released
+  pub asks : map asksOf (sealedEntries key nonce (sealedAck key nonce)) ≡ Nothing ∷ Nothing ∷ Ack 1 ∷ []
+  pub releases : heldBy (sealedEntries key nonce (sealedAck key nonce)) ≡ second ∷ third ∷ []
+  -- with any other tag it asks nothing, and nothing is released
+  pub damaged : (tag : List ℕ) → length tag ≡ 16 → (tag ≡ tagOf (keyExpansion key) nonce (masked key nonce) → ⊥)
+      → (map asksOf (sealedEntries key nonce (masked key nonce ++ tag)) ≡ Nothing ∷ Nothing ∷ Nothing ∷ [])
+      × (heldBy (sealedEntries key nonce (masked key nonce ++ tag)) ≡ first ∷ second ∷ third ∷ [])
+  -- split behind any byte but its last, read under every cutting, it releases nothing
+  pub splits : (n : ℕ) → n < 96 → ReleasesNothing (λ sw. sw ≡ behind 1 key nonce) (behindMessage (take n (sealedAck key nonce)))
+  -- and with its last byte, split over two calls or more or not at all, it acknowledges, and the caller is told so, once
+  pub completes : (s : Session) (k : Connected) (cs : List Call) → ConnectedWith s ours k → Chained (behindMessage (sealedAck key nonce)) (k .state) store 0 cs
+      → switchBy 0 (onConnection cs) ≡ behind 1 key nonce → ownCalls cs ≡ [] → takenBy 0 (onConnection cs) ≡ 202
+      → (sessionAfter s cs ≡ ackOf s 1 .session) × (toldIn cs ≡ ackOf s 1 .report ∷ [])
 
 -- THE CLAIM
 unfoldable pub Worked : Type 0
-Worked = (filledUp ≡ ack3) × Holds faultRows × ReleasesNothing split × Holds heldRows × Holds resultRows × Holds frameRows
+Worked =
+    (filledUp ≡ ack3)
+    × Holds faultRows
+    × ReleasesNothing Any split
+    × Holds heldRows
+    × Holds resultRows
+    × Holds frameRows
+    × Holds tagRows
+    × Reasons
+    × ((key nonce : List ℕ) → SealedAck key nonce)

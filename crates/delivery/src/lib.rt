@@ -1,19 +1,20 @@
-// Receiver and session together: a piece of the stream is received, and what it completes is done to the session. Of all that is received,
-// only whole frames with tag 20, 15 or 12 release messages.
+// A connection's receiving side and the session together: a piece of the stream is received, in crc mode or sealed, and what it completes is done
+// to the session. Of all that is received, only whole frames with tag 20, 15 or 12 release messages.
 use banner::Features;
 use bodies::Body;
 use bodies::read;
 use buffer::min;
+use connection::State;
+use connection::begin;
+use connection::receive;
 use preamble::Header;
 use receiver::Report;
-use receiver::State;
-use receiver::receive;
-use receiver::start;
 use refusal::Numbers;
 use refusal::Refusal;
 use refusal::Verdict;
 use refusal::either;
 use refusal::in_numbers;
+use sealed_builder::Sending;
 use session::Outcome;
 use session::Session;
 use stream::Event;
@@ -22,11 +23,11 @@ ghost use mathlib.Core.List.{List};
 ghost use Prim.Native.Nat.{ℕ};
 ghost use Rattle.bodies.specs.Read.{answerOf};
 ghost use Rattle.session.specs.Laws.{accept, ack};
-ghost use Rattle.delivery.specs.Asked.{forSession, asking, byNumber, byBody, askedByFrame, askedBy, askedByReport, settled, answeredBy, doneTo, sentBy, Delivers, Called, ConnectedWith};
+ghost use Rattle.delivery.specs.Asked.{forSession, asking, byNumber, byBody, askedByFrame, askedBy, askedByReport, settled, answeredBy, doneTo, sentBy, Delivers, Switches, Called, ConnectedWith};
 ghost use Rattle.delivery.specs.Calls.{EveryRelease};
 ghost use Rattle.delivery.specs.Worked.{Worked};
 
-// A connection's receiver, and the session that outlives it.
+// A connection's receiving side, and the session that outlives it.
 pub struct Delivery {
     pub receiver: State,
     pub session: Session,
@@ -63,6 +64,13 @@ pub struct Delivered {
     pub taken: usize,
     pub report: Report,
     pub effect: Effect,
+}
+
+// What `switch` answers: what the builder of sealed frames is given, and whether the switch was refused.
+pub struct Switched {
+    pub state: Delivery,
+    pub sending: Sending,
+    pub verdict: Verdict,
 }
 
 // What `accept` and `acknowledge` answer.
@@ -122,7 +130,7 @@ fn asked_by_body(h: Header, body: Body) -> Asked
 }
 
 // Segment 1 of a frame stands at the store's front.
-fn asked_by_frame(h: Header, store: &[u8]) -> Asked
+pub fn asked_by_frame(h: Header, store: &[u8]) -> Asked
     ensures { λ r. ⌜ r ≡ askedByFrame h (now (store .entry)) ⌝ }
 {
     if !for_session(h.tag) {
@@ -169,7 +177,7 @@ fn done(s: Session, effect: Effect) -> Settled
 }
 
 // Does to the session what is asked.
-fn settle(s: Session, asked: Asked) -> Settled
+pub fn settle(s: Session, asked: Asked) -> Settled
     ensures { λ r. ⌜ r ≡ doneTo s asked ⌝ }
 {
     match asked {
@@ -185,9 +193,9 @@ fn settle(s: Session, asked: Asked) -> Settled
 pub fn connect(s: Session, own: Features) -> Connected
     ensures { λ r. ⌜ ConnectedWith s own r ⌝ }
 {
-    let started = start(own);
-    let receiver = started.state;
-    let verdict = started.verdict;
+    let begun = begin(own);
+    let receiver = begun.state;
+    let verdict = begun.verdict;
     Connected {
         state: Delivery {
             receiver,
@@ -212,6 +220,22 @@ pub fn deliver(state: Delivery, piece: &[u8], store: &mut [u8]) -> Delivered
         taken: got.taken,
         report,
         effect,
+    }
+}
+
+// Tries to switch to secure, as `connection::switch` does; the session goes on.
+pub fn switch(state: Delivery, key: [u8; 16], receiving: [u8; 12], sending: [u8; 12]) -> Switched
+    ensures { λ r. ⌜ Switches state key receiving sending r ⌝ }
+{
+    let tried = connection::switch(state.receiver, key, receiving, sending);
+    let receiver = tried.state;
+    let session = state.session;
+    let given = tried.sending;
+    let verdict = tried.verdict;
+    Switched {
+        state: Delivery { receiver, session },
+        sending: given,
+        verdict,
     }
 }
 
@@ -241,12 +265,12 @@ pub fn acknowledge(state: Delivery, number: u64) -> Sent
     sent_with(state, session::ack(state.session, number))
 }
 
-// NO MESSAGE IS RELEASED BEFORE ITS ACKNOWLEDGEMENT, as a promise: of every list of connections and of calls on them, from a fresh session on. It
-// follows from demand 3 and from what the session promises of every call and every history.
+// NO MESSAGE IS RELEASED BEFORE ITS ACKNOWLEDGEMENT, as a promise: of every list of connections and of calls on them, in crc mode and sealed, from a
+// fresh session on. It follows from demand 3 of connections and from what the session promises of every call and every history.
 pub fn every_release()
     ensures { λ _. ⌜ EveryRelease ⌝ }
 {
-    receiver::every_cutting();
+    connection::every_cutting();
     session::every_call();
     session::every_history();
 }
@@ -255,5 +279,5 @@ pub fn every_release()
 pub fn worked_deliveries()
     ensures { λ _. ⌜ Worked ⌝ }
 {
-    receiver::every_cutting();
+    connection::every_cutting();
 }

@@ -1,0 +1,230 @@
+-- Acknowledgements that are sealed with any key and nonce: what is opened is read, and nothing else is.
+use mathlib.Core.Path.{_≡_, refl, sym, ap, ap₂, subst, _∙_}
+use mathlib.Core.List.{List, [], _∷_, _++_, map, map-append, append-assoc, append-nil}
+use mathlib.Core.Bool.{Bool, true, false, cond, _&&_, true≢false}
+use Prim.Native.Nat.{ℕ, zero, suc, _+_, _-_, _<_}
+use native.Mathlib.Omega.{arith}
+use native.Mathlib.Nat.{le-refl}
+use lib.ListN.{length, take, drop, length-append, length-take}
+use lib.Seq.{take-all, take-at, drop-at, drop-length}
+use lib.Dec.{leb, eqb}
+use borrow.Author.Tests.{eqb-true, lt-ltb}
+use Rattle.refusal.proofs.Booleans.{both-left, both-right}
+use Rattle.buffer.specs.Le.{numberAt}
+use Rattle.crc32c.specs.Crc.{crcOf, steps, step}
+use Rattle.banner.specs.Bits.{missing, lowestBit, bitCount}
+use Rattle.banner.specs.Banner.{bannerBytes, judgeFeatures}
+use Rattle.preamble.specs.Judge.{shapeFault, limitFault, headerOf, judgeFields, judgePreamble}
+use Rattle.body.specs.End.{ending}
+use Rattle.stream.specs.Stream as stream
+use Rattle.stream.specs.Stream.{Entry, Trace, ended, unlessRefused, streamTrace, traceOf}
+use Rattle.aes.specs.Aes.{State, keyExpansion}
+use Rattle.aes.specs.Counter.{gctr}
+use Rattle.aes.proofs.Counters.{gctr-length}
+use Rattle.gcm.specs.Gcm.{Opened, plain, fail, tagOf, sameAs, tagFits, openedBy}
+use Rattle.gcm.proofs.Placing.{sealed-length}
+use Rattle.gcm.proofs.There.{lists}
+use Rattle.secure.specs.Layout.{nextNonce, needed}
+use Rattle.secure.specs.Reading.{judgeFirst, byOpening, restTrace, frames, sealedTrace}
+use Rattle.secure.proofs.Opening.{read-first}
+use Rattle.connection.specs.Switched.{Switch, behind, spliced, traceWith}
+use Rattle.connection.specs.Calls.{takenBy, switchBy, SwitchedDemand3}
+use Rattle.connection.proofs.Scans.{LastCloses}
+use Rattle.connection.proofs.Splices.{closings, spliced-there}
+use Rattle.fields.specs.Layout.{stepOf}
+use Rattle.bodies.specs.Table.{layoutIn}
+use Rattle.bodies.specs.Read.{settled, readBody}
+use Rattle.session.specs.declared.Session.{Session}
+use Rattle.session.specs.Laws as session
+use Rattle.session.specs.Laws.{ack}
+use Rattle.session.specs.Calls.{heldFrom, agrees, judgeState, judgeAccept, judgeAck, acceptOf, ackOf}
+use Rattle.delivery.specs.declared.Asked.the-variants.{Nothing, Ack}
+use Rattle.delivery.specs.declared.Delivery.{Delivery}
+use Rattle.delivery.specs.declared.Connected.{Connected}
+use Rattle.delivery.specs.Asked.{askedByFrame, ConnectedWith}
+use Rattle.delivery.specs.Calls.{Call, piece, tried, accepted, handed, Chained, sessionAfter, Connection, onConnection, switchOf, entriesUpTo, added, Cause, receives, causesFrom, callsDue, Each, toldIn}
+use Rattle.delivery.specs.Worked.{ours, store, message, asksOf, ownCalls, first, second, third, heldBy, ackText, masked, sealedAck, behindMessage, sealedEntries, SealedAck}
+use Rattle.delivery.proofs.Earlier.{upTo, behind-first, crc-first, trace-first}
+use Rattle.delivery.proofs.Claim.{on-connection, each, Plays, calls-play}
+use Rattle.delivery.proofs.Quiet.{Quiet, releases-nothing}
+
+-- ---- parts
+
+-- less than a first part
+pub short : (key nonce : List ℕ) (P : ℕ) (s bytes : List ℕ) → length bytes < 96 → sealedTrace key nonce 0 P bytes s ≡ ended s
+unfolding sealedTrace frames
+short key nonce P s bytes h = go (length bytes)
+  where
+    go : (f : ℕ) → frames f (keyExpansion key) nonce 0 P bytes s ≡ ended s
+    go zero = refl
+    go (suc f) = rw (lt-ltb (length bytes) 96 h)
+
+-- what a first part that is all there is leads to, by what it opens to
+abbrev part : List ℕ → List ℕ → ℕ → List ℕ → Opened → Trace
+part key nonce P s o =
+    byOpening o (P + 96) s
+    (λ text. unlessRefused (judgeFirst text (length s)) (P + 96) s
+    (restTrace (keyExpansion key) (headerOf text) (nextNonce nonce) 1 (P + 96) [] (take (headerOf text .s1 .len) (drop 32 text)) s (frames 95 (keyExpansion key))))
+
+one-part : (key nonce : List ℕ) (P : ℕ) (s bytes : List ℕ) (o : Opened) → length bytes ≡ 96 → openedBy (keyExpansion key) nonce bytes ≡ o
+    → sealedTrace key nonce 0 P bytes s ≡ part key nonce P s o
+unfolding sealedTrace
+one-part key nonce P s bytes o l e =
+    let all : take 96 bytes ≡ bytes = take-all 96 bytes (rw l (le-refl 96)) in
+    let none : drop 96 bytes ≡ [] = subst (λ (n : ℕ). drop n bytes ≡ []) l (drop-length bytes) in
+    ap (λ (f : ℕ). frames f (keyExpansion key) nonce 0 P bytes s) l
+    ∙ read-first (keyExpansion key) nonce 0 P bytes o 95 s (ap (openedBy (keyExpansion key) nonce) all ∙ e)
+    ∙ rw (l, none)
+
+-- masked bytes with another tag do not open
+same-bytes : (xs ys : List ℕ) → sameAs xs ys ≡ true → ys ≡ xs
+unfolding sameAs
+same-bytes [] [] e = refl
+same-bytes [] (y ∷ ys) e = absurd (true≢false (sym e))
+same-bytes (x ∷ xs) [] e = absurd (true≢false (sym e))
+same-bytes (x ∷ xs) (y ∷ ys) e = ap₂ _∷_ (sym (eqb-true x y (both-left (eqb x y) (sameAs xs ys) e))) (same-bytes xs ys (both-right (eqb x y) (sameAs xs ys) e))
+
+neither : (x : Bool) (o : Opened) → cond (x && false) o fail ≡ fail
+neither true o = refl
+neither false o = refl
+
+not-opened : (w : List State) (nonce text tag : List ℕ) → length tag ≡ 16 → (tag ≡ tagOf w nonce (gctr w nonce text) → ⊥) → openedBy w nonce (gctr w nonce text ++ tag) ≡ fail
+unfolding openedBy tagFits
+not-opened w nonce text tag k differs = go (sameAs (tagOf w nonce (gctr w nonce text)) tag) refl
+  where
+    go : (b : Bool) → sameAs (tagOf w nonce (gctr w nonce text)) tag ≡ b → openedBy w nonce (gctr w nonce text ++ tag) ≡ fail
+    go true e = absurd (differs (same-bytes (tagOf w nonce (gctr w nonce text)) tag e))
+    go false e =
+        let m = gctr w nonce text in
+        let l : length (m ++ tag) - 16 ≡ length m = (let h = length-append m tag in omega (arith, h)) in
+        let t : tagFits w nonce (length (m ++ tag) - 16) (m ++ tag) ≡ false =
+        ap (λ (n : ℕ). tagFits w nonce n (m ++ tag)) l
+        ∙ ap₂ (λ (x y : List ℕ). sameAs (tagOf w nonce x) y) (take-at m tag (length m) refl) (drop-at m tag (length m) refl)
+        ∙ e in
+        ap (λ (b : Bool). cond (leb 16 (length (m ++ tag)) && b) (plain (gctr w nonce (take (length (m ++ tag) - 16) (m ++ tag)))) fail) t
+        ∙ neither (leb 16 (length (m ++ tag))) (plain (gctr w nonce (take (length (m ++ tag) - 16) (m ++ tag))))
+
+-- ---- behind the message
+
+abbrev sofar : Trace
+sofar = traceOf ours (bannerBytes 1 0 ++ message) store
+
+last : LastCloses (sofar .entries) 106 (sofar .store)
+unfolding numberAt crcOf steps step missing lowestBit bitCount judgeFeatures shapeFault limitFault headerOf judgeFields judgePreamble ending stream.frames streamTrace traceOf
+last = (refl, refl, refl)
+
+one-frame : closings (sofar .entries) ≡ 1
+unfolding numberAt crcOf steps step missing lowestBit bitCount judgeFeatures shapeFault limitFault headerOf judgeFields judgePreamble ending stream.frames streamTrace traceOf
+one-frame = refl
+
+pub sealed-entries : (key nonce bytes : List ℕ) → sealedEntries key nonce bytes ≡ sofar .entries ++ sealedTrace key nonce 0 106 bytes (sofar .store) .entries
+sealed-entries key nonce bytes =
+    let all = traceOf ours (behindMessage bytes) store in
+    let next : (ℕ → List ℕ → Trace) = λ at s. sealedTrace key nonce 0 at (drop at (behindMessage bytes)) s in
+    let later = drop (length (upTo 106 (all .entries))) (all .entries) in
+    let e : all .entries ≡ sofar .entries ++ later =
+    behind-first 106 (all .entries) ∙ ap (λ (es : List Entry). es ++ later) (sym (crc-first ours (behindMessage bytes) store 106)) in
+    ap₂ (λ (n : ℕ) (es : List Entry). spliced n next es (all .store) .entries) (sym one-frame) e
+    ∙ ap (λ (y : Trace). y .entries) (spliced-there next later (all .store) (sofar .entries) 106 (sofar .store) last)
+
+-- without calls of the caller's own, the causes are the entries of all bytes taken
+all-causes : (k : Connection) (s : Session) (t : ℕ) (cs : List Call) → ownCalls cs ≡ [] → Each k s t cs
+    → map receives (entriesUpTo k t) ++ causesFrom k t cs ≡ map receives (entriesUpTo k (takenBy t (onConnection cs)))
+all-causes k s t [] own e = append-nil (map receives (entriesUpTo k t))
+all-causes k s t (piece size r s′ ∷ cs) own e =
+    let t′ = t + r .taken in
+    sym (append-assoc (map receives (entriesUpTo k t)) (map receives (added k t t′)) (causesFrom k t′ cs))
+    ∙ ap (λ (l : List Cause). l ++ causesFrom k t′ cs) (sym (map-append receives (entriesUpTo k t) (added k t t′)))
+    ∙ ap (λ (es : List Entry). map receives es ++ causesFrom k t′ cs) (sym (e .0))
+    ∙ all-causes k (r .state .session) t′ cs own (e .2)
+all-causes k s t (tried key receiving sending r ∷ cs) own e = all-causes k (r .state .session) t cs own e
+all-causes k s t (accepted h r ∷ cs) own e = absurd (let z : _≡_ {A = ℕ} 1 0 = cc in omega arith)
+all-causes k s t (handed n r ∷ cs) own e = absurd (let z : _≡_ {A = ℕ} 1 0 = cc in omega arith)
+
+module _ (key nonce : List ℕ) where
+  -- its entries, by what its first part opens to
+  opened-entries : (bytes : List ℕ) (o : Opened) → length bytes ≡ 96 → openedBy (keyExpansion key) nonce bytes ≡ o
+      → sealedEntries key nonce bytes ≡ sofar .entries ++ part key nonce 106 (sofar .store) o .entries
+  opened-entries bytes o l e =
+      sealed-entries key nonce bytes ∙ ap (λ (y : Trace). sofar .entries ++ y .entries) (one-part key nonce 106 (sofar .store) bytes o l e)
+
+  acked : sealedEntries key nonce (sealedAck key nonce) ≡ sofar .entries ++ part key nonce 106 (sofar .store) (plain ackText) .entries
+  acked = opened-entries (sealedAck key nonce) (plain ackText) (sealed-length (keyExpansion key) nonce ackText) (lists (keyExpansion key) nonce ackText)
+
+  turned-away : (tag : List ℕ) → length tag ≡ 16 → (tag ≡ tagOf (keyExpansion key) nonce (masked key nonce) → ⊥)
+      → sealedEntries key nonce (masked key nonce ++ tag) ≡ sofar .entries ++ part key nonce 106 (sofar .store) fail .entries
+  turned-away tag l differs =
+      opened-entries (masked key nonce ++ tag) fail
+      (length-append (masked key nonce) tag ∙ ap₂ _+_ (gctr-length (keyExpansion key) nonce 0 ackText) l)
+      (not-opened (keyExpansion key) nonce ackText tag l differs)
+
+  -- what they ask, and what is then held
+  asks-ack : map asksOf (sofar .entries ++ part key nonce 106 (sofar .store) (plain ackText) .entries) ≡ Nothing ∷ Nothing ∷ Ack 1 ∷ []
+  unfolding numberAt crcOf steps step missing lowestBit bitCount judgeFeatures shapeFault limitFault headerOf judgeFields judgePreamble ending stream.frames streamTrace traceOf needed judgeFirst frames stepOf layoutIn settled readBody askedByFrame
+  asks-ack = refl
+
+  asks-none : map asksOf (sofar .entries ++ part key nonce 106 (sofar .store) fail .entries) ≡ Nothing ∷ Nothing ∷ Nothing ∷ []
+  unfolding numberAt crcOf steps step missing lowestBit bitCount judgeFeatures shapeFault limitFault headerOf judgeFields judgePreamble ending stream.frames streamTrace traceOf askedByFrame
+  asks-none = refl
+
+  releases-one : heldBy (sofar .entries ++ part key nonce 106 (sofar .store) (plain ackText) .entries) ≡ second ∷ third ∷ []
+  unfolding numberAt crcOf steps step missing lowestBit bitCount judgeFeatures shapeFault limitFault headerOf judgeFields judgePreamble ending stream.frames streamTrace traceOf needed judgeFirst frames stepOf layoutIn settled readBody askedByFrame agrees judgeState judgeAccept judgeAck acceptOf ackOf heldFrom
+  releases-one = refl
+
+  holds-all : heldBy (sofar .entries ++ part key nonce 106 (sofar .store) fail .entries) ≡ first ∷ second ∷ third ∷ []
+  unfolding numberAt crcOf steps step missing lowestBit bitCount judgeFeatures shapeFault limitFault headerOf judgeFields judgePreamble ending stream.frames streamTrace traceOf askedByFrame agrees judgeState judgeAccept judgeAck acceptOf ackOf heldFrom
+  holds-all = refl
+
+  quiet-front : Quiet (sofar .entries ++ [])
+  unfolding numberAt crcOf steps step missing lowestBit bitCount judgeFeatures shapeFault limitFault headerOf judgeFields judgePreamble ending stream.frames streamTrace traceOf askedByFrame
+  quiet-front = (refl, (refl, tt))
+
+  quiet-part : (n : ℕ) → n < 96 → Quiet (sealedEntries key nonce (take n (sealedAck key nonce)))
+  quiet-part n h =
+      let l : length (take n (sealedAck key nonce)) < 96 = (let e = length-take n (sealedAck key nonce) in omega (arith, e)) in
+      rw (sealed-entries key nonce (take n (sealedAck key nonce)), short key nonce 106 (sofar .store) (take n (sealedAck key nonce)) l) quiet-front
+
+  -- all of it, without calls of the caller's own
+  asks-once : callsDue (map receives (upTo 202 (sofar .entries ++ part key nonce 106 (sofar .store) (plain ackText) .entries))) ≡ ack 1 ∷ []
+  unfolding numberAt crcOf steps step missing lowestBit bitCount judgeFeatures shapeFault limitFault headerOf judgeFields judgePreamble ending stream.frames streamTrace traceOf needed judgeFirst frames stepOf layoutIn settled readBody askedByFrame
+  asks-once = refl
+
+  none-before : upTo 0 (sofar .entries ++ part key nonce 106 (sofar .store) (plain ackText) .entries) ≡ []
+  unfolding numberAt crcOf steps step missing lowestBit bitCount judgeFeatures shapeFault limitFault headerOf judgeFields judgePreamble ending stream.frames streamTrace traceOf
+  none-before = refl
+
+  completed : SwitchedDemand3 → (s : Session) (k : Connected) (cs : List Call) → ConnectedWith s ours k → Chained (behindMessage (sealedAck key nonce)) (k .state) store 0 cs
+      → switchBy 0 (onConnection cs) ≡ behind 1 key nonce → ownCalls cs ≡ [] → takenBy 0 (onConnection cs) ≡ 202
+      → (sessionAfter s cs ≡ ackOf s 1 .session) × (toldIn cs ≡ ackOf s 1 .report ∷ [])
+  completed demand s k cs c ch made own all =
+      let x : Connection = record { own = ours; stream = behindMessage (sealedAck key nonce); store = store; connected = k; calls = cs } in
+      let e : k .state .session ≡ s = ap (λ (d : Delivery). d .session) (c .state) in
+      let each-call = each demand x (on-connection x s c ch) [] (k .state) store 0 cs refl refl ch in
+      let up : (n : ℕ) → entriesUpTo x n ≡ upTo n (sofar .entries ++ part key nonce 106 (sofar .store) (plain ackText) .entries) =
+      λ n. trace-first (switchOf x) ours (behindMessage (sealedAck key nonce)) store n
+      ∙ ap (λ (sw : Switch). upTo n (traceWith sw ours (behindMessage (sealedAck key nonce)) store .entries)) made
+      ∙ ap (upTo n) acked in
+      let due : callsDue (causesFrom x 0 cs) ≡ ack 1 ∷ [] =
+      ap (λ (es : List Entry). callsDue (map receives es ++ causesFrom x 0 cs)) (sym (up 0 ∙ none-before))
+      ∙ ap callsDue (all-causes x (k .state .session) 0 cs own each-call)
+      ∙ ap (λ (n : ℕ). callsDue (map receives (entriesUpTo x n))) all
+      ∙ ap (λ (es : List Entry). callsDue (map receives es)) (up 202)
+      ∙ asks-once in
+      let p : Plays s (ack 1 ∷ []) (sessionAfter s cs) (toldIn cs) =
+      subst (λ (y : Session). Plays y (ack 1 ∷ []) (sessionAfter y cs) (toldIn cs)) e
+      (subst (λ (l : List session.Call). Plays (k .state .session) l (sessionAfter (k .state .session) cs) (toldIn cs)) due (calls-play x (k .state) store 0 cs ch each-call)) in
+      (p .leads, p .gives)
+
+  pub sealed-ack : SwitchedDemand3 → SealedAck key nonce
+  sealed-ack demand = record {
+    asks = ap (map asksOf) acked ∙ asks-ack;
+    releases = ap heldBy acked ∙ releases-one;
+    damaged = λ tag l differs. (
+      ap (map asksOf) (turned-away tag l differs) ∙ asks-none,
+      ap heldBy (turned-away tag l differs) ∙ holds-all,
+    );
+    splits = λ n h.
+        releases-nothing demand (λ sw. sw ≡ behind 1 key nonce) (behindMessage (take n (sealedAck key nonce)))
+        (λ sw e. rw e (quiet-part n h));
+    completes = completed demand;
+  }
