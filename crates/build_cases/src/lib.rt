@@ -23,11 +23,11 @@ use sealed_builder::build_sealed;
 use sealed_builder::refused_sending;
 use sealing_cases::key_at;
 use sealing_cases::nonce_at;
+use secure::nonce_of;
 ghost use mathlib.Core.Path.{_≡_};
 ghost use Prim.Native.Nat.{_-_, _≤_};
 ghost use lib.ListN.{length};
 ghost use Rattle.builder.specs.Build.{answered};
-ghost use Rattle.secure.specs.Layout.{nonceOf};
 ghost use Rattle.text.specs.Page.{page};
 ghost use Rattle.records.specs.Records.{print};
 ghost use Rattle.build_cases.specs.Sealed.{answerLine, nonceFurther, sendingAfter, sendingOf, headSize, headPart, buildSize, buildPart, DidPart};
@@ -58,31 +58,12 @@ pub fn print_built(text: &mut [u8], at: usize, built: Built, sum: u32) -> usize
 
 // ---- sending states
 
-fn with_counter(start: [u8; 12], n: u64) -> [u8; 12]
-    ensures { λ r. ⌜ r ≡ nonceOf start n ⌝ }
-{
-    [
-        start[0],
-        start[1],
-        start[2],
-        start[3],
-        (n % 256) as u8,
-        (n / 256 % 256) as u8,
-        (n / 256 / 256 % 256) as u8,
-        (n / 256 / 256 / 256 % 256) as u8,
-        (n / 256 / 256 / 256 / 256 % 256) as u8,
-        (n / 256 / 256 / 256 / 256 / 256 % 256) as u8,
-        (n / 256 / 256 / 256 / 256 / 256 / 256 % 256) as u8,
-        (n / 256 / 256 / 256 / 256 / 256 / 256 / 256 % 256) as u8,
-    ]
-}
-
 // The nonce n parts further on.
 pub fn nonce_further(nonce: [u8; 12], n: u64) -> [u8; 12]
     ensures { λ r. ⌜ r ≡ nonceFurther nonce n ⌝ }
 {
     let c = u64_at(&nonce, 4);
-    with_counter(nonce, std::num::wrapping_add_u64(c, n))
+    nonce_of(nonce, std::num::wrapping_add_u64(c, n))
 }
 
 fn sending_after(key: [u8; 16], nonce: [u8; 12], spent: u64) -> Sending

@@ -11,11 +11,11 @@ use Rattle.handshake_cases.specs.Modes.{modeRecord}
 use Rattle.sealing_cases.specs.Sealing.{sealingRecord}
 use Rattle.body_cases.specs.Reading.{readRecord}
 use Rattle.body_cases.specs.Writing.{writeRecord}
+use Rattle.connection_cases.specs.Calls.{receiverRecord}
 use Rattle.build_cases.specs.declared.Builds.{Builds}
 use Rattle.build_cases.specs.Sealed.{PartDone, headPart, buildPart}
 use Rattle.cases.specs.Checksums.{checksumRecord}
 use Rattle.cases.specs.Builds.{bannerRecord, frameRecord}
-use Rattle.cases.specs.Calls.{receiverRecord}
 
 -- kinds that have a crate of their own; the longest buffer has 65,536 bytes
 unfoldable pub otherRecord : List ℕ → Record
@@ -27,16 +27,17 @@ otherRecord s =
     (cond (eqb (getD s 0 0) 0x4F) (sealingRecord true 65536 s)
     (cond (eqb (getD s 0 0) 0x48) (readRecord s)
     (cond (eqb (getD s 0 0) 0x57) (writeRecord 65536 s)
-    badRecord))))))
+    (cond (eqb (getD s 0 0) 0x52) (receiverRecord false false 65536 s)
+    (cond (eqb (getD s 0 0) 0x58) (receiverRecord true false 65536 s)
+    (cond (eqb (getD s 0 0) 0x54) (receiverRecord true true 65536 s)
+    badRecord)))))))))
 
 unfoldable pub recordOf : List ℕ → Record
 recordOf s =
     cond (eqb (getD s 0 0) 0x43) (checksumRecord s)
     (cond (eqb (getD s 0 0) 0x42) (bannerRecord s)
     (cond (eqb (getD s 0 0) 0x46) (frameRecord s)
-    (cond (eqb (getD s 0 0) 0x52) (receiverRecord false s)
-    (cond (eqb (getD s 0 0) 0x54) (receiverRecord true s)
-    (otherRecord s)))))
+    (otherRecord s)))
 
 -- WHAT COMES NEXT: a build of a record that is not at its end, the head of one, or a record that is read at once
 unfoldable pub nextOf : Builds → List ℕ → PartDone

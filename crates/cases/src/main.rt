@@ -1,6 +1,5 @@
 // Runs case records: reads them on standard input, does what each asks for and prints its lines.
 mod builds;
-mod calls;
 mod checksums;
 
 use body_cases::reading::read_record;
@@ -14,8 +13,8 @@ use build_cases::builds_record;
 use build_cases::no_builds;
 use builds::banner_record;
 use builds::frame_record;
-use calls::receiver_record;
 use checksums::checksum_record;
+use connection_cases::receiver_record;
 use handshake_cases::mode_record;
 use handshake_cases::steps_record;
 use libc::STDIN_FILENO;
@@ -36,7 +35,7 @@ ghost use Rattle.build_cases.specs.Sealed.{DidPart};
 ghost use Rattle.cases.specs.Kinds.{otherRecord, recordOf, nextOf};
 
 // The bytes of the longest record of any kind.
-const LONGEST: usize = 163869;
+const LONGEST: usize = 164253;
 
 // No run has as many records: a loop has to end, and nothing says that the input does.
 const MOST: u64 = 1099511627776;
@@ -72,7 +71,7 @@ fn move_front(held: &mut [u8], at: usize, n: usize)
 
 // Reads on behind what is left, unless the longest record is held or the input has ended.
 fn refill(held: &mut [u8], input: Input) -> Input
-    requires { ⌜ (input .at ≤ input .end) × (input .end ≤ length (now held)) × (163869 ≤ length (now held)) ⌝ }
+    requires { ⌜ (input .at ≤ input .end) × (input .end ≤ length (now held)) × (164253 ≤ length (now held)) ⌝ }
     ensures { λ r. ⌜ (r .at ≤ r .end) × (r .end ≤ length (now (held .entry))) ⌝ }
     ensures { λ r. ⌜ Refilled input (now (held .entry)) r (now (held .exit)) ⌝ }
 {
@@ -135,6 +134,15 @@ fn run_other(s: &[u8], space: &mut [u8], text: &mut [u8], at: usize) -> Step
     if kind == b'W' {
         return write_record(s, &mut space[..LARGEST], text, at);
     }
+    if kind == b'R' {
+        return receiver_record(false, false, s, &mut space[..LARGEST], text, at);
+    }
+    if kind == b'X' {
+        return receiver_record(true, false, s, &mut space[..LARGEST], text, at);
+    }
+    if kind == b'T' {
+        return receiver_record(true, true, s, &mut space[..LARGEST], text, at);
+    }
     bad_record(text, at)
 }
 
@@ -152,12 +160,6 @@ fn run_record(s: &[u8], space: &mut [u8], text: &mut [u8], at: usize) -> Step
     }
     if kind == b'F' {
         return frame_record(s, space, text, at);
-    }
-    if kind == b'R' {
-        return receiver_record(false, s, space, text, at);
-    }
-    if kind == b'T' {
-        return receiver_record(true, s, space, text, at);
     }
     run_other(s, space, text, at)
 }
@@ -222,7 +224,7 @@ fn turn(held: &mut [u8], space: &mut [u8], text: &mut [u8], s: State) -> State
 }
 
 fn run(held: &mut [u8], space: &mut [u8], text: &mut [u8])
-    requires { ⌜ (163869 ≤ length (now held)) × (65536 ≤ length (now space)) ⌝ }
+    requires { ⌜ (164253 ≤ length (now held)) × (65536 ≤ length (now space)) ⌝ }
 {
     let none = Input {
         at: 0,

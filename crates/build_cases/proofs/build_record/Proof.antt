@@ -8,7 +8,6 @@ use lib.Dec.{eqb}
 use lib.ListN.{length, take, drop}
 use lib.Seq.{length-take-le}
 use Rattle.buffer.specs.Le.{numberAt}
-use Rattle.preamble.specs.Judge.{headerOf}
 use Rattle.builder.specs.Build.{answered}
 use Rattle.sealed_builder.specs.Build.{done}
 use Rattle.records.specs.Records.{isWhole, print, prints, counted}

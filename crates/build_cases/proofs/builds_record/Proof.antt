@@ -1,19 +1,9 @@
 use mathlib.Core.Bool.{true, false}
-use mathlib.Core.List.{List, [], _∷_}
-use mathlib.Core.Path.{_≡_, refl, sym, ap, ap₂, _∙_}
+use mathlib.Core.List.{[]}
+use mathlib.Core.Path.{_≡_, refl, sym, ap, _∙_}
 use Prim.Native.Nat.{ℕ, _-_}
-use native.Mathlib.Omega.{arith}
 use borrow.Author.Tests.{not-true, not-false}
-use lib.Dec.{eqb}
-use lib.ListN.{length, take, drop}
-use lib.Seq.{length-take-le}
-use Rattle.buffer.specs.Le.{numberAt}
-use Rattle.preamble.specs.Judge.{headerOf}
-use Rattle.builder.specs.Build.{answered}
-use Rattle.sealed_builder.specs.Build.{done}
-use Rattle.records.specs.Records.{isWhole, print, prints, counted}
-use Rattle.text.specs.Line.{Piece}
-use Rattle.text.specs.Page.{page}
+use Rattle.records.specs.Records.{isWhole, prints}
 use Rattle.build_cases.specs.Sealed.{headSize, headBuilds, headPart}
 use Rattle.build_cases.proofs.Laws.{head-long, builds-of, part-bad, part-whole}
 use borrow.Author.Needs.{needs}

@@ -14,12 +14,12 @@ u64-at-requires c κs = search needs
 wrapping-add-u64-requires : tie.Need-wrapping-add-u64-requires
 wrapping-add-u64-requires c κs = search needs
 
-with-counter-requires : tie.Need-with-counter-requires
-with-counter-requires c κs = search needs
+nonce-of-requires : tie.Need-nonce-of-requires
+nonce-of-requires c κs = search needs
 
 returns : tie.Need-returns
 returns c =
-    c .with-counter .ensures
+    c .nonce-of .ensures
     ∙ ap (nonceOf (c .before .before .before .before .args .t1))
     (c .before .wrapping-add-u64 .ensures ∙ ap (λ (m : ℕ). (m + c .before .before .before .before .args .n) % 2 ^ 64) (c .before .before .u64-at .ensures))
 
@@ -30,5 +30,5 @@ nonce-further-spec =
     slice-aggregate-u64-at
     u64-at-requires
     wrapping-add-u64-requires
-    with-counter-requires
+    nonce-of-requires
     returns)

@@ -1,8 +1,3 @@
-use mathlib.Core.List.{List}
-use Prim.Native.Nat.{ℕ}
-use mathlib.Core.Path.{ap}
-use mathlib.Core.Bool.{false}
-use Rattle.sealed_builder.specs.Build.{sendingState}
 use borrow.Author.Needs.{needs}
 use Rattle.build_cases.proofs.sending_after.Statement.{statement}
 use Rattle.build_cases.proofs.sending_after.Tie as tie

@@ -18,7 +18,7 @@ slice-aggregate-run-3 : tie.Need-slice-aggregate-run-3
 slice-aggregate-run-3 c = search needs
 
 run-requires : tie.Need-run-requires
-run-requires c κs = (zeros 262144 163869 (lit≤ tt), zeros 65536 65536 (lit≤ tt))
+run-requires c κs = (zeros 262144 164253 (lit≤ tt), zeros 65536 65536 (lit≤ tt))
 
 returns : tie.Need-returns
 returns c = search needs

@@ -10,7 +10,7 @@ use Rattle.cases.proofs.refill.Statement.{statement}
 use Rattle.cases.proofs.refill.Tie as tie
 
 -- an input that has ended may not go on
-ended : (b : Bool) (n : ℕ) → b ≡ false → b ≡ true → 163869 ≤ n
+ended : (b : Bool) (n : ℕ) → b ≡ false → b ≡ true → 164253 ≤ n
 ended b n f t = let z : _≡_ {A = ℕ} 0 1 = cc in omega arith
 
 sub-n : tie.Need-sub-n

@@ -116,16 +116,79 @@ returns-7 c = let k = c .before .before .before .before .before .before .before 
     let l = space-lent (c .before .before .before .before .before .before .before .before .before .before .before .before .before .before .before .before .before .before .args .space .now) (c .before .before .before .before .before .before .before .before .before .before .before .before .before .before .before .before .before .before .pre) in
     rw (kind-isnt k (c .before .before .before .before .before .before .before .before .before .before .before .before .before .if1 .left), kind-isnt k (c .before .before .before .before .before .before .before .before .before .before .before .before .if2 .left), kind-isnt k (c .before .before .before .before .before .before .before .before .before .before .before .if3 .left), kind-isnt k (c .before .before .before .before .before .before .before .before .before .before .if4 .left), kind-isnt k (c .before .before .before .before .before .before .before .before .before .if5 .left), kind-isnt k (c .before .before .before .before .before .before .before .before .if6 .left), kind-is k (c .before .before .before .before .before .before .before .if7 .taken)) (rw l at (c .before .before .before .before .write-record .ensures))
 
-bad-record-requires : tie.Need-bad-record-requires
-bad-record-requires c κs = search needs
+slice-relend-prefix-receiver-record : tie.Need-slice-relend-prefix-receiver-record
+slice-relend-prefix-receiver-record c = search needs
+
+slice-aggregate-receiver-record : tie.Need-slice-aggregate-receiver-record
+slice-aggregate-receiver-record c = sym (space-lent (c .before .before .before .before .before .before .before .before .before .before .before .before .before .args .space .now) (c .before .before .before .before .before .before .before .before .before .before .before .before .before .pre))
+
+receiver-record-requires : tie.Need-receiver-record-requires
+receiver-record-requires c κs = search needs
 
 same-length-11 : tie.Need-same-length-11
 same-length-11 c = search needs
 
+same-length-12 : tie.Need-same-length-12
+same-length-12 c = search needs
+
 returns-8 : tie.Need-returns-8
 unfolding otherRecord
-returns-8 c = let k = c .before .before .before .before .before .before .before .before .before .before .before .byte-at .ensures in
-    rw (kind-isnt k (c .before .before .before .before .before .before .before .before .before .before .if1 .left), kind-isnt k (c .before .before .before .before .before .before .before .before .before .if2 .left), kind-isnt k (c .before .before .before .before .before .before .before .before .if3 .left), kind-isnt k (c .before .before .before .before .before .before .before .if4 .left), kind-isnt k (c .before .before .before .before .before .before .if5 .left), kind-isnt k (c .before .before .before .before .before .if6 .left), kind-isnt k (c .before .before .before .before .if7 .left)) (did-none (c .before .before .bad-record .ensures .0) (c .before .before .bad-record .ensures .1))
+returns-8 c = let k = c .before .before .before .before .before .before .before .before .before .before .before .before .before .before .before .byte-at .ensures in
+    let l = space-lent (c .before .before .before .before .before .before .before .before .before .before .before .before .before .before .before .before .before .before .before .args .space .now) (c .before .before .before .before .before .before .before .before .before .before .before .before .before .before .before .before .before .before .before .pre) in
+    rw (kind-isnt k (c .before .before .before .before .before .before .before .before .before .before .before .before .before .before .if1 .left), kind-isnt k (c .before .before .before .before .before .before .before .before .before .before .before .before .before .if2 .left), kind-isnt k (c .before .before .before .before .before .before .before .before .before .before .before .before .if3 .left), kind-isnt k (c .before .before .before .before .before .before .before .before .before .before .before .if4 .left), kind-isnt k (c .before .before .before .before .before .before .before .before .before .before .if5 .left), kind-isnt k (c .before .before .before .before .before .before .before .before .before .if6 .left), kind-isnt k (c .before .before .before .before .before .before .before .before .if7 .left), kind-is k (c .before .before .before .before .before .before .before .if8 .taken)) (rw l at (c .before .before .before .before .receiver-record .ensures))
+
+slice-relend-prefix-receiver-record-2 : tie.Need-slice-relend-prefix-receiver-record-2
+slice-relend-prefix-receiver-record-2 c = search needs
+
+slice-aggregate-receiver-record-2 : tie.Need-slice-aggregate-receiver-record-2
+slice-aggregate-receiver-record-2 c = sym (space-lent (c .before .before .before .before .before .before .before .before .before .before .before .before .before .before .args .space .now) (c .before .before .before .before .before .before .before .before .before .before .before .before .before .before .pre))
+
+receiver-record-requires-2 : tie.Need-receiver-record-requires-2
+receiver-record-requires-2 c κs = search needs
+
+same-length-13 : tie.Need-same-length-13
+same-length-13 c = search needs
+
+same-length-14 : tie.Need-same-length-14
+same-length-14 c = search needs
+
+returns-9 : tie.Need-returns-9
+unfolding otherRecord
+returns-9 c = let k = c .before .before .before .before .before .before .before .before .before .before .before .before .before .before .before .before .byte-at .ensures in
+    let l = space-lent (c .before .before .before .before .before .before .before .before .before .before .before .before .before .before .before .before .before .before .before .before .args .space .now) (c .before .before .before .before .before .before .before .before .before .before .before .before .before .before .before .before .before .before .before .before .pre) in
+    rw (kind-isnt k (c .before .before .before .before .before .before .before .before .before .before .before .before .before .before .before .if1 .left), kind-isnt k (c .before .before .before .before .before .before .before .before .before .before .before .before .before .before .if2 .left), kind-isnt k (c .before .before .before .before .before .before .before .before .before .before .before .before .before .if3 .left), kind-isnt k (c .before .before .before .before .before .before .before .before .before .before .before .before .if4 .left), kind-isnt k (c .before .before .before .before .before .before .before .before .before .before .before .if5 .left), kind-isnt k (c .before .before .before .before .before .before .before .before .before .before .if6 .left), kind-isnt k (c .before .before .before .before .before .before .before .before .before .if7 .left), kind-isnt k (c .before .before .before .before .before .before .before .before .if8 .left), kind-is k (c .before .before .before .before .before .before .before .if9 .taken)) (rw l at (c .before .before .before .before .receiver-record2 .ensures))
+
+slice-relend-prefix-receiver-record-3 : tie.Need-slice-relend-prefix-receiver-record-3
+slice-relend-prefix-receiver-record-3 c = search needs
+
+slice-aggregate-receiver-record-3 : tie.Need-slice-aggregate-receiver-record-3
+slice-aggregate-receiver-record-3 c = sym (space-lent (c .before .before .before .before .before .before .before .before .before .before .before .before .before .before .before .args .space .now) (c .before .before .before .before .before .before .before .before .before .before .before .before .before .before .before .pre))
+
+receiver-record-requires-3 : tie.Need-receiver-record-requires-3
+receiver-record-requires-3 c κs = search needs
+
+same-length-15 : tie.Need-same-length-15
+same-length-15 c = search needs
+
+same-length-16 : tie.Need-same-length-16
+same-length-16 c = search needs
+
+returns-10 : tie.Need-returns-10
+unfolding otherRecord
+returns-10 c = let k = c .before .before .before .before .before .before .before .before .before .before .before .before .before .before .before .before .before .byte-at .ensures in
+    let l = space-lent (c .before .before .before .before .before .before .before .before .before .before .before .before .before .before .before .before .before .before .before .before .before .args .space .now) (c .before .before .before .before .before .before .before .before .before .before .before .before .before .before .before .before .before .before .before .before .before .pre) in
+    rw (kind-isnt k (c .before .before .before .before .before .before .before .before .before .before .before .before .before .before .before .before .if1 .left), kind-isnt k (c .before .before .before .before .before .before .before .before .before .before .before .before .before .before .before .if2 .left), kind-isnt k (c .before .before .before .before .before .before .before .before .before .before .before .before .before .before .if3 .left), kind-isnt k (c .before .before .before .before .before .before .before .before .before .before .before .before .before .if4 .left), kind-isnt k (c .before .before .before .before .before .before .before .before .before .before .before .before .if5 .left), kind-isnt k (c .before .before .before .before .before .before .before .before .before .before .before .if6 .left), kind-isnt k (c .before .before .before .before .before .before .before .before .before .before .if7 .left), kind-isnt k (c .before .before .before .before .before .before .before .before .before .if8 .left), kind-isnt k (c .before .before .before .before .before .before .before .before .if9 .left), kind-is k (c .before .before .before .before .before .before .before .if10 .taken)) (rw l at (c .before .before .before .before .receiver-record3 .ensures))
+
+bad-record-requires : tie.Need-bad-record-requires
+bad-record-requires c κs = search needs
+
+same-length-17 : tie.Need-same-length-17
+same-length-17 c = search needs
+
+returns-11 : tie.Need-returns-11
+unfolding otherRecord
+returns-11 c = let k = c .before .before .before .before .before .before .before .before .before .before .before .before .before .before .byte-at .ensures in
+    rw (kind-isnt k (c .before .before .before .before .before .before .before .before .before .before .before .before .before .if1 .left), kind-isnt k (c .before .before .before .before .before .before .before .before .before .before .before .before .if2 .left), kind-isnt k (c .before .before .before .before .before .before .before .before .before .before .before .if3 .left), kind-isnt k (c .before .before .before .before .before .before .before .before .before .before .if4 .left), kind-isnt k (c .before .before .before .before .before .before .before .before .before .if5 .left), kind-isnt k (c .before .before .before .before .before .before .before .before .if6 .left), kind-isnt k (c .before .before .before .before .before .before .before .if7 .left), kind-isnt k (c .before .before .before .before .before .before .if8 .left), kind-isnt k (c .before .before .before .before .before .if9 .left), kind-isnt k (c .before .before .before .before .if10 .left)) (did-none (c .before .before .bad-record .ensures .0) (c .before .before .bad-record .ensures .1))
 
 pub run-other-spec : {M : Type 1} → statement M
 run-other-spec =
@@ -162,6 +225,24 @@ run-other-spec =
     same-length-9
     same-length-10
     returns-7
-    bad-record-requires
+    slice-relend-prefix-receiver-record
+    slice-aggregate-receiver-record
+    receiver-record-requires
     same-length-11
-    returns-8)
+    same-length-12
+    returns-8
+    slice-relend-prefix-receiver-record-2
+    slice-aggregate-receiver-record-2
+    receiver-record-requires-2
+    same-length-13
+    same-length-14
+    returns-9
+    slice-relend-prefix-receiver-record-3
+    slice-aggregate-receiver-record-3
+    receiver-record-requires-3
+    same-length-15
+    same-length-16
+    returns-10
+    bad-record-requires
+    same-length-17
+    returns-11)

@@ -1,0 +1,96 @@
+use mathlib.Core.Path.{_≡_, refl, sym, ap, _∙_}
+use mathlib.Core.List.{List}
+use Prim.Native.Nat.{_+_, _*_, _≤_}
+use native.Mathlib.Omega.{arith}
+use borrow.Author.Needs.{needs}
+use lib.ListN.{length, drop}
+use Rattle.text.specs.Page.{page}
+use Rattle.connection_cases.specs.declared.places.Call.{Call}
+use Rattle.records.specs.Records.{prints}
+use Rattle.connection_cases.specs.Places.{callsFrom, callWidth}
+use Rattle.connection_cases.specs.Calls.{callLines}
+use Rattle.connection_cases.proofs.Laws.{calls-none, calls-on}
+use Rattle.connection_cases.proofs.make_calls.Statement.{statement}
+use Rattle.connection_cases.proofs.make_calls.Tie as tie
+
+abbrev Inv-loop : tie.InvT-loop
+Inv-loop l s n from stream store₀ text₀ at width state₀ taken₀ end₀ place₀ left₀ store text state taken end place left =
+    (place + 8 * left ≤ 600000)
+    × (width ≤ 8)
+    × (width ≡ callWidth (l .lends))
+    × (prints (callLines l s (callsFrom (l .lends) s left place) (drop taken stream) state store) (page text end) ≡ prints (callLines l s (callsFrom (l .lends) s n from) stream state₀ store₀) (page text₀ at))
+    × (length store ≡ length store₀)
+    × (length text ≡ length text₀)
+
+abbrev μ-loop : tie.MeasureT-loop
+μ-loop l s n from stream store₀ text₀ at width state₀ taken₀ end₀ place₀ left₀ store text state taken end place left = left
+
+call-width-requires : tie.Need-call-width-requires Inv-loop μ-loop
+call-width-requires c κs = search needs
+
+loop-holds : tie.Need-loop-holds Inv-loop μ-loop
+loop-holds c = (omega (arith, c .before .before .before .before .before .pre .0), omega (arith, c .call-width .ensures .1), c .call-width .ensures .0, refl, refl, refl)
+
+call-at-requires : tie.Need-call-at-requires Inv-loop μ-loop
+call-at-requires c κs = omega (arith, c .before .loop .inv .0)
+
+behind-requires : tie.Need-behind-requires Inv-loop μ-loop
+behind-requires c κs = search needs
+
+make-either-requires : tie.Need-make-either-requires Inv-loop μ-loop
+make-either-requires c κs = c .before .before .before .before .before .before .before .before .before .before .before .pre .1
+
+forward-requires : tie.Need-forward-requires Inv-loop μ-loop
+forward-requires c κs = search needs
+
+add-place : tie.Need-add-place Inv-loop μ-loop
+add-place c = omega (arith, c .before .before .before .before .before .before .before .before .before .before .before .before .loop .inv .0, c .before .before .before .before .before .before .before .before .before .before .before .before .loop .inv .1)
+
+sub-left : tie.Need-sub-left Inv-loop μ-loop
+sub-left c = omega (arith, c .before .before .before .before .before .before .before .before .before .before .before .loop-test .taken)
+
+loop-less : tie.Need-loop-less Inv-loop μ-loop
+loop-less c = omega (arith, c .before .before .before .before .before .before .before .before .before .before .before .loop-test .taken)
+
+loop-again : tie.Need-loop-again Inv-loop μ-loop
+loop-again c =
+    let l = c .before .before .before .before .before .before .before .before .before .before .before .before .loop in (
+      omega (arith, c .before .before .before .before .before .before .before .before .before .before .before .loop-test .taken, l .inv .0, l .inv .1),
+      l .inv .1,
+      l .inv .2,
+      calls-on (c .before .before .before .before .before .before .before .before .before .before .before .before .before .before .before .before .before .before .args .l) (c .before .before .before .before .before .before .before .before .before .before .before .before .before .before .before .before .before .before .args .s .now) (l .left) (l .place) (c .before .before .before .before .before .before .before .before .before .before .before .before .before .before .before .before .before .before .args .stream .now) (l .taken) (c .forward .result) (c .before .before .before .before .before .before .before .before .before .before .before .before .before .call-width .result) (l .state) (c .before .before .before .before .before .before .before .before .before .before .call-at .result) (c .before .before .before .before .before .before .before .before .before .behind .result .now) (l .store) (omega (arith, c .before .before .before .before .before .before .before .before .before .before .before .loop-test .taken)) (c .before .before .before .before .before .before .before .before .before .before .call-at .ensures) (c .before .before .before .before .before .before .before .before .before .behind .ensures) (c .before .before .before .before .before .before .make-either .ensures) (c .forward .ensures) (l .inv .2) ∙ l .inv .3,
+      c .before .before .before .before .before .before .make-either .kept .1 .1 .1 .1 .1 .0 ∙ l .inv .4,
+      c .before .before .before .before .before .before .make-either .kept .1 .1 .1 .1 .1 .1 .0 ∙ l .inv .5,
+    )
+
+same-length : tie.Need-same-length Inv-loop μ-loop
+same-length c = c .before .loop .inv .4
+
+same-length-2 : tie.Need-same-length-2 Inv-loop μ-loop
+same-length-2 c = c .before .loop .inv .5
+
+returns : tie.Need-returns Inv-loop μ-loop
+unfolding callLines prints
+returns c =
+    let l = c .before .loop in
+    ap (λ (xs : List Call). prints (callLines (c .before .before .before .before .before .before .before .args .l) (c .before .before .before .before .before .before .before .args .s .now) xs (drop (l .taken) (c .before .before .before .before .before .before .before .args .stream .now)) (l .state) (l .store)) (page (l .text) (l .end))) (sym (calls-none (c .before .before .before .before .before .before .before .args .l .lends) (c .before .before .before .before .before .before .before .args .s .now) (l .left) (l .place) (omega arith))) ∙ l .inv .3
+
+pub make-calls-spec : {M : Type 1} → statement M
+make-calls-spec =
+    tie.close
+    (tie.spec
+    Inv-loop
+    μ-loop
+    call-width-requires
+    loop-holds
+    call-at-requires
+    behind-requires
+    make-either-requires
+    forward-requires
+    add-place
+    sub-left
+    loop-less
+    loop-again
+    same-length
+    same-length-2
+    returns)
