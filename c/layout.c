@@ -4,6 +4,7 @@
  *     STRUCT SIZE ALIGNMENT
  *     STRUCT.FIELD OFFSET SIZE
  */
+#include <stddef.h>
 #include <stdio.h>
 
 #include "mahuixen.h"
@@ -19,11 +20,18 @@ AFTER_A_CHAR(features);
 AFTER_A_CHAR(segment);
 AFTER_A_CHAR(header);
 AFTER_A_CHAR(refusal);
+AFTER_A_CHAR(crc);
+AFTER_A_CHAR(sealed);
 AFTER_A_CHAR(state);
 AFTER_A_CHAR(report);
-AFTER_A_CHAR(received);
-AFTER_A_CHAR(started);
-AFTER_A_CHAR(built);
+AFTER_A_CHAR(sending);
+AFTER_A_CHAR(session);
+AFTER_A_CHAR(answer);
+AFTER_A_CHAR(message);
+AFTER_A_CHAR(verdict);
+AFTER_A_CHAR(list);
+AFTER_A_CHAR(span);
+AFTER_A_CHAR(body);
 
 #define STRUCT(name) printf(#name " %zu %zu\n", sizeof(mahuixen_##name), offsetof(struct after_a_##name, at))
 #define FIELD(name, field) \
@@ -50,43 +58,94 @@ static void parts(void)
 
 static void state(void)
 {
+    STRUCT(crc);
+    FIELD(crc, stage);
+    FIELD(crc, revision);
+    FIELD(crc, first);
+    FIELD(crc, payload);
+    FIELD(crc, header);
+    FIELD(crc, refusal);
+    FIELD(crc, got);
+    FIELD(crc, own);
+    FIELD(crc, peer);
+    FIELD(crc, block);
+    STRUCT(sealed);
+    FIELD(sealed, stage);
+    FIELD(sealed, exhausted);
+    FIELD(sealed, header);
+    FIELD(sealed, refusal);
+    FIELD(sealed, got);
+    FIELD(sealed, opened);
+    FIELD(sealed, first);
+    FIELD(sealed, key);
+    FIELD(sealed, nonce);
     STRUCT(state);
-    FIELD(state, got);
-    FIELD(state, own);
-    FIELD(state, peer);
-    FIELD(state, refusal);
-    FIELD(state, header);
-    FIELD(state, payload);
-    FIELD(state, stage);
-    FIELD(state, revision);
-    FIELD(state, first);
-    FIELD(state, block);
+    FIELD(state, mode);
+    FIELD(state, ready);
+    FIELD(state, crc);
+    FIELD(state, sealed);
 }
 
-static void answers(void)
+static void report(void)
 {
     STRUCT(report);
     FIELD(report, kind);
+    FIELD(report, taken);
     FIELD(report, revision);
     FIELD(report, peer);
     FIELD(report, header);
     FIELD(report, refusal);
-    STRUCT(received);
-    FIELD(received, state);
-    FIELD(received, taken);
-    FIELD(received, report);
-    STRUCT(started);
-    FIELD(started, state);
-    FIELD(started, refusal);
-    STRUCT(built);
-    FIELD(built, written);
-    FIELD(built, refusal);
+}
+
+static void sessions(void)
+{
+    STRUCT(sending);
+    FIELD(sending, exhausted);
+    FIELD(sending, refused);
+    FIELD(sending, spent);
+    FIELD(sending, key);
+    FIELD(sending, nonce);
+    STRUCT(session);
+    FIELD(session, released);
+    FIELD(session, last);
+    FIELD(session, handles);
+    STRUCT(answer);
+    FIELD(answer, kind);
+    FIELD(answer, number);
+    FIELD(answer, refusal);
+    STRUCT(message);
+    FIELD(message, number);
+    FIELD(message, handle);
+}
+
+static void handshake(void)
+{
+    STRUCT(verdict);
+    FIELD(verdict, auth);
+    FIELD(verdict, signature);
+    FIELD(verdict, features);
+    FIELD(verdict, reconnect);
+    STRUCT(list);
+    FIELD(list, at);
+    FIELD(list, count);
+    STRUCT(span);
+    FIELD(span, at);
+    FIELD(span, len);
+    STRUCT(body);
+    FIELD(body, kind);
+    FIELD(body, numbers);
+    FIELD(body, first);
+    FIELD(body, second);
+    FIELD(body, bytes);
+    FIELD(body, refusal);
 }
 
 int main(void)
 {
     parts();
     state();
-    answers();
+    report();
+    sessions();
+    handshake();
     return 0;
 }

@@ -10,6 +10,7 @@
 #define _POSIX_C_SOURCE 200809L
 
 #include <arpa/inet.h>
+#include <inttypes.h>
 #include <netinet/in.h>
 #include <netinet/tcp.h>
 #include <stdio.h>
@@ -50,11 +51,11 @@ static uint8_t content(size_t frame, size_t at)
 
 static size_t total(const mahuixen_header *h)
 {
-    size_t sum = 0;
+    uint64_t sum = 0;
     for (int i = 0; i < 4; i++) {
         sum += h->segments[i].len;
     }
-    return sum;
+    return (size_t)sum;
 }
 
 /* ---- chance and failure */
@@ -118,12 +119,13 @@ static void send_in_pieces(int fd, const uint8_t *bytes, size_t count)
 static mahuixen_report next_report(end *e)
 {
     for (;;) {
-        mahuixen_received r =
-            mahuixen_receive(e->state, e->held + e->from, e->until - e->from, e->store, sizeof e->store);
-        e->state = r.state;
-        e->from += r.taken;
-        if (r.report.kind != MAHUIXEN_MORE) {
-            return r.report;
+        mahuixen_report r;
+        uint64_t kind =
+            mahuixen_receive(&e->state, &r, e->held + e->from, e->until - e->from, e->store, sizeof e->store);
+        check(kind == r.kind, "the kind that a call answers");
+        e->from += (size_t)r.taken;
+        if (kind != MAHUIXEN_MORE) {
+            return r;
         }
         ssize_t n = read(e->fd, e->held, draw(draw(sizeof e->held)));
         if (n <= 0) {
@@ -137,21 +139,19 @@ static mahuixen_report next_report(end *e)
 /* Both ends send their banner and wait for the other's. */
 static mahuixen_report greet(end *e, uint64_t supported)
 {
-    mahuixen_features own = {supported, 0};
-    mahuixen_started started = mahuixen_start(own);
     uint8_t banner[MAHUIXEN_BANNER_LENGTH];
-    mahuixen_built built = mahuixen_build_banner(banner, sizeof banner, 0, own);
-    check(started.refusal.number == MAHUIXEN_REFUSAL_NONE, "a start with our features");
-    check(built.written == sizeof banner && built.refusal.number == MAHUIXEN_REFUSAL_NONE, "a banner with them");
-    e->state = started.state;
-    send_in_pieces(e->fd, banner, built.written);
+    mahuixen_refusal refusal;
+    check(mahuixen_start(&e->state, supported, 0) == MAHUIXEN_REFUSAL_NONE, "a start with our features");
+    check(mahuixen_build_banner(banner, sizeof banner, 0, supported, 0, &refusal) == sizeof banner, "a banner with them");
+    check(refusal.number == MAHUIXEN_REFUSAL_NONE, "and no refusal");
+    send_in_pieces(e->fd, banner, sizeof banner);
     return next_report(e);
 }
 
 /* ---- the sending end */
 
 /* Builds a frame behind what is queued, and says how many bytes are then queued. */
-static size_t enqueue(uint8_t *queue, size_t room, size_t queued, uint8_t revision, size_t number)
+static size_t enqueue(uint8_t *queue, size_t room, size_t queued, uint64_t revision, size_t number)
 {
     static uint8_t source[MAHUIXEN_FRAME_LIMIT];
     const planned *p = &frames[number];
@@ -159,15 +159,16 @@ static size_t enqueue(uint8_t *queue, size_t room, size_t queued, uint8_t revisi
     for (size_t i = 0; i < length; i++) {
         source[i] = content(number, i);
     }
-    mahuixen_built built = p->aborted
-                               ? mahuixen_abort_frame(queue, room, queued, revision, p->header, source, length)
-                               : mahuixen_build_frame(queue, room, queued, revision, p->header, source, length);
-    check(built.refusal.number == MAHUIXEN_REFUSAL_NONE, "a frame of the list is built");
+    mahuixen_refusal refusal;
+    uint64_t written =
+        p->aborted ? mahuixen_abort_frame(queue, room, queued, revision, &p->header, source, length, &refusal)
+                   : mahuixen_build_frame(queue, room, queued, revision, &p->header, source, length, &refusal);
+    check(written > 0 && refusal.number == MAHUIXEN_REFUSAL_NONE, "a frame of the list is built");
     if (p->damaged) {
         /* A byte in the middle of its last segment, whichever the revision. */
-        queue[queued + built.written - 200] ^= 0x10;
+        queue[queued + written - 200] ^= 0x10;
     }
-    return queued + built.written;
+    return queued + (size_t)written;
 }
 
 static int send_frames(end *e, uint64_t supported)
@@ -185,7 +186,7 @@ static int send_frames(end *e, uint64_t supported)
 
 /* ---- the receiving end */
 
-static const char *tag_name(uint8_t tag)
+static const char *tag_name(uint64_t tag)
 {
     switch (tag) {
     case MAHUIXEN_TAG_HELLO:
@@ -206,8 +207,8 @@ static const char *tag_name(uint8_t tag)
 static void print_header(const char *word, const mahuixen_header *h)
 {
     printf("  %s: %s, segments of", word, tag_name(h->tag));
-    for (int i = 0; i < h->count; i++) {
-        printf("%s %lu", i == 0 ? "" : ",", (unsigned long)h->segments[i].len);
+    for (uint64_t i = 0; i < h->count; i++) {
+        printf("%s %" PRIu64, i == 0 ? "" : ",", h->segments[i].len);
     }
     printf(" bytes\n");
 }
@@ -215,10 +216,10 @@ static void print_header(const char *word, const mahuixen_header *h)
 static void print_refusal(const mahuixen_refusal *r)
 {
     if (r->number == MAHUIXEN_REFUSAL_SEGMENT_CHECKSUM) {
-        printf("  refused: the checksum of segment %llu differs\n", (unsigned long long)r->first);
+        printf("  refused: the checksum of segment %" PRIu64 " differs\n", r->first);
     } else {
-        printf("  refused: number %d, details %llu %llu %llu\n", r->number, (unsigned long long)r->first,
-               (unsigned long long)r->second, (unsigned long long)r->third);
+        printf("  refused: number %" PRIu64 ", details %" PRIu64 " %" PRIu64 " %" PRIu64 "\n", r->number, r->first,
+               r->second, r->third);
     }
 }
 
@@ -226,8 +227,8 @@ static void print_report(const mahuixen_report *r)
 {
     switch (r->kind) {
     case MAHUIXEN_BANNER:
-        printf("  banner: msgr2.%d, the peer supports %llx and requires %llx\n", r->revision,
-               (unsigned long long)r->peer.supported, (unsigned long long)r->peer.required);
+        printf("  banner: msgr2.%" PRIu64 ", the peer supports %" PRIx64 " and requires %" PRIx64 "\n", r->revision,
+               r->peer.supported, r->peer.required);
         break;
     case MAHUIXEN_FRAME:
         print_header("frame", &r->header);
@@ -242,7 +243,7 @@ static void print_report(const mahuixen_report *r)
         print_refusal(&r->refusal);
         break;
     default:
-        printf("  kind %d\n", r->kind);
+        printf("  kind %" PRIu64 "\n", r->kind);
     }
 }
 
@@ -266,7 +267,7 @@ static int stored(const end *e, size_t number, size_t length, int zeros)
 }
 
 /* In msgr2.1 segment 1 is reported by itself, where it is not empty and others follow. */
-static void expect_first(end *e, size_t number, uint8_t revision)
+static void expect_first(end *e, size_t number, uint64_t revision)
 {
     const mahuixen_header *h = &frames[number].header;
     if (revision == MAHUIXEN_MSGR20 || h->segments[0].len == 0 || h->count == 1) {
@@ -276,7 +277,7 @@ static void expect_first(end *e, size_t number, uint8_t revision)
     print_report(&r);
     check(r.kind == MAHUIXEN_FIRST, "a report of segment 1");
     check(same_header(&r.header, h), "the header with segment 1");
-    check(stored(e, number, h->segments[0].len, 0), "segment 1 in the store");
+    check(stored(e, number, (size_t)h->segments[0].len, 0), "segment 1 in the store");
 }
 
 static void expect_frame(end *e, size_t number)
@@ -284,24 +285,24 @@ static void expect_frame(end *e, size_t number)
     const planned *p = &frames[number];
     mahuixen_report r = next_report(e);
     print_report(&r);
-    check(r.kind == (p->aborted ? MAHUIXEN_DROPPED : MAHUIXEN_FRAME), "the kind of the report");
+    check(r.kind == (uint64_t)(p->aborted ? MAHUIXEN_DROPPED : MAHUIXEN_FRAME), "the kind of the report");
     check(same_header(&r.header, &p->header), "the header");
     check(stored(e, number, total(&p->header), p->aborted), "the segments in the store");
 }
 
-static void expect_refusal(end *e, uint8_t number, uint64_t detail)
+static void expect_refusal(end *e, uint64_t number, uint64_t detail)
 {
     mahuixen_report r = next_report(e);
     print_report(&r);
     check(r.kind == MAHUIXEN_REFUSED && r.refusal.number == number && r.refusal.first == detail, "the refusal");
     /* From now on every call repeats it and takes nothing. */
-    mahuixen_received again = mahuixen_receive(e->state, e->held, sizeof e->held, e->store, sizeof e->store);
-    check(again.taken == 0 && again.report.refusal.number == number, "the refusal, once more");
-    again = mahuixen_receive(again.state, NULL, 0, NULL, 0);
-    check(again.taken == 0 && again.report.refusal.number == number, "the refusal, with nothing lent");
+    (void)mahuixen_receive(&e->state, &r, e->held, sizeof e->held, e->store, sizeof e->store);
+    check(r.taken == 0 && r.refusal.number == number, "the refusal, once more");
+    (void)mahuixen_receive(&e->state, &r, NULL, 0, NULL, 0);
+    check(r.taken == 0 && r.refusal.number == number, "the refusal, with nothing lent");
 }
 
-static void receive_frames(end *e, uint64_t supported, uint64_t peer, uint8_t revision)
+static void receive_frames(end *e, uint64_t supported, uint64_t peer, uint64_t revision)
 {
     mahuixen_report banner = greet(e, supported);
     print_report(&banner);
@@ -345,7 +346,7 @@ static int connect_to(const struct sockaddr_in *at)
     return fd;
 }
 
-static void run_link(uint64_t sender, uint64_t receiver, uint8_t revision)
+static void run_link(uint64_t sender, uint64_t receiver, uint64_t revision)
 {
     static end e;
     struct sockaddr_in at;
@@ -378,53 +379,125 @@ static void run_link(uint64_t sender, uint64_t receiver, uint8_t revision)
 /* Where nothing is lent a pointer may be NULL. */
 static void lend_nothing(void)
 {
-    mahuixen_features own = {MAHUIXEN_FEATURE_REVISION_1, 0};
-    mahuixen_header empty = {MAHUIXEN_TAG_WAIT, 1, {{0, 8}}};
+    mahuixen_header empty = {MAHUIXEN_TAG_WAIT, 1, {{0, 8}, {0, 0}, {0, 0}, {0, 0}}};
     uint8_t buf[32];
-    mahuixen_received r = mahuixen_receive(mahuixen_start(own).state, NULL, 0, NULL, 0);
-    mahuixen_built banner = mahuixen_build_banner(NULL, 0, 0, own);
-    mahuixen_built nowhere = mahuixen_build_frame(NULL, 0, 0, MAHUIXEN_MSGR21, empty, NULL, 0);
-    mahuixen_built built = mahuixen_build_frame(buf, sizeof buf, 0, MAHUIXEN_MSGR21, empty, NULL, 0);
-    check(r.report.kind == MAHUIXEN_MORE && r.taken == 0, "no piece and no store");
-    check(banner.refusal.number == MAHUIXEN_REFUSAL_NO_ROOM && banner.refusal.first == 26, "a banner into nothing");
-    check(nowhere.refusal.number == MAHUIXEN_REFUSAL_NO_ROOM && nowhere.refusal.first == 32, "a frame into nothing");
-    check(built.written == sizeof buf && built.refusal.number == 0, "a frame of nothing");
+    mahuixen_state state;
+    mahuixen_report r;
+    mahuixen_refusal n;
+    (void)mahuixen_start(&state, MAHUIXEN_FEATURE_REVISION_1, 0);
+    check(mahuixen_receive(&state, &r, NULL, 0, NULL, 0) == MAHUIXEN_MORE && r.taken == 0, "no piece and no store");
+    check(mahuixen_build_banner(NULL, 0, 0, MAHUIXEN_FEATURE_REVISION_1, 0, &n) == 0, "a banner into nothing");
+    check(n.number == MAHUIXEN_REFUSAL_NO_ROOM && n.first == 26, "and why");
+    check(mahuixen_build_frame(NULL, 0, 0, MAHUIXEN_MSGR21, &empty, NULL, 0, &n) == 0, "a frame into nothing");
+    check(n.number == MAHUIXEN_REFUSAL_NO_ROOM && n.first == 32, "and why");
+    check(mahuixen_build_frame(buf, sizeof buf, 0, MAHUIXEN_MSGR21, &empty, NULL, 0, &n) == sizeof buf, "a frame of nothing");
+    check(n.number == MAHUIXEN_REFUSAL_NONE, "and no refusal");
     check(mahuixen_checksum(MAHUIXEN_SEGMENT_START, NULL, 0) == MAHUIXEN_SEGMENT_START, "the checksum of nothing");
 }
 
 /* A state that no receiver can be in comes back as it was. */
+static void refuse_state(mahuixen_state made_up, const char *what)
+{
+    mahuixen_state before = made_up;
+    mahuixen_report r;
+    uint8_t piece[3] = {1, 2, 3};
+    check(mahuixen_receive(&made_up, &r, piece, sizeof piece, NULL, 0) == MAHUIXEN_REFUSED, what);
+    check(r.taken == 0 && r.refusal.number == MAHUIXEN_REFUSAL_STATE_CONTRADICTS, "26, and nothing taken");
+    check(memcmp(&made_up, &before, sizeof before) == 0, "the state as it was");
+}
+
 static void make_up_a_state(void)
 {
-    mahuixen_state made_up = mahuixen_start((mahuixen_features){0, 0}).state;
-    uint8_t piece[3] = {1, 2, 3};
-    made_up.stage = 10;
-    made_up.got = 7;
-    made_up.block[31] = 9;
-    mahuixen_received r = mahuixen_receive(made_up, piece, sizeof piece, NULL, 0);
-    check(r.report.kind == MAHUIXEN_REFUSED && r.report.refusal.number == MAHUIXEN_REFUSAL_STATE, "26");
-    check(r.taken == 0 && r.state.stage == 10 && r.state.got == 7 && r.state.block[31] == 9, "the state as it was");
-    made_up = mahuixen_start((mahuixen_features){0, 0}).state;
-    made_up.first = 1;
-    r = mahuixen_receive(made_up, piece, sizeof piece, NULL, 0);
-    check(r.report.refusal.number == MAHUIXEN_REFUSAL_STATE && r.state.first == 1, "a mark without its segment");
+    mahuixen_state fresh;
+    mahuixen_state made_up;
+    (void)mahuixen_start(&fresh, 0, 0);
+    made_up = fresh;
+    made_up.crc.stage = 10;
+    made_up.crc.got = 7;
+    made_up.crc.block[3] = 9;
+    refuse_state(made_up, "a stage that there is not");
+    made_up = fresh;
+    made_up.crc.first = 1;
+    refuse_state(made_up, "a mark without its segment");
+    made_up = fresh;
+    made_up.crc.header.segments[3].align = UINT64_C(1) << 63;
+    refuse_state(made_up, "a number beyond its field");
+    made_up = fresh;
+    made_up.mode = 2;
+    refuse_state(made_up, "a mode that there is not");
+    made_up = fresh;
+    made_up.ready = 1;
+    refuse_state(made_up, "a frame that was not reported");
+    made_up = fresh;
+    made_up.mode = 1;
+    made_up.sealed.stage = 4;
+    refuse_state(made_up, "a part that there is not");
+}
+
+/* A header with a number beyond its field is not built, and nothing is written. */
+static void build_beyond_a_field(void)
+{
+    mahuixen_header header = {MAHUIXEN_TAG_ACK + 256, 1, {{0, 8}, {0, 0}, {0, 0}, {0, 0}}};
+    mahuixen_refusal n;
+    uint8_t buf[64] = {7};
+    check(mahuixen_build_frame(buf, sizeof buf, 0, MAHUIXEN_MSGR21, &header, NULL, 0, &n) == 0, "a tag of nine bits");
+    check(n.number == MAHUIXEN_REFUSAL_STATE_CONTRADICTS && buf[0] == 7, "26, and nothing written");
 }
 
 /* A msgr2.0 frame of one byte, in whose epilogue something stands at a place that we do not write there. */
 static void spell_in_another_way(size_t at, uint8_t byte, uint64_t detail)
 {
-    mahuixen_features own = {0, 0};
-    mahuixen_header header = {MAHUIXEN_TAG_ACK, 1, {{1, 8}}};
+    mahuixen_header header = {MAHUIXEN_TAG_ACK, 1, {{1, 8}, {0, 0}, {0, 0}, {0, 0}}};
+    mahuixen_state state;
+    mahuixen_report r;
+    mahuixen_refusal n;
     uint8_t bytes[MAHUIXEN_BANNER_LENGTH + 1 + MAHUIXEN_FRAME_OVERHEAD];
     uint8_t source = 7;
     uint8_t store[2] = {9, 9};
-    size_t banner = mahuixen_build_banner(bytes, sizeof bytes, 0, own).written;
-    size_t frame = mahuixen_build_frame(bytes, sizeof bytes, banner, MAHUIXEN_MSGR20, header, &source, 1).written;
+    uint64_t banner = mahuixen_build_banner(bytes, sizeof bytes, 0, 0, 0, &n);
+    uint64_t frame = mahuixen_build_frame(bytes, sizeof bytes, banner, MAHUIXEN_MSGR20, &header, &source, 1, &n);
     bytes[banner + at] = byte;
-    mahuixen_received r = mahuixen_receive(mahuixen_start(own).state, bytes, sizeof bytes, store, sizeof store);
-    check(r.report.kind == MAHUIXEN_BANNER && r.taken == banner, "a banner with a frame behind it");
-    r = mahuixen_receive(r.state, bytes + banner, frame, store, sizeof store);
-    check(r.report.refusal.number == MAHUIXEN_REFUSAL_SPELLING && r.report.refusal.first == detail, "24");
+    (void)mahuixen_start(&state, 0, 0);
+    (void)mahuixen_receive(&state, &r, bytes, sizeof bytes, store, sizeof store);
+    check(r.kind == MAHUIXEN_BANNER && r.taken == banner, "a banner with a frame behind it");
+    (void)mahuixen_receive(&state, &r, bytes + banner, frame, store, sizeof store);
+    check(r.refusal.number == MAHUIXEN_REFUSAL_NON_CANONICAL && r.refusal.first == detail, "24");
     check(r.taken == frame && store[0] == 0 && store[1] == 9, "the whole frame taken, and its byte zeroed");
+}
+
+/* A switch behind a frame and nowhere else; from then on a part that the key does not open is refused. */
+static void switch_to_secure(void)
+{
+    static const uint8_t key[16] = {1, 2, 3};
+    static const uint8_t nonces[2][12] = {{4}, {5}};
+    mahuixen_header header = {MAHUIXEN_TAG_AUTH_SIGNATURE, 1, {{1, 8}, {0, 0}, {0, 0}, {0, 0}}};
+    mahuixen_state state;
+    mahuixen_state before;
+    mahuixen_sending sends;
+    mahuixen_report r;
+    mahuixen_refusal n;
+    uint8_t bytes[MAHUIXEN_BANNER_LENGTH + 1 + MAHUIXEN_FRAME_OVERHEAD];
+    uint8_t part[97] = {6};
+    uint8_t source = 7;
+    uint8_t store[64];
+    uint64_t banner = mahuixen_build_banner(bytes, sizeof bytes, 0, 1, 0, &n);
+    uint64_t frame = mahuixen_build_frame(bytes, sizeof bytes, banner, MAHUIXEN_MSGR21, &header, &source, 1, &n);
+    (void)mahuixen_start(&state, 1, 0);
+    (void)mahuixen_receive(&state, &r, bytes, banner, store, sizeof store);
+    before = state;
+    check(mahuixen_switch(&state, key, nonces[0], nonces[1], &sends) == MAHUIXEN_REFUSAL_SWITCH_REFUSED, "no frame yet");
+    check(memcmp(&state, &before, sizeof before) == 0 && sends.refused == 1 && sends.key[0] == 0, "nothing changed");
+    check(mahuixen_receive(&state, &r, bytes + banner, frame, store, sizeof store) == MAHUIXEN_FRAME, "a frame");
+    before = state;
+    before.mode = 2;
+    check(mahuixen_switch(&before, key, nonces[0], nonces[1], &sends) == MAHUIXEN_REFUSAL_STATE_CONTRADICTS, "no such mode");
+    check(mahuixen_switch(&state, key, nonces[0], nonces[1], &sends) == 0 && state.mode == 1, "a switch");
+    check(sends.refused == 0 && sends.spent == 0 && memcmp(sends.key, key, 16) == 0, "what frames are built with");
+    check(memcmp(sends.nonce, nonces[1], 12) == 0 && memcmp(state.sealed.nonce, nonces[0], 12) == 0, "a nonce each");
+    check(mahuixen_switch(&state, key, nonces[0], nonces[1], &sends) == MAHUIXEN_REFUSAL_SWITCH_REFUSED, "a second switch");
+    check(mahuixen_receive(&state, &r, part, 95, store, sizeof store) == MAHUIXEN_MORE && r.taken == 95, "most of a part");
+    check(mahuixen_receive(&state, &r, part, 2, store, sizeof store) == MAHUIXEN_REFUSED && r.taken == 1, "its last byte");
+    check(r.refusal.number == MAHUIXEN_REFUSAL_AUTH_TAG && state.sealed.key[0] == 0, "17, and no key is kept");
 }
 
 int main(int argc, char **argv)
@@ -436,8 +509,10 @@ int main(int argc, char **argv)
     run_link(1, 0, MAHUIXEN_MSGR20);
     lend_nothing();
     make_up_a_state();
+    build_beyond_a_field();
     spell_in_another_way(33, 2, 0); /* late flags */
     spell_in_another_way(49, 1, 4); /* the last byte of segment 4's field */
+    switch_to_secure();
     printf("%s\n", failures == 0 ? "all as planned" : "not as planned");
     return failures == 0 ? 0 : 1;
 }

@@ -377,6 +377,6 @@ fn main() {
     checksums();
     single_bytes();
     let state = std::mem::size_of::<State>();
-    let answer = std::mem::size_of::<sys::RawReceived>();
-    println!("A call hands in {state} bytes of state, and {answer} bytes come back.");
+    let report = std::mem::size_of::<sys::RawReport>();
+    println!("A call is lent {state} bytes of state and {report} bytes for its report.");
 }

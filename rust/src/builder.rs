@@ -1,11 +1,13 @@
 //! Building banners and frames behind what a send buffer already holds.
 
 use crate::features::Revision;
+use crate::frame::Header;
 use crate::refusal::Refusal;
-use crate::sys::{self, Features, Header, RawBuilt};
+use crate::sys::{self, Built, Features};
 
-fn written(built: RawBuilt) -> Result<usize, Refusal> {
-    Refusal::given(built.refusal).map_or(Ok(built.written), Err)
+/// What was written is never longer than the buffer, and so a `usize`.
+pub(crate) fn written((written, refusal): Built) -> Result<usize, Refusal> {
+    Refusal::given(refusal).map_or(Ok(written as usize), Err)
 }
 
 /// Builds our banner behind the first `queued` bytes of the buffer, and
@@ -13,7 +15,7 @@ fn written(built: RawBuilt) -> Result<usize, Refusal> {
 ///
 /// # Errors
 ///
-/// [`Refusal::OwnFeatures`], then [`Refusal::Room`]; the buffer is then as it
+/// [`Refusal::OwnFeatures`], then [`Refusal::NoRoom`]; the buffer is then as it
 /// was.
 ///
 /// ```
@@ -24,12 +26,12 @@ fn written(built: RawBuilt) -> Result<usize, Refusal> {
 /// assert_eq!(&send[..15], b"\xAA\xAA\xAA\xAAceph v2\n\x10\0\x01");
 ///
 /// let none_left = build_banner(&mut send, 5, Features::new(1, 0));
-/// assert_eq!(none_left, Err(Refusal::Room { needed: 26 }));
+/// assert_eq!(none_left, Err(Refusal::NoRoom { needed: 26 }));
 /// let unknown_bit = build_banner(&mut send, 0, Features::new(2, 0));
 /// assert_eq!(unknown_bit, Err(Refusal::OwnFeatures));
 /// ```
 pub fn build_banner(buf: &mut [u8], queued: usize, own: Features) -> Result<usize, Refusal> {
-    written(sys::build_banner(buf, queued, own))
+    written(sys::build_banner(buf, queued as u64, own))
 }
 
 /// Builds a frame behind the first `queued` bytes of the buffer, and answers
@@ -39,7 +41,7 @@ pub fn build_banner(buf: &mut [u8], queued: usize, own: Features) -> Result<usiz
 /// # Errors
 ///
 /// [`Refusal::Shape`], [`Refusal::Tag`], [`Refusal::Limit`],
-/// [`Refusal::SourceLength`] and [`Refusal::Room`], in this order; the buffer
+/// [`Refusal::SourceLength`] and [`Refusal::NoRoom`], in this order; the buffer
 /// is then as it was.
 ///
 /// ```
@@ -53,7 +55,7 @@ pub fn build_banner(buf: &mut [u8], queued: usize, own: Features) -> Result<usiz
 /// let short = build_frame(&mut send, 44, Revision::Msgr21, &header, &[7; 5]);
 /// assert_eq!(short, Err(Refusal::SourceLength));
 /// let no_room = build_frame(&mut send, 60, Revision::Msgr21, &header, &[7; 8]);
-/// assert_eq!(no_room, Err(Refusal::Room { needed: 44 }));
+/// assert_eq!(no_room, Err(Refusal::NoRoom { needed: 44 }));
 /// ```
 pub fn build_frame(
     buf: &mut [u8],
@@ -62,8 +64,15 @@ pub fn build_frame(
     header: &Header,
     source: &[u8],
 ) -> Result<usize, Refusal> {
-    let revision = revision.number();
-    written(sys::build_frame(buf, queued, revision, *header, source))
+    let revision = revision.number().into();
+    let header = (*header).into();
+    written(sys::build_frame(
+        buf,
+        queued as u64,
+        revision,
+        &header,
+        source,
+    ))
 }
 
 /// Builds a frame that its receiver will drop: with segment 1 as given, zeros
@@ -72,7 +81,7 @@ pub fn build_frame(
 ///
 /// # Errors
 ///
-/// As [`build_frame`], with [`Refusal::Abort`] before [`Refusal::Room`].
+/// As [`build_frame`], with [`Refusal::AbortOneSegment`] before [`Refusal::NoRoom`].
 ///
 /// ```
 /// use mahuixen::{abort_frame, tag, Header, Refusal, Revision, Segment};
@@ -86,7 +95,7 @@ pub fn build_frame(
 /// // With one segment msgr2.1 has no place to say that a frame is aborted.
 /// let one = Header::new(tag::MESSAGE, &[Segment::new(2, 0)]);
 /// let refused = abort_frame(&mut send, 0, Revision::Msgr21, &one, b"12");
-/// assert_eq!(refused, Err(Refusal::Abort));
+/// assert_eq!(refused, Err(Refusal::AbortOneSegment));
 /// ```
 pub fn abort_frame(
     buf: &mut [u8],
@@ -95,6 +104,13 @@ pub fn abort_frame(
     header: &Header,
     source: &[u8],
 ) -> Result<usize, Refusal> {
-    let revision = revision.number();
-    written(sys::abort_frame(buf, queued, revision, *header, source))
+    let revision = revision.number().into();
+    let header = (*header).into();
+    written(sys::abort_frame(
+        buf,
+        queued as u64,
+        revision,
+        &header,
+        source,
+    ))
 }

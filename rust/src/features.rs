@@ -1,7 +1,7 @@
 //! Feature bits, and the revision that two sides' bits choose.
 
 use crate::sys::Features;
-use std::fmt;
+use core::fmt;
 
 impl Features {
     /// The bit of msgr2.1, the only one that the library knows.
@@ -16,6 +16,7 @@ impl Features {
     /// assert_eq!((both_revisions.supported, both_revisions.required), (1, 0));
     /// assert_eq!(both_revisions.to_string(), "supported 0x1, required 0x0");
     /// ```
+    #[must_use]
     pub const fn new(supported: u64, required: u64) -> Self {
         Self {
             supported,
@@ -54,6 +55,7 @@ impl Revision {
     /// ```
     /// assert_eq!(mahuixen::Revision::Msgr21.number(), 1);
     /// ```
+    #[must_use]
     pub const fn number(self) -> u8 {
         match self {
             Self::Msgr20 => 0,
@@ -62,7 +64,7 @@ impl Revision {
     }
 
     /// As in C, any number but 0 counts as 1.
-    pub(crate) const fn from_number(number: u8) -> Self {
+    pub(crate) const fn from_number(number: u64) -> Self {
         match number {
             0 => Self::Msgr20,
             _ => Self::Msgr21,

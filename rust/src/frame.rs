@@ -1,8 +1,55 @@
 //! What a frame is made of, and where its segments stand in a store.
 
-use crate::sys::{Header, Segment};
+use crate::sys::{RawHeader, RawSegment};
 use crate::tag::tag_name;
-use std::fmt;
+use core::fmt;
+
+/// The length and the alignment of one segment.
+#[derive(Clone, Copy, Debug, Default, PartialEq, Eq, Hash)]
+pub struct Segment {
+    /// Bytes of the segment, at most 1,048,576.
+    pub len: u32,
+    /// The alignment that its sender asks for; any number, and only handed on.
+    pub align: u16,
+}
+
+/// What a preamble tells of its frame: the tag, and the segments.
+#[derive(Clone, Copy, Debug, Default, PartialEq, Eq, Hash)]
+pub struct Header {
+    /// What the frame is for, 1 to 20.
+    pub tag: u8,
+    /// How many segments are used, 1 to 4.
+    pub count: u8,
+    /// All four segments; those behind the used ones are 0.
+    pub segments: [Segment; 4],
+}
+
+impl From<Header> for RawHeader {
+    fn from(header: Header) -> Self {
+        Self {
+            tag: header.tag.into(),
+            count: header.count.into(),
+            segments: header.segments.map(|s| RawSegment {
+                len: s.len.into(),
+                align: s.align.into(),
+            }),
+        }
+    }
+}
+
+impl From<RawHeader> for Header {
+    /// Each number is one of its type, where the library wrote it; of others the
+    /// low bits are kept.
+    fn from(raw: RawHeader) -> Self {
+        Self {
+            tag: raw.tag as u8,
+            count: raw.count as u8,
+            segments: raw
+                .segments
+                .map(|s| Segment::new(s.len as u32, s.align as u16)),
+        }
+    }
+}
 
 impl Segment {
     /// A segment of this length and alignment.
@@ -12,6 +59,7 @@ impl Segment {
     ///
     /// assert_eq!(Segment::new(70, 8), Segment { len: 70, align: 8 });
     /// ```
+    #[must_use]
     pub const fn new(len: u32, align: u16) -> Self {
         Self { len, align }
     }
@@ -31,6 +79,7 @@ impl Header {
     /// let built = build_frame(&mut [0; 100], 0, Revision::Msgr21, &five, b"12345");
     /// assert_eq!(built, Err(Refusal::Shape { at: 1 }));
     /// ```
+    #[must_use]
     pub fn new(tag: u8, used: &[Segment]) -> Self {
         let mut segments = [Segment::default(); 4];
         segments.iter_mut().zip(used).for_each(|(s, u)| *s = *u);
@@ -50,6 +99,7 @@ impl Header {
     /// let header = Header::new(1, &[Segment::new(u32::MAX, 0), Segment::new(1, 0)]);
     /// assert_eq!(header.total(), 1 << 32);
     /// ```
+    #[must_use]
     pub fn total(&self) -> u64 {
         self.segments.iter().map(|s| u64::from(s.len)).sum()
     }
@@ -62,6 +112,7 @@ impl Header {
     /// let header = Header::new(1, &[Segment::new(20, 8), Segment::new(70, 0)]);
     /// assert_eq!(header.used(), [Segment::new(20, 8), Segment::new(70, 0)]);
     /// ```
+    #[must_use]
     pub fn used(&self) -> &[Segment] {
         let count = usize::from(self.count).min(self.segments.len());
         &self.segments[..count]
@@ -77,6 +128,7 @@ impl Header {
     /// assert_eq!(header.first_part(b"12345678"), Some(b"12".as_slice()));
     /// assert_eq!(header.first_part(b"1"), None);
     /// ```
+    #[must_use]
     pub fn first_part<'a>(&self, store: &'a [u8]) -> Option<&'a [u8]> {
         store.get(..usize::try_from(self.segments[0].len).ok()?)
     }
@@ -92,6 +144,7 @@ impl Header {
     /// assert_eq!(header.parts(b"12345678"), Some([b"12".as_slice(), b"345", b"", b""]));
     /// assert_eq!(header.parts(b"1234"), None);
     /// ```
+    #[must_use]
     pub fn parts<'a>(&self, store: &'a [u8]) -> Option<[&'a [u8]; 4]> {
         let mut left = store;
         let mut parts = [&[][..]; 4];

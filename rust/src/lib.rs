@@ -41,37 +41,65 @@
 //! # Ok::<(), mahuixen::Refusal>(())
 //! ```
 
+#![no_std]
 #![deny(missing_docs)]
 #![deny(unsafe_code)]
 
+#[cfg(test)]
+extern crate std;
+
+mod body;
 mod builder;
 mod features;
 mod frame;
+mod handshake;
 mod receiver;
 mod refusal;
+mod sealing;
+mod session;
 #[doc(hidden)]
 pub mod sys;
 pub mod tag;
 
+pub use body::{read_body, write_body, Body, List};
 pub use builder::{abort_frame, build_banner, build_frame};
 pub use features::Revision;
+pub use frame::{Header, Segment};
+pub use handshake::{pick_mode, AuthVerdict, Handshake, Verdict};
 pub use receiver::{Received, Receiver, Report};
-pub use refusal::{Missing, Refusal};
-pub use sys::{Features, Header, Numbers, Segment, State};
+pub use refusal::{Missing, Numbers, Refusal};
+pub use sealing::{open, seal, Sending, TAG_LENGTH};
+pub use session::{Effect, Message, Session, SESSION_PLACES};
+pub use sys::{Block, CrcState, Features, FirstPart, Key, Nonce, SealedState, State};
 pub use tag::tag_name;
 
 /// Bytes of a banner that we build.
 pub const BANNER_LENGTH: usize = 26;
 
-/// A store of this many bytes, 2 MiB, is long enough for every frame. Allocate
-/// it, as with `vec![0; LONGEST_STORE]`: it is too long for most stacks. Where the
+/// A store of this many bytes is long enough for every frame: 2 MiB of segments,
+/// and, of a sealed frame, their padding and a tag. Allocate it, as with
+/// `vec![0; LONGEST_STORE]`: it is too long for most stacks. Where the
 /// peer's frames are known to be shorter, the length of the longest one will do,
-/// and a longer one is refused with [`Refusal::Store`].
-pub const LONGEST_STORE: usize = 2_097_152;
+/// and a longer one is refused with [`Refusal::StoreShort`].
+pub const LONGEST_STORE: usize = 2_097_232;
 
-/// Bytes of the longest frame on the wire, which is a msgr2.0 one or a msgr2.1
+/// Bytes of the longest crc frame on the wire, which is a msgr2.0 one or a msgr2.1
 /// one of several segments.
-pub const LONGEST_FRAME: usize = 32 + LONGEST_STORE + 17;
+pub const LONGEST_FRAME: usize = 32 + 2_097_152 + 17;
+
+/// The version of the proved library that is linked, as the C header numbers it:
+/// 1,000,000 times the first number, 1,000 times the second, and the third. This
+/// crate's is the same.
+///
+/// ```
+/// let numbers = env!("CARGO_PKG_VERSION").split('.').map(|n| n.parse::<u64>().unwrap());
+/// let version = numbers.fold(0, |sum, n| sum * 1_000 + n);
+/// assert_eq!(mahuixen::version(), version);
+/// ```
+#[must_use]
+pub fn version() -> u64 {
+    sys::version()
+}
 
 /// The start value of a preamble's checksum.
 pub const PREAMBLE_START: u32 = 0;
@@ -90,6 +118,8 @@ pub const SEGMENT_START: u32 = 0xFFFF_FFFF;
 /// assert_eq!(checksum(checksum(SEGMENT_START, b"1234"), b"56789"), 0x1CF9_6D7C);
 /// assert_eq!(checksum(SEGMENT_START, b""), SEGMENT_START);
 /// ```
+#[must_use]
 pub fn checksum(start: u32, bytes: &[u8]) -> u32 {
-    sys::checksum(start, bytes)
+    // A checksum has 32 bits.
+    sys::checksum(start.into(), bytes) as u32
 }

@@ -1,9 +1,12 @@
 //! Receiving a stream that may be cut anywhere.
 
 use crate::features::Revision;
-use crate::refusal::Refusal;
-use crate::sys::{self, Features, Header, RawReport, State};
-use std::fmt;
+use crate::frame::Header;
+use crate::refusal::{Numbers, Refusal};
+use crate::sealing::Sending;
+use crate::session::{Effect, Session};
+use crate::sys::{self, Features, RawReport, State};
+use core::fmt;
 
 /// What a call says.
 ///
@@ -41,6 +44,7 @@ pub enum Report {
 }
 
 /// What came of a call.
+#[must_use = "bytes that were not taken are to be offered again"]
 #[derive(Clone, Copy, Debug, PartialEq, Eq)]
 pub struct Received {
     /// How many bytes of the piece were taken. Those behind them belong to
@@ -96,9 +100,12 @@ impl Receiver {
     /// assert_eq!(Receiver::start(Features::new(2, 0)), Err(Refusal::OwnFeatures));
     /// ```
     pub fn start(own: Features) -> Result<Self, Refusal> {
-        let started = sys::start(own);
-        let receiver = Self::from_raw(started.state);
-        Refusal::given(started.refusal).map_or(Ok(receiver), Err)
+        let (state, refused) = sys::start(own);
+        match refused {
+            0 => Ok(Self::from_raw(state)),
+            // 16, the one refusal of a start, has no details.
+            _ => Err(Refusal::OwnFeatures),
+        }
     }
 
     /// Offers the next bytes of the stream, from the first one not yet taken
@@ -123,11 +130,98 @@ impl Receiver {
     /// # Ok::<(), Refusal>(())
     /// ```
     pub fn receive(&mut self, piece: &[u8], store: &mut [u8]) -> Received {
-        let received = sys::receive(self.state, piece, store);
-        self.state = received.state;
-        Received {
-            taken: received.taken,
-            report: Report::from(received.report),
+        Received::from(sys::receive(&mut self.state, piece, store))
+    }
+
+    /// Receives as [`Receiver::receive`] does, and does to the session what the
+    /// report asks. Only a whole frame asks anything: an ack or a reconnect_ok
+    /// releases messages, a full reset drops them. The number of an
+    /// acknowledgement in a message's own header is the caller's to read, and goes
+    /// to [`Session::ack`].
+    ///
+    /// ```
+    /// use mahuixen::{build_banner, build_frame, tag, Features, Header, Receiver, Revision};
+    /// use mahuixen::{Effect, Refusal, Report, Segment, Session};
+    ///
+    /// let mut session = Session::start();
+    /// session.accept(700)?;
+    /// session.accept(701)?;
+    ///
+    /// // The peer's banner, and an ack of the first message.
+    /// let own = Features::new(1, 0);
+    /// let ack = Header::new(tag::ACK, &[Segment::new(8, 0)]);
+    /// let mut stream = [0; 100];
+    /// let banner = build_banner(&mut stream, 0, own)?;
+    /// let frame = build_frame(&mut stream, banner, Revision::Msgr21, &ack, &1u64.to_le_bytes())?;
+    ///
+    /// let mut receiver = Receiver::start(own)?;
+    /// let mut store = [0; 100];
+    /// let (_, effect) = receiver.deliver(&mut session, &stream[..banner], &mut store);
+    /// assert_eq!(effect, Effect::Nothing);
+    /// let (received, effect) = receiver.deliver(&mut session, &stream[banner..], &mut store);
+    /// assert_eq!((received.taken, received.report), (frame, Report::Frame(ack)));
+    /// assert_eq!(effect, Effect::Done);
+    /// assert_eq!(session.held(0)?.map(|message| message.handle), Some(701));
+    /// # Ok::<(), Refusal>(())
+    /// ```
+    pub fn deliver(
+        &mut self,
+        session: &mut Session,
+        piece: &[u8],
+        store: &mut [u8],
+    ) -> (Received, Effect) {
+        let (report, effect) = sys::deliver(&mut self.state, session.raw(), piece, store);
+        (Received::from(report), Effect::from(effect))
+    }
+
+    /// Switches a msgr2.1 stream to secure, behind a reported or dropped frame
+    /// and before any byte of the next: sealed frames come from then on, and
+    /// what is handed out builds ours. One key, and a nonce each for the peer's
+    /// first part and for ours.
+    ///
+    /// # Errors
+    ///
+    /// [`Refusal::SwitchRefused`] anywhere else and [`Refusal::StateContradicts`]; the receiver is
+    /// then as it was.
+    ///
+    /// ```
+    /// use mahuixen::{Features, Receiver, Refusal};
+    ///
+    /// use mahuixen::{build_banner, build_frame, tag, Header, Report, Revision, Segment};
+    ///
+    /// let own = Features::new(1, 0);
+    /// let header = Header::new(tag::AUTH_SIGNATURE, &[Segment::new(1, 8)]);
+    /// let mut sent = [0; 100];
+    /// let banner = build_banner(&mut sent, 0, own)?;
+    /// let frame = build_frame(&mut sent, banner, Revision::Msgr21, &header, &[9])?;
+    ///
+    /// let mut receiver = Receiver::start(own)?;
+    /// let mut store = [0; 64];
+    /// let taken = receiver.receive(&sent, &mut store).taken;
+    /// let (key, theirs, ours) = ([7; 16], [1; 12], [2; 12]);
+    /// assert_eq!(receiver.switch(&key, &theirs, &ours), Err(Refusal::SwitchRefused));
+    ///
+    /// let reported = receiver.receive(&sent[taken..taken + frame], &mut store);
+    /// assert_eq!(reported.report, Report::Frame(header));
+    /// let sends = receiver.switch(&key, &theirs, &ours)?.into_raw();
+    /// assert_eq!((sends.key.0, sends.nonce.0), (key, ours));
+    ///
+    /// // A part that was not sealed with the key.
+    /// let refused = receiver.receive(&[0; 96], &mut store);
+    /// assert_eq!((refused.taken, refused.report), (96, Report::Refused(Refusal::AuthTag)));
+    /// # Ok::<(), Refusal>(())
+    /// ```
+    pub fn switch(
+        &mut self,
+        key: &[u8; 16],
+        receiving: &[u8; 12],
+        sending: &[u8; 12],
+    ) -> Result<Sending, Refusal> {
+        match sys::switch(&mut self.state, key, receiving, sending) {
+            (sends, 0) => Ok(Sending::from_raw(sends)),
+            (_, 27) => Err(Refusal::SwitchRefused),
+            // 26; the library has no other number here.
+            _ => Err(Refusal::StateContradicts),
         }
     }
 
@@ -138,17 +232,18 @@ impl Receiver {
     /// use mahuixen::{Features, Receiver, Refusal, Report, State};
     ///
     /// let mut receiver = Receiver::start(Features::new(1, 0))?;
-    /// receiver.receive(b"ceph", &mut []);
+    /// assert_eq!(receiver.receive(b"ceph", &mut []).taken, 4);
     /// let kept: State = receiver.into_raw();
     ///
     /// let mut receiver = Receiver::from_raw(kept);
     /// assert_eq!(receiver.receive(b" v2\n", &mut []).report, Report::More);
     ///
-    /// let mut broken = Receiver::from_raw(State { got: 99, ..kept });
+    /// let mut broken = Receiver::from_raw(State { mode: 2, ..kept });
     /// let received = broken.receive(b" v2\n", &mut []);
-    /// assert_eq!((received.taken, received.report), (0, Report::Refused(Refusal::State)));
+    /// assert_eq!((received.taken, received.report), (0, Report::Refused(Refusal::StateContradicts)));
     /// # Ok::<(), Refusal>(())
     /// ```
+    #[must_use]
     pub const fn from_raw(state: State) -> Self {
         Self { state }
     }
@@ -160,14 +255,25 @@ impl Receiver {
     /// use mahuixen::{Features, Receiver, Refusal};
     ///
     /// let mut receiver = Receiver::start(Features::new(1, 0))?;
-    /// receiver.receive(b"ceph", &mut []);
+    /// assert_eq!(receiver.receive(b"ceph", &mut []).taken, 4);
     /// let state = receiver.into_raw();
-    /// assert_eq!((state.stage, state.got), (0, 4));
-    /// assert_eq!(&state.block[..4], b"ceph");
+    /// assert_eq!((state.mode, state.crc.stage, state.crc.got), (0, 0, 4));
+    /// assert_eq!(&state.crc.block.0[..5], b"ceph\0");
     /// # Ok::<(), Refusal>(())
     /// ```
+    #[must_use]
     pub const fn into_raw(self) -> State {
         self.state
+    }
+}
+
+impl From<RawReport> for Received {
+    fn from(report: RawReport) -> Self {
+        Self {
+            // Never more than the piece has.
+            taken: report.taken as usize,
+            report: Report::from(report),
+        }
     }
 }
 
@@ -179,11 +285,11 @@ impl From<RawReport> for Report {
                 peer: report.peer,
                 revision: Revision::from_number(report.revision),
             },
-            2 => Self::Frame(report.header),
-            3 => Self::Dropped(report.header),
-            5 => Self::First(report.header),
+            2 => Self::Frame(report.header.into()),
+            3 => Self::Dropped(report.header.into()),
+            5 => Self::First(report.header.into()),
             // 4; the library has no kind above 5.
-            _ => Self::Refused(Refusal::from(report.refusal)),
+            _ => Self::Refused(Refusal::from(Numbers::from(report.refusal))),
         }
     }
 }

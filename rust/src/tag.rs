@@ -16,6 +16,7 @@ macro_rules! tags {
         /// assert_eq!(tag_name(0), None);
         /// assert_eq!((1..=255).filter_map(tag_name).count(), 20);
         /// ```
+        #[must_use]
         pub const fn tag_name(tag: u8) -> Option<&'static str> {
             match tag {
                 $($number => Some($name),)*

@@ -1,8 +1,11 @@
 //! The crate's structs against those of the C header: a C program prints their
 //! sizes, alignments and offsets, and so does this test.
 
-use mahuixen::sys::{RawBuilt, RawReceived, RawReport, RawStarted};
-use mahuixen::{Features, Header, Numbers, Segment, State};
+use mahuixen::sys::{
+    CrcState, RawAnswer, RawBody, RawHeader, RawList, RawRefusal, RawReport, RawSegment,
+};
+use mahuixen::sys::{RawSending, RawSession, RawSpan, RawVerdict, SealedState};
+use mahuixen::{Features, Message, State};
 use std::mem::{align_of, offset_of, size_of};
 use std::path::Path;
 use std::process::{Command, Output};
@@ -36,14 +39,21 @@ macro_rules! layouts {
 fn of_the_crate() -> Vec<String> {
     layouts! {
         features = Features { supported required }
-        segment = Segment { len align }
-        header = Header { tag count segments }
-        refusal = Numbers { number first second third }
-        state = State { got own peer refusal header payload stage revision first block }
-        report = RawReport { kind revision peer header refusal }
-        received = RawReceived { state taken report }
-        started = RawStarted { state refusal }
-        built = RawBuilt { written refusal }
+        segment = RawSegment { len align }
+        header = RawHeader { tag count segments }
+        refusal = RawRefusal { number first second third }
+        crc = CrcState { stage revision first payload header refusal got own peer block }
+        sealed = SealedState { stage exhausted header refusal got opened first key nonce }
+        state = State { mode ready crc sealed }
+        report = RawReport { kind taken revision peer header refusal }
+        sending = RawSending { exhausted refused spent key nonce }
+        session = RawSession { released last handles }
+        answer = RawAnswer { kind number refusal }
+        message = Message { number handle }
+        verdict = RawVerdict { auth signature features reconnect }
+        list = RawList { at count }
+        span = RawSpan { at len }
+        body = RawBody { kind numbers first second bytes refusal }
     }
 }
 

@@ -1,3 +1,4 @@
-pub mod Back
 pub mod Chain
+pub mod Crc
 pub mod Demands
+pub mod Released

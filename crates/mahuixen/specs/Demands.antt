@@ -11,48 +11,56 @@ use Rattle.refusal.specs.Refusals.{fine}
 use Rattle.banner.specs.Banner as banner
 use Rattle.banner.specs.Banner.{judgeOwn, judgeFeatures}
 use Rattle.preamble.specs.Layout.{total}
-use Rattle.preamble.specs.Reading.{HeaderFits}
 use Rattle.builder.specs.Build.{bannerLength}
 use Rattle.stream.specs.declared.Event.the-variants as event
 use Rattle.stream.specs.Stream.{entry, traceOf}
-use Rattle.receiver.specs.declared.Received.{Received}
+use Rattle.receiver.specs.declared.Received as crc
 use Rattle.receiver.specs.declared.Report.the-variants as report
-use Rattle.receiver.specs.State.{agrees}
-use Rattle.receiver.specs.Step.{Answered, started}
+use Rattle.receiver.specs.Step.{contradiction, started}
 use Rattle.receiver.specs.Calls.{Call, Chained, takenBy, listOf}
 use Rattle.receiver.specs.Every.{Sound, AnyCall, Handed, allTaken, allReported, unfinishedBy}
+use Rattle.connection.specs.declared.Received.{Received}
+use Rattle.connection.specs.Step.{readyRule, agrees, Answered}
 use Rattle.ends.specs.Handed.{UpTo, ExactlyBehind, Through}
 use Rattle.ends.specs.Trip.{Build, bytesOf, entriesOf, storeAfter, following}
 use Rattle.ends.specs.Ends.{Link, Fitting, sentBy, allEntries, storeAfterAll}
-use Rattle.mahuixen.specs.declared.PlainState.{PlainState}
-use Rattle.mahuixen.specs.declared.PlainReceived.{PlainReceived}
-use Rattle.mahuixen.specs.declared.PlainStarted.{PlainStarted}
-use Rattle.mahuixen.specs.declared.PlainBuilt.{PlainBuilt}
-use Rattle.mahuixen.specs.Plain.{revisionOf, stateOf, known, plainReport, plainReceived, contradicts, PlainAnswered, PlainStartedWith, PlainBuiltBanner, PlainBuiltFrame}
-use Rattle.mahuixen.specs.Calls.{PlainCall, PlainChained, plainCalls}
+use Rattle.plain.specs.declared.Written.{Written}
+use Rattle.plain.specs.Words.{revisionOf, headerAt}
+use Rattle.plain_receiver.specs.Words.{stateOf, plainOf, reportWords}
+use Rattle.plain_connection.specs.Words.{PlainConnection, connectionOf, fits, next, PlainBegun, PlainReceived, handed, PlainAnswered}
+use Rattle.plain_builder.specs.Words.{PlainBuiltBanner, PlainBuiltFrame}
+use Rattle.mahuixen.specs.Calls.{PlainPiece, PlainCall, taking, PlainChained}
+
+-- ---- what holds of the calls on a crc link, which are calls of the receiver
+
+-- the words that a call was handed back are those of what the receiver answered: its state, and its report
+pub record OfCrc (r : PlainReceived) (c : crc.Received) : Type 0 where
+  pub state : r .state .crc ≡ plainOf (c .state)
+  pub report : r .report ≡ reportWords (c .taken) (c .report)
 
 -- ---- demand 1: one call
 
--- the call of `receive` that it is, of which `Sound` holds: 26 and nothing else for fields that contradict each other, a store that became short, progress
-pub record InnerCall (p : PlainState) (s piece : List ℕ) (r : PlainReceived) (s′ : List ℕ) : Type 0 where
+-- the call of the connection that it is; on a crc link the receiver's, of which `Sound` holds: 26 and nothing else for fields that contradict each other, a store that
+-- became short, progress
+pub record InnerCall (p : PlainConnection) (s piece : List ℕ) (r : PlainReceived) (s′ : List ℕ) : Type 0 where
   pub received : Received
-  pub plain : r ≡ plainReceived received
-  pub answered : Answered (stateOf p) s piece received s′
-  pub sound : Sound (stateOf p) s piece received s′
+  pub plain : r ≡ handed (next p (received .state)) (reportWords (received .taken) (received .report))
+  pub answered : Answered (connectionOf p) s piece received s′
+  pub sound : p .mode ≡ 0 → (c : crc.Received) × (OfCrc r c × Sound (stateOf (p .crc)) s piece c s′)
 
 -- it takes nothing, keeps the store, hands the state back and gives the refusal
-pub record PlainRefuses (p : PlainState) (n : Numbers) (s : List ℕ) (r : PlainReceived) (s′ : List ℕ) : Type 0 where
+pub record PlainRefuses (p : PlainConnection) (n : Numbers) (s : List ℕ) (r : PlainReceived) (s′ : List ℕ) : Type 0 where
   pub state : r .state ≡ p
-  pub taken : r .taken ≡ 0
-  pub report : r .report ≡ plainReport (report.Event (event.Refused n))
+  pub report : r .report ≡ reportWords 0 (report.Event (event.Refused n))
   pub store : s′ ≡ s
 
-pub record PlainSound (p : PlainState) (s piece : List ℕ) (r : PlainReceived) (s′ : List ℕ) : Type 0 where
-  -- a stage, a revision or a mark of a number that none has: 26, and nothing is taken or changed
-  pub unknown : known p ≡ false → (r ≡ contradicts p) × (s′ ≡ s)
-  pub inner : known p ≡ true → InnerCall p s piece r s′
-  -- a refused stream stays refused: every later call, with any store and any piece
-  pub stays : (n : Numbers) → known p ≡ true → agrees (stateOf p) ≡ true → r .report ≡ plainReport (report.Event (event.Refused n))
+pub record PlainSound (p : PlainConnection) (s piece : List ℕ) (r : PlainReceived) (s′ : List ℕ) : Type 0 where
+  -- a number beyond its field, or a mark that does not keep its rule: 26, and nothing is taken or changed
+  pub beyond : fits p ≡ false → PlainRefuses p contradiction s r s′
+  pub unready : readyRule (connectionOf p) ≡ false → PlainRefuses p contradiction s r s′
+  pub inner : fits p ≡ true → readyRule (connectionOf p) ≡ true → InnerCall p s piece r s′
+  -- a refused crc stream stays refused: every later call, with any store and any piece
+  pub stays : (n : Numbers) → fits p ≡ true → p .mode ≡ 0 → agrees (connectionOf p) ≡ true → (t : ℕ) → r .report ≡ reportWords t (report.Event (event.Refused n))
       → (s₂ piece₂ : List ℕ) (r₂ : PlainReceived) (s₃ : List ℕ) → PlainAnswered (r .state) s₂ piece₂ r₂ s₃ → PlainRefuses (r .state) n s₂ r₂ s₃
 
 -- ---- demand 1: bytes add up, over any calls from a start, each given the state that the last one handed back
@@ -63,43 +71,56 @@ pub record PlainAnyCall : Type 0 where
   pub received : PlainReceived
   pub store : List ℕ
 
-abbrev pub PlainHanded : PlainState → List PlainAnyCall → Type 0
+abbrev pub PlainHanded : PlainConnection → List PlainAnyCall → Type 0
 PlainHanded p [] = Unit {0}
 PlainHanded p (c ∷ cs) = PlainAnswered p (c .lent) (c .piece) (c .received) (c .store) × PlainHanded (c .received .state) cs
 
-abbrev pub plainAnyCall : AnyCall → PlainAnyCall
-plainAnyCall c = record { lent = c .lent; piece = c .piece; received = plainReceived (c .received); store = c .store }
-
-abbrev pub plainAnyCalls : List AnyCall → List PlainAnyCall
-plainAnyCalls [] = []
-plainAnyCalls (c ∷ cs) = plainAnyCall c ∷ plainAnyCalls cs
+-- call by call, with the same stores and pieces
+abbrev pub AnyOfCrc : List PlainAnyCall → List AnyCall → Type 0
+AnyOfCrc [] [] = Unit {0}
+AnyOfCrc [] (c ∷ cs) = ⊥
+AnyOfCrc (p ∷ ps) [] = ⊥
+AnyOfCrc (p ∷ ps) (c ∷ cs) = (p .lent ≡ c .lent) × (p .piece ≡ c .piece) × OfCrc (p .received) (c .received) × (p .store ≡ c .store) × AnyOfCrc ps cs
 
 pub record PlainAdds (own : Features) (ps : List PlainAnyCall) : Type 0 where
   pub calls : List AnyCall
-  pub plain : ps ≡ plainAnyCalls calls
+  pub plain : AnyOfCrc ps calls
   pub handed : Handed (started own) calls
   pub adds : allTaken calls ≡ allReported calls + unfinishedBy 0 calls
 
 pub record PlainDemand1 : Type 0 where
-  pub sound : (p : PlainState) (s piece : List ℕ) (r : PlainReceived) (s′ : List ℕ) → PlainAnswered p s piece r s′ → PlainSound p s piece r s′
-  pub adds : (own : Features) (begun : PlainStarted) → PlainStartedWith own begun → (ps : List PlainAnyCall) → PlainHanded (begun .state) ps → PlainAdds own ps
+  pub sound : (p : PlainConnection) (s piece : List ℕ) (r : PlainReceived) (s′ : List ℕ) → PlainAnswered p s piece r s′ → PlainSound p s piece r s′
+  pub adds : (own : Features) (n : ℕ) (p : PlainConnection) → PlainBegun own n p → (ps : List PlainAnyCall) → PlainHanded p ps → PlainAdds own ps
 
 -- ---- demand 2
 
--- the calls of `receive` that they are, and what holds of the list of their reports
-pub record AsCallsOf (own : Features) (stream store : List ℕ) (ps : List PlainCall) (Holds : List Call → Type 0) : Type 0 where
+-- calls for pieces alone: no switch is tried
+abbrev pub pieces : List PlainPiece → List PlainCall
+pieces [] = []
+pieces (c ∷ cs) = taking c ∷ pieces cs
+
+-- call by call, with the same pieces and stores
+abbrev pub PiecesOfCrc : List PlainPiece → List Call → Type 0
+PiecesOfCrc [] [] = Unit {0}
+PiecesOfCrc [] (c ∷ cs) = ⊥
+PiecesOfCrc (p ∷ ps) [] = ⊥
+PiecesOfCrc (p ∷ ps) (c ∷ cs) = (p .size ≡ c .size) × OfCrc (p .received) (c .received) × (p .store ≡ c .store) × PiecesOfCrc ps cs
+
+-- the calls of the receiver that they are, and what holds of the list of their reports
+pub record AsCallsOf (own : Features) (stream store : List ℕ) (ps : List PlainPiece) (Holds : List Call → Type 0) : Type 0 where
   pub calls : List Call
-  pub plain : ps ≡ plainCalls calls
+  pub plain : PiecesOfCrc ps calls
   pub chained : Chained stream (started own) store 0 calls
   pub holds : Holds calls
 
--- a build by C that wrote something, as a refused one never does; header and source are what their types hold
+-- a build by C that wrote something, as a refused one never does, from the words of a header; the source is what its type holds
 pub record PlainAccepts (revision : ℕ) (buf : List ℕ) (queued : ℕ) (b : Build) : Type 0 where
-  pub built : PlainBuilt
-  pub promised : PlainBuiltFrame revision (b .header) (b .abort) (b .source) buf queued built (b .buffer)
+  pub words : List ℕ
+  pub header : b .header ≡ headerAt 0 words
+  pub built : Written
+  pub promised : PlainBuiltFrame revision words (b .abort) (b .source) buf queued built (b .buffer)
   pub accepted : 0 < built .written
   pub written : built .written ≡ b .written
-  pub header : HeaderFits (b .header)
   pub source : Bytes (b .source)
 
 -- builds, each behind what the ones before it queued, and a link from its beginning
@@ -108,24 +129,24 @@ PlainQueued revision buf queued [] = Unit {0}
 PlainQueued revision buf queued (b ∷ bs) = PlainAccepts revision buf queued b × PlainQueued revision (b .buffer) (queued + b .written) bs
 
 pub record PlainLinked (revision : ℕ) (l : Link) : Type 0 where
-  pub banner : PlainBuilt
-  pub promised : PlainBuiltBanner (l .features) (l .space) (l .queued) banner (l .buffer)
+  pub banner : Written
+  pub promised : PlainBuiltBanner (l .features .supported) (l .features .required) (l .space) (l .queued) banner (l .buffer)
   pub accepted : 0 < banner .written
   pub written : banner .written ≡ l .written
   pub builds : PlainQueued revision (l .buffer) (l .queued + l .written) (l .builds)
 
 pub record PlainDemand2 : Type 0 where
   -- handed over exactly when the checks hold
-  pub handed : (own : Features) (begun : PlainStarted) → PlainStartedWith own begun
+  pub handed : (own : Features) (n : ℕ) (p : PlainConnection) → PlainBegun own n p
       → (front X store : List ℕ) (revision : ℕ) → UpTo (revisionOf revision) (length front) (traceOf own front store .entries)
-      → (ps : List PlainCall) → PlainChained (front ++ X) (begun .state) store 0 ps
+      → (ps : List PlainPiece) → PlainChained (front ++ X) p store 0 (pieces ps)
       → AsCallsOf own (front ++ X) store ps
       (λ cs. Through own front X (revisionOf revision) cs → ExactlyBehind own front X store (revisionOf revision) (listOf (judgeOwn (own .supported) (own .required)) cs))
   -- what was built comes back
-  pub trip : (own : Features) (begun : PlainStarted) → PlainStartedWith own begun
+  pub trip : (own : Features) (n : ℕ) (p : PlainConnection) → PlainBegun own n p
       → (front store : List ℕ) (revision : ℕ) → UpTo (revisionOf revision) (length front) (traceOf own front store .entries)
       → (buf : List ℕ) (queued : ℕ) (b : Build) → PlainAccepts revision buf queued b → total (b .header) ≤ length store
-      → (behind : List ℕ) (ps : List PlainCall) → PlainChained (front ++ bytesOf queued b ++ behind) (begun .state) store 0 ps
+      → (behind : List ℕ) (ps : List PlainPiece) → PlainChained (front ++ bytesOf queued b ++ behind) p store 0 (pieces ps)
       → AsCallsOf own (front ++ bytesOf queued b ++ behind) store ps
       (λ cs. length (front ++ bytesOf queued b) ≤ takenBy 0 cs
       → listOf (judgeOwn (own .supported) (own .required)) cs
@@ -133,12 +154,12 @@ pub record PlainDemand2 : Type 0 where
       ++ (entriesOf (revisionOf revision) (length front) (traceOf own front store .store) b
       ++ following (revisionOf revision) (length (front ++ bytesOf queued b)) behind (storeAfter b (traceOf own front store .store)) (takenBy 0 cs)))
   -- our banner and any builds behind it are reported as they were built; the revision is the one that the two sides' features give
-  pub ends : (own : Features) (begun : PlainStarted) → PlainStartedWith own begun
+  pub ends : (own : Features) (n : ℕ) (p : PlainConnection) → PlainBegun own n p
       → (store : List ℕ) (revision : ℕ) (l : Link) → revisionOf revision ≡ banner.revisionOf (own .supported) (l .features .supported) → PlainLinked revision l
       → judgeOwn (own .supported) (own .required) ≡ fine
       → judgeFeatures (own .supported) (own .required) (l .features .supported) (l .features .required) ≡ fine
       → Fitting (length store) (l .builds)
-      → (behind : List ℕ) (ps : List PlainCall) → PlainChained (sentBy l ++ behind) (begun .state) store 0 ps
+      → (behind : List ℕ) (ps : List PlainPiece) → PlainChained (sentBy l ++ behind) p store 0 (pieces ps)
       → AsCallsOf own (sentBy l ++ behind) store ps
       (λ cs. length (sentBy l) ≤ takenBy 0 cs
       → listOf (judgeOwn (own .supported) (own .required)) cs

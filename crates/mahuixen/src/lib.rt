@@ -1,154 +1,185 @@
-// What C calls: the receiver, the builder and the checksum, over structs of numbers, since an enum cannot cross. Each function promises
-// the plain form of what the crate behind it promises, for every number that C can hand in.
-mod plain;
+// What C and Rust call, over pointers and 64-bit numbers alone: one header serves every processor. A state in memory is handed in part by part, its numbers, its bytes; the header's
+// and the Rust crate's functions see to that. Each function is the call of its family's crate, `plain_connection` and the others, and promises what that one promises, for every number
+// that can be handed in.
+pub mod deliveries;
+pub mod handshakes;
+pub mod sealing;
+pub mod sessions;
+pub mod version;
 
-use banner::Features;
-use builder::build_banner;
-use builder::build_frame;
 use crc32c::checksum;
-use plain::contradicts;
-use plain::is_known;
-use plain::plain_built;
-use plain::plain_received;
-use plain::plain_started;
-use plain::revision_of;
-use plain::state_of;
-use preamble::Header;
-use receiver::receive;
-use receiver::start;
-use refusal::Numbers;
+use plain_builder::plain_banner;
+use plain_builder::plain_frame;
+use plain_connection::plain_begin;
+use plain_connection::plain_receive;
+use plain_connection::plain_switch;
 ghost use mathlib.Core.Path.{_≡_};
 ghost use mathlib.Core.Bool.{true, false};
 ghost use Rattle.crc32c.specs.Crc.{crcOf};
-ghost use Rattle.mahuixen.specs.Plain.{PlainAnswered, PlainStartedWith, PlainBuiltBanner, PlainBuiltFrame};
-ghost use Rattle.mahuixen.specs.Calls.{ReadsBack, PlainDemand3};
+ghost use Rattle.plain.specs.Words.{lowU32, features, written};
+ghost use Rattle.plain_connection.specs.Words.{laidOut, PlainBegun, handed, ReceivedBy, plainSending, switched, PlainSwitchedWith};
+ghost use Rattle.plain_builder.specs.Words.{PlainBuiltBanner, PlainBuiltFrame};
+ghost use Rattle.mahuixen.specs.Calls.{PlainDemand3};
 ghost use Rattle.mahuixen.specs.Demands.{PlainDemand1, PlainDemand2};
+ghost use Rattle.mahuixen.specs.Releases.{PlainEveryRelease};
 
-// A receiver between two calls; the stage, the revision and the mark of an early report as numbers.
-#[repr(C)]
-pub struct PlainState {
-    pub got: usize,
-    pub own: Features,
-    pub peer: Features,
-    pub refusal: Numbers,
-    pub header: Header,
-    pub payload: u16,
-    pub stage: u8,
-    pub revision: u8,
-    // 1 from the report of segment 1 to the frame's end, else 0.
-    pub first: u8,
-    pub block: [u8; 32],
-}
+// ---- receiving
 
-// A report: its kind, and the fields that the kind uses.
-#[repr(C)]
-pub struct PlainReport {
-    pub kind: u8,
-    pub revision: u8,
-    pub peer: Features,
-    pub header: Header,
-    pub refusal: Numbers,
-}
-
-// What a call answers.
-#[repr(C)]
-pub struct PlainReceived {
-    pub state: PlainState,
-    pub taken: usize,
-    pub report: PlainReport,
-}
-
-// What a start gives: a state, and the refusal of our own features, or zeros.
-#[repr(C)]
-pub struct PlainStarted {
-    pub state: PlainState,
-    pub refusal: Numbers,
-}
-
-// What a build comes to: the bytes written, or a refusal.
-#[repr(C)]
-pub struct PlainBuilt {
-    pub written: usize,
-    pub refusal: Numbers,
-}
-
-// A receiver with our own features.
+// The receiving side of a connection with our own features; answers 16 where they are refused, or 0.
 #[no_mangle]
-pub extern "C" fn mahuixen_start(own: Features) -> PlainStarted
-    ensures { λ r. ⌜ PlainStartedWith own r ⌝ }
+pub extern "C" fn mahuixen_start_in(
+    link: &mut [u64; 2],
+    numbers: &mut [u64; 23],
+    block: &mut [u8; 32],
+    sealed: &mut [u64; 18],
+    first: &mut [u8; 96],
+    key: &mut [u8; 16],
+    nonce: &mut [u8; 12],
+    supported: u64,
+    required: u64,
+) -> u64
+    ensures { λ r. ⌜ PlainBegun (features supported required) r (laidOut (now (link .exit)) (now (numbers .exit)) (now (block .exit)) (now (sealed .exit)) (now (first .exit)) (now (key .exit)) (now (nonce .exit))) ⌝ }
 {
-    plain_started(start(own))
+    plain_begin(
+        link,
+        numbers,
+        block,
+        sealed,
+        first,
+        key,
+        nonce,
+        supported,
+        required,
+    )
 }
 
-// A call: takes bytes of the piece up to and including the one that completes a report.
+// A call: takes bytes of the piece up to and including the one that completes a report, and answers the report's kind.
 #[no_mangle]
-pub extern "C" fn mahuixen_receive(
-    state: PlainState,
+pub extern "C" fn mahuixen_receive_in(
+    link: &mut [u64; 2],
+    numbers: &mut [u64; 23],
+    block: &mut [u8; 32],
+    sealed: &mut [u64; 18],
+    first: &mut [u8; 96],
+    key: &mut [u8; 16],
+    nonce: &mut [u8; 12],
+    report: &mut [u64; 19],
     piece: &[u8],
     store: &mut [u8],
-) -> PlainReceived
-    ensures { λ r. ⌜ PlainAnswered state (now (store .entry)) (now (piece .entry)) r (now (store .exit)) ⌝ }
+) -> u64
+    ensures { λ r. ⌜ ReceivedBy (laidOut (now (link .entry)) (now (numbers .entry)) (now (block .entry)) (now (sealed .entry)) (now (first .entry)) (now (key .entry)) (now (nonce .entry))) (now (store .entry)) (now (piece .entry)) r (handed (laidOut (now (link .exit)) (now (numbers .exit)) (now (block .exit)) (now (sealed .exit)) (now (first .exit)) (now (key .exit)) (now (nonce .exit))) (now (report .exit))) (now (store .exit)) ⌝ }
 {
-    if !is_known(state) {
-        return contradicts(state);
-    }
-    plain_received(receive(state_of(state), piece, store))
+    plain_receive(
+        link,
+        numbers,
+        block,
+        sealed,
+        first,
+        key,
+        nonce,
+        report,
+        piece,
+        store,
+    )
 }
 
-// Builds our banner behind the queued bytes.
+// Switches to secure, behind a reported or dropped frame and before any byte of the next, with one key and a nonce for each direction; answers 0, 26 or 27.
 #[no_mangle]
-pub extern "C" fn mahuixen_build_banner(buf: &mut [u8], queued: usize, own: Features) -> PlainBuilt
-    ensures { λ r. ⌜ PlainBuiltBanner own (now (buf .entry)) queued r (now (buf .exit)) ⌝ }
+pub extern "C" fn mahuixen_switch_in(
+    link: &mut [u64; 2],
+    numbers: &[u64; 23],
+    block: &[u8; 32],
+    sealed: &mut [u64; 18],
+    first: &mut [u8; 96],
+    key: &mut [u8; 16],
+    nonce: &mut [u8; 12],
+    with: &[u8; 16],
+    receiving: &[u8; 12],
+    sending: &[u8; 12],
+    sends: &mut [u64; 3],
+    sends_key: &mut [u8; 16],
+    sends_nonce: &mut [u8; 12],
+) -> u64
+    ensures { λ r. ⌜ PlainSwitchedWith (laidOut (now (link .entry)) (now (numbers .entry)) (now (block .entry)) (now (sealed .entry)) (now (first .entry)) (now (key .entry)) (now (nonce .entry))) (now (with .entry)) (now (receiving .entry)) (now (sending .entry)) (switched r (laidOut (now (link .exit)) (now (numbers .entry)) (now (block .entry)) (now (sealed .exit)) (now (first .exit)) (now (key .exit)) (now (nonce .exit))) (plainSending (now (sends .exit)) (now («sends_key» .exit)) (now («sends_nonce» .exit)))) ⌝ }
 {
-    plain_built(build_banner(buf, queued, own.supported, own.required))
+    plain_switch(
+        link,
+        numbers,
+        block,
+        sealed,
+        first,
+        key,
+        nonce,
+        with,
+        receiving,
+        sending,
+        sends,
+        sends_key,
+        sends_nonce,
+    )
+}
+
+// ---- building
+
+// Builds our banner behind the queued bytes; answers the bytes written, 0 where it is refused.
+#[no_mangle]
+pub extern "C" fn mahuixen_build_banner(
+    buf: &mut [u8],
+    queued: u64,
+    supported: u64,
+    required: u64,
+    refusal: &mut [u64; 4],
+) -> u64
+    ensures { λ r. ⌜ PlainBuiltBanner supported required (now (buf .entry)) queued (written r (now (refusal .exit))) (now (buf .exit)) ⌝ }
+{
+    plain_banner(buf, queued, supported, required, refusal)
 }
 
 // Builds a whole frame behind the queued bytes.
 #[no_mangle]
 pub extern "C" fn mahuixen_build_frame(
     buf: &mut [u8],
-    queued: usize,
-    revision: u8,
-    header: Header,
+    queued: u64,
+    revision: u64,
+    header: &[u64; 10],
     source: &[u8],
-) -> PlainBuilt
-    ensures { λ r. ⌜ PlainBuiltFrame revision header false (now (source .entry)) (now (buf .entry)) queued r (now (buf .exit)) ⌝ }
+    refusal: &mut [u64; 4],
+) -> u64
+    ensures { λ r. ⌜ PlainBuiltFrame revision (now (header .entry)) false (now (source .entry)) (now (buf .entry)) queued (written r (now (refusal .exit))) (now (buf .exit)) ⌝ }
 {
-    plain_built(build_frame(buf, queued, revision_of(revision), header, false, source))
+    plain_frame(buf, queued, revision, header, false, source, refusal)
 }
 
 // Builds an aborted frame behind the queued bytes.
 #[no_mangle]
 pub extern "C" fn mahuixen_abort_frame(
     buf: &mut [u8],
-    queued: usize,
-    revision: u8,
-    header: Header,
+    queued: u64,
+    revision: u64,
+    header: &[u64; 10],
     source: &[u8],
-) -> PlainBuilt
-    ensures { λ r. ⌜ PlainBuiltFrame revision header true (now (source .entry)) (now (buf .entry)) queued r (now (buf .exit)) ⌝ }
+    refusal: &mut [u64; 4],
+) -> u64
+    ensures { λ r. ⌜ PlainBuiltFrame revision (now (header .entry)) true (now (source .entry)) (now (buf .entry)) queued (written r (now (refusal .exit))) (now (buf .exit)) ⌝ }
 {
-    plain_built(build_frame(buf, queued, revision_of(revision), header, true, source))
+    plain_frame(buf, queued, revision, header, true, source, refusal)
 }
 
 // The checksum of bytes from a start value.
 #[no_mangle]
-pub extern "C" fn mahuixen_checksum(start: u32, bytes: &[u8]) -> u32
-    ensures { λ r. ⌜ r ≡ crcOf start (now (bytes .entry)) ⌝ }
+pub extern "C" fn mahuixen_checksum(start: u64, bytes: &[u8]) -> u64
+    ensures { λ r. ⌜ r ≡ crcOf (lowU32 start) (now (bytes .entry)) ⌝ }
 {
-    checksum(start, bytes)
+    checksum((start % 4294967296) as u32, bytes) as u64
 }
 
-// Nothing is lost in a plain form, as a promise. The body does nothing: the promise is a theorem.
-pub fn reads_back()
-    ensures { λ _. ⌜ ReadsBack ⌝ }
-{}
+// ---- what holds of the calls
 
-// DEMAND 3 of calls by C, as a promise: it follows from the receiver's own.
+// DEMAND 3 of calls by C, with a switch among them, as a promise: it follows from the connection's own.
 pub fn every_cutting()
     ensures { λ _. ⌜ PlainDemand3 ⌝ }
 {
-    receiver::every_cutting();
+    connection::every_cutting();
 }
 
 // DEMAND 1 of calls by C: it follows from what holds of every call of the receiver.
@@ -165,4 +196,11 @@ pub fn both_ends()
     ends::handed_over();
     ends::round_trip();
     ends::two_ends();
+}
+
+// NO MESSAGE IS RELEASED BEFORE ITS ACKNOWLEDGEMENT, of calls by C: it follows from what `delivery` promises.
+pub fn every_release()
+    ensures { λ _. ⌜ PlainEveryRelease ⌝ }
+{
+    delivery::every_release();
 }

@@ -1,7 +1,8 @@
 use super::*;
+use std::string::ToString;
 
 /// The numbers that there are, and how many details each has.
-const DETAILS: [(u8, usize); 18] = [
+const DETAILS: [(u8, usize); 27] = [
     (1, 0),
     (2, 1),
     (3, 3),
@@ -18,8 +19,17 @@ const DETAILS: [(u8, usize); 18] = [
     (14, 1),
     (15, 0),
     (16, 0),
+    (17, 0),
+    (18, 0),
+    (19, 0),
+    (20, 1),
+    (21, 1),
+    (22, 0),
+    (23, 0),
     (24, 1),
+    (25, 0),
     (26, 0),
+    (27, 0),
 ];
 
 fn numbers(number: u8, [first, second, third]: [u64; 3]) -> Numbers {
@@ -55,7 +65,7 @@ fn other_numbers_keep_all_details() {
         assert_eq!((other.number(), other.details()), (number, [1, 2, 3]));
         assert!(other.to_string().contains(&number.to_string()));
     }
-    assert_eq!(Refusal::given(Numbers::default()), None);
+    assert_eq!(Refusal::given(RawRefusal::default()), None);
 }
 
 #[test]
@@ -83,6 +93,8 @@ fn the_words_name_the_details() {
     said(11, [3, 0, 0], "segment 3");
     said(12, [0x0F, 0, 0], "0x0f");
     said(14, [489, 0, 0], "489 bytes");
+    said(20, [12, 0, 0], "byte 12");
+    said(21, [9, 0, 0], "tag 9");
     said(24, [3, 0, 0], "segment 3, which is not used");
     said(24, [0, 0, 0], "late flags");
 }

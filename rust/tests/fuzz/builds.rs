@@ -3,7 +3,7 @@
 use crate::guarded::Guarded;
 use crate::same;
 use crate::tally::Tally;
-use mahuixen::sys::{self, RawBuilt};
+use mahuixen::sys::{self, Built, RawHeader, RawRefusal};
 use mahuixen::{abort_frame, build_banner, build_frame, checksum};
 use mahuixen::{Features, Header, Receiver, Refusal, Report, Revision};
 use second::builder;
@@ -37,39 +37,27 @@ fn kind(refusal: u8) -> &'static str {
 }
 
 /// The crate's answer in bare numbers.
-fn bare(built: Result<usize, Refusal>) -> RawBuilt {
+fn bare(built: Result<usize, Refusal>) -> Built {
     match built {
-        Ok(written) => RawBuilt {
-            written,
-            ..RawBuilt::default()
-        },
+        Ok(written) => (written as u64, RawRefusal::default()),
         Err(refusal) => {
             let [first, second, third] = refusal.details();
-            let number = refusal.number();
-            let refusal = mahuixen::Numbers {
+            let number = refusal.number().into();
+            let refusal = RawRefusal {
                 number,
                 first,
                 second,
                 third,
             };
-            RawBuilt {
-                written: 0,
-                refusal,
-            }
+            (0, refusal)
         }
     }
 }
 
-fn expected(answer: &Answer) -> RawBuilt {
+fn expected(answer: &Answer) -> Built {
     match answer {
-        Ok(written) => RawBuilt {
-            written: *written as usize,
-            ..RawBuilt::default()
-        },
-        Err(refusal) => RawBuilt {
-            written: 0,
-            refusal: same::numbers(*refusal),
-        },
+        Ok(written) => (*written, RawRefusal::default()),
+        Err(refusal) => (0, same::numbers(*refusal)),
     }
 }
 
@@ -78,7 +66,7 @@ fn compare(
     random: &mut Random,
     buffer: SendBuffer,
     (answer, made): (Answer, &[u8]),
-    build: impl FnOnce(&mut Random, &mut [u8]) -> RawBuilt,
+    build: impl FnOnce(&mut Random, &mut [u8]) -> Built,
 ) {
     let mut send = Guarded::new(random, &buffer.bytes());
     let built = build(random, send.lend());
@@ -100,7 +88,7 @@ fn banner(random: &mut Random, record: &BannerRecord, tally: &mut Tally) {
     let own = same::features(record.features);
     compare(random, record.buffer, (answer, &made), |random, send| {
         if random.once_in(2) {
-            sys::build_banner(send, queued as usize, own)
+            sys::build_banner(send, queued, own)
         } else {
             bare(build_banner(send, queued as usize, own))
         }
@@ -109,22 +97,52 @@ fn banner(random: &mut Random, record: &BannerRecord, tally: &mut Tally) {
 }
 
 /// The library's build of a record, by the crate's types or by bare numbers.
-fn build(random: &mut Random, record: &FrameRecord, source: &[u8], send: &mut [u8]) -> RawBuilt {
+fn build(random: &mut Random, record: &FrameRecord, source: &[u8], send: &mut [u8]) -> Built {
     let queued = record.buffer.queued as usize;
     let header = same::header(&record.frame);
     let revision = same::revision(record.revision);
     match (random.once_in(2), record.abort) {
         (true, false) => bare(build_frame(send, queued, revision, &header, source)),
         (true, true) => bare(abort_frame(send, queued, revision, &header, source)),
-        (false, false) => sys::build_frame(send, queued, number(random, revision), header, source),
-        (false, true) => sys::abort_frame(send, queued, number(random, revision), header, source),
+        (false, abort) => {
+            let number = number(random, revision);
+            let build = [sys::build_frame, sys::abort_frame][usize::from(abort)];
+            beyond_its_fields(random, build, header.into(), source, send);
+            build(send, queued as u64, number, &header.into(), source)
+        }
     }
 }
 
 /// Any number but 0 stands for msgr2.1.
-fn number(random: &mut Random, revision: Revision) -> u8 {
-    let any = random.between(1, 255) as u8;
-    random.pick(&[1, any]) * revision.number()
+fn number(random: &mut Random, revision: Revision) -> u64 {
+    let any = random.u64() | 2;
+    random.pick(&[1, any]) * u64::from(revision.number())
+}
+
+/// A header with a number beyond its field is refused with 26, and the buffer
+/// stays as it was.
+fn beyond_its_fields(
+    random: &mut Random,
+    build: fn(&mut [u8], u64, u64, &RawHeader, &[u8]) -> Built,
+    mut header: RawHeader,
+    source: &[u8],
+    send: &mut [u8],
+) {
+    let segment = random.between(0, 3) as usize;
+    let (number, bits) = match random.between(1, 4) {
+        1 => (&mut header.tag, 8),
+        2 => (&mut header.count, 8),
+        3 => (&mut header.segments[segment].len, 32),
+        _ => (&mut header.segments[segment].align, 16),
+    };
+    *number |= 1 << random.between(bits, 63);
+    let before = send.to_vec();
+    let refusal = RawRefusal {
+        number: 26,
+        ..RawRefusal::default()
+    };
+    assert_eq!(build(send, 0, random.u64(), &header, source), (0, refusal));
+    assert!(send == before, "a refused build changed the buffer");
 }
 
 fn frame(random: &mut Random, record: &FrameRecord, tally: &mut Tally) {

@@ -1,6 +1,6 @@
 //! Frames at the limits, which are longer than any that is generated.
 
-use mahuixen::{LONGEST_FRAME, LONGEST_STORE};
+use mahuixen::LONGEST_FRAME;
 use second::banner::Features;
 use second::cutting::Course;
 use second::frame::{Frame, Segment, SEGMENT_LIMIT, SUM_LIMIT};
@@ -37,7 +37,7 @@ fn frame(lengths: &[u32]) -> Frame {
 
 /// Builds in both revisions, into a buffer that fits the longest one.
 pub fn builds(random: &mut Random) -> Vec<Record> {
-    assert_eq!(LONGEST_STORE as u64, SUM_LIMIT);
+    assert_eq!(LONGEST_FRAME as u64, 32 + SUM_LIMIT + 17);
     let mut records = Vec::new();
     for lengths in GOOD.iter().chain(&BAD) {
         let source = random.bytes(frame(lengths).sum() as u32);

@@ -12,6 +12,7 @@ mod probes;
 mod rebuilt;
 mod same;
 mod streams;
+mod switches;
 mod tally;
 
 use second::generate;
@@ -104,4 +105,18 @@ fn builds() {
         builds::run(&mut random, &record, &mut tally);
     }
     tally.expect("builds", streams(), &builds::KINDS);
+}
+
+#[test]
+fn switched_links() {
+    let mut seen = switches::Seen::default();
+    for record in generate::switching::records(seed(), streams() / 25) {
+        switches::run(&record, &mut seen);
+    }
+    println!("switched links: {seen:?}");
+    let each = [seen.calls, seen.made, seen.refused, seen.sealed];
+    assert!(
+        streams() < 25_000 || each.iter().all(|count| *count > 100),
+        "{seen:?}"
+    );
 }

@@ -2,11 +2,13 @@
 //! together from nothing.
 
 use crate::guarded::Guarded;
-use crate::rebuilt::{agrees, has_first_sum, in_block, in_body, least, needed, rebuilt, size};
-use crate::rebuilt::{PAYLOAD, PREAMBLE, REFUSED, REST, SKIP};
+use crate::rebuilt::{
+    agrees, fields, has_first_sum, in_block, in_body, least, needed, rebuilt, size,
+};
+use crate::rebuilt::{Fields, PAYLOAD, PREAMBLE, REFUSED, REST, SKIP};
 use crate::same;
 use crate::tally::Tally;
-use mahuixen::sys::{self, RawReceived, RawReport};
+use mahuixen::sys::{self, CrcState, RawRefusal, RawReport};
 use mahuixen::{Features, Header, Numbers, Segment, State};
 use second::random::Random;
 
@@ -17,76 +19,76 @@ const COMPARED: &str = "compared with a second receiver in the same place";
 
 pub const KINDS: [&str; 4] = [CONTRADICTION, REPEATED, NO_ROOM, COMPARED];
 
-/// A field of a state, whatever its width.
-enum Field<'a> {
-    U8(&'a mut u8),
-    U16(&'a mut u16),
-    U32(&'a mut u32),
-    U64(&'a mut u64),
-    Size(&'a mut usize),
-}
-
-impl Field<'_> {
-    fn flip_a_bit(self, random: &mut Random) {
-        let bit = random.between(0, 63);
-        match self {
-            Field::U8(value) => *value ^= 1 << (bit % 8),
-            Field::U16(value) => *value ^= 1 << (bit % 16),
-            Field::U32(value) => *value ^= 1 << (bit % 32),
-            Field::U64(value) => *value ^= 1 << bit,
-            Field::Size(value) => *value ^= 1 << bit,
-        }
-    }
-}
-
-fn header_fields(header: &mut Header) -> Vec<Field<'_>> {
-    let mut fields = vec![Field::U8(&mut header.tag), Field::U8(&mut header.count)];
-    for segment in &mut header.segments {
-        fields.push(Field::U32(&mut segment.len));
-        fields.push(Field::U16(&mut segment.align));
-    }
-    fields
-}
-
-fn fields(state: &mut State) -> Vec<Field<'_>> {
-    let mut fields = vec![
-        Field::Size(&mut state.got),
-        Field::U64(&mut state.own.supported),
-        Field::U64(&mut state.own.required),
-        Field::U64(&mut state.peer.supported),
-        Field::U64(&mut state.peer.required),
-        Field::U8(&mut state.refusal.number),
-        Field::U64(&mut state.refusal.first),
-        Field::U64(&mut state.refusal.second),
-        Field::U64(&mut state.refusal.third),
-        Field::U16(&mut state.payload),
-        Field::U8(&mut state.stage),
-        Field::U8(&mut state.revision),
-        Field::U8(&mut state.first),
+/// Each number of a state that its field may narrow, with the field's bits, and
+/// the others.
+fn numbers(state: &mut State) -> Vec<(&mut u64, u32)> {
+    let State {
+        mode: _,
+        ready,
+        crc,
+        sealed: _,
+    } = state;
+    let CrcState {
+        stage,
+        revision,
+        first,
+        payload,
+        header,
+        refusal,
+        got,
+        own,
+        peer,
+        block: _,
+    } = crc;
+    let mut numbers = vec![
+        (ready, 1),
+        (stage, 4),
+        (revision, 1),
+        (first, 1),
+        (payload, 16),
+        (&mut header.tag, 8),
+        (&mut header.count, 8),
+        (&mut refusal.number, 8),
+        (&mut refusal.first, 64),
+        (&mut refusal.second, 64),
+        (&mut refusal.third, 64),
+        (got, 64),
+        (&mut own.supported, 64),
+        (&mut own.required, 64),
+        (&mut peer.supported, 64),
+        (&mut peer.required, 64),
     ];
-    fields.extend(header_fields(&mut state.header));
-    // Together the block's bytes have as much chance as three other fields.
-    fields.extend(state.block.iter_mut().step_by(11).map(Field::U8));
-    fields
+    for segment in &mut header.segments {
+        numbers.push((&mut segment.len, 32));
+        numbers.push((&mut segment.align, 16));
+    }
+    numbers
+}
+
+/// Flips a bit of a number, mostly one of its field's.
+fn flip_a_bit(random: &mut Random, state: &mut State) {
+    let mut numbers = numbers(state);
+    let chosen = random.between(0, numbers.len() as u32 - 1) as usize;
+    let (number, bits) = numbers.swap_remove(chosen);
+    let last = if random.once_in(6) { 63 } else { bits - 1 };
+    *number ^= 1 << random.between(0, last);
 }
 
 fn change(random: &mut Random, state: &mut State) {
-    let (any, small) = (random.u8(), random.between(0, 40) as usize);
-    match random.between(1, 9) {
-        1 => state.stage = random.between(0, 10) as u8,
-        2 => state.stage = random.pick(&[10, 255, any]),
-        3 => state.revision = random.pick(&[0, 1, 2, any]),
-        4 => state.got = random.pick(&[0, 1, 3, small, small, usize::MAX]),
-        5 => state.first = random.pick(&[0, 1, 2, any]),
+    let (any, small) = (u64::from(random.u8()), u64::from(random.between(0, 40)));
+    match random.between(1, 11) {
+        1 => state.crc.stage = random.between(0, 10).into(),
+        2 => state.crc.stage = random.pick(&[10, 255, any, u64::MAX]),
+        3 => state.crc.revision = random.pick(&[0, 1, 2, any]),
+        4 => state.crc.got = random.pick(&[0, 1, 3, small, small, u64::MAX]),
+        5 => state.crc.first = random.pick(&[0, 1, 2, any]),
         6 => {
             let place = random.between(0, 31) as usize;
-            state.block[place] ^= 1 << random.between(0, 7);
+            state.crc.block.0[place] ^= 1 << random.between(0, 7);
         }
-        _ => {
-            let mut fields = fields(state);
-            let chosen = random.between(0, fields.len() as u32 - 1) as usize;
-            fields.swap_remove(chosen).flip_a_bit(random);
-        }
+        7 => state.ready = random.pick(&[0, 1, 2, any]),
+        8 => state.mode = random.pick(&[2, 3, 255, u64::MAX]),
+        _ => flip_a_bit(random, state),
     }
 }
 
@@ -153,7 +155,7 @@ fn any_refusal(random: &mut Random) -> Numbers {
 
 /// How many bytes of its stage came to a state, and those of them that are in
 /// its block.
-fn fill(random: &mut Random, state: &mut State) {
+fn fill(random: &mut Random, state: &mut Fields) {
     let (least, size) = (least(state), size(state));
     if state.stage == REFUSED || least >= size {
         return;
@@ -166,13 +168,13 @@ fn fill(random: &mut Random, state: &mut State) {
 }
 
 /// A state in any stage, with what the stage uses: it mostly agrees with itself.
-fn any_state(random: &mut Random) -> State {
+fn any_state(random: &mut Random) -> Fields {
     let [own, peer] = any_features(random);
     let payload = random.between(17, 40) as u16;
-    let mut state = State {
+    let mut state = Fields {
         own,
         stage: random.between(0, u32::from(REFUSED)) as u8,
-        ..State::default()
+        ..Fields::default()
     };
     if state.stage == REFUSED {
         state.refusal = any_refusal(random);
@@ -197,7 +199,7 @@ fn any_state(random: &mut Random) -> State {
 
 /// Makes a call on a state put together from nothing.
 pub fn put_together(random: &mut Random, tally: &mut Tally) {
-    let mut state = any_state(random);
+    let mut state = State::from(any_state(random));
     for _ in 0..random.pick(&[0, 0, 0, 1, 2]) {
         change(random, &mut state);
     }
@@ -207,19 +209,30 @@ pub fn put_together(random: &mut Random, tally: &mut Tally) {
     probe(random, state, &piece, &store, tally);
 }
 
-/// Makes the call and checks that it stayed inside what it was lent. Answers
-/// the store too.
-fn call(random: &mut Random, state: State, piece: &[u8], store: &[u8]) -> (RawReceived, Vec<u8>) {
-    let held = Guarded::new(random, piece);
-    let mut lent = Guarded::new(random, store);
-    let received = sys::receive(state, held.content(), lent.lend());
-    held.expect(piece, "piece");
-    let after = lent.content().to_vec();
-    lent.expect(&after, "store");
-    (received, after)
+/// What a call left: the state, its report and the store.
+struct Left {
+    state: State,
+    report: RawReport,
+    store: Vec<u8>,
 }
 
-fn refused(refusal: Numbers) -> RawReport {
+/// Makes the call and checks that it stayed inside what it was lent.
+fn call(random: &mut Random, mut state: State, piece: &[u8], store: &[u8]) -> Left {
+    let held = Guarded::new(random, piece);
+    let mut lent = Guarded::new(random, store);
+    let report = sys::receive(&mut state, held.content(), lent.lend());
+    held.expect(piece, "piece");
+    let store = lent.content().to_vec();
+    lent.expect(&store, "store");
+    Left {
+        state,
+        report,
+        store,
+    }
+}
+
+/// The report of a call that takes nothing and refuses.
+fn refused(refusal: RawRefusal) -> RawReport {
     RawReport {
         kind: 4,
         refusal,
@@ -227,55 +240,54 @@ fn refused(refusal: Numbers) -> RawReport {
     }
 }
 
-fn plain(number: u8, first: u64) -> Numbers {
-    Numbers {
+fn plain(number: u64, first: u64) -> RawRefusal {
+    RawRefusal {
         number,
         first,
-        ..Numbers::default()
+        ..RawRefusal::default()
     }
 }
 
 /// Makes the call and holds it to what is due of this state.
 fn probe(random: &mut Random, state: State, piece: &[u8], store: &[u8], tally: &mut Tally) {
-    let (received, after) = call(random, state, piece, store);
+    let left = call(random, state, piece, store);
     let stays = |refusal| {
-        assert_eq!((received.report, received.taken), (refused(refusal), 0));
+        assert_eq!(left.report, refused(refusal));
         assert!(
-            after == store,
+            left.store == store,
             "a call that takes nothing changed the store"
         );
     };
-    if !agrees(&state) {
+    let Some(due) = fields(&state).filter(|_| agrees(&state)) else {
         tally.count(CONTRADICTION);
         stays(plain(26, 0));
-        assert_eq!(received.state, state);
+        assert_eq!(left.state, state);
         return;
-    }
-    assert!(
-        agrees(&received.state),
-        "{state:?} gave {:?}",
-        received.state
-    );
-    if state.stage == REFUSED {
+    };
+    assert!(agrees(&left.state), "{state:?} gave {:?}", left.state);
+    if due.stage == REFUSED {
         tally.count(REPEATED);
-        stays(state.refusal);
-        assert_eq!(received.state, state);
-    } else if (store.len() as u64) < needed(&state) {
+        stays(state.crc.refusal);
+        assert_eq!(left.state, state);
+    } else if (store.len() as u64) < needed(&due) {
         tally.count(NO_ROOM);
-        stays(plain(10, needed(&state)));
-        again(random, &received, piece, &after);
+        stays(plain(10, needed(&due)));
+        again(random, &left, piece);
     } else {
         tally.count(COMPARED);
-        follow(random, state, rebuilt(&state, store), piece, store);
+        follow(random, state, rebuilt(&due, store), piece, store);
     }
 }
 
 /// A refusal is repeated, whatever is offered.
-fn again(random: &mut Random, received: &RawReceived, piece: &[u8], store: &[u8]) {
-    let (repeated, after) = call(random, received.state, piece, store);
-    assert_eq!((repeated.report, repeated.taken), (received.report, 0));
-    assert_eq!(repeated.state, received.state);
-    assert!(after == store, "a repeated refusal changed the store");
+fn again(random: &mut Random, left: &Left, piece: &[u8]) {
+    let repeated = call(random, left.state, piece, &left.store);
+    assert_eq!(repeated.report, left.report);
+    assert_eq!(repeated.state, left.state);
+    assert!(
+        repeated.store == left.store,
+        "a repeated refusal changed the store"
+    );
 }
 
 /// Both receivers go on from the same place, until nothing is left to take.
@@ -288,12 +300,11 @@ fn follow(
 ) {
     let (mut left, mut expected) = (piece, store.to_vec());
     loop {
-        let (received, after) = call(random, state, left, &expected);
+        let after = call(random, state, left, &expected);
         let (taken, report) = second.receive(left, &mut expected);
-        assert_eq!(received.taken, taken);
-        assert_eq!(received.report, same::raw(&report));
-        assert!(after == expected, "not the second receiver's store");
-        state = received.state;
+        assert_eq!(after.report, same::raw(taken, &report));
+        assert!(after.store == expected, "not the second receiver's store");
+        state = after.state;
         left = &left[taken..];
         if taken == 0 || left.is_empty() {
             return;

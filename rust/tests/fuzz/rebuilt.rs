@@ -1,7 +1,8 @@
 //! What a state of the library means, by docs/STATE.md: whether it contradicts
 //! itself, and which second receiver is in the same place.
 
-use mahuixen::{Features, Header, Numbers, State};
+use mahuixen::sys::{CrcState, RawHeader, RawRefusal};
+use mahuixen::{Block, Features, Header, Numbers, State};
 use second::banner::{judge_payload_length, Features as SecondFeatures};
 use second::checksum::{checksum, SEGMENT_START};
 use second::frame::{Frame, Segment};
@@ -19,6 +20,79 @@ pub const REST: u8 = 7;
 pub const EPILOGUE: u8 = 8;
 pub const REFUSED: u8 = 9;
 
+/// A state whose numbers are all of their fields' types.
+#[derive(Clone, Copy, Debug, Default)]
+pub struct Fields {
+    pub ready: u8,
+    pub stage: u8,
+    pub revision: u8,
+    pub first: u8,
+    pub payload: u16,
+    pub header: Header,
+    pub refusal: Numbers,
+    pub got: usize,
+    pub own: Features,
+    pub peer: Features,
+    pub block: [u8; 32],
+}
+
+impl From<Fields> for State {
+    fn from(fields: Fields) -> Self {
+        let Numbers {
+            number,
+            first,
+            second,
+            third,
+        } = fields.refusal;
+        let crc = CrcState {
+            stage: fields.stage.into(),
+            revision: fields.revision.into(),
+            first: fields.first.into(),
+            payload: fields.payload.into(),
+            header: fields.header.into(),
+            refusal: RawRefusal {
+                number: number.into(),
+                first,
+                second,
+                third,
+            },
+            got: fields.got as u64,
+            own: fields.own,
+            peer: fields.peer,
+            block: Block(fields.block),
+        };
+        Self {
+            ready: fields.ready.into(),
+            crc,
+            ..Self::default()
+        }
+    }
+}
+
+/// The fields of a state on a crc link, unless one of its numbers is beyond its
+/// field.
+pub fn fields(state: &State) -> Option<Fields> {
+    let crc = &state.crc;
+    let header = Header::from(crc.header);
+    let fields = Fields {
+        ready: u8::try_from(state.ready).ok()?,
+        stage: u8::try_from(crc.stage).ok()?,
+        revision: u8::try_from(crc.revision).ok()?,
+        first: u8::try_from(crc.first).ok()?,
+        payload: u16::try_from(crc.payload).ok()?,
+        header,
+        refusal: Numbers::from(crc.refusal),
+        got: crc.got as usize,
+        own: crc.own,
+        peer: crc.peer,
+        block: crc.block.0,
+    };
+    let marks = fields.revision <= 1 && fields.first <= 1 && fields.ready <= 1;
+    let known = state.mode == 0 && fields.stage <= REFUSED && marks;
+    let whole = RawHeader::from(header) == crc.header && crc.refusal.number <= 255;
+    (known && whole).then_some(fields)
+}
+
 fn features(features: Features) -> SecondFeatures {
     SecondFeatures::new(features.supported, features.required)
 }
@@ -35,7 +109,7 @@ pub fn frame(header: &Header) -> Frame {
     }
 }
 
-fn revision(state: &State) -> Revision {
+fn revision(state: &Fields) -> Revision {
     match state.revision {
         0 => Revision::Msgr20,
         _ => Revision::Msgr21,
@@ -43,44 +117,49 @@ fn revision(state: &State) -> Revision {
 }
 
 /// Whether a body is under way, which needs its room in the store.
-pub fn in_body(state: &State) -> bool {
+pub fn in_body(state: &Fields) -> bool {
     (FIRST..=EPILOGUE).contains(&state.stage)
 }
 
 /// Whether the stage is this one or a later one, and nothing is refused.
-fn live_from(stage: u8, state: &State) -> bool {
+fn live_from(stage: u8, state: &Fields) -> bool {
     (stage..REFUSED).contains(&state.stage)
 }
 
 /// Whether segment 1 has its checksum behind it.
-pub fn has_first_sum(state: &State) -> bool {
+pub fn has_first_sum(state: &Fields) -> bool {
     state.revision == 1 && state.header.segments[0].len > 0
 }
 
-fn good_own(state: &State) -> bool {
+/// Behind a reported frame the next preamble is not begun.
+fn good_ready(state: &Fields) -> bool {
+    state.ready == 0 || (state.stage == PREAMBLE && state.got == 0)
+}
+
+fn good_own(state: &Fields) -> bool {
     let start_refused = state.stage == REFUSED && state.refusal.number == 16;
     start_refused || features(state.own).judge_own().is_ok()
 }
 
-fn good_payload(state: &State) -> bool {
+fn good_payload(state: &Fields) -> bool {
     match live_from(PAYLOAD, state) {
         true => judge_payload_length(state.payload).is_ok(),
         false => state.payload == 0,
     }
 }
 
-fn good_peer(state: &State) -> bool {
+fn good_peer(state: &Fields) -> bool {
     live_from(SKIP, state) || state.peer == Features::default()
 }
 
-fn good_revision(state: &State) -> bool {
+fn good_revision(state: &Fields) -> bool {
     match live_from(PREAMBLE, state) {
         true => features(state.own).judge_peer(&features(state.peer)) == Ok(revision(state)),
         false => state.revision == 0,
     }
 }
 
-fn good_header(state: &State) -> bool {
+fn good_header(state: &Fields) -> bool {
     if !in_body(state) {
         return state.header == Header::default();
     }
@@ -89,13 +168,13 @@ fn good_header(state: &State) -> bool {
     judged.iter().all(Result::is_ok)
 }
 
-fn good_first(state: &State) -> bool {
+fn good_first(state: &Fields) -> bool {
     let about_first = matches!(state.stage, FIRST | FIRST_SUM);
     let behind_first = matches!(state.stage, REST | EPILOGUE) && has_first_sum(state);
     (!about_first || has_first_sum(state)) && (state.first == 1) == behind_first
 }
 
-fn good_refusal(state: &State) -> bool {
+fn good_refusal(state: &Fields) -> bool {
     let Numbers {
         number,
         second,
@@ -110,7 +189,7 @@ fn good_refusal(state: &State) -> bool {
 }
 
 /// Bytes of the state's stage.
-pub fn size(state: &State) -> u64 {
+pub fn size(state: &Fields) -> u64 {
     match state.stage {
         0 => 8,
         1 => 2,
@@ -125,14 +204,14 @@ pub fn size(state: &State) -> u64 {
 }
 
 /// So many bytes of the stage came at least.
-pub fn least(state: &State) -> u64 {
+pub fn least(state: &Fields) -> u64 {
     match state.stage {
         REST if has_first_sum(state) => u64::from(state.header.segments[0].len),
         _ => 0,
     }
 }
 
-fn good_count(state: &State) -> bool {
+fn good_count(state: &Fields) -> bool {
     let got = state.got as u64;
     match state.stage {
         REFUSED => got == 0,
@@ -141,11 +220,11 @@ fn good_count(state: &State) -> bool {
 }
 
 /// Whether the stage's bytes go into the block.
-pub fn in_block(state: &State) -> bool {
+pub fn in_block(state: &Fields) -> bool {
     !matches!(state.stage, SKIP | FIRST | REST | REFUSED)
 }
 
-fn good_block(state: &State) -> bool {
+fn good_block(state: &Fields) -> bool {
     let came = if in_block(state) { state.got } else { 0 };
     state.block.iter().skip(came).all(|byte| *byte == 0)
 }
@@ -153,6 +232,7 @@ fn good_block(state: &State) -> bool {
 /// Whether the state agrees with itself.
 pub fn agrees(state: &State) -> bool {
     let rules = [
+        good_ready,
         good_own,
         good_payload,
         good_peer,
@@ -163,12 +243,11 @@ pub fn agrees(state: &State) -> bool {
         good_count,
         good_block,
     ];
-    let known = state.stage <= REFUSED && state.revision <= 1 && state.first <= 1;
-    known && rules.iter().all(|rule| rule(state))
+    fields(state).is_some_and(|state| rules.iter().all(|rule| rule(&state)))
 }
 
 /// The bytes of a banner up to where the state is.
-fn banner_so_far(state: &State) -> Vec<u8> {
+fn banner_so_far(state: &Fields) -> Vec<u8> {
     let block = state.block.iter().take(state.got).copied();
     let peer = [state.peer.supported, state.peer.required];
     let mut bytes = b"ceph v2\n".to_vec();
@@ -188,7 +267,7 @@ fn banner_so_far(state: &State) -> Vec<u8> {
 
 /// The segment bytes so far, out of the store, with segment 1's checksum where
 /// msgr2.1 has one.
-fn segments_so_far(state: &State, store: &[u8]) -> Vec<u8> {
+fn segments_so_far(state: &Fields, store: &[u8]) -> Vec<u8> {
     let first = state.header.segments[0].len as usize;
     let stored = match state.stage {
         FIRST | REST => &store[..state.got],
@@ -204,7 +283,7 @@ fn segments_so_far(state: &State, store: &[u8]) -> Vec<u8> {
 }
 
 /// The bytes of a frame up to where the state is.
-fn frame_so_far(state: &State, store: &[u8]) -> Vec<u8> {
+fn frame_so_far(state: &Fields, store: &[u8]) -> Vec<u8> {
     let mut bytes = Vec::new();
     if in_body(state) {
         bytes.extend(frame(&state.header).preamble());
@@ -217,7 +296,7 @@ fn frame_so_far(state: &State, store: &[u8]) -> Vec<u8> {
 }
 
 /// The whole banner of the state's peer.
-fn banner(state: &State) -> Vec<u8> {
+fn banner(state: &Fields) -> Vec<u8> {
     let mut bytes = features(state.peer).banner();
     bytes[8..10].copy_from_slice(&state.payload.to_le_bytes());
     bytes.resize(10 + usize::from(state.payload), 0xB5);
@@ -227,7 +306,7 @@ fn banner(state: &State) -> Vec<u8> {
 /// A second receiver that was given a stream which leads to this state, with
 /// the store as it is. The state agrees with itself, is not refused, and has
 /// the room it needs: to each such state a stream leads.
-pub fn rebuilt(state: &State, store: &[u8]) -> Receiver {
+pub fn rebuilt(state: &Fields, store: &[u8]) -> Receiver {
     let stream = match state.stage {
         0..PREAMBLE => banner_so_far(state),
         _ => [banner(state), frame_so_far(state, store)].concat(),
@@ -250,7 +329,7 @@ pub fn rebuilt(state: &State, store: &[u8]) -> Receiver {
 }
 
 /// What a live receiver that has a body under way needs of the store.
-pub fn needed(state: &State) -> u64 {
+pub fn needed(state: &Fields) -> u64 {
     if in_body(state) {
         state.header.total()
     } else {

@@ -1,7 +1,7 @@
 //! The second program's values as the library has them.
 
-use mahuixen::sys::RawReport;
-use mahuixen::{Features, Header, Numbers, Report, Revision, Segment};
+use mahuixen::sys::{RawRefusal, RawReport};
+use mahuixen::{Features, Header, Report, Revision, Segment};
 use second::frame::Frame;
 
 pub fn features(features: second::banner::Features) -> Features {
@@ -24,36 +24,40 @@ pub fn header(frame: &Frame) -> Header {
     }
 }
 
-pub fn numbers(refusal: second::refusal::Refusal) -> Numbers {
+pub fn numbers(refusal: second::refusal::Refusal) -> RawRefusal {
     let [first, second, third] = refusal.detail;
-    Numbers {
-        number: refusal.number,
+    RawRefusal {
+        number: refusal.number.into(),
         first,
         second,
         third,
     }
 }
 
-/// The report in numbers, 0 in fields that its kind does not use.
-pub fn raw(report: &second::report::Report) -> RawReport {
+/// The report in numbers, with the bytes taken and 0 in fields that its kind does
+/// not use.
+pub fn raw(taken: usize, report: &second::report::Report) -> RawReport {
     use second::report::Report;
-    let none = RawReport::default();
+    let none = RawReport {
+        taken: taken as u64,
+        ..RawReport::default()
+    };
     match report {
         Report::More => none,
         Report::Banner { peer, revision } => RawReport {
             kind: 1,
-            revision: u8::from(*revision == second::wire::Revision::Msgr21),
+            revision: u64::from(*revision == second::wire::Revision::Msgr21),
             peer: features(*peer),
             ..none
         },
         Report::Frame(frame) => RawReport {
             kind: 2,
-            header: header(frame),
+            header: header(frame).into(),
             ..none
         },
         Report::Dropped(frame) => RawReport {
             kind: 3,
-            header: header(frame),
+            header: header(frame).into(),
             ..none
         },
         Report::Refused(refusal) => RawReport {
@@ -63,7 +67,7 @@ pub fn raw(report: &second::report::Report) -> RawReport {
         },
         Report::First(frame) => RawReport {
             kind: 5,
-            header: header(frame),
+            header: header(frame).into(),
             ..none
         },
     }
@@ -118,11 +122,11 @@ pub const KINDS: [&str; 20] = [
 pub fn kind(report: &RawReport) -> &'static str {
     match (report.kind, report.refusal.number) {
         (0, _) => KINDS[0],
-        (1, _) => KINDS[1 + usize::from(report.revision)],
-        (2 | 3, _) => KINDS[1 + usize::from(report.kind)],
+        (1, _) => KINDS[1 + report.revision as usize],
+        (2 | 3, _) => KINDS[1 + report.kind as usize],
         (5, _) => KINDS[5],
         (_, 16) => KINDS[18],
         (_, 24) => KINDS[19],
-        (_, number) => KINDS[5 + usize::from(number)],
+        (_, number) => KINDS[5 + number as usize],
     }
 }

@@ -41,13 +41,13 @@ enum Library {
 impl Library {
     fn start(record: &ReceiverRecord, typed: bool) -> Self {
         let own = same::features(record.own);
-        let started = sys::start(own);
+        let (state, refused) = sys::start(own);
         let refusal = record.own.judge_own().err().map(same::numbers);
-        assert_eq!(started.refusal, refusal.unwrap_or_default());
+        assert_eq!(refused, refusal.unwrap_or_default().number);
         match Receiver::start(own) {
             Ok(receiver) if typed => Self::Typed(receiver),
             // A refused start has a state too.
-            _ => Self::Bare(started.state),
+            _ => Self::Bare(state),
         }
     }
 
@@ -59,19 +59,17 @@ impl Library {
     }
 
     /// Makes the call and holds its report to the expected one.
-    fn receive(&mut self, piece: &[u8], store: &mut [u8], expected: &Report) -> usize {
+    fn receive(&mut self, piece: &[u8], store: &mut [u8], (taken, expected): (usize, &Report)) {
         match self {
             Self::Typed(receiver) => {
                 let received = receiver.receive(piece, store);
                 let report = received.report;
                 assert!(same::tells(&report, expected), "{report:?}: {expected:?}");
-                received.taken
+                assert_eq!(received.taken, taken);
             }
             Self::Bare(state) => {
-                let received = sys::receive(*state, piece, store);
-                assert_eq!(received.report, same::raw(expected));
-                *state = received.state;
-                received.taken
+                let report = sys::receive(state, piece, store);
+                assert_eq!(report, same::raw(taken, expected));
             }
         }
     }
@@ -142,12 +140,13 @@ impl<'a> Run<'a> {
         let (taken, report) = self.second.receive(piece, &mut self.store[..length]);
         let held = Guarded::new(random, piece);
         let store = &mut self.lent.lend()[..length];
-        assert_eq!(self.library.receive(held.content(), store, &report), taken);
+        self.library
+            .receive(held.content(), store, (taken, &report));
         held.expect(piece, "piece");
         self.lent.expect(&self.store, "store");
         self.taken += taken;
         self.hold_to_the_list(&report);
-        same::raw(&report)
+        same::raw(taken, &report)
     }
 
     /// The first report of each entry stands at its byte, with its store.

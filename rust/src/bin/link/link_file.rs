@@ -74,12 +74,14 @@ pub fn table(front: &[u8]) -> Option<(usize, u64)> {
     let (count, rest) = front.split_first_chunk()?;
     let count = usize::from(u16::from_le_bytes(*count));
     let lengths = rest.get(..4 * count).filter(|_| count <= MOST)?;
-    let (lengths, []) = lengths.as_chunks() else {
-        return None;
-    };
     let sum = lengths
-        .iter()
-        .map(|length| u64::from(u32::from_le_bytes(*length)))
+        .chunks_exact(4)
+        .map(|length| {
+            length
+                .iter()
+                .rev()
+                .fold(0, |n, byte| n << 8 | u64::from(*byte))
+        })
         .sum();
     let pieces = &rest[4 * count..];
     let begins = !pieces.is_empty() && (pieces.starts_with(MAGIC) || MAGIC.starts_with(pieces));

@@ -1,0 +1,151 @@
+-- Calls on a crc link are calls of the receiver.
+use mathlib.Core.Path.{_≡_, _∙_, refl, sym, ap, subst}
+use mathlib.Core.List.{List, [], _∷_}
+use mathlib.Core.Bool.{Bool, true, false, cond, and-true}
+use Prim.Native.Nat.{ℕ, _+_}
+use native.Mathlib.Omega.{arith}
+use lib.Dec.{eqb, ltb}
+use lib.ListN.{length}
+use borrow.Author.Tests.{ltb-true, ltb-false}
+use Rattle.refusal.specs.declared.Numbers.{Numbers}
+use Rattle.refusal.proofs.Booleans.{wrong, both-left}
+use Rattle.receiver.specs.declared.Known.{Known}
+use Rattle.receiver.specs.declared.Stage.{Stage}
+use Rattle.receiver.specs.declared.Stage.the-variants as stage
+use Rattle.receiver.specs.declared.State as crc-state
+use Rattle.receiver.specs.State as crc-states
+use Rattle.receiver.specs.State.{rank, isRefused, needed}
+use Rattle.receiver.specs.Step as crc
+use Rattle.receiver.specs.Calls.{pieceAt}
+use Rattle.receiver.specs.Calls as receiver
+use Rattle.receiver.specs.Every.{AnyCall, Handed}
+use Rattle.connection.specs.declared.Mode.the-variants as mode
+use Rattle.connection.specs.declared.State.{State}
+use Rattle.connection.specs.Step.{isSecure, readyRule, Answer, byCrc, answer}
+use Rattle.connection.specs.Calls.{Piece}
+use Rattle.connection.proofs.Laws.{mode-is}
+use Rattle.connection.proofs.Machines.{before, crcSide}
+use Rattle.connection.proofs.Parted.{Stands, runs, refuses, next-stands}
+use Rattle.plain_connection.specs.Words.{PlainConnection, PlainOf, PlainReceived, takenIn}
+use Rattle.plain_connection.proofs.Calls.{taken-word}
+use Rattle.mahuixen.specs.Calls.{PlainPiece, PlainChained, plainReceived}
+use Rattle.mahuixen.specs.Demands.{OfCrc, PlainAnyCall, PlainHanded, AnyOfCrc, pieces, PiecesOfCrc}
+use Rattle.mahuixen.proofs.Chain.{PlainForm, plain-form}
+
+-- ---- a call keeps the rule of the mark
+
+-- before a preamble nothing of the store is needed
+needs-none : (k : Stage) (v : Known) → eqb (rank k) 4 ≡ true → needed k v ≡ 0
+needs-none stage.Magic v e = wrong e
+needs-none stage.Length v e = wrong e
+needs-none stage.Payload v e = wrong e
+needs-none stage.Skip v e = wrong e
+needs-none stage.Preamble v e = refl
+needs-none stage.First v e = wrong e
+needs-none stage.FirstSum v e = wrong e
+needs-none stage.Rest v e = wrong e
+needs-none stage.Epilogue v e = wrong e
+needs-none stage.Refused v e = wrong e
+
+stood : {st : State} {s : List ℕ} → Stands crcSide st s → readyRule st ≡ true
+stood (runs r) = r .rule
+stood (refuses n g) = g .rule
+
+-- a refusal that takes nothing leaves the mark as it was
+rule-refused : (st : State) (n : Numbers) (x : crc-state.State) (s : List ℕ) → st .mode ≡ mode.Crc → (st .ready ≡ true → before x ≡ true)
+    → readyRule (byCrc st (crc.refuseUnchanged x n s) .received .state) ≡ true
+rule-refused st n x s m h = rw (m, and-true (st .ready)) (go (st .ready) refl)
+  where
+    go : (b : Bool) → st .ready ≡ b → cond (st .ready) (before x) true ≡ true
+    go true e = rw e (h e)
+    go false e = rw e
+
+module _ (st : State) (s piece : List ℕ) (m : st .mode ≡ mode.Crc) (q : readyRule st ≡ true) where
+  abbrev inner : crc.Answer
+  inner = crc.answer (st .crc) s piece
+
+  pub by-crc : answer st s piece ≡ byCrc st inner
+  by-crc = mode-is st s piece false q (ap isSecure m)
+
+  was-before : st .ready ≡ true → before (st .crc) ≡ true
+  was-before e = rw (e, m) at q
+
+  refusing : (n : Numbers) (x : crc-state.State) → inner ≡ crc.refuseUnchanged x n s → (st .ready ≡ true → before x ≡ true) → readyRule (byCrc st inner .received .state) ≡ true
+  refusing n x e h = subst (λ (a : crc.Answer). readyRule (byCrc st a .received .state) ≡ true) (sym e) (rule-refused st n x s m h)
+
+  inner-by : (a r t : Bool) → crc-states.agrees (st .crc) ≡ a → isRefused (st .crc .position .stage) ≡ r → ltb (length s) (crc.neededBy (st .crc)) ≡ t
+      → readyRule (byCrc st inner .received .state) ≡ true
+  unfolding crc.answer
+  inner-by false r t ea er et = refusing crc.contradiction (st .crc) (rw ea) was-before
+  inner-by true true t ea er et = refusing (st .crc .known .refusal) (st .crc) (rw (ea, er)) was-before
+  inner-by true false true ea er et =
+      refusing (crc.shortStore (st .crc)) (crc.refusedState (st .crc .known) (crc.shortStore (st .crc))) (rw (ea, er, et))
+      (λ e. absurd
+      (let z = needs-none (st .crc .position .stage) (st .crc .known) (both-left (eqb (rank (st .crc .position .stage)) 4) (eqb (st .crc .position .got) 0) (was-before e)) in
+      let l = ltb-true (length s) (crc.neededBy (st .crc)) et in
+      omega arith))
+  inner-by true false false ea er et =
+      let l : crc.Running (st .crc) s = record { agree = ea; live = er; fits = ltb-false (length s) (crc.neededBy (st .crc)) et } in
+      let c : Piece = record { size = length piece; received = answer st s piece .received; store = answer st s piece .store } in
+      subst (λ (a : Answer). readyRule (a .received .state) ≡ true) by-crc
+      (stood (next-stands crcSide st s piece c (runs (record { mode = m; rule = q; live = l })) (record { received = refl; store = refl })))
+
+  pub rule-kept : readyRule (byCrc st inner .received .state) ≡ true
+  rule-kept = inner-by (crc-states.agrees (st .crc)) (isRefused (st .crc .position .stage)) (ltb (length s) (crc.neededBy (st .crc))) refl refl refl
+
+  -- ---- what a call on the words of such a state is
+  pub record CrcForm (o : PlainReceived) (s′ : List ℕ) : Type 0 where
+    pub same : OfCrc o (inner .received)
+    pub store : s′ ≡ inner .store
+    pub taken : takenIn o ≡ inner .received .taken
+    pub next : PlainOf (byCrc st inner .received .state) (o .state)
+
+  pub crc-form : (o : PlainReceived) (s′ : List ℕ) → PlainForm st s piece o s′ → CrcForm o s′
+  crc-form o s′ f =
+      let e : o ≡ plainReceived (byCrc st inner .received) = f .received ∙ ap (λ (a : Answer). plainReceived (a .received)) by-crc in
+      record {
+        same = record { state = ap (λ (x : PlainReceived). x .state .crc) e; report = ap (λ (x : PlainReceived). x .report) e };
+        store = f .store ∙ ap (λ (a : Answer). a .store) by-crc;
+        taken = ap takenIn e ∙ taken-word (inner .received .taken) (inner .received .report);
+        next = subst (λ (a : Answer). PlainOf (a .received .state) (o .state)) by-crc (f .next);
+      }
+
+-- ---- lists
+
+pub record CrcPieces (stream : List ℕ) (st : crc-state.State) (s : List ℕ) (t : ℕ) (ps : List PlainPiece) : Type 0 where
+  pub calls : List receiver.Call
+  pub plain : PiecesOfCrc ps calls
+  pub chained : receiver.Chained stream st s t calls
+
+pub crc-pieces : (stream : List ℕ) (st : State) (p : PlainConnection) (s : List ℕ) (t : ℕ) (ps : List PlainPiece) → PlainOf st p → st .mode ≡ mode.Crc → readyRule st ≡ true
+    → PlainChained stream p s t (pieces ps) → CrcPieces stream (st .crc) s t ps
+crc-pieces stream st p s t [] w m q h = record { calls = []; plain = tt; chained = tt }
+crc-pieces stream st p s t (c ∷ ps) w m q h =
+    let piece = pieceAt stream t (c .size) in
+    let a = crc.answer (st .crc) s piece in
+    let o = crc-form st s piece m q (c .received) (c .store) (plain-form st p s piece (c .received) (c .store) w (h .0)) in
+    let on =
+    crc-pieces stream (byCrc st a .received .state) (c .received .state) (a .store) (t + a .received .taken) ps (o .next) m (rule-kept st s piece m q)
+    (rw (o .taken, o .store) at (h .1)) in
+    record {
+      calls = record { size = c .size; received = a .received; store = a .store } ∷ on .calls;
+      plain = (refl, o .same, o .store, on .plain);
+      chained = (record { received = refl; store = refl }, on .chained);
+    }
+
+pub record CrcCalls (st : crc-state.State) (ps : List PlainAnyCall) : Type 0 where
+  pub calls : List AnyCall
+  pub plain : AnyOfCrc ps calls
+  pub handed : Handed st calls
+
+pub crc-calls : (st : State) (p : PlainConnection) (ps : List PlainAnyCall) → PlainOf st p → st .mode ≡ mode.Crc → readyRule st ≡ true → PlainHanded p ps → CrcCalls (st .crc) ps
+crc-calls st p [] w m q h = record { calls = []; plain = tt; handed = tt }
+crc-calls st p (c ∷ ps) w m q h =
+    let a = crc.answer (st .crc) (c .lent) (c .piece) in
+    let o = crc-form st (c .lent) (c .piece) m q (c .received) (c .store) (plain-form st p (c .lent) (c .piece) (c .received) (c .store) w (h .0)) in
+    let on = crc-calls (byCrc st a .received .state) (c .received .state) ps (o .next) m (rule-kept st (c .lent) (c .piece) m q) (h .1) in
+    record {
+      calls = record { lent = c .lent; piece = c .piece; received = a .received; store = a .store } ∷ on .calls;
+      plain = (refl, refl, o .same, o .store, on .plain);
+      handed = (record { received = refl; store = refl }, on .handed);
+    }

@@ -1,0 +1,47 @@
+-- What reading and writing promise, in words.
+use mathlib.Core.Path.{_≡_, ap, _∙_}
+use mathlib.Core.List.{List}
+use mathlib.Core.Bool.{Bool, true, false, not, _&&_}
+use Prim.Native.Nat.{ℕ, _≤_}
+use native.Mathlib.Omega.{arith}
+use borrow.Author.Tests.{leb-true, le-leb, not-true, not-false}
+use lib.Dec.{leb}
+use lib.ListN.{getD}
+use Rattle.refusal.specs.declared.Refusal.the-variants.{StateContradicts}
+use Rattle.refusal.specs.Refusals.{numbersOf}
+use Rattle.refusal.proofs.Booleans.{both-left}
+use Rattle.bodies.specs.declared.Body.{Body}
+use Rattle.bodies.specs.declared.Request.{Request}
+use Rattle.bodies.specs.declared.Written as bodies
+use Rattle.bodies.specs.Rows.{requested}
+use Rattle.bodies.specs.Read.{answerOf}
+use Rattle.bodies.specs.Write.{outcomeOf, writeBody}
+use Rattle.bodies.specs.Claims.{Reads, Writes}
+use Rattle.plain.specs.declared.Written.{Written}
+use Rattle.plain.specs.Words.{maxU8, lowU8, plainRefused, plainDone}
+use Rattle.plain.proofs.Headers.{small8}
+use Rattle.plain_bodies.specs.Words.{plainRead, requestOf, fits, plainOutcome, inPlain, plainWrite, PlainWrites}
+
+-- a tag within its field is its own low bits
+pub read-words : (tag : ℕ) (s : List ℕ) (b : Body) → tag ≤ maxU8 → Reads (lowU8 tag) s b → answerOf s b ≡ plainRead tag s
+read-words tag s b l h = rw (le-leb tag maxU8 l) (rw (small8 tag (omega arith)) at (h .answer))
+
+module _ (tag : ℕ) (ws ms ns bs out : List ℕ) where
+  -- a number is beyond its field
+  pub write-beyond : (q : Bool) (w : Written) → q ≡ fits (getD ws 0 0) (getD ws 1 0) (getD ws 2 0) → not (leb tag maxU8 && q) ≡ true
+      → w ≡ plainRefused (numbersOf StateContradicts) → PlainWrites tag ws ms ns bs out w out
+  unfolding plainWrite
+  write-beyond q w g k e =
+      let beyond = not-true (leb tag maxU8 && fits (getD ws 0 0) (getD ws 1 0) (getD ws 2 0)) (rw g at k) in
+      record { promise = rw beyond (ap (λ (x : Written). plainDone x out) e) }
+
+  pub write-words : (q : Bool) (t : ℕ) (r : Request) (o : bodies.Written) (w : Written) (after : List ℕ)
+      → q ≡ fits (getD ws 0 0) (getD ws 1 0) (getD ws 2 0) → not (leb tag maxU8 && q) ≡ false → t ≡ lowU8 tag → r ≡ requestOf ws
+      → Writes t (requested r ms ns bs) out o after → w ≡ plainOutcome (outcomeOf o) → PlainWrites tag ws ms ns bs out w after
+  unfolding plainWrite
+  write-words q t r o w after g k a b h e =
+      let fit = not-false (leb tag maxU8 && q) k in
+      let low : lowU8 tag ≡ tag = small8 tag (omega (arith, leb-true tag maxU8 (both-left (leb tag maxU8) q fit))) in
+      let words : inPlain (writeBody t (requested r ms ns bs) out) ≡ inPlain (writeBody tag (requested (requestOf ws) ms ns bs) out) = rw (a, low, b) in
+      let within : (leb tag maxU8 && fits (getD ws 0 0) (getD ws 1 0) (getD ws 2 0)) ≡ true = rw g at fit in
+      record { promise = rw within (ap (λ (x : Written). plainDone x after) e ∙ ap inPlain (h .outcome) ∙ words) }

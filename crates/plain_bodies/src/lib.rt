@@ -1,0 +1,368 @@
+// Bodies of control frames over words: read and written. Each call promises the words of what `bodies` promises, for every word that C can hand in.
+use bodies::Body;
+use bodies::Ident;
+use bodies::Reconnect;
+use bodies::Request;
+use bodies::Written;
+use bodies::read;
+use bodies::write;
+use fields::NumberList;
+use fields::Span;
+use plain::turned_away;
+use plain::wrote;
+use refusal::Numbers;
+use refusal::Refusal;
+use refusal::in_numbers;
+ghost use mathlib.Core.Path.{_≡_};
+ghost use Rattle.bodies.specs.Read.{answerOf};
+ghost use Rattle.bodies.specs.Write.{outcomeOf};
+ghost use Rattle.plain.specs.Words.{lowU8, lowU32, written};
+ghost use Rattle.plain_bodies.specs.Words.{spanWords, listWords, nothing, saying, none, two, identNumbers, reconnectNumbers, bodyWords, plainRead, PlainReads, identAt, reconnectAt, requestWith, requestOf, fits, plainOutcome, PlainWrites};
+
+// ---- reading
+
+// The error of a bad method is its 32 bits.
+fn says_bad_method(method: u64, error: u64, methods: NumberList, modes: NumberList) -> [u64; 18]
+    ensures { λ r. ⌜ r ≡ saying 3 (two method error) (listWords methods) (listWords modes) nothing none ⌝ }
+{
+    [
+        3,
+        method,
+        error,
+        0,
+        0,
+        0,
+        0,
+        0,
+        methods.at as u64,
+        methods.count as u64,
+        modes.at as u64,
+        modes.count as u64,
+        0,
+        0,
+        0,
+        0,
+        0,
+        0,
+    ]
+}
+
+fn says_auth_request(method: u64, modes: NumberList, payload: Span) -> [u64; 18]
+    ensures { λ r. ⌜ r ≡ saying 2 (two method 0) (listWords modes) nothing (spanWords payload) none ⌝ }
+{
+    [
+        2,
+        method,
+        0,
+        0,
+        0,
+        0,
+        0,
+        0,
+        modes.at as u64,
+        modes.count as u64,
+        0,
+        0,
+        payload.at as u64,
+        payload.len as u64,
+        0,
+        0,
+        0,
+        0,
+    ]
+}
+
+fn says_number(kind: u64, n: u64) -> [u64; 18]
+    ensures { λ r. ⌜ r ≡ saying kind (two n 0) nothing nothing nothing none ⌝ }
+{
+    [kind, n, 0, 0, 0, 0, 0, 0, 0, 0, 0, 0, 0, 0, 0, 0, 0, 0]
+}
+
+fn says_bytes(kind: u64, a: u64, b: u64, bytes: Span) -> [u64; 18]
+    ensures { λ r. ⌜ r ≡ saying kind (two a b) nothing nothing (spanWords bytes) none ⌝ }
+{
+    [
+        kind,
+        a,
+        b,
+        0,
+        0,
+        0,
+        0,
+        0,
+        0,
+        0,
+        0,
+        0,
+        bytes.at as u64,
+        bytes.len as u64,
+        0,
+        0,
+        0,
+        0,
+    ]
+}
+
+fn says_ident(n: u64, block: Span, i: Ident) -> [u64; 18]
+    ensures { λ r. ⌜ r ≡ saying 6 (identNumbers n i) nothing nothing (spanWords block) none ⌝ }
+{
+    [
+        6,
+        n,
+        i.gid,
+        i.global,
+        i.supported,
+        i.required,
+        i.flags,
+        i.cookie,
+        0,
+        0,
+        0,
+        0,
+        block.at as u64,
+        block.len as u64,
+        0,
+        0,
+        0,
+        0,
+    ]
+}
+
+fn says_reconnect(n: u64, block: Span, k: Reconnect) -> [u64; 18]
+    ensures { λ r. ⌜ r ≡ saying 7 (reconnectNumbers n k) nothing nothing (spanWords block) none ⌝ }
+{
+    [
+        7,
+        n,
+        k.client,
+        k.server,
+        k.global,
+        k.connect,
+        k.message,
+        0,
+        0,
+        0,
+        0,
+        0,
+        block.at as u64,
+        block.len as u64,
+        0,
+        0,
+        0,
+        0,
+    ]
+}
+
+fn says_refused(n: Numbers) -> [u64; 18]
+    ensures { λ r. ⌜ r ≡ saying 0 (two 0 0) nothing nothing nothing n ⌝ }
+{
+    [
+        0,
+        0,
+        0,
+        0,
+        0,
+        0,
+        0,
+        0,
+        0,
+        0,
+        0,
+        0,
+        0,
+        0,
+        n.number as u64,
+        n.first,
+        n.second,
+        n.third,
+    ]
+}
+
+fn body_words(b: Body) -> [u64; 18]
+    ensures { λ r. ⌜ r ≡ bodyWords b ⌝ }
+{
+    match b {
+        Body::Hello { entity, address } => says_bytes(1, entity as u64, 0, address),
+        Body::AuthRequest {
+            method,
+            modes,
+            payload,
+        } => says_auth_request(method as u64, modes, payload),
+        Body::BadMethod {
+            method,
+            error,
+            methods,
+            modes,
+        } => says_bad_method(method as u64, error as u64, methods, modes),
+        Body::More(payload) => says_bytes(4, 0, 0, payload),
+        Body::AuthDone { id, mode, payload } => says_bytes(5, id, mode as u64, payload),
+        Body::Identity {
+            addresses,
+            block,
+            ident,
+        } => says_ident(addresses as u64, block, ident),
+        Body::Resume {
+            addresses,
+            block,
+            reconnect,
+        } => says_reconnect(addresses as u64, block, reconnect),
+        Body::Number(n) => says_number(8, n),
+        Body::Reset(full) => says_number(9, full as u64),
+        Body::Stamp(p) => says_bytes(10, 0, 0, p),
+        Body::Refused(why) => says_refused(in_numbers(why)),
+    }
+}
+
+fn read_any(tag: u64, s: &[u8]) -> Body
+    ensures { λ r. ⌜ answerOf (now (s .entry)) r ≡ plainRead tag (now (s .entry)) ⌝ }
+{
+    if 255 < tag {
+        return Body::Refused(Refusal::StateContradicts);
+    }
+    read((tag % 256) as u8, s)
+}
+
+// Reads a body by its tag, and answers its kind, 0 where it is refused.
+pub fn plain_read(tag: u64, s: &[u8], body: &mut [u64; 18]) -> u64
+    ensures { λ r. ⌜ PlainReads tag (now (s .entry)) r (now (body .exit)) ⌝ }
+{
+    let ws = body_words(read_any(tag, s));
+    *body = ws;
+    ws[0]
+}
+
+// ---- writing
+
+fn ident_at(ws: [u64; 8]) -> Ident
+    ensures { λ r. ⌜ r ≡ identAt ws ⌝ }
+{
+    Ident {
+        gid: ws[2],
+        global: ws[3],
+        supported: ws[4],
+        required: ws[5],
+        flags: ws[6],
+        cookie: ws[7],
+    }
+}
+
+fn reconnect_at(ws: [u64; 8]) -> Reconnect
+    ensures { λ r. ⌜ r ≡ reconnectAt ws ⌝ }
+{
+    Reconnect {
+        client: ws[2],
+        server: ws[3],
+        global: ws[4],
+        connect: ws[5],
+        message: ws[6],
+    }
+}
+
+fn low_u8(n: u64) -> u8
+    ensures { λ r. ⌜ r ≡ lowU8 n ⌝ }
+{
+    (n % 256) as u8
+}
+
+fn low_u32(n: u64) -> u32
+    ensures { λ r. ⌜ r ≡ lowU32 n ⌝ }
+{
+    (n % 4294967296) as u32
+}
+
+fn request_with(kind: u64, a: u64, b: u64, i: Ident, k: Reconnect) -> Request
+    ensures { λ r. ⌜ r ≡ requestWith kind a b i k ⌝ }
+{
+    match kind {
+        1 => Request::Hello(low_u8(a)),
+        2 => Request::AuthRequest(low_u32(a)),
+        3 => Request::BadMethod {
+            method: low_u32(a),
+            error: low_u32(b),
+        },
+        4 => Request::More,
+        5 => Request::AuthDone {
+            id: a,
+            mode: low_u32(b),
+        },
+        6 => Request::Identity {
+            addresses: low_u32(a),
+            ident: i,
+        },
+        7 => Request::Resume {
+            addresses: low_u32(a),
+            reconnect: k,
+        },
+        8 => Request::Number(a),
+        9 => Request::Reset(low_u8(a)),
+        _ => Request::Stamp,
+    }
+}
+
+fn request_of(ws: [u64; 8]) -> Request
+    ensures { λ r. ⌜ r ≡ requestOf ws ⌝ }
+{
+    request_with(ws[0], ws[1], ws[2], ident_at(ws), reconnect_at(ws))
+}
+
+// The kind is one, and each number is one of its field.
+fn fits(kind: u64, a: u64, b: u64) -> bool
+    ensures { λ r. ⌜ r ≡ fits kind a b ⌝ }
+{
+    if (kind == 1) | (kind == 9) {
+        return a <= 255;
+    }
+    if (kind == 2) | ((kind == 6) | (kind == 7)) {
+        return a <= 4294967295;
+    }
+    if kind == 3 {
+        return (a <= 4294967295) & (b <= 4294967295);
+    }
+    if kind == 5 {
+        return b <= 4294967295;
+    }
+    (1 <= kind) & (kind <= 10)
+}
+
+fn written_of(w: Written) -> plain::Written
+    ensures { λ r. ⌜ r ≡ plainOutcome (outcomeOf w) ⌝ }
+{
+    match w {
+        Written::Wrote(n) => wrote(n),
+        Written::Refused(why) => turned_away(why),
+    }
+}
+
+fn write_any(
+    out: &mut [u8],
+    tag: u64,
+    ws: [u64; 8],
+    first: &[u32],
+    second: &[u32],
+    bytes: &[u8],
+) -> plain::Written
+    ensures { λ r. ⌜ PlainWrites tag ws (now (first .entry)) (now (second .entry)) (now (bytes .entry)) (now (out .entry)) r (now (out .exit)) ⌝ }
+{
+    if !((tag <= 255) & fits(ws[0], ws[1], ws[2])) {
+        return turned_away(Refusal::StateContradicts);
+    }
+    written_of(write(out, low_u8(tag), request_of(ws), first, second, bytes))
+}
+
+// Writes a body by its tag at the front of out: the lists in the body's order, and its address, block, payload or stamp as bytes. Answers the bytes written.
+pub fn plain_write(
+    out: &mut [u8],
+    tag: u64,
+    body: &[u64; 8],
+    first: &[u32],
+    second: &[u32],
+    bytes: &[u8],
+    refusal: &mut [u64; 4],
+) -> u64
+    ensures { λ r. ⌜ PlainWrites tag (now (body .entry)) (now (first .entry)) (now (second .entry)) (now (bytes .entry)) (now (out .entry)) (written r (now (refusal .exit))) (now (out .exit)) ⌝ }
+{
+    let w = write_any(out, tag, *body, first, second, bytes);
+    let why = w.refusal;
+    *refusal = why;
+    w.written
+}

@@ -1,0 +1,30 @@
+-- The builder's calls over words: a header as ten of them, the bytes written, and a refusal as four. Each promises the words of what `bannerDone` and `frameDone` say.
+use mathlib.Core.Path.{_≡_}
+use mathlib.Core.List.{List}
+use mathlib.Core.Bool.{Bool, cond}
+use Prim.Native.Nat.{ℕ}
+use Rattle.refusal.specs.declared.Refusal.the-variants.{StateContradicts}
+use Rattle.refusal.specs.Refusals.{numbersOf}
+use Rattle.builder.specs.Build as build
+use Rattle.plain.specs.declared.Written.{Written}
+use Rattle.plain.specs.Words.{within, revisionOf, plainWrote, plainRefused, PlainDone, plainDone, headerAt, headerLimits}
+
+abbrev pub plainBuilt : build.Answer → Written
+plainBuilt (build.wrote n) = plainWrote n
+plainBuilt (build.turnedAway n) = plainRefused n
+
+abbrev pub inPlain : build.Done → PlainDone
+inPlain d = plainDone (plainBuilt (d .answer)) (d .buffer)
+
+-- WHAT BUILDING A FRAME COMES TO: 26, and every byte as it was, where a word of the header is beyond its field
+unfoldable pub plainFrame : ℕ → List ℕ → Bool → List ℕ → List ℕ → ℕ → PlainDone
+plainFrame revision ws abort source buf queued =
+    cond (within headerLimits 0 ws) (inPlain (build.frameDone (revisionOf revision) (headerAt 0 ws) abort source buf queued))
+    (plainDone (plainRefused (numbersOf StateContradicts)) buf)
+
+-- THE PROMISES: a buffer with so many bytes queued, the answer, and the buffer then
+pub record PlainBuiltBanner (supported required : ℕ) (buf : List ℕ) (queued : ℕ) (r : Written) (after : List ℕ) : Type 0 where
+  pub promise : plainDone r after ≡ inPlain (build.bannerDone supported required buf queued)
+
+pub record PlainBuiltFrame (revision : ℕ) (ws : List ℕ) (abort : Bool) (source buf : List ℕ) (queued : ℕ) (r : Written) (after : List ℕ) : Type 0 where
+  pub promise : plainDone r after ≡ plainFrame revision ws abort source buf queued

@@ -1,0 +1,81 @@
+// The builder's calls over words. Each promises the words of what `builder` promises, for every word that C can hand in.
+use builder::Built;
+use builder::build_banner;
+use builder::build_frame;
+use plain::Written;
+use plain::header_fits;
+use plain::header_of;
+use plain::revision_of;
+use plain::turned_away;
+use plain::wrote;
+use refusal::Refusal;
+ghost use mathlib.Core.Path.{_≡_};
+ghost use Rattle.builder.specs.Build.{answered};
+ghost use Rattle.plain.specs.Words.{written};
+ghost use Rattle.plain_builder.specs.Words.{plainBuilt, PlainBuiltBanner, PlainBuiltFrame};
+
+pub fn written_of(b: Built) -> Written
+    ensures { λ r. ⌜ r ≡ plainBuilt (answered b) ⌝ }
+{
+    match b {
+        Built::Wrote(n) => wrote(n),
+        Built::Refused(why) => turned_away(why),
+    }
+}
+
+// Builds our banner behind the queued bytes; answers the bytes written, 0 where it is refused.
+pub fn plain_banner(
+    buf: &mut [u8],
+    queued: u64,
+    supported: u64,
+    required: u64,
+    refusal: &mut [u64; 4],
+) -> u64
+    ensures { λ r. ⌜ PlainBuiltBanner supported required (now (buf .entry)) queued (written r (now (refusal .exit))) (now (buf .exit)) ⌝ }
+{
+    let b = written_of(build_banner(buf, queued as usize, supported, required));
+    let why = b.refusal;
+    *refusal = why;
+    b.written
+}
+
+fn frame_written(
+    buf: &mut [u8],
+    queued: u64,
+    revision: u64,
+    ws: [u64; 10],
+    abort: bool,
+    source: &[u8],
+) -> Written
+    ensures { λ r. ⌜ PlainBuiltFrame revision ws abort (now (source .entry)) (now (buf .entry)) queued r (now (buf .exit)) ⌝ }
+{
+    if !header_fits(ws) {
+        return turned_away(Refusal::StateContradicts);
+    }
+    written_of(build_frame(
+        buf,
+        queued as usize,
+        revision_of(revision),
+        header_of(ws),
+        abort,
+        source,
+    ))
+}
+
+// Builds a frame, whole or aborted, behind the queued bytes.
+pub fn plain_frame(
+    buf: &mut [u8],
+    queued: u64,
+    revision: u64,
+    header: &[u64; 10],
+    abort: bool,
+    source: &[u8],
+    refusal: &mut [u64; 4],
+) -> u64
+    ensures { λ r. ⌜ PlainBuiltFrame revision (now (header .entry)) abort (now (source .entry)) (now (buf .entry)) queued (written r (now (refusal .exit))) (now (buf .exit)) ⌝ }
+{
+    let b = frame_written(buf, queued, revision, *header, abort, source);
+    let why = b.refusal;
+    *refusal = why;
+    b.written
+}

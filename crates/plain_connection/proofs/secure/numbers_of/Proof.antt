@@ -1,0 +1,34 @@
+use mathlib.Core.Path.{_∙_}
+use Rattle.plain_connection.specs.Secure as secure
+use Rattle.plain_connection.proofs.Back.{plain-of}
+use borrow.Author.Needs.{needs}
+use Rattle.plain_connection.proofs.secure.numbers_of.Statement.{statement}
+use Rattle.plain_connection.proofs.secure.numbers_of.Tie as tie
+
+typed-state-requires : tie.Need-typed-state-requires
+typed-state-requires c κs = search needs
+
+stage-number-requires : tie.Need-stage-number-requires
+stage-number-requires c κs = search needs
+
+mark-number-requires : tie.Need-mark-number-requires
+mark-number-requires c κs = search needs
+
+numbers-with-requires : tie.Need-numbers-with-requires
+numbers-with-requires c κs = search needs
+
+returns : tie.Need-returns
+unfolding secure.secureNumbers
+returns c =
+    plain-of _ _ (c .before .before .before .before .before .before .typed-state .ensures)
+    (c .numbers-with .ensures ∙ rw (c .before .before .stage-number .ensures, c .before .mark-number .ensures))
+
+pub numbers-of-spec : {M : Type 1} → statement M
+numbers-of-spec =
+    tie.close
+    (tie.spec
+    typed-state-requires
+    stage-number-requires
+    mark-number-requires
+    numbers-with-requires
+    returns)

@@ -1,0 +1,48 @@
+use mathlib.Core.Path.{_≡_}
+use lib.ListN.{length}
+use Rattle.plain_delivery.proofs.Laws.{nothing-done, something-done}
+use borrow.Author.Needs.{needs}
+use Rattle.plain_delivery.proofs.settle_words.Statement.{statement}
+use Rattle.plain_delivery.proofs.settle_words.Tie as tie
+
+enum-told : tie.Need-enum-told
+enum-told c = search needs
+
+no-effect-requires : tie.Need-no-effect-requires
+no-effect-requires c κs = search needs
+
+session-of-requires : tie.Need-session-of-requires
+session-of-requires c κs = search needs
+
+settle-requires : tie.Need-settle-requires
+settle-requires c κs = search needs
+
+session-numbers-requires : tie.Need-session-numbers-requires
+session-numbers-requires c κs = search needs
+
+effect-words-requires : tie.Need-effect-words-requires
+effect-words-requires c κs = search needs
+
+returns : tie.Need-returns
+returns c =
+    let z = c .before .before .before .args in
+    let h : length (z .ws) ≡ 2 = search needs in
+    nothing-done (z .ws) (z .handles .now) (z .asked) h (c .before .enum-told .given .1) (c .no-effect .ensures)
+
+returns-2 : tie.Need-returns-2
+returns-2 c =
+    let z = c .before .before .before .before .before .before .before .args in
+    something-done (z .ws) (z .handles .now) (z .asked) (c .before .before .before .before .session-of .ensures) (c .before .before .before .settle .ensures) (c .before .session-numbers .ensures) (c .effect-words .ensures)
+
+pub settle-words-spec : {M : Type 1} → statement M
+settle-words-spec =
+    tie.close
+    (tie.spec
+    enum-told
+    no-effect-requires
+    session-of-requires
+    settle-requires
+    session-numbers-requires
+    effect-words-requires
+    returns
+    returns-2)

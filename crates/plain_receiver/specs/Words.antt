@@ -1,0 +1,217 @@
+-- The receiver's calls over words: a state as 23 of them and its block of bytes, a report as 19, one field a word. A call promises the words of what `answer` and `started` of the receiver say.
+use mathlib.Core.Path.{_≡_}
+use mathlib.Core.List.{List, [], _∷_, _++_}
+use mathlib.Core.Bool.{Bool, true, cond}
+use Prim.Native.Nat.{ℕ, _≤_}
+use lib.Dec.{eqb}
+use lib.ListN.{length, getD}
+use Rattle.refusal.specs.declared.Numbers.{Numbers}
+use Rattle.refusal.specs.Refusals.{Judged, fine, refused}
+use Rattle.banner.specs.declared.Features.{Features}
+use Rattle.banner.specs.Banner.{judgeOwn}
+use Rattle.banner.specs.declared.Revision.{Revision}
+use Rattle.preamble.specs.declared.Header.{Header}
+use Rattle.stream.specs.declared.Event.{Event}
+use Rattle.stream.specs.declared.Event.the-variants as event
+use Rattle.receiver.specs.declared.Stage.{Stage}
+use Rattle.receiver.specs.declared.Stage.the-variants as stage
+use Rattle.receiver.specs.declared.State.{State}
+use Rattle.receiver.specs.declared.Report.{Report}
+use Rattle.receiver.specs.declared.Report.the-variants as report
+use Rattle.receiver.specs.declared.Received.{Received}
+use Rattle.receiver.specs.State.{rank, noFeatures, noHeader, noRefusal}
+use Rattle.receiver.specs.Step.{Answer, answer, started, contradiction}
+use Rattle.plain.specs.Words.{within, Within, maxU8, maxU16, lowU16, revisionNumber, revisionOf, markNumber, markOf, features, refusalWords, refusalAt, headerWords, headerAt, headerLimits}
+
+-- ---- states. Places of their numbers: 0 stage (its rank), 1 revision, 2 the mark of an early report, 3 payload, 4 to 13 header, 14 to 17 refusal, 18 got,
+-- 19 and 20 own features, 21 and 22 the peer's
+
+pub record PlainState : Type 0 where
+  pub numbers : List ℕ
+  pub block : List ℕ
+
+abbrev pub plainState : List ℕ → List ℕ → PlainState
+plainState ws b = record { numbers = ws; block = b }
+
+-- 9, and any number above it, which `fits` rules out
+unfoldable pub stageOf : ℕ → Stage
+stageOf n =
+    cond (eqb n 0) stage.Magic
+    (cond (eqb n 1) stage.Length
+    (cond (eqb n 2) stage.Payload
+    (cond (eqb n 3) stage.Skip
+    (cond (eqb n 4) stage.Preamble
+    (cond (eqb n 5) stage.First
+    (cond (eqb n 6) stage.FirstSum
+    (cond (eqb n 7) stage.Rest
+    (cond (eqb n 8) stage.Epilogue stage.Refused))))))))
+
+abbrev pub stateWith : Stage → Revision → List ℕ → List ℕ → State
+stateWith stage revision ws block = record {
+  position = record { stage = stage; got = getD ws 18 0; block = block };
+  known = record {
+    own = features (getD ws 19 0) (getD ws 20 0);
+    payload = lowU16 (getD ws 3 0);
+    peer = features (getD ws 21 0) (getD ws 22 0);
+    revision = revision;
+    header = headerAt 4 ws;
+    first = markOf (getD ws 2 0);
+    refusal = refusalAt 14 ws;
+  };
+}
+
+-- THE STATE THAT WORDS STAND FOR
+unfoldable pub stateOf : PlainState → State
+stateOf p = stateWith (stageOf (getD (p .numbers) 0 0)) (revisionOf (getD (p .numbers) 1 0)) (p .numbers) (p .block)
+
+abbrev pub numbersWith : ℕ → ℕ → ℕ → State → List ℕ
+numbersWith stage revision first st =
+    stage ∷ revision ∷ first ∷ st .known .payload
+    ∷ (headerWords (st .known .header)
+    ++ (refusalWords (st .known .refusal)
+    ++ (st .position .got ∷ st .known .own .supported ∷ st .known .own .required ∷ st .known .peer .supported ∷ st .known .peer .required ∷ [])))
+
+unfoldable pub stateNumbers : State → List ℕ
+stateNumbers st = numbersWith (rank (st .position .stage)) (revisionNumber (st .known .revision)) (markNumber (st .known .first)) st
+
+-- AND THE WORDS OF A STATE
+abbrev pub plainOf : State → PlainState
+plainOf st = plainState (stateNumbers st) (st .position .block)
+
+-- the limits of the fields that are narrower than a word
+abbrev pub stateLimits : List ℕ
+stateLimits = 9 ∷ 1 ∷ 1 ∷ maxU16 ∷ (headerLimits ++ (maxU8 ∷ []))
+
+-- EVERY NUMBER IS ONE OF ITS FIELD
+abbrev pub fits : List ℕ → Bool
+fits ws = within stateLimits 0 ws
+
+-- the fields of a state are of their types
+pub record Typed (st : State) : Type 0 where
+  pub payload : st .known .payload ≤ maxU16
+  pub header : Within headerLimits 0 (headerWords (st .known .header))
+  pub refusal : st .known .refusal .number ≤ maxU8
+
+-- the words of a state, and that they stand for it
+pub record PlainOf (st : State) (p : PlainState) : Type 0 where
+  pub words : p ≡ plainOf st
+  pub back : stateOf p ≡ st
+  pub fit : fits (p .numbers) ≡ true
+
+-- ---- reports. Places: 0 kind (0 more, 1 banner, 2 frame, 3 dropped, 4 refused, 5 segment 1 early), 1 the bytes taken, 2 revision, 3 and 4 the peer's features,
+-- 5 to 14 header, 15 to 18 refusal; what a kind does not use is 0
+
+abbrev pub reporting : ℕ → ℕ → ℕ → Features → Header → Numbers → List ℕ
+reporting kind taken v p h n = kind ∷ taken ∷ v ∷ p .supported ∷ p .required ∷ (headerWords h ++ refusalWords n)
+
+abbrev pub eventWords : ℕ → Event → List ℕ
+eventWords t (event.Banner p v) = reporting 1 t (revisionNumber v) p noHeader noRefusal
+eventWords t (event.First h) = reporting 5 t 0 noFeatures h noRefusal
+eventWords t (event.Frame h) = reporting 2 t 0 noFeatures h noRefusal
+eventWords t (event.Dropped h) = reporting 3 t 0 noFeatures h noRefusal
+eventWords t (event.Refused n) = reporting 4 t 0 noFeatures noHeader n
+
+abbrev pub reportWords : ℕ → Report → List ℕ
+reportWords t report.More = reporting 0 t 0 noFeatures noHeader noRefusal
+reportWords t (report.Event e) = eventWords t e
+
+-- THE REPORT THAT WORDS STAND FOR
+abbrev pub reportOf : List ℕ → Report
+reportOf q =
+    cond (eqb (getD q 0 0) 0) report.More
+    (report.Event
+    (cond (eqb (getD q 0 0) 1) (event.Banner (features (getD q 3 0) (getD q 4 0)) (revisionOf (getD q 2 0)))
+    (cond (eqb (getD q 0 0) 2) (event.Frame (headerAt 5 q))
+    (cond (eqb (getD q 0 0) 3) (event.Dropped (headerAt 5 q))
+    (cond (eqb (getD q 0 0) 4) (event.Refused (refusalAt 15 q)) (event.First (headerAt 5 q)))))))
+
+-- the fields of a report are of their types
+abbrev pub EventTyped : Event → Type 0
+EventTyped (event.Banner p v) = Unit {0}
+EventTyped (event.First h) = Within headerLimits 0 (headerWords h)
+EventTyped (event.Frame h) = Within headerLimits 0 (headerWords h)
+EventTyped (event.Dropped h) = Within headerLimits 0 (headerWords h)
+EventTyped (event.Refused n) = n .number ≤ maxU8
+
+abbrev pub ReportTyped : Report → Type 0
+ReportTyped report.More = Unit {0}
+ReportTyped (report.Event e) = EventTyped e
+
+-- the words of a report, and that they stand for it
+pub record ReportOf (t : ℕ) (r : Report) (q : List ℕ) : Type 0 where
+  pub words : q ≡ reportWords t r
+  pub back : reportOf q ≡ r
+
+-- ---- NOTHING IS LOST
+
+pub record ReadsBack : Type 0 where
+  -- a state comes back from its words, which are numbers of their fields
+  pub state : (st : State) → Typed st → stateOf (plainOf st) ≡ st
+  pub fit : (st : State) → Typed st → fits (stateNumbers st) ≡ true
+  -- words that are so are those of the state that they stand for
+  pub words : (p : PlainState) → length (p .numbers) ≡ 23 → fits (p .numbers) ≡ true → plainOf (stateOf p) ≡ p
+  -- and a report comes back from its own
+  pub report : (t : ℕ) (r : Report) → ReportTyped r → reportOf (reportWords t r) ≡ r
+
+-- ---- calls
+
+-- what a call hands back
+pub record PlainReceived : Type 0 where
+  pub state : PlainState
+  pub report : List ℕ
+
+abbrev pub handed : List ℕ → List ℕ → List ℕ → PlainReceived
+handed ws b r = record { state = plainState ws b; report = r }
+
+abbrev pub kindIn : PlainReceived → ℕ
+kindIn o = getD (o .report) 0 0
+
+abbrev pub takenIn : PlainReceived → ℕ
+takenIn o = getD (o .report) 1 0
+
+abbrev pub plainReceived : Received → PlainReceived
+plainReceived r = record { state = plainOf (r .state); report = reportWords (r .taken) (r .report) }
+
+-- takes nothing, hands the words back as they came, and says 26
+abbrev pub contradicts : PlainState → PlainReceived
+contradicts p = record { state = p; report = reportWords 0 (report.Event (event.Refused contradiction)) }
+
+pub record PlainAnswer : Type 0 where
+  pub received : PlainReceived
+  pub store : List ℕ
+
+abbrev pub plainly : Answer → PlainAnswer
+plainly a = record { received = plainReceived (a .received); store = a .store }
+
+-- WHAT A CALL ANSWERS
+unfoldable pub plainAnswer : PlainState → List ℕ → List ℕ → PlainAnswer
+plainAnswer p s piece = cond (fits (p .numbers)) (plainly (answer (stateOf p) s piece)) (record { received = contradicts p; store = s })
+
+-- what it reports, and 26 where a number is beyond its field
+abbrev pub reportBy : PlainState → List ℕ → List ℕ → Report
+reportBy p s piece = cond (fits (p .numbers)) (answer (stateOf p) s piece .received .report) (report.Event (event.Refused contradiction))
+
+-- THE PROMISE OF A CALL
+pub record PlainAnswered (p : PlainState) (s piece : List ℕ) (o : PlainReceived) (s′ : List ℕ) : Type 0 where
+  pub received : o ≡ plainAnswer p s piece .received
+  pub store : s′ ≡ plainAnswer p s piece .store
+  -- the words that it hands back stand for the state that was answered
+  pub back : fits (p .numbers) ≡ true → PlainOf (answer (stateOf p) s piece .received .state) (o .state)
+  -- and those of its report for what it reports
+  pub tells : reportOf (o .report) ≡ reportBy p s piece
+
+-- and of one that answers the kind of its report
+pub record ReceivedBy (p : PlainState) (s piece : List ℕ) (n : ℕ) (o : PlainReceived) (s′ : List ℕ) : Type 0 where
+  pub kind : n ≡ kindIn o
+  pub answered : PlainAnswered p s piece o s′
+
+-- ---- the start
+
+abbrev pub numberOf : Judged → ℕ
+numberOf fine = 0
+numberOf (refused n) = n .number
+
+-- THE PROMISE OF A START: the words of the state, and 16, or 0 where our own features are not refused
+pub record PlainStarted (own : Features) (n : ℕ) (p : PlainState) : Type 0 where
+  pub number : n ≡ numberOf (judgeOwn (own .supported) (own .required))
+  pub state : PlainOf (started own) p

@@ -1,0 +1,340 @@
+// States and reports as words, and back.
+use banner::Features;
+use banner::Revision;
+use plain::mark_number;
+use plain::revision_number;
+use plain::revision_of;
+use plain::typed_header;
+use plain::typed_u8;
+use plain::typed_u16;
+use preamble::Header;
+use preamble::Segment;
+use receiver::Known;
+use receiver::Position;
+use receiver::Report;
+use receiver::Stage;
+use receiver::State;
+use refusal::Numbers;
+use refusal::Refusal;
+use refusal::Verdict;
+use refusal::in_numbers;
+use stream::Event;
+ghost use mathlib.Core.Path.{_≡_};
+ghost use Prim.Native.Nat.{_≤_};
+ghost use Rattle.refusal.specs.Refusals.{judgedBy};
+ghost use Rattle.receiver.specs.State.{rank, noFeatures, noHeader, noRefusal};
+ghost use Rattle.stream.specs.declared.Event.the-variants as event;
+ghost use Rattle.receiver.specs.declared.Report.the-variants as report;
+ghost use Rattle.receiver.specs.Step.{contradiction};
+ghost use Rattle.plain.specs.Words.{Within, maxU8, headerWords, headerLimits};
+ghost use Rattle.plain_receiver.specs.Words.{plainState, stageOf, stateWith, stateOf, numbersWith, fits, Typed, PlainOf, reporting, eventWords, reportWords, EventTyped, ReportOf, numberOf};
+
+fn stage_number(stage: Stage) -> u64
+    ensures { λ r. ⌜ r ≡ rank stage ⌝ }
+{
+    match stage {
+        Stage::Magic => 0,
+        Stage::Length => 1,
+        Stage::Payload => 2,
+        Stage::Skip => 3,
+        Stage::Preamble => 4,
+        Stage::First => 5,
+        Stage::FirstSum => 6,
+        Stage::Rest => 7,
+        Stage::Epilogue => 8,
+        Stage::Refused => 9,
+    }
+}
+
+fn stage_of(n: u64) -> Stage
+    ensures { λ r. ⌜ r ≡ stageOf n ⌝ }
+{
+    match n {
+        0 => Stage::Magic,
+        1 => Stage::Length,
+        2 => Stage::Payload,
+        3 => Stage::Skip,
+        4 => Stage::Preamble,
+        5 => Stage::First,
+        6 => Stage::FirstSum,
+        7 => Stage::Rest,
+        8 => Stage::Epilogue,
+        _ => Stage::Refused,
+    }
+}
+
+// ---- states
+
+// Every word is a number of its field.
+pub fn fits(ws: [u64; 23]) -> bool
+    ensures { λ r. ⌜ r ≡ fits ws ⌝ }
+{
+    let s4 = (ws[12] <= 4294967295) & ((ws[13] <= 65535) & (ws[14] <= 255));
+    let s3 = (ws[10] <= 4294967295) & ((ws[11] <= 65535) & s4);
+    let s2 = (ws[8] <= 4294967295) & ((ws[9] <= 65535) & s3);
+    let s1 = (ws[6] <= 4294967295) & ((ws[7] <= 65535) & s2);
+    let header = (ws[4] <= 255) & ((ws[5] <= 255) & s1);
+    (ws[0] <= 9) & ((ws[1] <= 1) & ((ws[2] <= 1) & ((ws[3] <= 65535) & header)))
+}
+
+fn state_with(stage: Stage, revision: Revision, ws: [u64; 23], block: [u8; 32]) -> State
+    ensures { λ r. ⌜ r ≡ stateWith stage revision ws block ⌝ }
+{
+    let header = Header {
+        tag: (ws[4] % 256) as u8,
+        count: (ws[5] % 256) as u8,
+        s1: Segment {
+            len: (ws[6] % 4294967296) as u32,
+            align: (ws[7] % 65536) as u16,
+        },
+        s2: Segment {
+            len: (ws[8] % 4294967296) as u32,
+            align: (ws[9] % 65536) as u16,
+        },
+        s3: Segment {
+            len: (ws[10] % 4294967296) as u32,
+            align: (ws[11] % 65536) as u16,
+        },
+        s4: Segment {
+            len: (ws[12] % 4294967296) as u32,
+            align: (ws[13] % 65536) as u16,
+        },
+    };
+    State {
+        position: Position {
+            stage: stage,
+            got: ws[18] as usize,
+            block: block,
+        },
+        known: Known {
+            own: Features {
+                supported: ws[19],
+                required: ws[20],
+            },
+            payload: (ws[3] % 65536) as u16,
+            peer: Features {
+                supported: ws[21],
+                required: ws[22],
+            },
+            revision: revision,
+            header: header,
+            first: ws[2] != 0,
+            refusal: Numbers {
+                number: (ws[14] % 256) as u8,
+                first: ws[15],
+                second: ws[16],
+                third: ws[17],
+            },
+        },
+    }
+}
+
+pub fn state_of(ws: [u64; 23], block: [u8; 32]) -> State
+    ensures { λ r. ⌜ r ≡ stateOf (plainState ws block) ⌝ }
+{
+    state_with(stage_of(ws[0]), revision_of(ws[1]), ws, block)
+}
+
+fn typed_state(st: State)
+    ensures { λ _. ⌜ Typed st ⌝ }
+{
+    let known = st.known;
+    let n = known.refusal;
+    let h = known.header;
+    typed_u16(known.payload);
+    typed_header(h);
+    typed_u8(n.number);
+}
+
+fn numbers_with(stage: u64, revision: u64, first: u64, st: State) -> [u64; 23]
+    ensures { λ r. ⌜ r ≡ numbersWith stage revision first st ⌝ }
+{
+    let position = st.position;
+    let known = st.known;
+    let own = known.own;
+    let peer = known.peer;
+    let n = known.refusal;
+    let h = known.header;
+    let s1 = h.s1;
+    let s2 = h.s2;
+    let s3 = h.s3;
+    let s4 = h.s4;
+    [
+        stage,
+        revision,
+        first,
+        known.payload as u64,
+        h.tag as u64,
+        h.count as u64,
+        s1.len as u64,
+        s1.align as u64,
+        s2.len as u64,
+        s2.align as u64,
+        s3.len as u64,
+        s3.align as u64,
+        s4.len as u64,
+        s4.align as u64,
+        n.number as u64,
+        n.first,
+        n.second,
+        n.third,
+        position.got as u64,
+        own.supported,
+        own.required,
+        peer.supported,
+        peer.required,
+    ]
+}
+
+// The numbers of a state; its block goes with them.
+pub fn state_numbers(st: State) -> [u64; 23]
+    ensures { λ r. ⌜ PlainOf st (plainState r (st .position .block)) ⌝ }
+{
+    typed_state(st);
+    let position = st.position;
+    let known = st.known;
+    let stage = position.stage;
+    let revision = known.revision;
+    numbers_with(
+        stage_number(stage),
+        revision_number(revision),
+        mark_number(known.first),
+        st,
+    )
+}
+
+// ---- reports
+
+fn no_features() -> Features
+    ensures { λ r. ⌜ r ≡ noFeatures ⌝ }
+{
+    Features {
+        supported: 0,
+        required: 0,
+    }
+}
+
+fn no_header() -> Header
+    ensures { λ r. ⌜ r ≡ noHeader ⌝ }
+{
+    let none = Segment { len: 0, align: 0 };
+    Header {
+        tag: 0,
+        count: 0,
+        s1: none,
+        s2: none,
+        s3: none,
+        s4: none,
+    }
+}
+
+fn no_refusal() -> Numbers
+    ensures { λ r. ⌜ r ≡ noRefusal ⌝ }
+{
+    Numbers {
+        number: 0,
+        first: 0,
+        second: 0,
+        third: 0,
+    }
+}
+
+fn reporting(
+    kind: u64,
+    taken: u64,
+    revision: u64,
+    peer: Features,
+    h: Header,
+    n: Numbers,
+) -> [u64; 19]
+    ensures { λ r. ⌜ r ≡ reporting kind taken revision peer h n ⌝ }
+{
+    let s1 = h.s1;
+    let s2 = h.s2;
+    let s3 = h.s3;
+    let s4 = h.s4;
+    [
+        kind,
+        taken,
+        revision,
+        peer.supported,
+        peer.required,
+        h.tag as u64,
+        h.count as u64,
+        s1.len as u64,
+        s1.align as u64,
+        s2.len as u64,
+        s2.align as u64,
+        s3.len as u64,
+        s3.align as u64,
+        s4.len as u64,
+        s4.align as u64,
+        n.number as u64,
+        n.first,
+        n.second,
+        n.third,
+    ]
+}
+
+// A frame that is handed over, kind 2, dropped, kind 3, or of which segment 1 is reported early, kind 5.
+fn framed(kind: u64, taken: u64, header: Header) -> [u64; 19]
+    ensures { λ r. ⌜ (r ≡ reporting kind taken 0 noFeatures header noRefusal) × Within headerLimits 0 (headerWords header) ⌝ }
+{
+    typed_header(header);
+    reporting(kind, taken, 0, no_features(), header, no_refusal())
+}
+
+fn refused(taken: u64, n: Numbers) -> [u64; 19]
+    ensures { λ r. ⌜ (r ≡ reporting 4 taken 0 noFeatures noHeader n) × (n .number ≤ maxU8) ⌝ }
+{
+    typed_u8(n.number);
+    reporting(4, taken, 0, no_features(), no_header(), n)
+}
+
+fn event_words(taken: u64, event: Event) -> [u64; 19]
+    ensures { λ r. ⌜ (r ≡ eventWords taken event) × EventTyped event ⌝ }
+{
+    match event {
+        Event::Banner(peer, revision) => reporting(
+            1,
+            taken,
+            revision_number(revision),
+            peer,
+            no_header(),
+            no_refusal(),
+        ),
+        Event::First(header) => framed(5, taken, header),
+        Event::Frame(header) => framed(2, taken, header),
+        Event::Dropped(header) => framed(3, taken, header),
+        Event::Refused(n) => refused(taken, n),
+    }
+}
+
+pub fn report_words(taken: u64, report: Report) -> [u64; 19]
+    ensures { λ r. ⌜ ReportOf taken report r ⌝ }
+{
+    match report {
+        Report::More => reporting(0, taken, 0, no_features(), no_header(), no_refusal()),
+        Report::Event(event) => event_words(taken, event),
+    }
+}
+
+// The report on words that are no state.
+pub fn contradicts() -> [u64; 19]
+    ensures { λ r. ⌜ r ≡ reportWords 0 (report.Event (event.Refused contradiction)) ⌝ }
+{
+    refused(0, in_numbers(Refusal::StateContradicts))
+}
+
+// The number of a refusal, or 0.
+pub fn number_of(v: Verdict) -> u64
+    ensures { λ r. ⌜ r ≡ numberOf (judgedBy v) ⌝ }
+{
+    match v {
+        Verdict::Fine => 0,
+        Verdict::Refused(why) => {
+            let n = in_numbers(why);
+            n.number as u64
+        }
+    }
+}

@@ -1,0 +1,61 @@
+use mathlib.Core.Path.{_∙_}
+use borrow.Author.Tests.{not-true, not-false}
+use Rattle.plain_sealed.proofs.Laws.{both-as, sealed-beyond, sealed-built}
+use borrow.Author.Needs.{needs}
+use Rattle.plain_sealed.proofs.sealed_written.Statement.{statement}
+use Rattle.plain_sealed.proofs.sealed_written.Tie as tie
+
+sending-fits-requires : tie.Need-sending-fits-requires
+sending-fits-requires c κs = search needs
+
+header-fits-requires : tie.Need-header-fits-requires
+header-fits-requires c κs = search needs
+
+both-requires : tie.Need-both-requires
+both-requires c κs = search needs
+
+turned-away-requires : tie.Need-turned-away-requires
+turned-away-requires c κs = search needs
+
+returns : tie.Need-returns
+returns c =
+    let f = c .before .before in
+    sealed-beyond _ _ _ _ _ _ _ _ _ (both-as (f .both .ensures) (f .before .before .sending-fits .ensures) (f .before .header-fits .ensures) ∙ not-true (f .both .result) (c .before .if1 .taken)) (c .turned-away .ensures)
+
+sending-of-requires : tie.Need-sending-of-requires
+sending-of-requires c κs = search needs
+
+header-of-requires : tie.Need-header-of-requires
+header-of-requires c κs = search needs
+
+build-sealed-requires : tie.Need-build-sealed-requires
+build-sealed-requires c κs = search needs
+
+sealed-words-requires : tie.Need-sealed-words-requires
+sealed-words-requires c κs = search needs
+
+same-length : tie.Need-same-length
+same-length c = search needs
+
+returns-2 : tie.Need-returns-2
+returns-2 c =
+    let b = c .before .before .before in
+    let k = b .before .before .before .before in
+    let f = k .before in
+    sealed-built _ _ _ _ _ _ _ _ (b .before .before .sending-of .result) (b .before .header-of .result) (b .build-sealed .result) _ _ _ _ (both-as (f .both .ensures) (f .before .before .sending-fits .ensures) (f .before .header-fits .ensures) ∙ not-false (f .both .result) (k .if1 .left)) (b .before .before .sending-of .ensures) (b .before .header-of .ensures) (b .build-sealed .ensures) (c .sealed-words .ensures .0) (c .sealed-words .ensures .1) (c .sealed-words .ensures .2)
+
+pub sealed-written-spec : {M : Type 1} → statement M
+sealed-written-spec =
+    tie.close
+    (tie.spec
+    sending-fits-requires
+    header-fits-requires
+    both-requires
+    turned-away-requires
+    returns
+    sending-of-requires
+    header-of-requires
+    build-sealed-requires
+    sealed-words-requires
+    same-length
+    returns-2)

@@ -1,0 +1,56 @@
+use borrow.Author.Needs.{needs}
+use Rattle.plain_session.proofs.answer_words.Statement.{statement}
+use Rattle.plain_session.proofs.answer_words.Tie as tie
+
+enum-told : tie.Need-enum-told
+enum-told c = search needs
+
+told-number-requires : tie.Need-told-number-requires
+told-number-requires c κs = search needs
+
+enum-known-report : tie.Need-enum-known-report
+enum-known-report c = search needs
+
+told-number-requires-2 : tie.Need-told-number-requires-2
+told-number-requires-2 c κs = search needs
+
+enum-known-report-2 : tie.Need-enum-known-report-2
+enum-known-report-2 c = search needs
+
+told-number-requires-3 : tie.Need-told-number-requires-3
+told-number-requires-3 c κs = search needs
+
+enum-known-report-3 : tie.Need-enum-known-report-3
+enum-known-report-3 c = search needs
+
+answering-requires : tie.Need-answering-requires
+answering-requires c κs = search needs
+
+returns : tie.Need-returns
+returns c = rw (c .before .enum-told .given .1) (c .told-number .ensures)
+
+returns-2 : tie.Need-returns-2
+returns-2 c = rw (c .before .before .report .given .1) (c .told-number2 .ensures)
+
+returns-3 : tie.Need-returns-3
+returns-3 c = rw (c .before .before .report2 .given .1) (c .told-number3 .ensures)
+
+returns-4 : tie.Need-returns-4
+returns-4 c = rw (c .before .before .report3 .given .1) (c .answering .ensures)
+
+pub answer-words-spec : {M : Type 1} → statement M
+answer-words-spec =
+    tie.close
+    (tie.spec
+    enum-told
+    told-number-requires
+    enum-known-report
+    told-number-requires-2
+    enum-known-report-2
+    told-number-requires-3
+    enum-known-report-3
+    answering-requires
+    returns
+    returns-2
+    returns-3
+    returns-4)
