@@ -51,6 +51,11 @@ judgeFeatures ownSupported ownRequired supported required =
 abbrev pub revisionOf : ℕ → ℕ → Revision
 revisionOf ownSupported supported = cond (eqb (ownSupported % 2) 1 && eqb (supported % 2) 1) Msgr21 Msgr20
 
+-- a revision's number, in lines and in words for C: 1 is msgr2.1, 0 msgr2.0
+abbrev pub revisionNumber : Revision → ℕ
+revisionNumber Msgr20 = 0
+revisionNumber Msgr21 = 1
+
 -- the features in a banner's payload: supported, required
 abbrev pub featuresOf : List ℕ → Features
 featuresOf payload = record { supported = numberAt 8 0 payload; required = numberAt 8 8 payload }

@@ -71,9 +71,10 @@ abbrev pub noEpilogue : Revision → Header → Bool
 noEpilogue Msgr20 h = false
 noEpilogue Msgr21 h = leb (h .count) 1
 
+-- the late byte, and four bytes for each checksum
 abbrev pub epilogueLength : Revision → Header → ℕ
 epilogueLength Msgr20 h = 17
-epilogueLength Msgr21 h = cond (leb (h .count) 1) 0 13
+epilogueLength Msgr21 h = cond (noEpilogue Msgr21 h) 0 13
 
 abbrev pub bodyLength : Revision → Header → ℕ
 bodyLength revision h = total h + firstSumLength revision h + epilogueLength revision h

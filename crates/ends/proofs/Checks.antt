@@ -27,7 +27,7 @@ use Rattle.body.specs.End.{Ended, whole, dropped, byLate, unlessTurnedAway, lat
 use Rattle.stream.specs.Stream.{firstWrong}
 use Rattle.refusal.proofs.Booleans.{both-left, both-right}
 use Rattle.buffer.proofs.Numbers.{number-take, number-drop}
-use Rattle.ends.specs.Handed.{headerIn, segmentOf, latePlace, sumPlace, lateIn, compared, unusedField, flagsFine, Spelled, CheckedPreamble, Checked, CheckedFirst}
+use Rattle.ends.specs.Handed.{headerIn, segmentOf, latePlace, sumPlace, lateIn, isCompared, unusedField, flagsFine, Spelled, CheckedPreamble, Checked, CheckedFirst}
 use Rattle.ends.proofs.Locality.{Judges, JudgesFirst}
 use Rattle.body.proofs.Checksums.{every-sum, all-sums, every-unused, all-unused}
 
@@ -226,7 +226,7 @@ module _ (X : List ℕ) (n : ℕ) where
       let v = not-true (eqb (h .s1 .len) 0) u in
       first-holds Msgr21 h b (j .first) (first-room Msgr21 h b (j .long) v) v ∙ ap segmentSum (sym (first-segment Msgr21 (j .long)))
 
-  sums-whole : (r : Revision) → Judges whole r X n → (k : ℕ) → k < 4 → compared late.Complete r h k ≡ true → numberAt 4 (sumPlace r h k) b ≡ segmentSum (segmentOf r h k X)
+  sums-whole : (r : Revision) → Judges whole r X n → (k : ℕ) → k < 4 → isCompared late.Complete r h k ≡ true → numberAt 4 (sumPlace r h k) b ≡ segmentSum (segmentOf r h k X)
   unfolding ending
   sums-whole Msgr20 j k l u =
       sym (number-drop 4 (1 + k * 4) (latePlace Msgr20 h) b)
@@ -237,13 +237,13 @@ module _ (X : List ℕ) (n : ℕ) where
       sym (number-drop 4 (1 + k * 4) (latePlace Msgr21 h) b)
       ∙ sums21 h (epilogue Msgr21) (segmentBytes Msgr21 h b) (end-whole (noEpilogue Msgr21 h) (judgeSpelling Msgr21 h (epilogue Msgr21)) (lateOf Msgr21 (getD (epilogue Msgr21) 0 0)) _ _ (j .end) .1 .1 c) k l u
 
-  sums-dropped : (r : Revision) → Judges dropped r X n → (k : ℕ) → k < 4 → compared late.Aborted r h k ≡ true → numberAt 4 (sumPlace r h k) b ≡ segmentSum (segmentOf r h k X)
+  sums-dropped : (r : Revision) → Judges dropped r X n → (k : ℕ) → k < 4 → isCompared late.Aborted r h k ≡ true → numberAt 4 (sumPlace r h k) b ≡ segmentSum (segmentOf r h k X)
   sums-dropped Msgr20 j k l u = cc
   sums-dropped Msgr21 j zero l u = first-sum j u
   sums-dropped Msgr21 j (suc k) l u = cc
 
   checked : (kind : Late) (x : Ended) (r : Revision) → Judges x r X n → Spelled r X → lateIn r h X ≡ kind
-      → ((k : ℕ) → k < 4 → compared kind r h k ≡ true → numberAt 4 (sumPlace r h k) b ≡ segmentSum (segmentOf r h k X)) → Checked kind r X n
+      → ((k : ℕ) → k < 4 → isCompared kind r h k ≡ true → numberAt 4 (sumPlace r h k) b ≡ segmentSum (segmentOf r h k X)) → Checked kind r X n
   checked kind x r j spelling said sums =
       record { preamble = preamble-checks X n (j .front) (j .accepted); arrived = length-wire r (j .front) (j .long); spelling = spelling; late = said; sums = sums }
 
@@ -269,7 +269,7 @@ module _ (X : List ℕ) (n : ℕ) where
     end = e;
   }
 
-  first-back : (kind : Late) (r : Revision) → Checked kind r X n → compared kind Msgr21 h 0 ≡ not (eqb (h .s1 .len) 0) → firstWrong r h b ≡ false
+  first-back : (kind : Late) (r : Revision) → Checked kind r X n → isCompared kind Msgr21 h 0 ≡ not (eqb (h .s1 .len) 0) → firstWrong r h b ≡ false
   first-back kind Msgr20 c e = refl
   first-back kind Msgr21 c e = first-fine Msgr21 h b (λ u. c .sums 0 (lit< tt) (e ∙ ap not u) ∙ ap segmentSum (first-segment Msgr21 (length-body Msgr21 (c .arrived))))
 

@@ -19,7 +19,7 @@ use Rattle.preamble.specs.Layout.{total}
 use Rattle.preamble.specs.Judge.{judgePreamble}
 use Rattle.body.specs.Body.{noFirstSum, firstSumLength, bodyLength, wireLength}
 use Rattle.body.specs.End.{Ended, whole, dropped, turnedAway, segmentBytes, ending}
-use Rattle.stream.specs.Stream.{Trace, ended, refusedAt, zeroed, firstWrong, firstReported, reportedFirst, atEnd, frames}
+use Rattle.stream.specs.Stream.{Trace, ended, refusedAt, zeroed, firstSumEnd, firstWrong, firstReported, reportedFirst, atEnd, frames}
 use Rattle.refusal.proofs.Booleans.{wrong}
 use Rattle.body.proofs.Ends.{segments-own, ending-append}
 use Rattle.ends.specs.Handed.{headerIn, isEarly}
@@ -149,7 +149,7 @@ module _ (r : Revision) (X Y : List ℕ) (l₁ : 32 ≤ length X) (l₂ : bodyLe
 
 -- behind segment 1's early report, where c says that there is one
 abbrev pub behindEarly : Bool → ℕ → List ℕ → List ℕ → Trace → Trace
-behindEarly c P X s t = reportedFirst c (headerIn X) (P + 36 + headerIn X .s1 .len) (replaceFront (take (headerIn X .s1 .len) (drop 32 X)) s) t
+behindEarly c P X s t = reportedFirst c (headerIn X) (firstSumEnd P (headerIn X)) (replaceFront (take (headerIn X .s1 .len) (drop 32 X)) s) t
 
 -- a whole frame
 pub frame-trace : {x : Ended} {r : Revision} (f P : ℕ) (X s : List ℕ) → Judges x r X (length s)
@@ -221,7 +221,7 @@ module _ (r : Revision) (P : ℕ) (X s : List ℕ) where
 
   by-first : 32 ≤ length X → judgePreamble (take 32 X) (length s) ≡ fine → (c : Bool) → firstWrong r h b ≡ c → Seen r P X s
   unfolding frames
-  by-first l a true e = refuses false (numbersOf (refusal.SegmentChecksum 1)) (P + 36 + h .s1 .len) (zeroed h s) (λ q. wrong q) (λ f. rw (le-ltb (length X) 32 l, a, e))
+  by-first l a true e = refuses false (numbersOf (refusal.SegmentChecksum 1)) (firstSumEnd P h) (zeroed h s) (λ q. wrong q) (λ f. rw (le-ltb (length X) 32 l, a, e))
   by-first l a false e = by-length l a e (ltb (length b) (bodyLength r h)) refl
 
   by-preamble : 32 ≤ length X → (j : Judged) → judgePreamble (take 32 X) (length s) ≡ j → Seen r P X s

@@ -32,7 +32,7 @@ use Rattle.body.proofs.Laws.{length-sent, length-first-sum, length-frame}
 use Rattle.builder.specs.Build.{judgeAbort}
 use Rattle.builder.proofs.Accepted.{Accepted}
 use Rattle.stream.specs.declared.Event.the-variants.{Frame, Dropped}
-use Rattle.stream.specs.Stream.{Trace, after, reportedFirst, zeroed, firstWrong, atEnd, frames}
+use Rattle.stream.specs.Stream.{Trace, after, reportedFirst, zeroed, firstSumEnd, firstWrong, atEnd, frames}
 use Rattle.ends.specs.Handed.{isEarly}
 use Rattle.ends.proofs.Locality.{Judges, frame-trace-more}
 use Rattle.body.proofs.Checksums.{same-sums, same-unused}
@@ -300,7 +300,7 @@ end-as h false at s source next = ap (λ (p : List ℕ). after (Frame h) at (rep
 pub built-trace : {space queued : ℕ} (f : ℕ) (r : Revision) (P : ℕ) (h : Header) (abort : Bool) (source Y s : List ℕ)
     → Accepted r h abort (length source) space queued → HeaderFits h → Bytes source → total h ≤ length s
     → frames (suc f) r P (frameBytes r h abort source ++ Y) s
-    ≡ reportedFirst (isEarly r h) h (P + 36 + h .s1 .len) (replaceFront (take (h .s1 .len) source) s)
+    ≡ reportedFirst (isEarly r h) h (firstSumEnd P h) (replaceFront (take (h .s1 .len) source) s)
     (after (cond abort (Dropped h) (Frame h)) (P + wireLength r h) (cond abort (zeroed h s) (replaceFront source s)) (frames f r (P + wireLength r h) Y (cond abort (zeroed h s) (replaceFront source s))))
 built-trace f r P h abort source Y s a fits bytes room =
     let X : List ℕ = frameBytes r h abort source in
@@ -308,4 +308,4 @@ built-trace f r P h abort source Y s a fits bytes room =
     let e = length-X r h abort source a fits bytes in
     let z : drop (32 + bodyLength r h) X ≡ [] = drop-of-length-le X {i = 32 + bodyLength r h} (omega arith) in
     rw (header-is r h abort source a fits bytes (length s) room, segments-back r h abort source a fits bytes, first-back r h abort source a fits bytes, z) at t
-    ∙ ap (reportedFirst (isEarly r h) h (P + 36 + h .s1 .len) (replaceFront (take (h .s1 .len) source) s)) (end-as h abort (P + wireLength r h) s source (λ t. frames f r (P + wireLength r h) Y t))
+    ∙ ap (reportedFirst (isEarly r h) h (firstSumEnd P h) (replaceFront (take (h .s1 .len) source) s)) (end-as h abort (P + wireLength r h) s source (λ t. frames f r (P + wireLength r h) Y t))

@@ -22,7 +22,7 @@ use Rattle.banner.specs.Banner.{bannerBytes, judgeOwn, judgeFeatures, revisionO
 use Rattle.preamble.specs.Layout.{total}
 use Rattle.body.specs.Body.{frameBytes, wireLength}
 use Rattle.stream.specs.declared.Event.the-variants.{Banner, First}
-use Rattle.stream.specs.Stream.{Entry, entry, Trace, after, reportedFirst, zeroed, payloadOf, peerOf, frames, traceOf}
+use Rattle.stream.specs.Stream.{Entry, entry, Trace, after, reportedFirst, zeroed, firstSumEnd, payloadOf, peerOf, frames, traceOf}
 use Rattle.stream.proofs.Sums.{least}
 use Rattle.refusal.proofs.Booleans.{both-left, both-right}
 use Rattle.receiver.specs.Calls.{takenBy}
@@ -45,12 +45,12 @@ build-entries f k r P buf queued b Y s p room hf hk =
     let Q = P + wireLength r h in
     ap (λ (t : Trace). t .entries)
     (built-trace f r P h (b .abort) (b .source) Y s (appended r buf queued b p .request) (p .header) (p .source) room
-    ∙ ap (λ (t : Trace). reportedFirst (isEarly r h) h (P + 36 + h .s1 .len) (replaceFront (take (h .s1 .len) (b .source)) s) (after (eventOf b) Q (storeAfter b s) t)) (fuel f k r Q Y (storeAfter b s) hf hk))
+    ∙ ap (λ (t : Trace). reportedFirst (isEarly r h) h (firstSumEnd P h) (replaceFront (take (h .s1 .len) (b .source)) s) (after (eventOf b) Q (storeAfter b s) t)) (fuel f k r Q Y (storeAfter b s) hf hk))
     ∙ early (isEarly r h) (replaceFront (take (h .s1 .len) (b .source)) s) (frames k r Q Y (storeAfter b s))
   where
     early : (c : Bool) (s₁ : List ℕ) (t : Trace)
-        → reportedFirst c (b .header) (P + 36 + b .header .s1 .len) s₁ (after (eventOf b) (P + wireLength r (b .header)) (storeAfter b s) t) .entries
-        ≡ cond c (entry (First (b .header)) (P + 36 + b .header .s1 .len) s₁ ∷ []) [] ++ (entry (eventOf b) (P + wireLength r (b .header)) (storeAfter b s) ∷ []) ++ t .entries
+        → reportedFirst c (b .header) (firstSumEnd P (b .header)) s₁ (after (eventOf b) (P + wireLength r (b .header)) (storeAfter b s) t) .entries
+        ≡ cond c (entry (First (b .header)) (firstSumEnd P (b .header)) s₁ ∷ []) [] ++ (entry (eventOf b) (P + wireLength r (b .header)) (storeAfter b s) ∷ []) ++ t .entries
     early true s₁ t = refl
     early false s₁ t = refl
 

@@ -24,7 +24,8 @@ use Rattle.body.specs.Body.{segmentSum, cutInto, noFirstSum, firstSumLength, no
 use Rattle.body.specs.End.{lateOf, segmentBytes}
 use Rattle.stream.specs.declared.Event.{Event}
 use Rattle.stream.specs.declared.Event.the-variants.{Banner, First, Frame, Dropped, Refused}
-use Rattle.stream.specs.Stream.{Entry, entry, zeroed, traceOf}
+pub use Rattle.stream.specs.Events.{isFirst, isFrame, isDrop}
+use Rattle.stream.specs.Stream.{Entry, entry, zeroed, firstSumEnd, traceOf}
 use Rattle.receiver.specs.Calls.{Call, Chained, takenBy, listOf, refusedIn}
 use Rattle.receiver.specs.Step.{started}
 
@@ -79,14 +80,14 @@ lateIn revision h X = cond (noEpilogue revision h) late.Complete (lateOf revisio
 
 -- which checksums are compared: of a complete frame those of its used segments, apart from an empty segment 1 of msgr2.1, which has none;
 -- of an aborted one only segment 1's in msgr2.1
-abbrev pub compared : Late → Revision → Header → ℕ → Bool
-compared late.Complete Msgr20 h k = ltb k (h .count)
-compared late.Complete Msgr21 h zero = not (eqb (h .s1 .len) 0)
-compared late.Complete Msgr21 h (suc k) = ltb (suc k) (h .count)
-compared late.Aborted Msgr20 h k = false
-compared late.Aborted Msgr21 h zero = not (eqb (h .s1 .len) 0)
-compared late.Aborted Msgr21 h (suc k) = false
-compared late.Wrong revision h k = false
+abbrev pub isCompared : Late → Revision → Header → ℕ → Bool
+isCompared late.Complete Msgr20 h k = ltb k (h .count)
+isCompared late.Complete Msgr21 h zero = not (eqb (h .s1 .len) 0)
+isCompared late.Complete Msgr21 h (suc k) = ltb (suc k) (h .count)
+isCompared late.Aborted Msgr20 h k = false
+isCompared late.Aborted Msgr21 h zero = not (eqb (h .s1 .len) 0)
+isCompared late.Aborted Msgr21 h (suc k) = false
+isCompared late.Wrong revision h k = false
 
 -- which segments have a field in the epilogue and are not used; segments are counted from 0
 abbrev pub unusedField : Revision → Header → ℕ → Bool
@@ -121,7 +122,7 @@ pub record Checked (kind : Late) (revision : Revision) (X : List ℕ) (n : ℕ) 
   -- complete or aborted
   pub late : lateIn revision (headerIn X) X ≡ kind
   -- the CRC32-C of each segment that is compared
-  pub sums : (k : ℕ) → k < 4 → compared kind revision (headerIn X) k ≡ true
+  pub sums : (k : ℕ) → k < 4 → isCompared kind revision (headerIn X) k ≡ true
       → numberAt 4 (sumPlace revision (headerIn X) k) (drop 32 X) ≡ segmentSum (segmentOf revision (headerIn X) k X)
 
 -- segment 1 is reported early where it has a checksum behind it (in msgr2.1, unless it is empty) and more segments follow
@@ -132,7 +133,7 @@ isEarly revision h = not (noFirstSum revision h) && ltb 1 (h .count)
 pub record CheckedFirst (revision : Revision) (X : List ℕ) (n : ℕ) : Type 0 where
   pub preamble : CheckedPreamble X n
   pub early : isEarly revision (headerIn X) ≡ true
-  pub arrived : 36 + headerIn X .s1 .len ≤ length X
+  pub arrived : firstSumEnd 0 (headerIn X) ≤ length X
   pub sum : numberAt 4 (headerIn X .s1 .len) (drop 32 X) ≡ segmentSum (take (headerIn X .s1 .len) (drop 32 X))
 
 -- the high four bits of late_status are zero, where a frame has one: a receiver does not look at them (02, K8), so that without this two frames could differ there
@@ -142,27 +143,6 @@ zeroNibble Msgr20 h X = true
 zeroNibble Msgr21 h X = leb (h .count) 1 || ltb (getD (drop 32 X) (latePlace Msgr21 h) 0) 16
 
 -- ---- the claim
-
-abbrev pub isFirst : Event → Bool
-isFirst (Banner p r) = false
-isFirst (First h) = true
-isFirst (Frame h) = false
-isFirst (Dropped h) = false
-isFirst (Refused n) = false
-
-abbrev pub isFrame : Event → Bool
-isFrame (Banner p r) = false
-isFrame (First h) = false
-isFrame (Frame h) = true
-isFrame (Dropped h) = false
-isFrame (Refused n) = false
-
-abbrev pub isDrop : Event → Bool
-isDrop (Banner p r) = false
-isDrop (First h) = false
-isDrop (Frame h) = false
-isDrop (Dropped h) = true
-isDrop (Refused n) = false
 
 -- the first of some entries
 abbrev pub firstIs : (Event → Bool) → List Entry → Bool
@@ -179,7 +159,7 @@ pub record Exactly (revision : Revision) (P : ℕ) (X s : List ℕ) (es : List E
   -- segment 1 is reported early if and only if its checks hold: with the frame's fields, at its checksum's last byte, its bytes at the store's front
   pub first : firstIs isFirst es ≡ true ↔ CheckedFirst revision X (length s)
   pub firsts : firstIs isFirst es ≡ true
-      → (later : List Entry) × (es ≡ entry (First (headerIn X)) (P + 36 + headerIn X .s1 .len) (replaceFront (take (headerIn X .s1 .len) (drop 32 X)) s) ∷ later)
+      → (later : List Entry) × (es ≡ entry (First (headerIn X)) (firstSumEnd P (headerIn X)) (replaceFront (take (headerIn X .s1 .len) (drop 32 X)) s) ∷ later)
   -- behind that, a frame is reported if and only if the checks hold: with its fields, at its last byte, its segments at the store's front
   pub handed : firstIs isFrame (behindFirst es) ≡ true ↔ Checked late.Complete revision X (length s)
   pub frames : firstIs isFrame (behindFirst es) ≡ true

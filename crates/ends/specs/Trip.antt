@@ -17,7 +17,7 @@ use Rattle.builder.specs.declared.Built.the-variants as built
 use Rattle.builder.specs.Build.{BuiltFrame}
 use Rattle.stream.specs.declared.Event.{Event}
 use Rattle.stream.specs.declared.Event.the-variants.{First, Frame, Dropped}
-use Rattle.stream.specs.Stream.{Entry, entry, zeroed, frames, traceOf}
+use Rattle.stream.specs.Stream.{Entry, entry, zeroed, firstSumEnd, frames, traceOf}
 use Rattle.receiver.specs.Step.{started}
 use Rattle.receiver.specs.Calls.{Call, Chained, takenBy, listOf}
 use Rattle.ends.specs.Handed.{UpTo, isEarly}
@@ -50,7 +50,7 @@ storeAfter b s = cond (b .abort) (zeroed (b .header) s) (replaceFront (b .source
 -- before it, segment 1 early, from byte P on
 abbrev pub earlyEntry : Revision → ℕ → List ℕ → Build → List Entry
 earlyEntry revision P s b =
-    cond (isEarly revision (b .header)) (entry (First (b .header)) (P + 36 + b .header .s1 .len) (replaceFront (take (b .header .s1 .len) (b .source)) s) ∷ []) []
+    cond (isEarly revision (b .header)) (entry (First (b .header)) (firstSumEnd P (b .header)) (replaceFront (take (b .header .s1 .len) (b .source)) s) ∷ []) []
 
 -- all entries of the build
 abbrev pub entriesOf : Revision → ℕ → List ℕ → Build → List Entry

@@ -1,24 +1,21 @@
 -- Words within their limits, as a test and as facts.
 use mathlib.Core.Path.{_≡_, refl}
 use mathlib.Core.List.{List, [], _∷_, _++_}
-use mathlib.Core.Bool.{Bool, true, false, _&&_}
+use mathlib.Core.Bool.{true}
 use Prim.Native.Nat.{ℕ, zero, suc, _+_, _≤_, _<_}
 use native.Mathlib.Nat.{zero-add}
 use native.Mathlib.Omega.{arith}
 use borrow.Author.Tests.{leb-true, le-leb}
 use lib.Dec.{leb}
 use lib.ListN.{length, getD}
+use Rattle.refusal.proofs.Booleans.{each-true}
 use Rattle.plain.specs.Words.{within, Within}
-
-both-true : (a b : Bool) → (a && b) ≡ true → (a ≡ true) × (b ≡ true)
-both-true true b e = (refl, e)
-both-true false b e = (e, cc)
 
 pub facts : (ms : List ℕ) (i : ℕ) (ws : List ℕ) → within ms i ws ≡ true → Within ms i ws
 facts [] i ws e = tt
 facts (m ∷ []) i ws e = (leb-true (getD ws i 0) m e, tt)
 facts (m ∷ n ∷ ms) i ws e =
-    let b = both-true (leb (getD ws i 0) m) (within (n ∷ ms) (suc i) ws) e in
+    let b = each-true (leb (getD ws i 0) m) (within (n ∷ ms) (suc i) ws) e in
     (leb-true (getD ws i 0) m (b .0), facts (n ∷ ms) (suc i) ws (b .1))
 
 pub tested : (ms : List ℕ) (i : ℕ) (ws : List ℕ) → Within ms i ws → within ms i ws ≡ true

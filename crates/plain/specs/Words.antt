@@ -10,6 +10,7 @@ use Rattle.refusal.specs.Refusals.{row}
 use Rattle.banner.specs.declared.Features.{Features}
 use Rattle.banner.specs.declared.Revision.{Revision}
 use Rattle.banner.specs.declared.Revision.the-variants.{Msgr20, Msgr21}
+pub use Rattle.banner.specs.Banner.{revisionNumber}
 use Rattle.preamble.specs.declared.Segment.{Segment}
 use Rattle.preamble.specs.declared.Header.{Header}
 use Rattle.plain.specs.declared.Written.{Written}
@@ -47,10 +48,6 @@ abbrev pub lowU32 : ℕ → ℕ
 lowU32 n = n % 4294967296
 
 -- ---- revisions and marks: any number but 0 is msgr2.1, and true, as C's truth values are
-
-abbrev pub revisionNumber : Revision → ℕ
-revisionNumber Msgr20 = 0
-revisionNumber Msgr21 = 1
 
 abbrev pub revisionOf : ℕ → Revision
 revisionOf n = cond (eqb n 0) Msgr20 Msgr21

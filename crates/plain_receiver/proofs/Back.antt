@@ -5,7 +5,7 @@ use mathlib.Core.List.{List, [], _∷_}
 use Prim.Native.Nat.{ℕ, zero, suc, _+_, _≤_, _<_}
 use native.Mathlib.Omega.{arith}
 use lib.Dec.{lit<, eqb}
-use lib.ListN.{length, getD, drop, drop-of-length-le}
+use lib.ListN.{length, getD, set, drop, drop-of-length-le}
 use lib.Seq.{drop-cons}
 use Rattle.banner.specs.declared.Revision.{Revision}
 use Rattle.banner.specs.declared.Revision.the-variants.{Msgr20, Msgr21}
@@ -16,13 +16,14 @@ use Rattle.receiver.specs.declared.State.{State}
 use Rattle.receiver.specs.declared.Report.{Report}
 use Rattle.receiver.specs.declared.Report.the-variants as report
 use Rattle.receiver.specs.State.{rank}
+use Rattle.receiver.specs.Step.{stateAt}
 use Rattle.preamble.specs.declared.Header.{Header}
 use Rattle.refusal.specs.declared.Numbers.{Numbers}
 use Rattle.refusal.specs.Refusals.{row}
 use Rattle.plain.specs.Words.{Within, maxU8, revisionNumber, revisionOf, markNumber, markOf, lowU8, lowU16, lowU32, headerWords, headerAt, headerLimits}
 use Rattle.plain.proofs.Limits.{facts, tested, bound, joined}
 use Rattle.plain.proofs.Headers.{small8, small16, small32, header-typed, header-back}
-use Rattle.plain_receiver.specs.Words.{PlainState, plainState, stageOf, stateOf, stateNumbers, plainOf, stateLimits, fits, Typed, PlainOf, reportWords, reportOf, ReportTyped, ReportOf, ReadsBack}
+use Rattle.plain_receiver.specs.Words.{PlainState, plainState, stageOf, knownOf, stateOf, stateNumbers, plainOf, stateLimits, fits, Typed, PlainOf, reportWords, reportOf, ReportTyped, ReportOf, ReadsBack}
 
 -- ---- numbers of one
 
@@ -188,6 +189,11 @@ module _ (ws block : List ℕ) (e : fits ws ≡ true) where
 words-back : (p : PlainState) → length (p .numbers) ≡ 23 → fits (p .numbers) ≡ true → plainOf (stateOf p) ≡ p
 unfolding stateOf
 words-back p size e = ap (λ (l : List ℕ). plainState l (p .block)) (words-spelled (p .numbers) (p .block) e ∙ sym (spelt 23 0 (p .numbers) size))
+
+-- with another count of bytes, which is the word at place 18
+pub counted : (ws block : List ℕ) (to : ℕ) → length ws ≡ 23 → fits ws ≡ true → set ws 18 to ≡ stateNumbers (stateAt (stageOf (getD ws 0 0)) to block (knownOf ws))
+unfolding stateNumbers stateOf
+counted ws block to size e = ap (λ (l : List ℕ). set l 18 to) (spelt 23 0 ws size ∙ sym (words-spelled ws block e))
 
 -- ---- a report from its words
 

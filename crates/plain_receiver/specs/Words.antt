@@ -8,19 +8,19 @@ use lib.ListN.{length, getD}
 use Rattle.refusal.specs.declared.Numbers.{Numbers}
 use Rattle.refusal.specs.Refusals.{Judged, fine, refused}
 use Rattle.banner.specs.declared.Features.{Features}
-use Rattle.banner.specs.Banner.{judgeOwn}
 use Rattle.banner.specs.declared.Revision.{Revision}
 use Rattle.preamble.specs.declared.Header.{Header}
 use Rattle.stream.specs.declared.Event.{Event}
 use Rattle.stream.specs.declared.Event.the-variants as event
 use Rattle.receiver.specs.declared.Stage.{Stage}
 use Rattle.receiver.specs.declared.Stage.the-variants as stage
+use Rattle.receiver.specs.declared.Known.{Known}
 use Rattle.receiver.specs.declared.State.{State}
 use Rattle.receiver.specs.declared.Report.{Report}
 use Rattle.receiver.specs.declared.Report.the-variants as report
 use Rattle.receiver.specs.declared.Received.{Received}
 use Rattle.receiver.specs.State.{rank, noFeatures, noHeader, noRefusal}
-use Rattle.receiver.specs.Step.{Answer, answer, started, contradiction}
+use Rattle.receiver.specs.Step.{stateAt, Answer, answer, contradiction}
 use Rattle.plain.specs.Words.{within, Within, maxU8, maxU16, lowU16, revisionNumber, revisionOf, markNumber, markOf, features, refusalWords, refusalAt, headerWords, headerAt, headerLimits}
 
 -- ---- states. Places of their numbers: 0 stage (its rank), 1 revision, 2 the mark of an early report, 3 payload, 4 to 13 header, 14 to 17 refusal, 18 got,
@@ -46,33 +46,34 @@ stageOf n =
     (cond (eqb n 7) stage.Rest
     (cond (eqb n 8) stage.Epilogue stage.Refused))))))))
 
-abbrev pub stateWith : Stage → Revision → List ℕ → List ℕ → State
-stateWith stage revision ws block = record {
-  position = record { stage = stage; got = getD ws 18 0; block = block };
-  known = record {
-    own = features (getD ws 19 0) (getD ws 20 0);
-    payload = lowU16 (getD ws 3 0);
-    peer = features (getD ws 21 0) (getD ws 22 0);
-    revision = revision;
-    header = headerAt 4 ws;
-    first = markOf (getD ws 2 0);
-    refusal = refusalAt 14 ws;
-  };
+abbrev pub knownWith : Revision → List ℕ → Known
+knownWith revision ws = record {
+  own = features (getD ws 19 0) (getD ws 20 0);
+  payload = lowU16 (getD ws 3 0);
+  peer = features (getD ws 21 0) (getD ws 22 0);
+  revision = revision;
+  header = headerAt 4 ws;
+  first = markOf (getD ws 2 0);
+  refusal = refusalAt 14 ws;
 }
+
+abbrev pub knownOf : List ℕ → Known
+knownOf ws = knownWith (revisionOf (getD ws 1 0)) ws
 
 -- THE STATE THAT WORDS STAND FOR
 unfoldable pub stateOf : PlainState → State
-stateOf p = stateWith (stageOf (getD (p .numbers) 0 0)) (revisionOf (getD (p .numbers) 1 0)) (p .numbers) (p .block)
+stateOf p = stateAt (stageOf (getD (p .numbers) 0 0)) (getD (p .numbers) 18 0) (p .block) (knownOf (p .numbers))
 
-abbrev pub numbersWith : ℕ → ℕ → ℕ → State → List ℕ
-numbersWith stage revision first st =
-    stage ∷ revision ∷ first ∷ st .known .payload
-    ∷ (headerWords (st .known .header)
-    ++ (refusalWords (st .known .refusal)
-    ++ (st .position .got ∷ st .known .own .supported ∷ st .known .own .required ∷ st .known .peer .supported ∷ st .known .peer .required ∷ [])))
+abbrev pub numbersWith : ℕ → ℕ → ℕ → ℕ → Known → List ℕ
+numbersWith stage revision first got v =
+    stage ∷ revision ∷ first ∷ v .payload
+    ∷ (headerWords (v .header)
+    ++ (refusalWords (v .refusal)
+    ++ (got ∷ v .own .supported ∷ v .own .required ∷ v .peer .supported ∷ v .peer .required ∷ [])))
 
 unfoldable pub stateNumbers : State → List ℕ
-stateNumbers st = numbersWith (rank (st .position .stage)) (revisionNumber (st .known .revision)) (markNumber (st .known .first)) st
+stateNumbers st =
+    numbersWith (rank (st .position .stage)) (revisionNumber (st .known .revision)) (markNumber (st .known .first)) (st .position .got) (st .known)
 
 -- AND THE WORDS OF A STATE
 abbrev pub plainOf : State → PlainState
@@ -205,13 +206,8 @@ pub record ReceivedBy (p : PlainState) (s piece : List ℕ) (n : ℕ) (o : Plain
   pub kind : n ≡ kindIn o
   pub answered : PlainAnswered p s piece o s′
 
--- ---- the start
+-- ---- the number of a judgement
 
 abbrev pub numberOf : Judged → ℕ
 numberOf fine = 0
 numberOf (refused n) = n .number
-
--- THE PROMISE OF A START: the words of the state, and 16, or 0 where our own features are not refused
-pub record PlainStarted (own : Features) (n : ℕ) (p : PlainState) : Type 0 where
-  pub number : n ≡ numberOf (judgeOwn (own .supported) (own .required))
-  pub state : PlainOf (started own) p

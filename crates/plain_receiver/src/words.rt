@@ -10,7 +10,6 @@ use plain::typed_u16;
 use preamble::Header;
 use preamble::Segment;
 use receiver::Known;
-use receiver::Position;
 use receiver::Report;
 use receiver::Stage;
 use receiver::State;
@@ -20,14 +19,17 @@ use refusal::Verdict;
 use refusal::in_numbers;
 use stream::Event;
 ghost use mathlib.Core.Path.{_≡_};
-ghost use Prim.Native.Nat.{_≤_};
+ghost use mathlib.Core.List.{List};
+ghost use Prim.Native.Nat.{ℕ, _≤_};
+ghost use lib.ListN.{length};
 ghost use Rattle.refusal.specs.Refusals.{judgedBy};
 ghost use Rattle.receiver.specs.State.{rank, noFeatures, noHeader, noRefusal};
 ghost use Rattle.stream.specs.declared.Event.the-variants as event;
 ghost use Rattle.receiver.specs.declared.Report.the-variants as report;
-ghost use Rattle.receiver.specs.Step.{contradiction};
+ghost use Rattle.receiver.specs.declared.Stage.{Stage};
+ghost use Rattle.receiver.specs.Step.{stateAt, contradiction};
 ghost use Rattle.plain.specs.Words.{Within, maxU8, headerWords, headerLimits};
-ghost use Rattle.plain_receiver.specs.Words.{plainState, stageOf, stateWith, stateOf, numbersWith, fits, Typed, PlainOf, reporting, eventWords, reportWords, EventTyped, ReportOf, numberOf};
+ghost use Rattle.plain_receiver.specs.Words.{plainState, stageOf, knownWith, knownOf, numbersWith, fits, Typed, PlainOf, reporting, eventWords, reportWords, EventTyped, ReportOf, numberOf};
 
 fn stage_number(stage: Stage) -> u64
     ensures { λ r. ⌜ r ≡ rank stage ⌝ }
@@ -46,7 +48,7 @@ fn stage_number(stage: Stage) -> u64
     }
 }
 
-fn stage_of(n: u64) -> Stage
+pub fn stage_of(n: u64) -> Stage
     ensures { λ r. ⌜ r ≡ stageOf n ⌝ }
 {
     match n {
@@ -77,8 +79,8 @@ pub fn fits(ws: [u64; 23]) -> bool
     (ws[0] <= 9) & ((ws[1] <= 1) & ((ws[2] <= 1) & ((ws[3] <= 65535) & header)))
 }
 
-fn state_with(stage: Stage, revision: Revision, ws: [u64; 23], block: [u8; 32]) -> State
-    ensures { λ r. ⌜ r ≡ stateWith stage revision ws block ⌝ }
+fn known_with(revision: Revision, ws: [u64; 23]) -> Known
+    ensures { λ r. ⌜ r ≡ knownWith revision ws ⌝ }
 {
     let header = Header {
         tag: (ws[4] % 256) as u8,
@@ -100,45 +102,39 @@ fn state_with(stage: Stage, revision: Revision, ws: [u64; 23], block: [u8; 32]) 
             align: (ws[13] % 65536) as u16,
         },
     };
-    State {
-        position: Position {
-            stage: stage,
-            got: ws[18] as usize,
-            block: block,
+    Known {
+        own: Features {
+            supported: ws[19],
+            required: ws[20],
         },
-        known: Known {
-            own: Features {
-                supported: ws[19],
-                required: ws[20],
-            },
-            payload: (ws[3] % 65536) as u16,
-            peer: Features {
-                supported: ws[21],
-                required: ws[22],
-            },
-            revision: revision,
-            header: header,
-            first: ws[2] != 0,
-            refusal: Numbers {
-                number: (ws[14] % 256) as u8,
-                first: ws[15],
-                second: ws[16],
-                third: ws[17],
-            },
+        payload: (ws[3] % 65536) as u16,
+        peer: Features {
+            supported: ws[21],
+            required: ws[22],
+        },
+        revision: revision,
+        header: header,
+        first: ws[2] != 0,
+        refusal: Numbers {
+            number: (ws[14] % 256) as u8,
+            first: ws[15],
+            second: ws[16],
+            third: ws[17],
         },
     }
 }
 
-pub fn state_of(ws: [u64; 23], block: [u8; 32]) -> State
-    ensures { λ r. ⌜ r ≡ stateOf (plainState ws block) ⌝ }
+// What they say is known; and they are 23, which the type says.
+pub fn known_of(ws: [u64; 23]) -> Known
+    ensures { λ r. ⌜ (r ≡ knownOf ws) × (length ws ≡ 23) ⌝ }
 {
-    state_with(stage_of(ws[0]), revision_of(ws[1]), ws, block)
+    known_with(revision_of(ws[1]), ws)
 }
 
-fn typed_state(st: State)
-    ensures { λ _. ⌜ Typed st ⌝ }
+// The fields of what is known are of their types.
+pub fn typed_known(known: Known)
+    ensures { λ _. ⌜ ((stage : Stage) (got : ℕ) (block : List ℕ) → Typed (stateAt stage got block known)) ⌝ }
 {
-    let known = st.known;
     let n = known.refusal;
     let h = known.header;
     typed_u16(known.payload);
@@ -146,11 +142,9 @@ fn typed_state(st: State)
     typed_u8(n.number);
 }
 
-fn numbers_with(stage: u64, revision: u64, first: u64, st: State) -> [u64; 23]
-    ensures { λ r. ⌜ r ≡ numbersWith stage revision first st ⌝ }
+fn numbers_with(stage: u64, revision: u64, first: u64, got: usize, known: Known) -> [u64; 23]
+    ensures { λ r. ⌜ r ≡ numbersWith stage revision first got known ⌝ }
 {
-    let position = st.position;
-    let known = st.known;
     let own = known.own;
     let peer = known.peer;
     let n = known.refusal;
@@ -178,7 +172,7 @@ fn numbers_with(stage: u64, revision: u64, first: u64, st: State) -> [u64; 23]
         n.first,
         n.second,
         n.third,
-        position.got as u64,
+        got as u64,
         own.supported,
         own.required,
         peer.supported,
@@ -186,21 +180,28 @@ fn numbers_with(stage: u64, revision: u64, first: u64, st: State) -> [u64; 23]
     ]
 }
 
-// The numbers of a state; its block goes with them.
-pub fn state_numbers(st: State) -> [u64; 23]
-    ensures { λ r. ⌜ PlainOf st (plainState r (st .position .block)) ⌝ }
+// The numbers of a state, whose block goes with them.
+pub fn numbers_of(stage: Stage, got: usize, known: Known) -> [u64; 23]
+    ensures { λ r. ⌜ ((block : List ℕ) → PlainOf (stateAt stage got block known) (plainState r block)) ⌝ }
 {
-    typed_state(st);
-    let position = st.position;
-    let known = st.known;
-    let stage = position.stage;
+    typed_known(known);
     let revision = known.revision;
     numbers_with(
         stage_number(stage),
         revision_number(revision),
         mark_number(known.first),
-        st,
+        got,
+        known,
     )
+}
+
+pub fn state_numbers(st: State) -> [u64; 23]
+    ensures { λ r. ⌜ PlainOf st (plainState r (st .position .block)) ⌝ }
+{
+    let position = st.position;
+    let stage = position.stage;
+    let known = st.known;
+    numbers_of(stage, position.got, known)
 }
 
 // ---- reports

@@ -127,8 +127,12 @@ headerOf bs = record {
 abbrev pub preambleOf : List ℕ → Preamble
 preambleOf bs = record { header = headerOf bs; flags = getD bs 26 0; reserved = getD bs 27 0; checksum = numberAt 4 28 bs }
 
+-- the stored checksum against that of the first 28 bytes
+abbrev pub judgeStored : List ℕ → ℕ → Judged
+judgeStored bs stored = unless (eqb (crcOf 0 (take 28 bs)) stored) refusal.PreambleChecksum
+
 abbrev pub judgeChecksum : List ℕ → Judged
-judgeChecksum bs = unless (eqb (crcOf 0 (take 28 bs)) (numberAt 4 28 bs)) refusal.PreambleChecksum
+judgeChecksum bs = judgeStored bs (numberAt 4 28 bs)
 
 -- THE ORDER at a preamble's last byte: the checksum first, then the fields. store is the store's length
 unfoldable pub judgeFields : Preamble → ℕ → Judged
@@ -141,5 +145,9 @@ judgeFields p store =
     ∷ judgeStore (total (p .header)) store
     ∷ [])
 
+-- on fields that were read, and their bytes
+abbrev pub judgeRead : Preamble → List ℕ → ℕ → Judged
+judgeRead p bs store = orElse (judgeStored bs (p .checksum)) (judgeFields p store)
+
 unfoldable pub judgePreamble : List ℕ → ℕ → Judged
-judgePreamble bs store = orElse (judgeChecksum bs) (judgeFields (preambleOf bs) store)
+judgePreamble bs store = judgeRead (preambleOf bs) bs store

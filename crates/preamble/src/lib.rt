@@ -10,11 +10,13 @@ use refusal::both;
 use refusal::or_else;
 use refusal::unless_ok;
 ghost use mathlib.Core.Path.{_≡_};
+ghost use mathlib.Core.Bool.{not, _&&_};
 ghost use Prim.Native.Nat.{_<_};
+ghost use lib.Dec.{eqb};
 ghost use Rattle.refusal.specs.Refusals.{judgedBy, isFine};
 ghost use Rattle.preamble.specs.Layout.{total, frontList};
 ghost use Rattle.preamble.specs.Reading.{ReadsBack};
-ghost use Rattle.preamble.specs.Judge.{first, faultWhen, lengthWrong, segmentFault, shapeFault, judgeShape, judgeFlags, judgeTag, above, limitFault, judgeLimits, judgeStore, judgeHeader, segmentAt, headerOf, preambleOf, judgeFields, judgePreamble};
+ghost use Rattle.preamble.specs.Judge.{first, faultWhen, lengthWrong, alignWrong, segmentFault, shapeFault, judgeShape, judgeFlags, judgeTag, above, limitFault, judgeLimits, judgeStore, judgeHeader, segmentAt, headerOf, preambleOf, judgeFields, judgeRead, judgePreamble};
 
 // At most so many bytes in a segment, and in all segments of a frame.
 pub const SEGMENT_LIMIT: u64 = 1048576;
@@ -169,14 +171,48 @@ pub fn judge_header(h: Header) -> Verdict
     or_else(judge_shape(h), last)
 }
 
-// The same as one test, for who does not ask which refusal it would be.
+// ---- the same as one test, for who does not ask which refusal it would be
+
+// Neither field of segment k is at fault.
+fn segment_is_fine(count: u8, k: u8, s: Segment) -> bool
+    ensures { λ r. ⌜ r ≡ (not (lengthWrong count k (s .len)) && not (alignWrong count k (s .align))) ⌝ }
+{
+    let aligned = both(count < k, s.align != 0);
+    both(!length_wrong(count, k, s.len), !aligned)
+}
+
+fn shape_is_fine(h: Header) -> bool
+    ensures { λ r. ⌜ r ≡ eqb (shapeFault h) 0 ⌝ }
+{
+    let c = h.count;
+    let f4 = segment_is_fine(c, 4, h.s4);
+    let f3 = both(segment_is_fine(c, 3, h.s3), f4);
+    let f2 = both(segment_is_fine(c, 2, h.s2), f3);
+    let f1 = both(segment_is_fine(c, 1, h.s1), f2);
+    both(both(1 <= c, c <= 4), f1)
+}
+
+fn limits_are_kept(h: Header) -> bool
+    ensures { λ r. ⌜ r ≡ eqb (limitFault h) 0 ⌝ }
+{
+    let a = h.s1.len as u64;
+    let b = h.s2.len as u64;
+    let c = h.s3.len as u64;
+    let d = h.s4.len as u64;
+    let s34 = both(a + b + c <= SUM_LIMIT, a + b + c + d <= SUM_LIMIT);
+    let s14 = both(a <= SUM_LIMIT, both(a + b <= SUM_LIMIT, s34));
+    let n34 = both(c <= SEGMENT_LIMIT, both(d <= SEGMENT_LIMIT, s14));
+    both(a <= SEGMENT_LIMIT, both(b <= SEGMENT_LIMIT, n34))
+}
+
 pub fn header_is_fine(h: Header) -> bool
     ensures { λ r. ⌜ r ≡ isFine (judgeHeader h) ⌝ }
 {
-    let shape = shape_fault(h) == 0;
     let tag = both(1 <= h.tag, h.tag <= 20);
-    both(shape, both(tag, limit_fault(h) == 0))
+    both(shape_is_fine(h), both(tag, limits_are_kept(h)))
 }
+
+// ---- reading
 
 // The segment fields from place i on.
 fn segment_at(b: &[u8], i: usize) -> Segment
@@ -225,15 +261,40 @@ fn judge_fields(p: Preamble, store: usize) -> Verdict
     or_else(judge_shape(h), flags)
 }
 
-// All judgements at a preamble's last byte, in order.
-pub fn judge_preamble(bytes: &[u8], store: usize) -> Verdict
-    ensures { λ r. ⌜ judgedBy r ≡ judgePreamble (now (bytes .entry)) store ⌝ }
+// All fields of a preamble that fills an array, of which no byte can be missing.
+pub fn read_block(block: &[u8; 32]) -> Preamble
+    ensures { λ r. ⌜ r ≡ preambleOf (now (block .entry)) ⌝ }
 {
-    let p = read_preamble(bytes);
+    Preamble {
+        header: Header {
+            tag: byte_at(block, 0),
+            count: byte_at(block, 1),
+            s1: segment_at(block, 2),
+            s2: segment_at(block, 8),
+            s3: segment_at(block, 14),
+            s4: segment_at(block, 20),
+        },
+        flags: byte_at(block, 26),
+        reserved: byte_at(block, 27),
+        checksum: u32_at(block, 28),
+    }
+}
+
+// All judgements at a preamble's last byte, in order, on the fields that were read from it.
+pub fn judge_read(p: Preamble, bytes: &[u8], store: usize) -> Verdict
+    ensures { λ r. ⌜ judgedBy r ≡ judgeRead p (now (bytes .entry)) store ⌝ }
+{
     let sum = checksum(0, part(bytes, 0, 28));
     let stored = p.checksum;
     let first = unless_ok(sum == stored, Refusal::PreambleChecksum);
     or_else(first, judge_fields(p, store))
+}
+
+// And on its bytes.
+pub fn judge_preamble(bytes: &[u8], store: usize) -> Verdict
+    ensures { λ r. ⌜ judgedBy r ≡ judgePreamble (now (bytes .entry)) store ⌝ }
+{
+    judge_read(read_preamble(bytes), bytes, store)
 }
 
 // Bytes 0 to 27 of a preamble, those that its checksum covers.

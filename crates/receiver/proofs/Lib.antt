@@ -1,5 +1,6 @@
 pub mod Zeros
 pub mod Entries
+pub mod Appended
 pub mod Machine
 pub mod Lists
 pub mod Scan

@@ -7,7 +7,7 @@ use native.Mathlib.Nat.{zero-add, add-zero, add-suc, suc-add}
 use lib.ListN.{length, take, drop, drop-of-length-le}
 use lib.Seq.{sets, sets-eq, take-at, drop-at}
 use Rattle.buffer.specs.Splice.{replaceFront, splice, overwrite}
-use Rattle.buffer.proofs.Parts.{rest, replaceFront-next, length-replaceFront, length-rest, overwrite-fits, placed}
+use Rattle.buffer.proofs.Parts.{rest, back, replaceFront-next, length-replaceFront, length-rest, overwrite-fits, placed}
 
 -- one behind the other
 pub sets-append : (l : List ℕ) (i : ℕ) (xs ys : List ℕ) → sets (sets l i xs) (i + length xs) ys ≡ sets l i (xs ++ ys)
@@ -42,6 +42,12 @@ take-over xs s n e = take-at xs (drop (length xs) s) n e
 -- a front that is replaced again by one as long
 pub over-over : (xs ys s : List ℕ) → length xs ≡ length ys → replaceFront ys (replaceFront xs s) ≡ replaceFront ys s
 over-over xs ys s e = ap (λ (t : List ℕ). ys ++ t) (drop-at xs (drop (length xs) s) (length ys) e ∙ ap (λ (n : ℕ). drop n s) e)
+
+-- bytes put into the part from n on
+pub part-put : (l xs ys : List ℕ) (n : ℕ) → ys ≡ overwrite xs (rest l n) → n + length xs ≤ length l → back l n ys ≡ sets l n xs
+part-put l xs ys n h k =
+    let r = length-rest l n in
+    placed l xs ys n (h ∙ overwrite-fits xs (rest l n) (omega arith)) ∙ sym (sets-eq xs l n k)
 
 -- bytes put into the part of a block from n on, of which the length is known as N
 pub block-put : (l xs ys : List ℕ) (n N : ℕ) → length l ≡ N → ys ≡ overwrite xs (take (N - n) (drop n l)) → n + length xs ≤ N

@@ -1,6 +1,6 @@
 -- The receiver as a machine (Machine): its byte step run over a list of bytes, and what a piece takes of it.
-use Prim.Native.Nat.{ℕ, _+_, _≤_}
-use mathlib.Core.List.{List, [], _∷_, _++_}
+use Prim.Native.Nat.{ℕ, _≤_}
+use mathlib.Core.List.{List, [], _∷_}
 use mathlib.Core.Path.{_≡_, refl, ap, _∙_}
 use lib.ListN.{length}
 use Rattle.receiver.specs.declared.State.{State}
@@ -21,10 +21,6 @@ Scanned = machine.Scanned State
 -- every byte of a list, from the state st and the store s, P bytes being taken before
 abbrev pub scan : State → List ℕ → ℕ → List ℕ → Scanned
 scan = machine.scan byteStep
-
-pub scan-append : (st : State) (s : List ℕ) (P : ℕ) (xs ys : List ℕ)
-    → scan st s P (xs ++ ys) ≡ machine.before (scan st s P xs .entries) (scan (scan st s P xs .state) (scan st s P xs .store) (P + length xs) ys)
-scan-append = machine.scan-append byteStep
 
 -- an answer of the receiver is one of the machine
 abbrev pub plain : Answer → machine.Answer State

@@ -31,6 +31,10 @@ use Rattle.receiver.specs.declared.State.{State}
 use Rattle.receiver.specs.declared.Report.{Report}
 use Rattle.receiver.specs.declared.Report.the-variants as report
 use Rattle.receiver.specs.declared.Received.{Received}
+use Rattle.receiver.specs.declared.Transition.{Transition}
+use Rattle.receiver.specs.declared.Moved.{Moved}
+use Rattle.receiver.specs.declared.Taken.{Taken}
+use Rattle.receiver.specs.declared.Taken.the-variants as taken
 use Rattle.receiver.specs.declared.Started.{Started}
 use Rattle.receiver.specs.State.{sizeOf, placeOf, isRefused, needed, noFeatures, noHeader, noRefusal, blank, hasFirstSum, agrees}
 
@@ -82,6 +86,10 @@ pub record Stepped : Type 0 where
 
 abbrev pub stepped : State → List ℕ → Report → Stepped
 stepped st s r = record { state = st; store = s; report = r }
+
+-- as a transition says it, which leaves the block empty
+abbrev pub steppedBy : Transition → List ℕ → Stepped
+steppedBy t s = stepped (at (t .stage) (t .got) (t .known)) s (t .report)
 
 abbrev pub silent : State → List ℕ → Stepped
 silent st s = stepped st s report.More
@@ -221,6 +229,19 @@ answer st s piece =
 pub record Answered (st : State) (s piece : List ℕ) (r : Received) (s′ : List ℕ) : Type 0 where
   pub received : r ≡ answer st s piece .received
   pub store : s′ ≡ answer st s piece .store
+
+-- of a step or a call that leaves its block where it stands: what was received, with the block that it left
+abbrev pub movedTo : Moved → List ℕ → Received
+movedTo m block = record { state = stateAt (m .stage) (m .got) block (m .known); taken = m .taken; report = m .report }
+
+-- a refusal that takes nothing
+abbrev pub refusing : Stage → ℕ → Known → Numbers → Taken
+refusing k got v n = taken.Moved (record { stage = k; got = got; known = v; taken = 0; report = report.Event (event.Refused n) })
+
+-- and, where the piece may have been held, with the stage and what was known before, and the piece's length
+abbrev pub receivedBy : Stage → Known → List ℕ → ℕ → Taken → Received
+receivedBy k v block n (taken.Held got) = record { state = stateAt k got block v; taken = n; report = report.More }
+receivedBy k v block n (taken.Moved m) = movedTo m block
 
 -- ---- the start
 

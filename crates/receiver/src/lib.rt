@@ -7,22 +7,25 @@ use banner::Features;
 use banner::Revision;
 use banner::judge_own;
 use buffer::min;
-use pieces::take_piece;
+use pieces::feed;
+use pieces::fill;
 use preamble::Header;
 use refusal::Numbers;
 use refusal::Refusal;
 use refusal::Verdict;
 use refusal::in_numbers;
-use states::agrees_with_itself;
+use states::agree;
 use states::fresh;
 use states::is_refused;
 use states::needed_by;
+use states::only_own;
+use states::place_of;
 use states::refused_state;
+use states::size_of;
 use stream::Event;
 ghost use mathlib.Core.Path.{_≡_};
-ghost use mathlib.Core.List.{List};
-ghost use Prim.Native.Nat.{ℕ};
-ghost use Rattle.receiver.specs.Step.{refuseUnchanged, Answered, StartedWith};
+ghost use lib.ListN.{length};
+ghost use Rattle.receiver.specs.Step.{stateAt, refusing, receivedBy, Answered, StartedWith};
 ghost use Rattle.receiver.specs.Calls.{Demand3, ReceivedAll};
 ghost use Rattle.receiver.specs.Every.{EveryCall};
 ghost use Rattle.receiver.specs.Worked.{WorkedStates};
@@ -69,7 +72,7 @@ pub struct Known {
     pub refusal: Numbers,
 }
 
-// What a receiver is between two calls. It goes in by value and comes back.
+// What a receiver is between two calls. It goes in and comes back.
 pub struct State {
     pub position: Position,
     pub known: Known,
@@ -87,10 +90,27 @@ pub struct Received {
     pub report: Report,
 }
 
-// What the last byte of a stage comes to.
+// What the last byte of a stage comes to. The block is empty behind it.
 pub struct Transition {
-    pub state: State,
+    pub stage: Stage,
+    pub got: usize,
+    pub known: Known,
     pub report: Report,
+}
+
+// What a step or a call comes to, without the block, which stands elsewhere.
+pub struct Moved {
+    pub stage: Stage,
+    pub got: usize,
+    pub known: Known,
+    pub taken: usize,
+    pub report: Report,
+}
+
+pub enum Taken {
+    // The whole piece was taken and does not end the stage, of which so many bytes have come in all: nothing else changes. `Moved` may say the same.
+    Held(usize),
+    Moved(Moved),
 }
 
 // What a start gives: a state, and whether our own features were refused, which the state then repeats.
@@ -117,35 +137,95 @@ pub fn start(own: Features) -> Started
 }
 
 // Takes nothing and refuses.
-fn refuse_unchanged(st: State, n: Numbers) -> Received
-    ensures { λ r. ⌜ ((s : List ℕ) → r ≡ refuseUnchanged st n s .received) ⌝ }
+fn refuse_unchanged(stage: Stage, got: usize, known: Known, n: Numbers) -> Taken
+    ensures { λ r. ⌜ r ≡ refusing stage got known n ⌝ }
 {
-    Received {
-        state: st,
+    Taken::Moved(Moved {
+        stage: stage,
+        got: got,
+        known: known,
         taken: 0,
         report: Report::Event(Event::Refused(n)),
+    })
+}
+
+// What a call took, with the block that it left.
+fn received_with(stage: Stage, known: Known, block: [u8; 32], n: usize, t: Taken) -> Received
+    ensures { λ r. ⌜ r ≡ receivedBy stage known block n t ⌝ }
+{
+    match t {
+        Taken::Held(to) => Received {
+            state: State {
+                position: Position {
+                    stage: stage,
+                    got: to,
+                    block: block,
+                },
+                known: known,
+            },
+            taken: n,
+            report: Report::More,
+        },
+        Taken::Moved(m) => {
+            let next = m.stage;
+            let learnt = m.known;
+            let report = m.report;
+            Received {
+                state: State {
+                    position: Position {
+                        stage: next,
+                        got: m.got,
+                        block: block,
+                    },
+                    known: learnt,
+                },
+                taken: m.taken,
+                report: report,
+            }
+        }
     }
+}
+
+// A call on a state whose block is changed where it stands. Most pieces that a network hands in piecemeal end no stage: little is written then.
+pub fn receive_in(
+    stage: Stage,
+    got: usize,
+    known: Known,
+    block: &mut [u8; 32],
+    piece: &[u8],
+    store: &mut [u8],
+) -> Taken
+    ensures { λ r. ⌜ Answered (stateAt stage got (now (block .entry)) known) (now (store .entry)) (now (piece .entry)) (receivedBy stage known (now (block .exit)) (length (now (piece .entry))) r) (now (store .exit)) ⌝ }
+{
+    if !agree(stage, got, block, known) {
+        return refuse_unchanged(stage, got, known, in_numbers(Refusal::StateContradicts));
+    }
+    if is_refused(stage) {
+        return refuse_unchanged(stage, got, known, known.refusal);
+    }
+    let need = needed_by(stage, known);
+    if (store.len() as u64) < need {
+        let n = in_numbers(Refusal::StoreShort(need));
+        *block = [0u8; 32];
+        return refuse_unchanged(Stage::Refused, 0, only_own(known.own, n), n);
+    }
+    if piece.len() < size_of(stage, known) - got {
+        fill(place_of(stage), got, block, piece, store);
+        return Taken::Held(got + piece.len());
+    }
+    Taken::Moved(feed(stage, got, known, block, piece, store))
 }
 
 // A call: takes bytes of the piece up to and including the one that completes a report.
 pub fn receive(state: State, piece: &[u8], store: &mut [u8]) -> Received
     ensures { λ r. ⌜ Answered state (now (store .entry)) (now (piece .entry)) r (now (store .exit)) ⌝ }
 {
-    if !agrees_with_itself(state) {
-        return refuse_unchanged(state, in_numbers(Refusal::StateContradicts));
-    }
     let position = state.position;
     let stage = position.stage;
     let known = state.known;
-    if is_refused(stage) {
-        return refuse_unchanged(state, known.refusal);
-    }
-    let need = needed_by(stage, known);
-    if (store.len() as u64) < need {
-        let n = in_numbers(Refusal::StoreShort(need));
-        return refuse_unchanged(refused_state(known.own, n), n);
-    }
-    take_piece(state, piece, store)
+    let mut block = position.block;
+    let t = receive_in(stage, position.got, known, &mut block, piece, store);
+    received_with(stage, known, block, piece.len(), t)
 }
 
 // DEMAND 3, as a promise: it holds of every start, stream and store, and of every list of calls of `receive`. The body does nothing:

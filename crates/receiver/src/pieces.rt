@@ -1,9 +1,9 @@
-// Pieces of the stream: the bytes of one stage at a time, until one gives a report.
+// Pieces of the stream: the bytes of one stage at a time, until one gives a report. The block and the store are filled where they stand.
+use crate::Known;
+use crate::Moved;
 use crate::Place;
-use crate::Position;
-use crate::Received;
 use crate::Report;
-use crate::State;
+use crate::Stage;
 use crate::states::place_of;
 use crate::states::size_of;
 use crate::transitions::end_stage;
@@ -13,103 +13,59 @@ use buffer::put;
 ghost use mathlib.Core.Path.{_≡_};
 ghost use Prim.Native.Nat.{_+_, _≤_, _<_};
 ghost use lib.ListN.{length};
-ghost use lib.Seq.{sets};
 ghost use Rattle.receiver.specs.declared.Place.the-variants as places;
 ghost use Rattle.receiver.specs.State.{sizeOf, needed};
-ghost use Rattle.receiver.specs.Step.{blockWith, storeWith, isMore, Chunked, Fed, Running};
+ghost use Rattle.receiver.specs.Step.{stateAt, blockWith, storeWith, isMore, Chunked, Fed, Running, movedTo};
 
-// The block with the stage's next bytes, of which it had so many.
-fn fill_block(place: Place, block: [u8; 32], at: usize, bytes: &[u8]) -> [u8; 32]
-    requires { ⌜ (place ≡ places.Block → at + length (now bytes) ≤ 32) ⌝ }
-    ensures { λ r. ⌜ r ≡ blockWith place at block (now (bytes .entry)) ⌝ }
-{
-    let mut b = block;
-    match place {
-        Place::Block => put(&mut b[at..], bytes),
-        Place::Store => {}
-        Place::Nowhere => {}
-    }
-    b
-}
-
-// The store with them.
-fn fill_store(place: Place, store: &mut [u8], at: usize, bytes: &[u8])
-    requires { ⌜ (place ≡ places.Store → at + length (now bytes) ≤ length (now store)) ⌝ }
-    ensures { λ _. ⌜ now (store .exit) ≡ storeWith place at (now (store .entry)) (now (bytes .entry)) ⌝ }
+// Puts a stage's next bytes at their place, behind the `at` that came.
+pub(crate) fn fill(place: Place, at: usize, block: &mut [u8], bytes: &[u8], store: &mut [u8])
+    requires { ⌜ (place ≡ places.Block → at + length (now bytes) ≤ length (now block)) × (place ≡ places.Store → at + length (now bytes) ≤ length (now store)) ⌝ }
+    ensures { λ _. ⌜ (now (block .exit) ≡ blockWith place at (now (block .entry)) (now (bytes .entry))) × (now (store .exit) ≡ storeWith place at (now (store .entry)) (now (bytes .entry))) ⌝ }
 {
     match place {
-        Place::Block => {}
+        Place::Block => put(&mut block[at..], bytes),
         Place::Store => put(&mut store[at..], bytes),
         Place::Nowhere => {}
     }
 }
 
 // As many bytes as the stage still reads, or as the piece has.
-fn step(st: State, piece: &[u8], store: &mut [u8]) -> Received
-    requires { ⌜ (st .position .got < sizeOf (st .position .stage) (st .known)) × (needed (st .position .stage) (st .known) ≤ length (now store)) ⌝ }
-    ensures { λ r. ⌜ Chunked st (now (store .entry)) (now (piece .entry)) r (now (store .exit)) ⌝ }
+fn step(
+    stage: Stage,
+    got: usize,
+    known: Known,
+    block: &mut [u8; 32],
+    piece: &[u8],
+    store: &mut [u8],
+) -> Moved
+    requires { ⌜ (got < sizeOf stage known) × (needed stage known ≤ length (now store)) ⌝ }
+    ensures { λ r. ⌜ Chunked (stateAt stage got (now (block .entry)) known) (now (store .entry)) (now (piece .entry)) (movedTo r (now (block .exit))) (now (store .exit)) ⌝ }
 {
-    let position = st.position;
-    let stage = position.stage;
-    let got = position.got;
-    let old = position.block;
-    let known = st.known;
     let n = size_of(stage, known);
     let m = min(n - got, piece.len());
     let bytes = part(piece, 0, m);
-    let place = place_of(stage);
-    let block = fill_block(place, old, got, bytes);
-    fill_store(place, store, got, bytes);
+    fill(place_of(stage), got, block, bytes, store);
     let to = got + m;
     if to < n {
-        return Received {
-            state: State {
-                position: Position {
-                    stage: stage,
-                    got: to,
-                    block: block,
-                },
-                known: known,
-            },
+        return Moved {
+            stage: stage,
+            got: to,
+            known: known,
             taken: m,
             report: Report::More,
         };
     }
-    let t = end_stage(stage, &block, known, store);
-    let state = t.state;
+    let t = end_stage(stage, block, known, store);
+    *block = [0u8; 32];
+    let next = t.stage;
+    let learnt = t.known;
     let report = t.report;
-    Received {
-        state: state,
+    Moved {
+        stage: next,
+        got: t.got,
+        known: learnt,
         taken: m,
         report: report,
-    }
-}
-
-// A piece that does not end the stage, up to its byte `to`.
-fn hold(st: State, to: usize, piece: &[u8], store: &mut [u8]) -> Received
-    requires { ⌜ Running st (now store) × (to ≡ st .position .got + length (now piece)) × (to < sizeOf (st .position .stage) (st .known)) ⌝ }
-    ensures { λ r. ⌜ Fed st (now (store .entry)) (now (piece .entry)) r (now (store .exit)) ⌝ }
-{
-    let position = st.position;
-    let stage = position.stage;
-    let got = position.got;
-    let known = st.known;
-    let place = place_of(stage);
-    let old = position.block;
-    let block = fill_block(place, old, got, piece);
-    fill_store(place, store, got, piece);
-    let n = piece.len();
-    Received {
-        state: State {
-            position: Position {
-                stage: stage,
-                got: to,
-                block: block,
-            },
-            known: known,
-        },
-        taken: n,
-        report: Report::More,
     }
 }
 
@@ -123,44 +79,45 @@ fn is_more(report: Report) -> bool
 }
 
 // A piece, stage by stage, up to and including the byte of the first report.
-fn feed(state: State, piece: &[u8], store: &mut [u8]) -> Received
-    requires { ⌜ Running state (now store) ⌝ }
-    ensures { λ r. ⌜ Fed state (now (store .entry)) (now (piece .entry)) r (now (store .exit)) ⌝ }
+pub(crate) fn feed(
+    from: Stage,
+    came: usize,
+    knew: Known,
+    block: &mut [u8; 32],
+    piece: &[u8],
+    store: &mut [u8],
+) -> Moved
+    requires { ⌜ Running (stateAt from came (now block) knew) (now store) ⌝ }
+    ensures { λ r. ⌜ Fed (stateAt from came (now (block .entry)) knew) (now (store .entry)) (now (piece .entry)) (movedTo r (now (block .exit))) (now (store .exit)) ⌝ }
 {
-    let mut st = state;
+    let mut stage = from;
+    let mut got = came;
+    let mut known = knew;
     let mut at: usize = 0;
     while at < piece.len() {
-        let o = step(st, &piece[at..], store);
-        at += o.taken;
-        st = o.state;
+        let o = step(stage, got, known, block, &piece[at..], store);
+        let next = o.stage;
+        let learnt = o.known;
         let report = o.report;
+        at += o.taken;
+        stage = next;
+        got = o.got;
+        known = learnt;
         if !is_more(report) {
-            return Received {
-                state: st,
+            return Moved {
+                stage: stage,
+                got: got,
+                known: known,
                 taken: at,
                 report: report,
             };
         }
     }
-    Received {
-        state: st,
+    Moved {
+        stage: stage,
+        got: got,
+        known: known,
         taken: at,
         report: Report::More,
     }
-}
-
-// A piece. Most of those that a network hands in piecemeal end no stage: nothing but the position changes then.
-pub(crate) fn take_piece(state: State, piece: &[u8], store: &mut [u8]) -> Received
-    requires { ⌜ Running state (now store) ⌝ }
-    ensures { λ r. ⌜ Fed state (now (store .entry)) (now (piece .entry)) r (now (store .exit)) ⌝ }
-{
-    let position = state.position;
-    let known = state.known;
-    let stage = position.stage;
-    let got = position.got;
-    let left = size_of(stage, known) - got;
-    if piece.len() < left {
-        return hold(state, got + piece.len(), piece, store);
-    }
-    feed(state, piece, store)
 }

@@ -12,6 +12,7 @@ use banner::judge_own;
 use banner::revision_of;
 use body::epilogue_length;
 use body::no_first_sum;
+use buffer::u64_at;
 use preamble::Header;
 use preamble::Segment;
 use preamble::header_is_fine;
@@ -21,13 +22,14 @@ use refusal::both;
 use refusal::either;
 use refusal::is_fine;
 ghost use mathlib.Core.Path.{_≡_};
-ghost use mathlib.Core.Bool.{cond, _&&_};
-ghost use Prim.Native.Nat.{_-_};
-ghost use lib.ListN.{drop};
+ghost use mathlib.Core.Bool.{cond, _&&_, _||_};
+ghost use Prim.Native.Nat.{_-_, _^_};
+ghost use lib.Dec.{leb, ltb};
+ghost use lib.ListN.{length, drop};
 ghost use Rattle.buffer.specs.Zeros.{allZero};
-ghost use Rattle.receiver.specs.State.{rank, sizeOf, placeOf, isRefused, inBody, liveFrom, needed, noRefusal, isMsgr21, sameRevision, isNoFeatures, isNoSegment, isNoHeader, isNoRefusal, given, ownRule, payloadRule, peerRule, revisionRule, headerRule, hasFirstSum, firstRule, markRule, refusalRule, rules, leastOf, countRule, inBlock, blockRule, agrees};
+ghost use Rattle.receiver.specs.State.{rank, sizeOf, placeOf, isRefused, inBody, liveFrom, needed, noHeader, noRefusal, isMsgr21, sameRevision, isNoFeatures, isNoSegment, isNoHeader, isNoRefusal, given, ownRule, payloadRule, peerRule, revisionRule, headerRule, hasFirstSum, firstRule, markRule, refusalRule, rules, leastOf, countRule, inBlock, blockRule, agreesAt, agrees};
 ghost use Rattle.receiver.specs.declared.Stage.the-variants as stage;
-ghost use Rattle.receiver.specs.Step.{at, onlyOwn, withPayload, withPeer, withRevision, withHeader, withFirst, nextFrame};
+ghost use Rattle.receiver.specs.Step.{at, onlyOwn, withPayload, withPeer, withRevision, withHeader, withFirst};
 
 // ---- states
 
@@ -142,9 +144,9 @@ pub(crate) fn with_first(v: Known) -> Known
     next
 }
 
-// The next frame begins.
-pub(crate) fn next_frame(v: Known) -> State
-    ensures { λ r. ⌜ r ≡ nextFrame v ⌝ }
+// No frame yet.
+pub(crate) fn without_header(v: Known) -> Known
+    ensures { λ r. ⌜ r ≡ withHeader v noHeader ⌝ }
 {
     let none = Segment { len: 0, align: 0 };
     let header = Header {
@@ -155,7 +157,7 @@ pub(crate) fn next_frame(v: Known) -> State
         s3: none,
         s4: none,
     };
-    state_at(Stage::Preamble, 0, with_header(v, header))
+    with_header(v, header)
 }
 
 // ---- stages
@@ -424,23 +426,44 @@ fn in_block(place: Place, got: usize) -> usize
     }
 }
 
-// Zeros from a place on. Every byte is looked at, so that the loop has no branch.
-fn zeros_from(block: &[u8], from: usize) -> bool
-    ensures { λ r. ⌜ r ≡ allZero (drop from (now (block .entry))) ⌝ }
+// A number has at most n bytes that are not zero, its lowest ones.
+fn is_within(w: u64, n: usize) -> bool
+    ensures { λ r. ⌜ r ≡ (leb 8 n || ltb w (256 ^ n)) ⌝ }
 {
-    let mut fine = true;
-    let mut i: usize = 0;
-    while i < block.len() {
-        fine = both(fine, either(i < from, block[i] == 0));
-        i += 1;
+    match n {
+        0 => w < 1,
+        1 => w < 256,
+        2 => w < 65536,
+        3 => w < 16777216,
+        4 => w < 4294967296,
+        5 => w < 1099511627776,
+        6 => w < 281474976710656,
+        7 => w < 72057594037927936,
+        _ => true,
     }
-    fine
 }
 
-fn block_rule(stage: Stage, got: usize, block: [u8; 32]) -> bool
-    ensures { λ r. ⌜ r ≡ blockRule stage got block ⌝ }
+fn minus(a: usize, b: usize) -> usize
+    ensures { λ r. ⌜ r ≡ a - b ⌝ }
 {
-    zeros_from(&block, in_block(place_of(stage), got))
+    if a < b { 0 } else { a - b }
+}
+
+// Zeros from a place on, eight bytes at a time.
+fn zeros_from(block: &[u8], from: usize) -> bool
+    requires { ⌜ length (now block) ≡ 32 ⌝ }
+    ensures { λ r. ⌜ r ≡ allZero (drop from (now (block .entry))) ⌝ }
+{
+    let fourth = is_within(u64_at(block, 24), minus(from, 24));
+    let last = both(is_within(u64_at(block, 16), minus(from, 16)), fourth);
+    let rest = both(is_within(u64_at(block, 8), minus(from, 8)), last);
+    both(is_within(u64_at(block, 0), from), rest)
+}
+
+fn block_rule(stage: Stage, got: usize, block: &[u8; 32]) -> bool
+    ensures { λ r. ⌜ r ≡ blockRule stage got (now (block .entry)) ⌝ }
+{
+    zeros_from(block, in_block(place_of(stage), got))
 }
 
 fn banner_rules(stage: Stage, v: Known) -> bool
@@ -459,6 +482,13 @@ fn rules_hold(stage: Stage, v: Known) -> bool
 }
 
 // The fields agree: what refusal 26 asks.
+pub(crate) fn agree(stage: Stage, got: usize, block: &[u8; 32], known: Known) -> bool
+    ensures { λ r. ⌜ r ≡ agreesAt stage got (now (block .entry)) known ⌝ }
+{
+    let counted = both(rules_hold(stage, known), count_rule(stage, known, got));
+    both(counted, block_rule(stage, got, block))
+}
+
 pub fn agrees_with_itself(st: State) -> bool
     ensures { λ r. ⌜ r ≡ agrees st ⌝ }
 {
@@ -466,9 +496,5 @@ pub fn agrees_with_itself(st: State) -> bool
     let known = st.known;
     let stage = position.stage;
     let block = position.block;
-    let counted = both(
-        rules_hold(stage, known),
-        count_rule(stage, known, position.got),
-    );
-    both(counted, block_rule(stage, position.got, block))
+    agree(stage, position.got, &block, known)
 }

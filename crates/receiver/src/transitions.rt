@@ -2,17 +2,15 @@
 use crate::Known;
 use crate::Report;
 use crate::Stage;
-use crate::State;
 use crate::Transition;
 use crate::states::has_first_sum;
-use crate::states::next_frame;
-use crate::states::refused_state;
-use crate::states::state_at;
+use crate::states::only_own;
 use crate::states::with_first;
 use crate::states::with_header;
 use crate::states::with_payload;
 use crate::states::with_peer;
 use crate::states::with_revision;
+use crate::states::without_header;
 use banner::judge_features;
 use banner::judge_length;
 use banner::judge_magic;
@@ -27,8 +25,8 @@ use buffer::put_zeros;
 use buffer::u16_at;
 use buffer::u32_at;
 use preamble::Header;
-use preamble::judge_preamble;
-use preamble::read_header;
+use preamble::judge_read;
+use preamble::read_block;
 use preamble::total_of;
 use refusal::Numbers;
 use refusal::Refusal;
@@ -44,29 +42,48 @@ ghost use Rattle.preamble.specs.Layout.{total};
 ghost use Rattle.body.specs.End.{whole, dropped, turnedAway};
 ghost use Rattle.stream.specs.Stream.{zeroed};
 ghost use Rattle.receiver.specs.declared.Stage.the-variants as stage;
+ghost use Rattle.receiver.specs.declared.Report.the-variants as report;
 ghost use Rattle.receiver.specs.State.{needed};
-ghost use Rattle.receiver.specs.Step.{stepped, silent, refuse, unlessRefused, endBanner, endFrame, beginEpilogue, beginRest, beginBody, behindFirstSum, finish};
+ghost use Rattle.receiver.specs.Step.{at, stepped, steppedBy, silent, refuse, unlessRefused, endBanner, endFrame, beginEpilogue, beginRest, beginBody, behindFirstSum, finish};
 
-fn more(st: State) -> Transition
-    ensures { λ r. ⌜ ((s : List ℕ) → stepped (r .state) s (r .report) ≡ silent st s) ⌝ }
+// At a stage of which so many bytes came.
+fn at_stage(stage: Stage, got: usize, v: Known, report: Report) -> Transition
+    ensures { λ r. ⌜ ((s : List ℕ) → steppedBy r s ≡ stepped (at stage got v) s report) ⌝ }
 {
     Transition {
-        state: st,
-        report: Report::More,
+        stage: stage,
+        got: got,
+        known: v,
+        report: report,
     }
+}
+
+fn more(stage: Stage, got: usize, v: Known) -> Transition
+    ensures { λ r. ⌜ ((s : List ℕ) → steppedBy r s ≡ silent (at stage got v) s) ⌝ }
+{
+    at_stage(stage, got, v, Report::More)
 }
 
 fn refuse(v: Known, n: Numbers) -> Transition
-    ensures { λ r. ⌜ ((s : List ℕ) → stepped (r .state) s (r .report) ≡ refuse v n s) ⌝ }
+    ensures { λ r. ⌜ ((s : List ℕ) → steppedBy r s ≡ refuse v n s) ⌝ }
 {
-    Transition {
-        state: refused_state(v.own, n),
-        report: Report::Event(Event::Refused(n)),
-    }
+    at_stage(
+        Stage::Refused,
+        0,
+        only_own(v.own, n),
+        Report::Event(Event::Refused(n)),
+    )
+}
+
+// A preamble comes next, its first byte first.
+fn begin_preamble(v: Known, event: Event) -> Transition
+    ensures { λ r. ⌜ ((s : List ℕ) → steppedBy r s ≡ stepped (at stage.Preamble 0 v) s (report.Event event)) ⌝ }
+{
+    at_stage(Stage::Preamble, 0, v, Report::Event(event))
 }
 
 fn unless_refused(verdict: Verdict, v: Known, t: Transition) -> Transition
-    ensures { λ r. ⌜ ((s : List ℕ) → stepped (r .state) s (r .report) ≡ unlessRefused (judgedBy verdict) v s (stepped (t .state) s (t .report))) ⌝ }
+    ensures { λ r. ⌜ ((s : List ℕ) → steppedBy r s ≡ unlessRefused (judgedBy verdict) v s (steppedBy t s)) ⌝ }
 {
     match verdict {
         Verdict::Fine => t,
@@ -76,47 +93,41 @@ fn unless_refused(verdict: Verdict, v: Known, t: Transition) -> Transition
 
 // The peer's features are known.
 fn end_banner(v: Known) -> Transition
-    ensures { λ r. ⌜ ((s : List ℕ) → stepped (r .state) s (r .report) ≡ endBanner v s) ⌝ }
+    ensures { λ r. ⌜ ((s : List ℕ) → steppedBy r s ≡ endBanner v s) ⌝ }
 {
     let own = v.own;
     let peer = v.peer;
     let revision = revision_of(own.supported, peer.supported);
-    let t = Transition {
-        state: state_at(Stage::Preamble, 0, with_revision(v, revision)),
-        report: Report::Event(Event::Banner(peer, revision)),
-    };
+    let t = begin_preamble(with_revision(v, revision), Event::Banner(peer, revision));
     unless_refused(judge_features(own, peer), v, t)
 }
 
 // A frame is whole.
 fn end_whole(v: Known) -> Transition
-    ensures { λ r. ⌜ ((s : List ℕ) → stepped (r .state) s (r .report) ≡ endFrame whole v s) ⌝ }
+    ensures { λ r. ⌜ ((s : List ℕ) → steppedBy r s ≡ endFrame whole v s) ⌝ }
 {
     let header = v.header;
-    Transition {
-        state: next_frame(v),
-        report: Report::Event(Event::Frame(header)),
-    }
+    begin_preamble(without_header(v), Event::Frame(header))
 }
 
 // Behind the segments.
 fn begin_epilogue(v: Known) -> Transition
-    ensures { λ r. ⌜ ((s : List ℕ) → stepped (r .state) s (r .report) ≡ beginEpilogue v s) ⌝ }
+    ensures { λ r. ⌜ ((s : List ℕ) → steppedBy r s ≡ beginEpilogue v s) ⌝ }
 {
     let revision = v.revision;
     if no_epilogue(revision, v.header) {
         end_whole(v)
     } else {
-        more(state_at(Stage::Epilogue, 0, v))
+        more(Stage::Epilogue, 0, v)
     }
 }
 
 // Behind so many segment bytes.
 fn begin_rest(v: Known, got: usize) -> Transition
-    ensures { λ r. ⌜ ((s : List ℕ) → stepped (r .state) s (r .report) ≡ beginRest v got s) ⌝ }
+    ensures { λ r. ⌜ ((s : List ℕ) → steppedBy r s ≡ beginRest v got s) ⌝ }
 {
     if (got as u64) < total_of(v.header) {
-        more(state_at(Stage::Rest, got, v))
+        more(Stage::Rest, got, v)
     } else {
         begin_epilogue(v)
     }
@@ -124,47 +135,50 @@ fn begin_rest(v: Known, got: usize) -> Transition
 
 // Behind an accepted preamble.
 fn begin_body(v: Known) -> Transition
-    ensures { λ r. ⌜ ((s : List ℕ) → stepped (r .state) s (r .report) ≡ beginBody v s) ⌝ }
+    ensures { λ r. ⌜ ((s : List ℕ) → steppedBy r s ≡ beginBody v s) ⌝ }
 {
     if has_first_sum(v) {
-        more(state_at(Stage::First, 0, v))
+        more(Stage::First, 0, v)
     } else {
         begin_rest(v, 0)
     }
 }
 
 fn end_magic(block: &[u8], v: Known) -> Transition
-    ensures { λ r. ⌜ ((s : List ℕ) → stepped (r .state) s (r .report) ≡ finish stage.Magic (now (block .entry)) v s) ⌝ }
+    ensures { λ r. ⌜ ((s : List ℕ) → steppedBy r s ≡ finish stage.Magic (now (block .entry)) v s) ⌝ }
 {
     let verdict = judge_magic(part(block, 0, 8));
-    unless_refused(verdict, v, more(state_at(Stage::Length, 0, v)))
+    unless_refused(verdict, v, more(Stage::Length, 0, v))
 }
 
 fn end_length(block: &[u8], v: Known) -> Transition
-    ensures { λ r. ⌜ ((s : List ℕ) → stepped (r .state) s (r .report) ≡ finish stage.Length (now (block .entry)) v s) ⌝ }
+    ensures { λ r. ⌜ ((s : List ℕ) → steppedBy r s ≡ finish stage.Length (now (block .entry)) v s) ⌝ }
 {
     let n = u16_at(block, 0);
-    let next = state_at(Stage::Payload, 0, with_payload(v, n));
-    unless_refused(judge_length(n), v, more(next))
+    let next = more(Stage::Payload, 0, with_payload(v, n));
+    unless_refused(judge_length(n), v, next)
 }
 
 fn end_payload(block: &[u8], v: Known) -> Transition
-    ensures { λ r. ⌜ ((s : List ℕ) → stepped (r .state) s (r .report) ≡ finish stage.Payload (now (block .entry)) v s) ⌝ }
+    ensures { λ r. ⌜ ((s : List ℕ) → steppedBy r s ≡ finish stage.Payload (now (block .entry)) v s) ⌝ }
 {
     let known = with_peer(v, read_features(part(block, 0, 16)));
     if v.payload <= 16 {
         end_banner(known)
     } else {
-        more(state_at(Stage::Skip, 0, known))
+        more(Stage::Skip, 0, known)
     }
 }
 
-fn end_preamble(block: &[u8], v: Known, store: usize) -> Transition
-    ensures { λ r. ⌜ ((s : List ℕ) → length s ≡ store → stepped (r .state) s (r .report) ≡ finish stage.Preamble (now (block .entry)) v s) ⌝ }
+fn end_preamble(block: &[u8; 32], v: Known, store: usize) -> Transition
+    ensures { λ r. ⌜ ((s : List ℕ) → length s ≡ store → steppedBy r s ≡ finish stage.Preamble (now (block .entry)) v s) ⌝ }
 {
-    let verdict = judge_preamble(block, store);
-    let known = with_header(v, read_header(block));
-    unless_refused(verdict, v, begin_body(known))
+    let p = read_block(block);
+    let verdict = judge_read(p, block, store);
+    match verdict {
+        Verdict::Fine => begin_body(with_header(v, p.header)),
+        Verdict::Refused(why) => refuse(v, in_numbers(why)),
+    }
 }
 
 // Zeros in the store's first T bytes.
@@ -177,7 +191,7 @@ fn zero_payload(store: &mut [u8], h: Header)
 
 fn refuse_frame(v: Known, n: Numbers, store: &mut [u8]) -> Transition
     requires { ⌜ total (v .header) ≤ length (now store) ⌝ }
-    ensures { λ r. ⌜ stepped (r .state) (now (store .exit)) (r .report) ≡ endFrame (turnedAway n) v (now (store .entry)) ⌝ }
+    ensures { λ r. ⌜ steppedBy r (now (store .exit)) ≡ endFrame (turnedAway n) v (now (store .entry)) ⌝ }
 {
     zero_payload(store, v.header);
     refuse(v, n)
@@ -185,27 +199,27 @@ fn refuse_frame(v: Known, n: Numbers, store: &mut [u8]) -> Transition
 
 fn drop_frame(v: Known, store: &mut [u8]) -> Transition
     requires { ⌜ total (v .header) ≤ length (now store) ⌝ }
-    ensures { λ r. ⌜ stepped (r .state) (now (store .exit)) (r .report) ≡ endFrame dropped v (now (store .entry)) ⌝ }
+    ensures { λ r. ⌜ steppedBy r (now (store .exit)) ≡ endFrame dropped v (now (store .entry)) ⌝ }
 {
     let header = v.header;
     zero_payload(store, header);
-    Transition {
-        state: next_frame(v),
-        report: Report::Event(Event::Dropped(header)),
-    }
+    begin_preamble(without_header(v), Event::Dropped(header))
 }
 
 // Segment 1's checksum holds: it is reported early where more segments follow.
 fn behind_first_sum(v: Known, n: usize) -> Transition
     requires { ⌜ n ≡ v .header .s1 .len ⌝ }
-    ensures { λ r. ⌜ ((s : List ℕ) → stepped (r .state) s (r .report) ≡ behindFirstSum v s) ⌝ }
+    ensures { λ r. ⌜ ((s : List ℕ) → steppedBy r s ≡ behindFirstSum v s) ⌝ }
 {
     let t = begin_rest(with_first(v), n);
     let header = v.header;
     if 1 < header.count {
-        let state = t.state;
+        let next = t.stage;
+        let learnt = t.known;
         return Transition {
-            state: state,
+            stage: next,
+            got: t.got,
+            known: learnt,
             report: Report::Event(Event::First(header)),
         };
     }
@@ -214,7 +228,7 @@ fn behind_first_sum(v: Known, n: usize) -> Transition
 
 fn end_first_sum(block: &[u8], v: Known, store: &mut [u8]) -> Transition
     requires { ⌜ total (v .header) ≤ length (now store) ⌝ }
-    ensures { λ r. ⌜ stepped (r .state) (now (store .exit)) (r .report) ≡ finish stage.FirstSum (now (block .entry)) v (now (store .entry)) ⌝ }
+    ensures { λ r. ⌜ steppedBy r (now (store .exit)) ≡ finish stage.FirstSum (now (block .entry)) v (now (store .entry)) ⌝ }
 {
     let n = v.header.s1.len as usize;
     let stored = u32_at(block, 0);
@@ -227,7 +241,7 @@ fn end_first_sum(block: &[u8], v: Known, store: &mut [u8]) -> Transition
 
 fn end_epilogue(block: &[u8], v: Known, store: &mut [u8]) -> Transition
     requires { ⌜ total (v .header) ≤ length (now store) ⌝ }
-    ensures { λ r. ⌜ stepped (r .state) (now (store .exit)) (r .report) ≡ finish stage.Epilogue (now (block .entry)) v (now (store .entry)) ⌝ }
+    ensures { λ r. ⌜ steppedBy r (now (store .exit)) ≡ finish stage.Epilogue (now (block .entry)) v (now (store .entry)) ⌝ }
 {
     let revision = v.revision;
     let header = v.header;
@@ -241,9 +255,9 @@ fn end_epilogue(block: &[u8], v: Known, store: &mut [u8]) -> Transition
 }
 
 // The last byte of the stage came.
-pub(crate) fn end_stage(stage: Stage, block: &[u8], v: Known, store: &mut [u8]) -> Transition
+pub(crate) fn end_stage(stage: Stage, block: &[u8; 32], v: Known, store: &mut [u8]) -> Transition
     requires { ⌜ needed stage v ≤ length (now store) ⌝ }
-    ensures { λ r. ⌜ stepped (r .state) (now (store .exit)) (r .report) ≡ finish stage (now (block .entry)) v (now (store .entry)) ⌝ }
+    ensures { λ r. ⌜ steppedBy r (now (store .exit)) ≡ finish stage (now (block .entry)) v (now (store .entry)) ⌝ }
 {
     match stage {
         Stage::Magic => end_magic(block, v),
@@ -251,10 +265,10 @@ pub(crate) fn end_stage(stage: Stage, block: &[u8], v: Known, store: &mut [u8]) 
         Stage::Payload => end_payload(block, v),
         Stage::Skip => end_banner(v),
         Stage::Preamble => end_preamble(block, v, store.len()),
-        Stage::First => more(state_at(Stage::FirstSum, 0, v)),
+        Stage::First => more(Stage::FirstSum, 0, v),
         Stage::FirstSum => end_first_sum(block, v, store),
         Stage::Rest => begin_epilogue(v),
         Stage::Epilogue => end_epilogue(block, v, store),
-        Stage::Refused => more(state_at(Stage::Refused, 0, v)),
+        Stage::Refused => more(Stage::Refused, 0, v),
     }
 }

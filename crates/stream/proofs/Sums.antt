@@ -16,7 +16,7 @@ use Rattle.preamble.specs.Layout.{total}
 use Rattle.preamble.specs.Judge.{headerOf, judgePreamble}
 use Rattle.body.specs.Body.{bodyLength, firstSumLength, wireLength}
 use Rattle.body.specs.End.{Ended, whole, dropped, turnedAway, segmentBytes, ending}
-use Rattle.stream.specs.Stream.{Trace, ended, unlessRefused, refusedAt, zeroed, firstWrong, firstReported, reportedFirst, atEnd, bodyTrace, frames, bannerTrace, payloadOf, peerOf, streamTrace, byOwn, traceOf}
+use Rattle.stream.specs.Stream.{Trace, ended, unlessRefused, refusedAt, zeroed, firstSumEnd, firstWrong, firstReported, reportedFirst, atEnd, bodyTrace, frames, bannerTrace, payloadOf, peerOf, streamTrace, byOwn, traceOf}
 use Rattle.stream.specs.Adds.{Adds, AddsUp, AllAddUp}
 
 pub least : (revision : Revision) (h : Header) → 32 ≤ wireLength revision h
@@ -35,7 +35,7 @@ module _ (revision : Revision) (h : Header) (P : ℕ) (b s : List ℕ) (next : L
   end-adds dropped p = (refl, a _)
   end-adds (turnedAway n) p = (let w = least revision h in omega arith)
 
-  first-adds : (f : Bool) (at : ℕ) (x : List ℕ) (t : Trace) → at ≡ P + 36 + h .s1 .len → AddsTrace revision P t → AddsTrace revision P (reportedFirst f h at x t)
+  first-adds : (f : Bool) (at : ℕ) (x : List ℕ) (t : Trace) → at ≡ firstSumEnd P h → AddsTrace revision P t → AddsTrace revision P (reportedFirst f h at x t)
   first-adds true at x t e u = (e, u)
   first-adds false at x t e u = u
 
@@ -43,12 +43,12 @@ module _ (revision : Revision) (h : Header) (P : ℕ) (b s : List ℕ) (next : L
   body-adds = go (firstWrong revision h b) (ltb (length b) (bodyLength revision h))
     where
       go : (w c : Bool) → AddsTrace revision P
-          (cond w (refusedAt (row 11 1 0 0) (P + 36 + h .s1 .len) (zeroed h s))
-          (reportedFirst (firstReported revision h b) h (P + 36 + h .s1 .len) (replaceFront (take (h .s1 .len) b) s)
+          (cond w (refusedAt (row 11 1 0 0) (firstSumEnd P h) (zeroed h s))
+          (reportedFirst (firstReported revision h b) h (firstSumEnd P h) (replaceFront (take (h .s1 .len) b) s)
           (cond c (ended (replaceFront (segmentBytes revision h b) s)) (atEnd (ending revision h (drop (total h + firstSumLength revision h) b) (segmentBytes revision h b)) h (P + wireLength revision h) s (segmentBytes revision h b) next))))
       go true c = omega arith
-      go false true = first-adds (firstReported revision h b) (P + 36 + h .s1 .len) (replaceFront (take (h .s1 .len) b) s) _ refl tt
-      go false false = first-adds (firstReported revision h b) (P + 36 + h .s1 .len) (replaceFront (take (h .s1 .len) b) s) _ refl (end-adds (ending revision h (drop (total h + firstSumLength revision h) b) (segmentBytes revision h b)) (segmentBytes revision h b))
+      go false true = first-adds (firstReported revision h b) (firstSumEnd P h) (replaceFront (take (h .s1 .len) b) s) _ refl tt
+      go false false = first-adds (firstReported revision h b) (firstSumEnd P h) (replaceFront (take (h .s1 .len) b) s) _ refl (end-adds (ending revision h (drop (total h + firstSumLength revision h) b) (segmentBytes revision h b)) (segmentBytes revision h b))
 
 frames-add : (f : ℕ) (revision : Revision) (P : ℕ) (rest s : List ℕ) → AddsTrace revision P (frames f revision P rest s)
 unfolding frames
@@ -60,7 +60,7 @@ frames-add (suc f) revision P rest s = go (ltb (length rest) 32) (λ Q r t. fram
         (cond c (ended s)
         (unlessRefused (judgePreamble (take 32 rest) (length s)) (P + 32) s
         (bodyTrace revision (headerOf (take 32 rest)) P (drop 32 rest) s
-        (λ t. frames f revision (P + wireLength revision (headerOf (take 32 rest))) (drop (32 + bodyLength revision (headerOf (take 32 rest))) rest) t))))
+        (λ t. frames f revision (P + wireLength revision (headerOf (take 32 rest))) (drop (wireLength revision (headerOf (take 32 rest))) rest) t))))
     go true ih = tt
     go false ih =
         judged revision P (P + 32) (judgePreamble (take 32 rest) (length s)) s _ (omega arith)

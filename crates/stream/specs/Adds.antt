@@ -7,12 +7,12 @@ use Rattle.banner.specs.declared.Revision.{Revision}
 use Rattle.body.specs.Body.{wireLength}
 use Rattle.stream.specs.declared.Event.{Event}
 use Rattle.stream.specs.declared.Event.the-variants.{Banner, First, Frame, Dropped, Refused}
-use Rattle.stream.specs.Stream.{Entry, traceOf}
+use Rattle.stream.specs.Stream.{Entry, firstSumEnd, traceOf}
 
 -- an entry from P on, and what is asked of the later ones. An early report of segment 1 adds no bytes: its frame still begins at P
 abbrev pub AddsAt : Revision → ℕ → Event → ℕ → (ℕ → Type 0) → Type 0
 AddsAt revision P (Banner p r) at later = ⊥
-AddsAt revision P (First h) at later = (at ≡ P + 36 + h .s1 .len) × later P
+AddsAt revision P (First h) at later = (at ≡ firstSumEnd P h) × later P
 AddsAt revision P (Frame h) at later = (at ≡ P + wireLength revision h) × later at
 AddsAt revision P (Dropped h) at later = (at ≡ P + wireLength revision h) × later at
 AddsAt revision P (Refused n) at later = P < at

@@ -1,3 +1,4 @@
+pub mod Events
 pub mod Stream
 pub mod Rows
 pub mod Worked

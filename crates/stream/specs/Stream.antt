@@ -59,6 +59,10 @@ unlessRefused (refused n) at store t = refusedAt n at store
 abbrev pub zeroed : Header → List ℕ → List ℕ
 zeroed h store = replaceFront (replicate (total h) 0) store
 
+-- the byte at which segment 1's checksum ends, of a frame that begins at P and has one
+abbrev pub firstSumEnd : ℕ → Header → ℕ
+firstSumEnd P h = P + 36 + h .s1 .len
+
 -- segment 1's checksum, which msgr2.1 has behind a segment 1 that is not empty, is there and differs; b are the bytes behind the preamble
 abbrev pub firstWrong : Revision → Header → List ℕ → Bool
 firstWrong revision h b =
@@ -80,8 +84,8 @@ reportedFirst b h at store t = cond b (after (First h) at store t) t
 -- the bytes b behind the preamble, from P, of a frame whose preamble is accepted; next is what follows the frame
 abbrev pub bodyTrace : Revision → Header → ℕ → List ℕ → List ℕ → (List ℕ → Trace) → Trace
 bodyTrace revision h P b store next =
-    cond (firstWrong revision h b) (refusedAt (numbersOf (refusal.SegmentChecksum 1)) (P + 36 + h .s1 .len) (zeroed h store))
-    (reportedFirst (firstReported revision h b) h (P + 36 + h .s1 .len) (replaceFront (take (h .s1 .len) b) store)
+    cond (firstWrong revision h b) (refusedAt (numbersOf (refusal.SegmentChecksum 1)) (firstSumEnd P h) (zeroed h store))
+    (reportedFirst (firstReported revision h b) h (firstSumEnd P h) (replaceFront (take (h .s1 .len) b) store)
     (cond (ltb (length b) (bodyLength revision h)) (ended (replaceFront (segmentBytes revision h b) store))
     (atEnd (ending revision h (drop (total h + firstSumLength revision h) b) (segmentBytes revision h b)) h (P + wireLength revision h) store (segmentBytes revision h b) next)))
 
@@ -92,7 +96,7 @@ frames (suc f) revision P rest store =
     cond (ltb (length rest) 32) (ended store)
     (unlessRefused (judgePreamble (take 32 rest) (length store)) (P + 32) store
     (bodyTrace revision (headerOf (take 32 rest)) P (drop 32 rest) store
-    (λ s. frames f revision (P + wireLength revision (headerOf (take 32 rest))) (drop (32 + bodyLength revision (headerOf (take 32 rest))) rest) s)))
+    (λ s. frames f revision (P + wireLength revision (headerOf (take 32 rest))) (drop (wireLength revision (headerOf (take 32 rest))) rest) s)))
 
 -- ---- the banner, and frames behind it
 

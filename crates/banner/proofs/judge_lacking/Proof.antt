@@ -2,14 +2,8 @@ use borrow.Author.Needs.{needs}
 use Rattle.banner.proofs.judge_lacking.Statement.{statement}
 use Rattle.banner.proofs.judge_lacking.Tie as tie
 
-detail-of-requires : tie.Need-detail-of-requires
-detail-of-requires c κs = search needs
-
-unless-ok-requires : tie.Need-unless-ok-requires
-unless-ok-requires c κs = search needs
-
 returns : tie.Need-returns
 returns c = cc
 
 pub judge-lacking-spec : {M : Type 1} → statement M
-judge-lacking-spec = tie.close (tie.spec detail-of-requires unless-ok-requires returns)
+judge-lacking-spec = tie.close (tie.spec (λ c κs. search needs) (λ c κs. search needs) returns)

@@ -4,26 +4,8 @@ use borrow.Author.Needs.{needs}
 use Rattle.body.proofs.end_by_late.Statement.{statement}
 use Rattle.body.proofs.end_by_late.Tie as tie
 
-byte-at-requires : tie.Need-byte-at-requires
-byte-at-requires c κs = search needs
-
-read-late-requires : tie.Need-read-late-requires
-read-late-requires c κs = search needs
-
 enum-told : tie.Need-enum-told
 enum-told c = search needs
-
-enum-told-2 : tie.Need-enum-told-2
-enum-told-2 c = search needs
-
-enum-told-3 : tie.Need-enum-told-3
-enum-told-3 c = search needs
-
-compare-sums-requires : tie.Need-compare-sums-requires
-compare-sums-requires c κs = search needs
-
-ended-requires : tie.Need-ended-requires
-ended-requires c κs = search needs
 
 returns : tie.Need-returns
 returns c =
@@ -45,13 +27,13 @@ pub end-by-late-spec : {M : Type 1} → statement M
 end-by-late-spec =
     tie.close
     (tie.spec
-    byte-at-requires
-    read-late-requires
+    (λ c κs. search needs)
+    (λ c κs. search needs)
     enum-told
-    enum-told-2
-    enum-told-3
-    compare-sums-requires
-    ended-requires
+    (λ c. search needs)
+    (λ c. search needs)
+    (λ c κs. search needs)
+    (λ c κs. search needs)
     returns
     returns-2
     returns-3)

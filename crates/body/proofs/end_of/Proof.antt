@@ -5,24 +5,12 @@ use borrow.Author.Needs.{needs}
 use Rattle.body.proofs.end_of.Statement.{statement}
 use Rattle.body.proofs.end_of.Tie as tie
 
-no-epilogue-requires : tie.Need-no-epilogue-requires
-no-epilogue-requires c κs = search needs
-
 returns : tie.Need-returns
 unfolding ending
 returns c = rw (sym (c .before .no-epilogue .ensures) ∙ c .if1 .taken)
 
-judge-spelling-requires : tie.Need-judge-spelling-requires
-judge-spelling-requires c κs = search needs
-
-enum-known-spelling : tie.Need-enum-known-spelling
-enum-known-spelling c = search needs
-
 enum-told : tie.Need-enum-told
 enum-told c = search needs
-
-end-by-late-requires : tie.Need-end-by-late-requires
-end-by-late-requires c κs = search needs
 
 returns-2 : tie.Need-returns-2
 unfolding ending
@@ -36,11 +24,11 @@ pub end-of-spec : {M : Type 1} → statement M
 end-of-spec =
     tie.close
     (tie.spec
-    no-epilogue-requires
+    (λ c κs. search needs)
     returns
-    judge-spelling-requires
-    enum-known-spelling
+    (λ c κs. search needs)
+    (λ c. search needs)
     enum-told
-    end-by-late-requires
+    (λ c κs. search needs)
     returns-2
     returns-3)

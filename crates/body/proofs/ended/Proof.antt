@@ -6,17 +6,8 @@ use borrow.Author.Needs.{needs}
 use Rattle.body.proofs.ended.Statement.{statement}
 use Rattle.body.proofs.ended.Tie as tie
 
-enum-told : tie.Need-enum-told
-enum-told c = search needs
-
-enum-known-v : tie.Need-enum-known-v
-enum-known-v c = search needs
-
-returns : tie.Need-returns
-returns c = search needs
-
 returns-2 : tie.Need-returns-2
 returns-2 c = sym (ap (λ (v : Verdict). endedBy (judgedBy v)) (c .before .v .given .1))
 
 pub ended-spec : {M : Type 1} → statement M
-ended-spec = tie.close (tie.spec enum-told enum-known-v returns returns-2)
+ended-spec = tie.close (tie.spec (λ c. search needs) (λ c. search needs) (λ c. search needs) returns-2)

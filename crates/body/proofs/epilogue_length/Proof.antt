@@ -4,15 +4,6 @@ use borrow.Author.Needs.{needs}
 use Rattle.body.proofs.epilogue_length.Statement.{statement}
 use Rattle.body.proofs.epilogue_length.Tie as tie
 
-enum-told : tie.Need-enum-told
-enum-told c = search needs
-
-enum-told-2 : tie.Need-enum-told-2
-enum-told-2 c = search needs
-
-returns : tie.Need-returns
-returns c = search needs
-
 returns-2 : tie.Need-returns-2
 returns-2 c = (simp (c .before .before .enum-told2 .given .1, le-leb _ _ (c .if1 .taken)), omega arith)
 
@@ -20,4 +11,4 @@ returns-3 : tie.Need-returns-3
 returns-3 c = (simp (c .before .before .enum-told2 .given .1, lt-leb _ _ (c .if1 .left)), omega arith)
 
 pub epilogue-length-spec : {M : Type 1} → statement M
-epilogue-length-spec = tie.close (tie.spec enum-told enum-told-2 returns returns-2 returns-3)
+epilogue-length-spec = tie.close (tie.spec (λ c. search needs) (λ c. search needs) (λ c. search needs) returns-2 returns-3)

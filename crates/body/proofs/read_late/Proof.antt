@@ -6,9 +6,6 @@ use Rattle.body.proofs.read_late.Tie as tie
 enum-told : tie.Need-enum-told
 enum-told c = search needs
 
-enum-told-2 : tie.Need-enum-told-2
-enum-told-2 c = search needs
-
 returns : tie.Need-returns
 returns c = simp (c .before .enum-told2 .given .1, eq-eqb _ _ (c .if2 .taken))
 
@@ -26,4 +23,4 @@ returns-5 c = simp (c .before .before .enum-told2 .given .1, ne-eqb _ _ (c .befo
 
 pub read-late-spec : {M : Type 1} → statement M
 read-late-spec =
-    tie.close (tie.spec enum-told enum-told-2 returns returns-2 returns-3 returns-4 returns-5)
+    tie.close (tie.spec enum-told (λ c. search needs) returns returns-2 returns-3 returns-4 returns-5)

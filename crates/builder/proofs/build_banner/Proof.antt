@@ -12,17 +12,8 @@ use borrow.Author.Needs.{needs}
 use Rattle.builder.proofs.build_banner.Statement.{statement}
 use Rattle.builder.proofs.build_banner.Tie as tie
 
-judge-banner-requires : tie.Need-judge-banner-requires
-judge-banner-requires c κs = search needs
-
-enum-known-verdict : tie.Need-enum-known-verdict
-enum-known-verdict c = search needs
-
 enum-told : tie.Need-enum-told
 enum-told c = search needs
-
-banner-bytes-requires : tie.Need-banner-bytes-requires
-banner-bytes-requires c κs = search needs
 
 sub-put : tie.Need-sub-put
 sub-put c =
@@ -36,21 +27,9 @@ part-put-start c =
     let f = banner-fits (g .supported) (g .required) (length (g .buf .now)) (g .queued) (sym (c .before .before .before .judge-banner .ensures) ∙ ap judgedBy (c .before .enum-told .given .1)) in
     omega arith
 
-part-put-end : tie.Need-part-put-end
-part-put-end c = search needs
-
-slice-aggregate-put : tie.Need-slice-aggregate-put
-slice-aggregate-put c = search needs
-
-put-requires : tie.Need-put-requires
-put-requires c κs = search needs
-
 returns : tie.Need-returns
 unfolding bannerDone
 returns c = record { promise = rw (sym (c .before .before .before .judge-banner .ensures) ∙ ap judgedBy (c .before .verdict .given .1)) }
-
-same-length : tie.Need-same-length
-same-length c = search needs
 
 returns-2 : tie.Need-returns-2
 unfolding bannerDone
@@ -69,15 +48,15 @@ pub build-banner-spec : {M : Type 1} → statement M
 build-banner-spec =
     tie.close
     (tie.spec
-    judge-banner-requires
-    enum-known-verdict
+    (λ c κs. search needs)
+    (λ c. search needs)
     enum-told
-    banner-bytes-requires
+    (λ c κs. search needs)
     sub-put
     part-put-start
-    part-put-end
-    slice-aggregate-put
-    put-requires
+    (λ c. search needs)
+    (λ c. search needs)
+    (λ c κs. search needs)
     returns
-    same-length
+    (λ c. search needs)
     returns-2)

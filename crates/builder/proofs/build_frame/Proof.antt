@@ -12,12 +12,6 @@ use borrow.Author.Needs.{needs}
 use Rattle.builder.proofs.build_frame.Statement.{statement}
 use Rattle.builder.proofs.build_frame.Tie as tie
 
-judge-frame-requires : tie.Need-judge-frame-requires
-judge-frame-requires c κs = search needs
-
-enum-known-verdict : tie.Need-enum-known-verdict
-enum-known-verdict c = search needs
-
 enum-told : tie.Need-enum-told
 enum-told c = search needs
 
@@ -33,9 +27,6 @@ part-put-frame-start c =
     let f = accepted (g .revision) (g .header) (g .abort) (length (g .source .now)) (length (g .buf .now)) (g .queued) (sym (c .before .before .judge-frame .ensures) ∙ ap judgedBy (c .enum-told .given .1)) in
     omega arith
 
-part-put-frame-end : tie.Need-part-put-frame-end
-part-put-frame-end c = search needs
-
 put-frame-requires : tie.Need-put-frame-requires
 put-frame-requires c κs =
     let g = c .before .before .before .before .before .before .args in
@@ -43,15 +34,9 @@ put-frame-requires c κs =
     let b : length (rest (g .buf .now) (g .queued)) ≡ length (g .buf .now) - g .queued = length-rest (g .buf .now) (g .queued) in
     (f .whole, omega arith)
 
-wire-length-requires : tie.Need-wire-length-requires
-wire-length-requires c κs = search needs
-
 returns : tie.Need-returns
 unfolding frameDone
 returns c = record { promise = rw (sym (c .before .before .before .judge-frame .ensures) ∙ ap judgedBy (c .before .verdict .given .1)) }
-
-same-length : tie.Need-same-length
-same-length c = search needs
 
 returns-2 : tie.Need-returns-2
 unfolding frameDone
@@ -68,14 +53,14 @@ pub build-frame-spec : {M : Type 1} → statement M
 build-frame-spec =
     tie.close
     (tie.spec
-    judge-frame-requires
-    enum-known-verdict
+    (λ c κs. search needs)
+    (λ c. search needs)
     enum-told
     sub-put-frame
     part-put-frame-start
-    part-put-frame-end
+    (λ c. search needs)
     put-frame-requires
-    wire-length-requires
+    (λ c κs. search needs)
     returns
-    same-length
+    (λ c. search needs)
     returns-2)

@@ -8,36 +8,6 @@ use borrow.Author.Needs.{needs}
 use Rattle.builder.proofs.judge_frame.Statement.{statement}
 use Rattle.builder.proofs.judge_frame.Tie as tie
 
-wire-length-requires : tie.Need-wire-length-requires
-wire-length-requires c κs = search needs
-
-room-requires : tie.Need-room-requires
-room-requires c κs = search needs
-
-unless-ok-requires : tie.Need-unless-ok-requires
-unless-ok-requires c κs = search needs
-
-judge-abort-requires : tie.Need-judge-abort-requires
-judge-abort-requires c κs = search needs
-
-or-else-requires : tie.Need-or-else-requires
-or-else-requires c κs = search needs
-
-total-of-requires : tie.Need-total-of-requires
-total-of-requires c κs = search needs
-
-unless-ok-requires-2 : tie.Need-unless-ok-requires-2
-unless-ok-requires-2 c κs = search needs
-
-or-else-requires-2 : tie.Need-or-else-requires-2
-or-else-requires-2 c κs = search needs
-
-judge-header-requires : tie.Need-judge-header-requires
-judge-header-requires c κs = search needs
-
-or-else-requires-3 : tie.Need-or-else-requires-3
-or-else-requires-3 c κs = search needs
-
 returns : tie.Need-returns
 unfolding judgeFrame
 returns c =
@@ -57,14 +27,14 @@ pub judge-frame-spec : {M : Type 1} → statement M
 judge-frame-spec =
     tie.close
     (tie.spec
-    wire-length-requires
-    room-requires
-    unless-ok-requires
-    judge-abort-requires
-    or-else-requires
-    total-of-requires
-    unless-ok-requires-2
-    or-else-requires-2
-    judge-header-requires
-    or-else-requires-3
+    (λ c κs. search needs)
+    (λ c κs. search needs)
+    (λ c κs. search needs)
+    (λ c κs. search needs)
+    (λ c κs. search needs)
+    (λ c κs. search needs)
+    (λ c κs. search needs)
+    (λ c κs. search needs)
+    (λ c κs. search needs)
+    (λ c κs. search needs)
     returns)

@@ -10,45 +10,6 @@ use borrow.Author.Needs.{needs}
 use Rattle.builder.proofs.put_body.Statement.{statement}
 use Rattle.builder.proofs.put_body.Tie as tie
 
-first-sum-length-requires : tie.Need-first-sum-length-requires
-first-sum-length-requires c κs = search needs
-
-add-a : tie.Need-add-a
-add-a c = search needs
-
-add-end : tie.Need-add-end
-add-end c = search needs
-
-put-first-requires : tie.Need-put-first-requires
-put-first-requires c κs = search needs
-
-sub-put-rest : tie.Need-sub-put-rest
-sub-put-rest c = search needs
-
-part-put-rest-start : tie.Need-part-put-rest-start
-part-put-rest-start c = search needs
-
-part-put-rest-end : tie.Need-part-put-rest-end
-part-put-rest-end c = search needs
-
-put-rest-requires : tie.Need-put-rest-requires
-put-rest-requires c κs = search needs
-
-sub-put-epilogue : tie.Need-sub-put-epilogue
-sub-put-epilogue c = search needs
-
-part-put-epilogue-start : tie.Need-part-put-epilogue-start
-part-put-epilogue-start c = search needs
-
-part-put-epilogue-end : tie.Need-part-put-epilogue-end
-part-put-epilogue-end c = search needs
-
-put-epilogue-requires : tie.Need-put-epilogue-requires
-put-epilogue-requires c κs = search needs
-
-same-length : tie.Need-same-length
-same-length c = search needs
-
 returns : tie.Need-returns
 unfolding body
 returns c =
@@ -71,17 +32,17 @@ pub put-body-spec : {M : Type 1} → statement M
 put-body-spec =
     tie.close
     (tie.spec
-    first-sum-length-requires
-    add-a
-    add-end
-    put-first-requires
-    sub-put-rest
-    part-put-rest-start
-    part-put-rest-end
-    put-rest-requires
-    sub-put-epilogue
-    part-put-epilogue-start
-    part-put-epilogue-end
-    put-epilogue-requires
-    same-length
+    (λ c κs. search needs)
+    (λ c. search needs)
+    (λ c. search needs)
+    (λ c κs. search needs)
+    (λ c. search needs)
+    (λ c. search needs)
+    (λ c. search needs)
+    (λ c κs. search needs)
+    (λ c. search needs)
+    (λ c. search needs)
+    (λ c. search needs)
+    (λ c κs. search needs)
+    (λ c. search needs)
     returns)

@@ -9,47 +9,11 @@ use borrow.Author.Needs.{needs}
 use Rattle.builder.proofs.put_epilogue.Statement.{statement}
 use Rattle.builder.proofs.put_epilogue.Tie as tie
 
-no-epilogue-requires : tie.Need-no-epilogue-requires
-no-epilogue-requires c κs = search needs
-
 returns : tie.Need-returns
 returns c = simp (sym (c .before .no-epilogue .ensures) ∙ c .if1 .taken)
 
-late-byte-requires : tie.Need-late-byte-requires
-late-byte-requires c κs = search needs
-
-rest-fields-requires : tie.Need-rest-fields-requires
-rest-fields-requires c κs = search needs
-
 enum-told : tie.Need-enum-told
 enum-told c = search needs
-
-field-of-requires : tie.Need-field-of-requires
-field-of-requires c κs = search needs
-
-epilogue20-requires : tie.Need-epilogue20-requires
-epilogue20-requires c κs = search needs
-
-slice-aggregate-put : tie.Need-slice-aggregate-put
-slice-aggregate-put c = search needs
-
-put-requires : tie.Need-put-requires
-put-requires c κs = search needs
-
-enum-told-2 : tie.Need-enum-told-2
-enum-told-2 c = search needs
-
-epilogue21-requires : tie.Need-epilogue21-requires
-epilogue21-requires c κs = search needs
-
-slice-aggregate-put-2 : tie.Need-slice-aggregate-put-2
-slice-aggregate-put-2 c = search needs
-
-put-requires-2 : tie.Need-put-requires-2
-put-requires-2 c κs = search needs
-
-same-length : tie.Need-same-length
-same-length c = search needs
 
 returns-2 : tie.Need-returns-2
 returns-2 c =
@@ -64,9 +28,6 @@ returns-2 c =
     (c .before .before .before .before .before .before .before .before .before .before .late-byte .ensures)
     (rw v (ap₂ _∷_ (c .before .before .before .before .before .before .field-of .ensures) (c .before .before .before .before .before .before .before .before .before .rest-fields .ensures))))
     (omega (arith, c .before .before .before .before .before .before .before .before .before .before .before .before .before .before .before .before .pre, length-epilogue (g .revision) (g .h) (lateByte (g .revision) (g .abort)) (g .first .now) q))
-
-same-length-2 : tie.Need-same-length-2
-same-length-2 c = search needs
 
 returns-3 : tie.Need-returns-3
 returns-3 c =
@@ -86,20 +47,20 @@ pub put-epilogue-spec : {M : Type 1} → statement M
 put-epilogue-spec =
     tie.close
     (tie.spec
-    no-epilogue-requires
+    (λ c κs. search needs)
     returns
-    late-byte-requires
-    rest-fields-requires
+    (λ c κs. search needs)
+    (λ c κs. search needs)
     enum-told
-    field-of-requires
-    epilogue20-requires
-    slice-aggregate-put
-    put-requires
-    enum-told-2
-    epilogue21-requires
-    slice-aggregate-put-2
-    put-requires-2
-    same-length
+    (λ c κs. search needs)
+    (λ c κs. search needs)
+    (λ c. search needs)
+    (λ c κs. search needs)
+    (λ c. search needs)
+    (λ c κs. search needs)
+    (λ c. search needs)
+    (λ c κs. search needs)
+    (λ c. search needs)
     returns-2
-    same-length-2
+    (λ c. search needs)
     returns-3)

@@ -11,26 +11,8 @@ use borrow.Author.Needs.{needs}
 use Rattle.builder.proofs.put_first_sum.Statement.{statement}
 use Rattle.builder.proofs.put_first_sum.Tie as tie
 
-no-first-sum-requires : tie.Need-no-first-sum-requires
-no-first-sum-requires c κs = search needs
-
 returns : tie.Need-returns
 returns c = simp (sym (c .before .no-first-sum .ensures) ∙ c .if1 .taken)
-
-segment-sum-requires : tie.Need-segment-sum-requires
-segment-sum-requires c κs = search needs
-
-u32-bytes-requires : tie.Need-u32-bytes-requires
-u32-bytes-requires c κs = search needs
-
-slice-aggregate-put : tie.Need-slice-aggregate-put
-slice-aggregate-put c = search needs
-
-put-requires : tie.Need-put-requires
-put-requires c κs = search needs
-
-same-length : tie.Need-same-length
-same-length c = search needs
 
 returns-2 : tie.Need-returns-2
 returns-2 c =
@@ -45,11 +27,11 @@ pub put-first-sum-spec : {M : Type 1} → statement M
 put-first-sum-spec =
     tie.close
     (tie.spec
-    no-first-sum-requires
+    (λ c κs. search needs)
     returns
-    segment-sum-requires
-    u32-bytes-requires
-    slice-aggregate-put
-    put-requires
-    same-length
+    (λ c κs. search needs)
+    (λ c κs. search needs)
+    (λ c. search needs)
+    (λ c κs. search needs)
+    (λ c. search needs)
     returns-2)

@@ -17,23 +17,11 @@ use Rattle.builder.proofs.put_frame.Tie as tie
 put-preamble-requires : tie.Need-put-preamble-requires
 put-preamble-requires c κs = omega (arith, c .before .before .before .pre .1)
 
-cast-n : tie.Need-cast-n
-cast-n c = search needs
-
-part-requires : tie.Need-part-requires
-part-requires c κs = search needs
-
-behind-requires : tie.Need-behind-requires
-behind-requires c κs = search needs
-
 sub-put-body : tie.Need-sub-put-body
 sub-put-body c = omega (arith, c .before .before .before .before .before .before .before .before .before .pre .1, c .before .before .before .before .before .put-preamble .kept .0)
 
 part-put-body-start : tie.Need-part-put-body-start
 part-put-body-start c = omega (arith, c .before .before .before .before .before .before .before .before .before .pre .1, c .before .before .before .before .before .put-preamble .kept .0)
-
-part-put-body-end : tie.Need-part-put-body-end
-part-put-body-end c = search needs
 
 put-body-requires : tie.Need-put-body-requires
 put-body-requires c κs =
@@ -48,9 +36,6 @@ put-body-requires c κs =
       ap length (c .before .behind .ensures) ∙ d ∙ omega (arith, c .before .before .before .before .before .before .before .before .before .before .pre .0),
       omega (arith, c .before .before .before .before .before .before .before .before .before .before .pre .1, c .before .before .before .before .before .before .put-preamble .kept .0, b),
     )
-
-same-length : tie.Need-same-length
-same-length c = search needs
 
 returns : tie.Need-returns
 unfolding frameBytes
@@ -70,12 +55,12 @@ put-frame-spec =
     tie.close
     (tie.spec
     put-preamble-requires
-    cast-n
-    part-requires
-    behind-requires
+    (λ c. search needs)
+    (λ c κs. search needs)
+    (λ c κs. search needs)
     sub-put-body
     part-put-body-start
-    part-put-body-end
+    (λ c. search needs)
     put-body-requires
-    same-length
+    (λ c. search needs)
     returns)

@@ -8,23 +8,11 @@ use borrow.Author.Needs.{needs}
 use Rattle.builder.proofs.put_rest.Statement.{statement}
 use Rattle.builder.proofs.put_rest.Tie as tie
 
-put-zeros-requires : tie.Need-put-zeros-requires
-put-zeros-requires c κs = search needs
-
-put-requires : tie.Need-put-requires
-put-requires c κs = search needs
-
-same-length : tie.Need-same-length
-same-length c = search needs
-
 returns : tie.Need-returns
 returns c =
     let g = c .before .before .before .before .before .before .before .args in
     laid-as _ (restSent (g .abort) (g .rest .now)) (g .out .now) _ (c .before .before .put-zeros .ensures) (sym (ap (λ (x : Bool). restSent x (g .rest .now)) (c .before .before .before .before .if1 .taken)))
     (omega (arith, c .before .before .before .before .before .before .before .pre, length-sent (g .abort) (g .rest .now)))
-
-same-length-2 : tie.Need-same-length-2
-same-length-2 c = search needs
 
 returns-2 : tie.Need-returns-2
 returns-2 c =
@@ -35,4 +23,4 @@ returns-2 c =
 pub put-rest-spec : {M : Type 1} → statement M
 put-rest-spec =
     tie.close
-    (tie.spec put-zeros-requires put-requires same-length returns same-length-2 returns-2)
+    (tie.spec (λ c κs. search needs) (λ c κs. search needs) (λ c. search needs) returns (λ c. search needs) returns-2)

@@ -3,12 +3,6 @@ use borrow.Author.Needs.{needs}
 use Rattle.preamble.proofs.length_wrong.Statement.{statement}
 use Rattle.preamble.proofs.length_wrong.Tie as tie
 
-both-requires : tie.Need-both-requires
-both-requires c κs = search needs
-
-both-requires-2 : tie.Need-both-requires-2
-both-requires-2 c κs = search needs
-
 returns : tie.Need-returns
 returns c = simp (lt-ltb _ _ (c .if1 .taken))
 
@@ -16,4 +10,4 @@ returns-2 : tie.Need-returns-2
 returns-2 c = simp (le-ltb _ _ (c .before .before .if1 .left), c .both2 .ensures, c .before .both .ensures)
 
 pub length-wrong-spec : {M : Type 1} → statement M
-length-wrong-spec = tie.close (tie.spec both-requires both-requires-2 returns returns-2)
+length-wrong-spec = tie.close (tie.spec (λ c κs. search needs) (λ c κs. search needs) returns returns-2)

@@ -7,23 +7,8 @@ use borrow.Author.Needs.{needs}
 use Rattle.receiver.proofs.start.Statement.{statement}
 use Rattle.receiver.proofs.start.Tie as tie
 
-judge-own-requires : tie.Need-judge-own-requires
-judge-own-requires c κs = search needs
-
 enum-told : tie.Need-enum-told
 enum-told c = search needs
-
-fresh-requires : tie.Need-fresh-requires
-fresh-requires c κs = search needs
-
-enum-known-v : tie.Need-enum-known-v
-enum-known-v c = search needs
-
-in-numbers-requires : tie.Need-in-numbers-requires
-in-numbers-requires c κs = search needs
-
-refused-state-requires : tie.Need-refused-state-requires
-refused-state-requires c κs = search needs
 
 returns : tie.Need-returns
 unfolding step.started
@@ -41,11 +26,11 @@ pub start-spec : {M : Type 1} → statement M
 start-spec =
     tie.close
     (tie.spec
-    judge-own-requires
+    (λ c κs. search needs)
     enum-told
-    fresh-requires
-    enum-known-v
-    in-numbers-requires
-    refused-state-requires
+    (λ c κs. search needs)
+    (λ c. search needs)
+    (λ c κs. search needs)
+    (λ c κs. search needs)
     returns
     returns-2)

@@ -7,24 +7,6 @@ use Rattle.plain_receiver.proofs.words.report_words.Tie as tie
 enum-told : tie.Need-enum-told
 enum-told c = search needs
 
-no-features-requires : tie.Need-no-features-requires
-no-features-requires c κs = search needs
-
-no-header-requires : tie.Need-no-header-requires
-no-header-requires c κs = search needs
-
-no-refusal-requires : tie.Need-no-refusal-requires
-no-refusal-requires c κs = search needs
-
-reporting-requires : tie.Need-reporting-requires
-reporting-requires c κs = search needs
-
-enum-known-report : tie.Need-enum-known-report
-enum-known-report c = search needs
-
-event-words-requires : tie.Need-event-words-requires
-event-words-requires c κs = search needs
-
 returns : tie.Need-returns
 returns c = rw (c .before .before .before .before .enum-told .given .1) (report-of _ _ _ tt (c .reporting .ensures ∙ rw (c .before .before .before .no-features .ensures, c .before .before .no-header .ensures, c .before .no-refusal .ensures)))
 
@@ -36,11 +18,11 @@ report-words-spec =
     tie.close
     (tie.spec
     enum-told
-    no-features-requires
-    no-header-requires
-    no-refusal-requires
-    reporting-requires
-    enum-known-report
-    event-words-requires
+    (λ c κs. search needs)
+    (λ c κs. search needs)
+    (λ c κs. search needs)
+    (λ c κs. search needs)
+    (λ c. search needs)
+    (λ c κs. search needs)
     returns
     returns-2)

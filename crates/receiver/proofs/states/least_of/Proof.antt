@@ -6,18 +6,6 @@ use borrow.Author.Needs.{needs}
 use Rattle.receiver.proofs.states.least_of.Statement.{statement}
 use Rattle.receiver.proofs.states.least_of.Tie as tie
 
-rank-requires : tie.Need-rank-requires
-rank-requires c κs = search needs
-
-has-first-sum-requires : tie.Need-has-first-sum-requires
-has-first-sum-requires c κs = search needs
-
-both-requires : tie.Need-both-requires
-both-requires c κs = search needs
-
-cast-result : tie.Need-cast-result
-cast-result c = search needs
-
 returns : tie.Need-returns
 returns c = rw (ap₂ (λ (a b : Bool). a && b) (ap (λ (n : ℕ). eqb n 7) (sym (c .before .before .before .before .rank .ensures))) (sym (c .before .before .before .has-first-sum .ensures)) ∙ sym (c .before .before .both .ensures) ∙ c .before .if1 .taken)
 
@@ -27,4 +15,4 @@ returns-2 c = rw (ap₂ (λ (a b : Bool). a && b) (ap (λ (n : ℕ). eqb n 7) (s
 pub least-of-spec : {M : Type 1} → statement M
 least-of-spec =
     tie.close
-    (tie.spec rank-requires has-first-sum-requires both-requires cast-result returns returns-2)
+    (tie.spec (λ c κs. search needs) (λ c κs. search needs) (λ c κs. search needs) (λ c. search needs) returns returns-2)

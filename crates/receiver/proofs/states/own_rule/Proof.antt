@@ -6,20 +6,8 @@ use borrow.Author.Needs.{needs}
 use Rattle.receiver.proofs.states.own_rule.Statement.{statement}
 use Rattle.receiver.proofs.states.own_rule.Tie as tie
 
-is-refused-requires : tie.Need-is-refused-requires
-is-refused-requires c κs = search needs
-
-both-requires : tie.Need-both-requires
-both-requires c κs = search needs
-
 returns : tie.Need-returns
 returns c = (let t : (isRefused (c .before .before .before .before .args .stage) && eqb (c .before .before .before .before .args .v .refusal .number) 16) ≡ true = cc in rw t)
-
-judge-own-requires : tie.Need-judge-own-requires
-judge-own-requires c κs = search needs
-
-is-fine-requires : tie.Need-is-fine-requires
-is-fine-requires c κs = search needs
 
 returns-2 : tie.Need-returns-2
 returns-2 c = (let t : (isRefused (c .before .before .before .before .before .before .args .stage) && eqb (c .before .before .before .before .before .before .args .v .refusal .number) 16) ≡ false = cc in rw t cc)
@@ -28,9 +16,9 @@ pub own-rule-spec : {M : Type 1} → statement M
 own-rule-spec =
     tie.close
     (tie.spec
-    is-refused-requires
-    both-requires
+    (λ c κs. search needs)
+    (λ c κs. search needs)
     returns
-    judge-own-requires
-    is-fine-requires
+    (λ c κs. search needs)
+    (λ c κs. search needs)
     returns-2)

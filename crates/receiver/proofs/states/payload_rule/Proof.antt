@@ -3,15 +3,6 @@ use borrow.Author.Needs.{needs}
 use Rattle.receiver.proofs.states.payload_rule.Statement.{statement}
 use Rattle.receiver.proofs.states.payload_rule.Tie as tie
 
-live-from-requires : tie.Need-live-from-requires
-live-from-requires c κs = search needs
-
-judge-length-requires : tie.Need-judge-length-requires
-judge-length-requires c κs = search needs
-
-is-fine-requires : tie.Need-is-fine-requires
-is-fine-requires c κs = search needs
-
 returns : tie.Need-returns
 returns c = rw (sym (c .before .before .before .live-from .ensures) ∙ c .before .before .if1 .taken) (cc)
 
@@ -21,4 +12,4 @@ returns-2 c = rw (sym (c .before .before .live-from .ensures) ∙ c .before .if1
 pub payload-rule-spec : {M : Type 1} → statement M
 payload-rule-spec =
     tie.close
-    (tie.spec live-from-requires judge-length-requires is-fine-requires returns returns-2)
+    (tie.spec (λ c κs. search needs) (λ c κs. search needs) (λ c κs. search needs) returns returns-2)

@@ -1,33 +1,29 @@
-use mathlib.Core.Path.{_∙_}
+use mathlib.Core.Path.{ap, ap₂, _∙_}
+use Rattle.refusal.specs.Refusals.{Judged}
+use Rattle.banner.specs.declared.Revision.{Revision}
+use Rattle.stream.specs.declared.Event.the-variants as event
+use Rattle.receiver.specs.declared.Stage.the-variants as stage
+use Rattle.receiver.specs.declared.Report.the-variants as report
+use Rattle.receiver.specs.Step.{Stepped, stepped, at, withRevision, unlessRefused}
 use borrow.Author.Needs.{needs}
 use Rattle.receiver.proofs.transitions.end_banner.Statement.{statement}
 use Rattle.receiver.proofs.transitions.end_banner.Tie as tie
 
-revision-of-requires : tie.Need-revision-of-requires
-revision-of-requires c κs = search needs
-
-with-revision-requires : tie.Need-with-revision-requires
-with-revision-requires c κs = search needs
-
-state-at-requires : tie.Need-state-at-requires
-state-at-requires c κs = search needs
-
-judge-features-requires : tie.Need-judge-features-requires
-judge-features-requires c κs = search needs
-
-unless-refused-requires : tie.Need-unless-refused-requires
-unless-refused-requires c κs = search needs
-
 returns : tie.Need-returns
-returns c = λ s. c .unless-refused .ensures s ∙ rw (c .before .judge-features .ensures, c .before .before .state-at .ensures, c .before .before .before .with-revision .ensures, c .before .before .before .before .revision-of .ensures)
+returns c = λ s.
+    let v = c .before .before .before .before .before .before .before .args .v in
+    let e : Revision → Stepped = λ r. stepped (at stage.Preamble 0 (withRevision v r)) s (report.Event (event.Banner (v .peer) r)) in
+    c .unless-refused .ensures s
+    ∙ ap₂ (λ (j : Judged) (x : Stepped). unlessRefused j v s x) (c .before .judge-features .ensures)
+    (c .before .before .begin-preamble .ensures s ∙ rw (c .before .before .before .with-revision .ensures) (ap e (c .before .before .before .before .revision-of .ensures)))
 
 pub end-banner-spec : {M : Type 1} → statement M
 end-banner-spec =
     tie.close
     (tie.spec
-    revision-of-requires
-    with-revision-requires
-    state-at-requires
-    judge-features-requires
-    unless-refused-requires
+    (λ c κs. search needs)
+    (λ c κs. search needs)
+    (λ c κs. search needs)
+    (λ c κs. search needs)
+    (λ c κs. search needs)
     returns)

@@ -12,23 +12,8 @@ use borrow.Author.Needs.{needs}
 use Rattle.receiver.proofs.transitions.end_first_sum.Statement.{statement}
 use Rattle.receiver.proofs.transitions.end_first_sum.Tie as tie
 
-cast-n : tie.Need-cast-n
-cast-n c = search needs
-
-u32-at-requires : tie.Need-u32-at-requires
-u32-at-requires c κs = search needs
-
-part-requires : tie.Need-part-requires
-part-requires c κs = search needs
-
-segment-sum-requires : tie.Need-segment-sum-requires
-segment-sum-requires c κs = search needs
-
 behind-first-sum-requires : tie.Need-behind-first-sum-requires
 behind-first-sum-requires c κs = refl
-
-same-length : tie.Need-same-length
-same-length c = search needs
 
 returns : tie.Need-returns
 unfolding step.finish
@@ -39,15 +24,6 @@ returns c =
     let own : c .before .before .segment-sum .result ≡ segmentSum (take n s) = c .before .before .segment-sum .ensures ∙ ap segmentSum (c .before .before .before .part .ensures) in
     let t : eqb (numberAt 4 0 (g .block .now)) (segmentSum (take n s)) ≡ true = eq-eqb _ _ (sym (c .before .before .before .before .before .u32-at .ensures) ∙ c .before .if1 .taken ∙ own) in
     rw t (c .behind-first-sum .ensures s)
-
-in-numbers-requires : tie.Need-in-numbers-requires
-in-numbers-requires c κs = search needs
-
-refuse-frame-requires : tie.Need-refuse-frame-requires
-refuse-frame-requires c κs = search needs
-
-same-length-2 : tie.Need-same-length-2
-same-length-2 c = search needs
 
 returns-2 : tie.Need-returns-2
 unfolding step.finish
@@ -63,14 +39,14 @@ pub end-first-sum-spec : {M : Type 1} → statement M
 end-first-sum-spec =
     tie.close
     (tie.spec
-    cast-n
-    u32-at-requires
-    part-requires
-    segment-sum-requires
+    (λ c. search needs)
+    (λ c κs. search needs)
+    (λ c κs. search needs)
+    (λ c κs. search needs)
     behind-first-sum-requires
-    same-length
+    (λ c. search needs)
     returns
-    in-numbers-requires
-    refuse-frame-requires
-    same-length-2
+    (λ c κs. search needs)
+    (λ c κs. search needs)
+    (λ c. search needs)
     returns-2)

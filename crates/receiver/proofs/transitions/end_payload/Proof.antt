@@ -5,41 +5,22 @@ use borrow.Author.Needs.{needs}
 use Rattle.receiver.proofs.transitions.end_payload.Statement.{statement}
 use Rattle.receiver.proofs.transitions.end_payload.Tie as tie
 
-part-requires : tie.Need-part-requires
-part-requires c κs = search needs
-
-read-features-requires : tie.Need-read-features-requires
-read-features-requires c κs = search needs
-
-with-peer-requires : tie.Need-with-peer-requires
-with-peer-requires c κs = search needs
-
-end-banner-requires : tie.Need-end-banner-requires
-end-banner-requires c κs = search needs
-
-state-at-requires : tie.Need-state-at-requires
-state-at-requires c κs = search needs
-
-more-requires : tie.Need-more-requires
-more-requires c κs = search needs
-
 returns : tie.Need-returns
 unfolding finish
 returns c = λ s. rw (le-leb _ _ (c .before .if1 .taken)) (c .end-banner .ensures s ∙ rw (c .before .before .before .with-peer .ensures, c .before .before .before .before .read-features .ensures, c .before .before .before .before .before .part .ensures))
 
 returns-2 : tie.Need-returns-2
 unfolding finish
-returns-2 c = λ s. rw (lt-leb _ _ (c .before .before .if1 .left)) (c .more .ensures s ∙ rw (c .before .state-at .ensures, c .before .before .before .before .with-peer .ensures, c .before .before .before .before .before .read-features .ensures, c .before .before .before .before .before .before .part .ensures))
+returns-2 c = λ s. rw (lt-leb _ _ (c .before .if1 .left)) (c .more .ensures s ∙ rw (c .before .before .before .with-peer .ensures, c .before .before .before .before .read-features .ensures, c .before .before .before .before .before .part .ensures))
 
 pub end-payload-spec : {M : Type 1} → statement M
 end-payload-spec =
     tie.close
     (tie.spec
-    part-requires
-    read-features-requires
-    with-peer-requires
-    end-banner-requires
-    state-at-requires
-    more-requires
+    (λ c κs. search needs)
+    (λ c κs. search needs)
+    (λ c κs. search needs)
+    (λ c κs. search needs)
+    (λ c κs. search needs)
     returns
     returns-2)

@@ -1,42 +1,40 @@
-use Rattle.receiver.specs.Step.{Stepped, unlessRefused, finish}
-use Rattle.refusal.specs.Refusals.{Judged}
-use Rattle.preamble.specs.Judge.{judgePreamble}
-use mathlib.Core.Path.{_∙_, sym, ap, ap₂}
+use mathlib.Core.Path.{sym, ap, ap₂, _∙_}
+use Prim.Native.Nat.{ℕ}
+use Rattle.refusal.specs.declared.Numbers.{Numbers}
+use Rattle.refusal.specs.Refusals.{judgedBy}
+use Rattle.preamble.specs.declared.Preamble.{Preamble}
+use Rattle.preamble.specs.Judge.{judgeRead, judgePreamble}
+use Rattle.receiver.specs.Step.{finish, refuse, beginBody, withHeader}
 use borrow.Author.Needs.{needs}
 use Rattle.receiver.proofs.transitions.end_preamble.Statement.{statement}
 use Rattle.receiver.proofs.transitions.end_preamble.Tie as tie
 
-judge-preamble-requires : tie.Need-judge-preamble-requires
-judge-preamble-requires c κs = search needs
-
-read-header-requires : tie.Need-read-header-requires
-read-header-requires c κs = search needs
-
-with-header-requires : tie.Need-with-header-requires
-with-header-requires c κs = search needs
-
-begin-body-requires : tie.Need-begin-body-requires
-begin-body-requires c κs = search needs
-
-unless-refused-requires : tie.Need-unless-refused-requires
-unless-refused-requires c κs = search needs
+enum-told : tie.Need-enum-told
+enum-told c = search needs
 
 returns : tie.Need-returns
-unfolding finish
-returns c =
-    λ s e.
-    c .unless-refused .ensures s
-    ∙ ap₂ (λ (j : Judged) (x : Stepped). unlessRefused j (c .before .before .before .before .before .before .args .v) s x)
-    (c .before .before .before .before .judge-preamble .ensures ∙ ap (judgePreamble (c .before .before .before .before .before .before .args .block .now)) (sym e))
-    (c .before .begin-body .ensures s ∙ rw (c .before .before .with-header .ensures, c .before .before .before .read-header .ensures))
+unfolding finish judgePreamble
+returns c = λ s e.
+    let j = sym (c .before .before .before .before .judge-read .ensures ∙ ap₂ (λ (p : Preamble) (n : ℕ). judgeRead p (c .before .before .before .before .before .before .before .args .block .now) n) (c .before .before .before .before .before .before .read-block .ensures) (sym e)) ∙ ap judgedBy (c .before .before .enum-told .given .1) in
+    rw j (c .begin-body .ensures s ∙ rw (c .before .with-header .ensures) (ap (λ (p : Preamble). beginBody (withHeader (c .before .before .before .before .before .before .before .args .v) (p .header)) s) (c .before .before .before .before .before .before .read-block .ensures)))
+
+returns-2 : tie.Need-returns-2
+unfolding finish judgePreamble
+returns-2 c = λ s e.
+    let j = sym (c .before .before .before .before .before .judge-read .ensures ∙ ap₂ (λ (p : Preamble) (n : ℕ). judgeRead p (c .before .before .before .before .before .before .before .before .args .block .now) n) (c .before .before .before .before .before .before .before .read-block .ensures) (sym e)) ∙ ap judgedBy (c .before .before .before .verdict .given .1) in
+    rw j (c .refuse .ensures s ∙ ap (λ (n : Numbers). refuse (c .before .before .before .before .before .before .before .before .args .v) n s) (c .before .in-numbers .ensures))
 
 pub end-preamble-spec : {M : Type 1} → statement M
 end-preamble-spec =
     tie.close
     (tie.spec
-    judge-preamble-requires
-    read-header-requires
-    with-header-requires
-    begin-body-requires
-    unless-refused-requires
-    returns)
+    (λ c κs. search needs)
+    (λ c κs. search needs)
+    enum-told
+    (λ c κs. search needs)
+    (λ c κs. search needs)
+    (λ c. search needs)
+    (λ c κs. search needs)
+    (λ c κs. search needs)
+    returns
+    returns-2)

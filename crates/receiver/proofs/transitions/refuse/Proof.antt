@@ -1,12 +1,10 @@
+use mathlib.Core.Path.{_∙_}
 use borrow.Author.Needs.{needs}
 use Rattle.receiver.proofs.transitions.refuse.Statement.{statement}
 use Rattle.receiver.proofs.transitions.refuse.Tie as tie
 
-refused-state-requires : tie.Need-refused-state-requires
-refused-state-requires c κs = search needs
-
 returns : tie.Need-returns
-returns c = λ s. rw (c .refused-state .ensures)
+returns c = λ s. c .at-stage .ensures s ∙ rw (c .before .only-own .ensures)
 
 pub refuse-spec : {M : Type 1} → statement M
-refuse-spec = tie.close (tie.spec refused-state-requires returns)
+refuse-spec = tie.close (tie.spec (λ c κs. search needs) (λ c κs. search needs) returns)

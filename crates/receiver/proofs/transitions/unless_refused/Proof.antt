@@ -8,15 +8,6 @@ use Rattle.receiver.proofs.transitions.unless_refused.Tie as tie
 enum-told : tie.Need-enum-told
 enum-told c = search needs
 
-enum-known-verdict : tie.Need-enum-known-verdict
-enum-known-verdict c = search needs
-
-in-numbers-requires : tie.Need-in-numbers-requires
-in-numbers-requires c κs = search needs
-
-refuse-requires : tie.Need-refuse-requires
-refuse-requires c κs = search needs
-
 returns : tie.Need-returns
 returns c = λ s. rw (c .enum-told .given .1)
 
@@ -26,4 +17,4 @@ returns-2 c = λ s. rw (c .before .before .before .verdict .given .1) (c .refuse
 pub unless-refused-spec : {M : Type 1} → statement M
 unless-refused-spec =
     tie.close
-    (tie.spec enum-told enum-known-verdict in-numbers-requires refuse-requires returns returns-2)
+    (tie.spec enum-told (λ c. search needs) (λ c κs. search needs) (λ c κs. search needs) returns returns-2)

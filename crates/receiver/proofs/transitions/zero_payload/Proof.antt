@@ -9,15 +9,6 @@ use borrow.Author.Needs.{needs}
 use Rattle.receiver.proofs.transitions.zero_payload.Statement.{statement}
 use Rattle.receiver.proofs.transitions.zero_payload.Tie as tie
 
-total-of-requires : tie.Need-total-of-requires
-total-of-requires c κs = search needs
-
-put-zeros-requires : tie.Need-put-zeros-requires
-put-zeros-requires c κs = search needs
-
-same-length : tie.Need-same-length
-same-length c = search needs
-
 returns : tie.Need-returns
 returns c =
     let s = c .before .before .before .before .before .before .args .store .now in
@@ -26,4 +17,4 @@ returns c =
     c .before .before .put-zeros .ensures ∙ ap (λ (k : ℕ). overwrite (replicate k 0) s) (c .before .before .before .total-of .ensures) ∙ overwrite-fits (replicate t 0) s (omega (arith, c .before .before .before .before .before .before .pre))
 
 pub zero-payload-spec : {M : Type 1} → statement M
-zero-payload-spec = tie.close (tie.spec total-of-requires put-zeros-requires same-length returns)
+zero-payload-spec = tie.close (tie.spec (λ c κs. search needs) (λ c κs. search needs) (λ c. search needs) returns)

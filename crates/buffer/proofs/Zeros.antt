@@ -1,0 +1,96 @@
+-- Zeros behind so many bytes of a list, told from the numbers that its bytes make.
+use mathlib.Core.Path.{_≡_, refl, sym, ap, ap₂, _∙_}
+use mathlib.Core.List.{List, [], _∷_}
+use mathlib.Core.Bool.{Bool, true, false, _&&_, _||_, and-assoc}
+use Prim.Native.Nat.{ℕ, zero, suc, _+_, _-_, _*_, _^_, _≤_, _<_}
+use native.Mathlib.Nat.{pow-suc}
+use native.Mathlib.Omega.{arith}
+use borrow.Author.Tests.{eqb-true, eq-eqb, ltb-true, lt-ltb}
+use lib.Dec.{leb, ltb, eqb, leb·zero, leb·suc-zero, leb·suc-suc}
+use lib.ListN.{length, take, drop, length-drop}
+use lib.Seq.{drop-nil, drop-drop, length-take-le, take-all}
+use Rattle.buffer.specs.Le.{leOf, numberAt, Bytes}
+use Rattle.buffer.specs.Zeros.{allZero}
+use Rattle.buffer.proofs.Numbers.{bytes-take, bytes-drop}
+
+same : (a b : Bool) → (a ≡ true → b ≡ true) → (b ≡ true → a ≡ true) → a ≡ b
+same true b f g = sym (f refl)
+same false true f g = g refl
+same false false f g = refl
+
+left : (a b : Bool) → (a && b) ≡ true → a ≡ true
+left true b e = refl
+left false b e = e
+
+right : (a b : Bool) → (a && b) ≡ true → b ≡ true
+right true b e = e
+right false true e = refl
+right false false e = e
+
+-- all bytes are zero where their number is
+none : (l : List ℕ) → allZero l ≡ ltb (leOf l) 1
+none [] = refl
+none (b ∷ l) =
+    ap (λ (x : Bool). eqb b 0 && x) (none l)
+    ∙ same (eqb b 0 && ltb (leOf l) 1) (ltb (leOf l * 256 + b) 1)
+    (λ e. lt-ltb (leOf l * 256 + b) 1 (omega (arith, eqb-true b 0 (left (eqb b 0) (ltb (leOf l) 1) e), ltb-true (leOf l) 1 (right (eqb b 0) (ltb (leOf l) 1) e))))
+    (λ e.
+    let h : leOf l * 256 + b < 1 = ltb-true (leOf l * 256 + b) 1 e in
+    ap₂ _&&_ (eq-eqb b 0 (let z : b ≡ 0 = omega (arith, h) in z)) (lt-ltb (leOf l) 1 (omega (arith, h))))
+
+-- zeros from byte n on: there is none, or the number is below the n-th power
+below : (l : List ℕ) (n : ℕ) → Bytes l → allZero (drop n l) ≡ (leb (length l) n || ltb (leOf l) (256 ^ n))
+below [] n h = ap allZero (drop-nil n) ∙ rw (leb·zero n)
+below (b ∷ l) zero h = rw (leb·suc-zero (length l)) (none (b ∷ l))
+below (b ∷ l) (suc n) h =
+    let t : Bytes l = record { at = λ i. h .at (suc i) } in
+    let e : ltb (leOf l) (256 ^ n) ≡ ltb (leOf l * 256 + b) (256 ^ n * 256) =
+    same (ltb (leOf l) (256 ^ n)) (ltb (leOf l * 256 + b) (256 ^ n * 256))
+    (λ f. lt-ltb (leOf l * 256 + b) (256 ^ n * 256) (omega (arith, ltb-true (leOf l) (256 ^ n) f, h .at 0)))
+    (λ f. lt-ltb (leOf l) (256 ^ n) (omega (arith, ltb-true (leOf l * 256 + b) (256 ^ n * 256) f))) in
+    below l n t ∙ rw (leb·suc-suc (length l) n, pow-suc 256 n) (ap (λ (x : Bool). leb (length l) n || x) e)
+
+-- the first k bytes, and those behind them
+split : (k : ℕ) (l : List ℕ) (n : ℕ) → allZero (drop n l) ≡ (allZero (drop n (take k l)) && allZero (drop (n - k) (drop k l)))
+split zero l n =
+    let e : n - 0 ≡ n = omega arith in
+    rw (drop-nil {A = ℕ} n, e)
+split (suc k) [] n = rw (drop-nil {A = ℕ} n, drop-nil {A = ℕ} (n - suc k))
+split (suc k) (x ∷ l) zero =
+    let e : 0 - suc k ≡ 0 = omega arith in
+    let f : 0 - k ≡ 0 = omega arith in
+    let i : allZero l ≡ (allZero (take k l) && allZero (drop (0 - k) (drop k l))) = split k l zero in
+    rw e (ap (λ (y : Bool). eqb x 0 && y) (rw f at i) ∙ sym (and-assoc (eqb x 0) (allZero (take k l)) (allZero (drop k l))))
+split (suc k) (x ∷ l) (suc n) =
+    let e : suc n - suc k ≡ n - k = omega arith in
+    rw e (split k l n)
+
+-- the number of eight bytes from a place on has none but its n lowest
+abbrev pub within : List ℕ → ℕ → ℕ → Bool
+within l i n = leb 8 n || ltb (numberAt 8 i l) (256 ^ n)
+
+eight : (l : List ℕ) (i n : ℕ) → Bytes l → i + 8 ≤ length l → allZero (drop n (take 8 (drop i l))) ≡ within l i n
+unfolding numberAt
+eight l i n h r =
+    let e : length (take 8 (drop i l)) ≡ 8 = length-take-le 8 (drop i l) (rw (length-drop i l) (omega arith)) in
+    below (take 8 (drop i l)) n (bytes-take 8 (bytes-drop i h)) ∙ rw e
+
+-- ZEROS FROM A PLACE ON, of 32 bytes as four numbers
+pub four-words : (l : List ℕ) (n : ℕ) → Bytes l → length l ≡ 32
+    → (within l 0 n && (within l 8 (n - 8) && (within l 16 (n - 16) && within l 24 (n - 24)))) ≡ allZero (drop n l)
+four-words l n h e = sym (first ∙ ap₂ _&&_ (eight l 0 n h (omega (arith, e))) (second ∙ ap₂ _&&_ (eight l 8 (n - 8) h (omega (arith, e))) (third ∙ ap₂ _&&_ (eight l 16 (n - 16) h (omega (arith, e))) fourth)))
+  where
+    first : allZero (drop n l) ≡ (allZero (drop n (take 8 l)) && allZero (drop (n - 8) (drop 8 l)))
+    first = split 8 l n
+
+    on : (m k i : ℕ) → m - 8 ≡ k → allZero (drop m (drop i l)) ≡ (allZero (drop m (take 8 (drop i l))) && allZero (drop k (drop (i + 8) l)))
+    on m k i d = split 8 (drop i l) m ∙ rw (d, drop-drop 8 i l)
+
+    second : allZero (drop (n - 8) (drop 8 l)) ≡ (allZero (drop (n - 8) (take 8 (drop 8 l))) && allZero (drop (n - 16) (drop 16 l)))
+    second = on (n - 8) (n - 16) 8 (omega arith)
+
+    third : allZero (drop (n - 16) (drop 16 l)) ≡ (allZero (drop (n - 16) (take 8 (drop 16 l))) && allZero (drop (n - 24) (drop 24 l)))
+    third = on (n - 16) (n - 24) 16 (omega arith)
+
+    fourth : allZero (drop (n - 24) (drop 24 l)) ≡ within l 24 (n - 24)
+    fourth = ap (λ (x : List ℕ). allZero (drop (n - 24) x)) (sym (take-all 8 (drop 24 l) (rw (length-drop 24 l) (omega (arith, e))))) ∙ eight l 24 (n - 24) h (omega (arith, e))

@@ -1,0 +1,110 @@
+-- Lists of entries and of calls, one behind the other.
+use mathlib.Core.Path.{_≡_, refl, sym, subst, _∙_}
+use mathlib.Core.Bool.{Bool, true, false, true≢false}
+use mathlib.Core.List.{List, [], _∷_, _++_}
+use Prim.Native.Nat.{ℕ, _+_, _≤_}
+use native.Mathlib.Omega.{arith}
+use Rattle.refusal.specs.declared.Numbers.{Numbers}
+use Rattle.banner.specs.declared.Revision.{Revision}
+use Rattle.stream.specs.declared.Event.{Event}
+use Rattle.stream.specs.declared.Event.the-variants as event
+use Rattle.stream.specs.Stream.{Entry}
+use Rattle.stream.specs.Adds.{Adds}
+use Rattle.stream.proofs.Events.{by-adds}
+use Rattle.receiver.specs.declared.State.{State}
+use Rattle.receiver.specs.declared.Report.{Report}
+use Rattle.receiver.specs.declared.Report.the-variants as report
+use Rattle.receiver.specs.Calls.{Call, Chained, passing, takenBy, stateBy, storeBy, entered, reportedBy, refusedIn}
+use Rattle.receiver.proofs.Entries.{Passes, Kind, goesOn, ends, kind}
+
+-- ---- events
+
+-- an event is passed, or is a refusal
+pub by-event : (C : Event → Type 0) → ((w : Event) → Passes (report.Event w) → C w) → ((n : Numbers) → C (event.Refused n)) → (w : Event) → C w
+by-event C passed refusal w = go (kind (report.Event w))
+  where
+    go : Kind (report.Event w) → C w
+    go (goesOn p) = passed w p
+    go (ends n q) = (let e : event.Refused n ≡ w = cc in subst C e (refusal n))
+
+-- one behind which there is no refusal is passed
+pub passed : {A : Type 0} (w : Event) (b : Bool) → passing w b (λ n. true) ≡ false → (a : A) (f : Numbers → A) → passing w a f ≡ a
+passed {A} w b e a f = by-event (λ v. passing v b (λ n. true) ≡ false → passing v a f ≡ a) (λ v p d. p A a f) (λ n d. absurd (true≢false d)) w e
+
+pub clean-behind : (w : Event) (b : Bool) → passing w b (λ n. true) ≡ false → b ≡ false
+clean-behind w b e = sym (passed w b e b (λ n. true)) ∙ e
+
+pub passing-same : {A : Type 0} (w : Event) (a : A) → passing w a (λ n. a) ≡ a
+passing-same {A} w a = by-event (λ v. passing v a (λ n. a) ≡ a) (λ v p. p A a (λ n. a)) (λ n. refl) w
+
+-- ---- entries
+
+pub refused-append : (es fs : List Entry) → refusedIn es ≡ false → refusedIn (es ++ fs) ≡ refusedIn fs
+refused-append [] fs h = refl
+refused-append (e ∷ es) fs h = passed (e .event) (refusedIn es) h (refusedIn (es ++ fs)) (λ n. true) ∙ refused-append es fs (clean-behind (e .event) (refusedIn es) h)
+
+-- behind entries that are no refusal, the others add up from some byte on
+pub adds-behind : (r : Revision) (P : ℕ) (es fs : List Entry) → refusedIn es ≡ false → Adds r P (es ++ fs) → (Q : ℕ) × Adds r Q fs
+adds-behind r P [] fs h a = (P, a)
+adds-behind r P (e ∷ es) fs h a =
+    by-adds (λ w. passing w (refusedIn es) (λ n. true) ≡ false → (Q : ℕ) × Adds r Q fs) r P (e .at) (λ Q. Adds r Q (es ++ fs))
+    (λ f x c. adds-behind r P es fs c x)
+    (λ f q x. (λ c. adds-behind r (e .at) es fs c x, λ c. adds-behind r (e .at) es fs c x))
+    (λ n l c. absurd (true≢false c))
+    (e .event)
+    a
+    h
+
+-- entries from byte u to byte E
+abbrev pub Between : ℕ → ℕ → List Entry → Type 0
+Between u E [] = Unit {0}
+Between u E (e ∷ es) = (u ≤ e .at) × (e .at ≤ E) × Between u E es
+
+between-later : (u v E : ℕ) (es : List Entry) → u ≤ v → Between v E es → Between u E es
+between-later u v E [] h b = tt
+between-later u v E (e ∷ es) h b = (omega arith, b .1, between-later u v E es h (b .2))
+
+-- ---- calls
+
+pub taken-append : (t : ℕ) (cs ds : List Call) → takenBy t (cs ++ ds) ≡ takenBy (takenBy t cs) ds
+taken-append t [] ds = refl
+taken-append t (c ∷ cs) ds = taken-append (t + c .received .taken) cs ds
+
+pub state-append : (st : State) (cs ds : List Call) → stateBy st (cs ++ ds) ≡ stateBy (stateBy st cs) ds
+state-append st [] ds = refl
+state-append st (c ∷ cs) ds = state-append (c .received .state) cs ds
+
+pub store-append : (s : List ℕ) (cs ds : List Call) → storeBy s (cs ++ ds) ≡ storeBy (storeBy s cs) ds
+store-append s [] ds = refl
+store-append s (c ∷ cs) ds = store-append (c .store) cs ds
+
+pub chained-append : (stream : List ℕ) (st : State) (s : List ℕ) (t : ℕ) (cs ds : List Call) → Chained stream st s t cs → Chained stream (stateBy st cs) (storeBy s cs) (takenBy t cs) ds → Chained stream st s t (cs ++ ds)
+chained-append stream st s t [] ds a b = b
+chained-append stream st s t (c ∷ cs) ds a b = (a .0, chained-append stream (c .received .state) (c .store) (t + c .received .taken) cs ds (a .1) b)
+
+entered-append : (r : Report) (at : ℕ) (s : List ℕ) (xs es fs : List Entry) → refusedIn (entered r at s es) ≡ false → (refusedIn es ≡ false → xs ≡ es ++ fs) → entered r at s xs ≡ entered r at s es ++ fs
+entered-append report.More at s xs es fs h f = f h
+entered-append (report.Event w) at s xs es fs h f = by-event C (λ v p c. rw (p (List Entry) xs (λ n. []), p (List Entry) es (λ n. []), f (rw (p (List Entry) es (λ n. [])) at (clean-behind v (refusedIn (passing v es (λ n. []))) c)))) (λ n c. absurd (true≢false c)) w h
+  where
+    C : Event → Type 0
+    C v = refusedIn (entered (report.Event v) at s es) ≡ false → entered (report.Event v) at s xs ≡ entered (report.Event v) at s es ++ fs
+
+pub reported-append : (t : ℕ) (cs ds : List Call) → refusedIn (reportedBy t cs) ≡ false → reportedBy t (cs ++ ds) ≡ reportedBy t cs ++ reportedBy (takenBy t cs) ds
+reported-append t [] ds h = refl
+reported-append t (c ∷ cs) ds h =
+    let u = t + c .received .taken in
+    entered-append (c .received .report) u (c .store) (reportedBy u (cs ++ ds)) (reportedBy u cs) (reportedBy (takenBy u cs) ds) h (reported-append u cs ds)
+
+pub taken-more : (t : ℕ) (cs : List Call) → t ≤ takenBy t cs
+taken-more t [] = omega arith
+taken-more t (c ∷ cs) = omega (arith, taken-more (t + c .received .taken) cs)
+
+pub reported-between : (t : ℕ) (cs : List Call) → Between t (takenBy t cs) (reportedBy t cs)
+reported-between t [] = tt
+reported-between t (c ∷ cs) =
+    let u = t + c .received .taken in
+    go (c .received .report) (takenBy u cs) (reportedBy u cs) (taken-more u cs) (between-later t u (takenBy u cs) (reportedBy u cs) (omega arith) (reported-between u cs))
+  where
+    go : (r : Report) (E : ℕ) (es : List Entry) → t + c .received .taken ≤ E → Between t E es → Between t E (entered r (t + c .received .taken) (c .store) es)
+    go report.More E es h b = b
+    go (report.Event w) E es h b = (omega arith, h, by-event (λ v. Between t E (passing v es (λ n. []))) (λ v p. rw (p (List Entry) es (λ n. [])) b) (λ n. tt) w)
