@@ -36,7 +36,7 @@ use Rattle.connection.specs.declared.Received.{Received}
 use Rattle.connection.specs.declared.Switched.{Switched}
 use Rattle.connection.specs.Step.{readyRule, agreesInUse, agrees, begun, Answer, answered, byCrc, bySecure, answer, Answered, mayBeSwitched, judgeSwitch, switchedState, SwitchedWith}
 use Rattle.connection.specs.Calls.{Piece, SwitchedDemand3}
-use Rattle.connection.specs.Every.{contradiction, refusedInUse, neededInUse, shortStore, stopped, Running, Refuses, Sound, SoundSwitch, EveryCall}
+use Rattle.connection.specs.Every.{contradiction, refusedInUse, neededInUse, shortStore, stopped, Running, Refuses, Sound, SoundSwitch}
 use Rattle.connection.proofs.Machines.{crcSide, secureSide, CrcRunning, CrcGone, SecureRunning, SecureGone, before, crc-answer, secure-answer}
 use Rattle.connection.proofs.Parted.{Stands, runs, refuses, next-stands, crc-agrees, secure-agrees, judged-27, unless-number}
 use Rattle.connection.proofs.Laws.{by-rule}
@@ -77,19 +77,19 @@ module _ {A : Type 0} (onByte : A → List ℕ → ℕ → machine.Stepped A) wh
 
 -- ---- the part in use, by the mode
 
-abbrev stateOf : Mode → Bool → crc-state.State → sealed-state.State → State
+abbrev pub stateOf : Mode → Bool → crc-state.State → sealed-state.State → State
 stateOf k ready c x = record { mode = k; ready = ready; crc = c; secure = x }
 
-rule-of : (st : State) → agrees st ≡ true → readyRule st ≡ true
+pub rule-of : (st : State) → agrees st ≡ true → readyRule st ≡ true
 unfolding agrees
 rule-of st e = both-left (readyRule st) (agreesInUse st) e
 
-in-use-of : (st : State) → agrees st ≡ true → agreesInUse st ≡ true
+pub in-use-of : (st : State) → agrees st ≡ true → agreesInUse st ≡ true
 unfolding agrees
 in-use-of st e = both-right (readyRule st) (agreesInUse st) e
 
 -- sealed frames are read by one that is not ready
-secure-unready : (ready : Bool) (c : crc-state.State) (x : sealed-state.State) → readyRule (stateOf mode.Secure ready c x) ≡ true → ready ≡ false
+pub secure-unready : (ready : Bool) (c : crc-state.State) (x : sealed-state.State) → readyRule (stateOf mode.Secure ready c x) ≡ true → ready ≡ false
 secure-unready false c x e = refl
 secure-unready true c x e = wrong e
 
@@ -198,13 +198,18 @@ running-by mode.Secure ready c x s r =
 running-runs : (st : State) (s : List ℕ) → Running st s → Runs st s
 running-runs st s r = running-by (st .mode) (st .ready) (st .crc) (st .secure) s r
 
-gone-by : (k : Mode) (ready : Bool) (c : crc-state.State) (x : sealed-state.State) (s : List ℕ) → (let st = stateOf k ready c x in agrees st ≡ true → refusedInUse st ≡ true → Placed st s)
-gone-by mode.Crc ready c x s e l =
+pub gone-of : (k : Mode) (ready : Bool) (c : crc-state.State) (x : sealed-state.State)
+    → (let st = stateOf k ready c x in agrees st ≡ true → refusedInUse st ≡ true → (n : Numbers) × Gone n st)
+gone-of mode.Crc ready c x e l =
     let st = stateOf mode.Crc ready c x in
-    onCrc (refuses (c .known .refusal) (record { mode = refl; rule = rule-of st e; gone = crc-live.refused-gone c (in-use-of st e) l }))
-gone-by mode.Secure ready c x s e l =
+    (c .known .refusal, goneCrc (record { mode = refl; rule = rule-of st e; gone = crc-live.refused-gone c (in-use-of st e) l }))
+gone-of mode.Secure ready c x e l =
     let st = stateOf mode.Secure ready c x in
-    onSecure (refuses (x .known .refusal) (record { mode = refl; rule = secure-unready ready c x (rule-of st e); gone = sealed-every.refused-gone x (in-use-of st e) l }))
+    (x .known .refusal, goneSecure (record { mode = refl; rule = secure-unready ready c x (rule-of st e); gone = sealed-every.refused-gone x (in-use-of st e) l }))
+
+gone-placed : (n : Numbers) (st : State) (s : List ℕ) → Gone n st → Placed st s
+gone-placed n st s (goneCrc g) = onCrc (refuses n g)
+gone-placed n st s (goneSecure g) = onSecure (refuses n g)
 
 placed : (st : State) (s : List ℕ) → agrees st ≡ true → Placed st s
 placed st s e = go (refusedInUse st) refl (ltb (length s) (neededInUse st)) refl
@@ -214,7 +219,7 @@ placed st s e = go (refusedInUse st) refl (ltb (length s) (neededInUse st)) refl
     live (runsSecure r) = onSecure (runs r)
 
     go : (b : Bool) → refusedInUse st ≡ b → (t : Bool) → ltb (length s) (neededInUse st) ≡ t → Placed st s
-    go true l t u = gone-by (st .mode) (st .ready) (st .crc) (st .secure) s e l
+    go true l t u = let g = gone-of (st .mode) (st .ready) (st .crc) (st .secure) e l in gone-placed (g .0) st s (g .1)
     go false l true u = tooShort l (ltb-true (length s) (neededInUse st) u)
     go false l false u = live (running-runs st s (record { agree = e; live = l; fits = ltb-false (length s) (neededInUse st) u }))
 
@@ -237,7 +242,7 @@ repeated n e = record {
   store = ap (λ (y : machine.Answer State). y .store) e;
 }
 
-lasts : {n : Numbers} {st : State} → Gone n st → (s piece : List ℕ) (r : Received) (s′ : List ℕ) → Answered st s piece r s′ → Refuses st n s r s′
+pub lasts : {n : Numbers} {st : State} → Gone n st → (s piece : List ℕ) (r : Received) (s′ : List ℕ) → Answered st s piece r s′ → Refuses st n s r s′
 lasts {n} {st} (goneCrc g) s piece r s′ a = repeated n (crcSide .repeats n st s piece (record { size = 0; received = r; store = s′ }) g a)
 lasts {n} {st} (goneSecure g) s piece r s′ a = repeated n (secureSide .repeats n st s piece (record { size = 0; received = r; store = s′ }) g a)
 
@@ -257,15 +262,15 @@ module _ (st : State) (s piece : List ℕ) (r : Received) (s′ : List ℕ) (a :
         store = a .store ∙ ap (λ (x : Answer). x .store) e;
       }
 
-  short-so : agrees st ≡ true → refusedInUse st ≡ false → length s < neededInUse st → Refuses (stopped st (shortStore st)) (shortStore st) s r s′
+  pub short-so : agrees st ≡ true → refusedInUse st ≡ false → length s < neededInUse st → Refuses (stopped st (shortStore st)) (shortStore st) s r s′
   short-so e l t = refusing-so (stopped st (shortStore st)) (shortStore st) (short-by s piece (st .mode) (st .ready) (st .crc) (st .secure) e l t)
 
   -- it hands back a state that agrees, and behind a refusal one that is refused
-  record Well : Type 0 where
-    agree : agrees (r .state) ≡ true
-    gone : (n : Numbers) → r .report ≡ report.Event (event.Refused n) → Gone n (r .state)
+  pub record Well : Type 0 where
+    pub agree : agrees (r .state) ≡ true
+    pub gone : (n : Numbers) → r .report ≡ report.Event (event.Refused n) → Gone n (r .state)
 
-  well : agrees st ≡ true → Well
+  pub well : agrees st ≡ true → Well
   well e = go (placed st s e)
     where
       go : Placed st s → Well
@@ -304,7 +309,7 @@ module _ (st : State) (s piece : List ℕ) (r : Received) (s′ : List ℕ) (a :
       go (runsSecure x) =
           subst (λ (y : machine.Answer State). (y .taken ≡ 0) × (y .report ≡ report.More)) (sym (secureSide .feeds st s piece call x a)) (feed-none (secureSide .onByte) st s piece h)
 
-  sound : Sound st s piece r s′
+  pub sound : Sound st s piece r s′
   sound = record {
     contradicts = λ e. refusing-so st contradiction (contradicting s piece st e);
     never26 = λ e q. gone-not26 (well e .gone contradiction q);
@@ -325,7 +330,7 @@ module _ (st : State) (key receiving sending : List ℕ) (r : Switched) (w : Swi
   unchanged : (n : Numbers) → judgeSwitch st ≡ refused n → r .state ≡ st
   unchanged n e = w .state ∙ ap (λ (j : Judged). switchedState j st key receiving) e
 
-  sound-switch : SoundSwitch st r
+  pub sound-switch : SoundSwitch st r
   sound-switch = record {
     contradicts = λ e. w .verdict ∙ judged-26 e;
     never26 = λ e q.
@@ -345,14 +350,6 @@ module _ (st : State) (key receiving sending : List ℕ) (r : Switched) (w : Swi
           ap agrees z ∙ secure-agrees {st = switchedState fine st key receiving} {s = []} (runs (record { mode = refl; rule = refl; live = switched-running key receiving [] }))
       go (refused n) q e = ap agrees (unchanged n q) ∙ e
 
-begun-agrees : (own : Features) → agrees (begun own) ≡ true
+pub begun-agrees : (own : Features) → agrees (begun own) ≡ true
 unfolding SwitchedDemand3
 begun-agrees own = switched-demand3 own [] [] [] tt .agreeing
-
-pub every-call : EveryCall
-unfolding EveryCall
-every-call = (
-  λ own b h. record { state = h .state; verdict = h .verdict; agreeing = ap agrees (h .state) ∙ begun-agrees own },
-  λ st s piece r s′ a. sound st s piece r s′ a,
-  λ st key receiving sending r w. sound-switch st key receiving sending r w,
-)

@@ -6,3 +6,4 @@ pub mod Tried
 pub mod Chain
 pub mod Laws
 pub mod Every
+pub mod Adds

@@ -1,25 +1,37 @@
 -- What holds of every call and of every try to switch, whatever its state, store and piece: 01's rules for a receiver, of the part in use.
 use mathlib.Core.Path.{_≡_}
-use mathlib.Core.List.{List}
+use mathlib.Core.List.{List, [], _∷_}
 use mathlib.Core.Bool.{Bool, true, false, cond}
-use Prim.Native.Nat.{ℕ, _≤_, _<_}
+use Prim.Native.Nat.{ℕ, _+_, _≤_, _<_}
 use lib.ListN.{length}
 use Rattle.refusal.specs.declared.Numbers.{Numbers}
 use Rattle.refusal.specs.declared.Refusal.the-variants as refusal
 use Rattle.refusal.specs.Refusals.{refused, numbersOf, judgedBy}
 use Rattle.banner.specs.declared.Features.{Features}
 use Rattle.banner.specs.Banner.{judgeOwn}
+use Rattle.preamble.specs.declared.Header.{Header}
 use Rattle.stream.specs.declared.Event.the-variants as event
+use Rattle.receiver.specs.declared.Known.{Known}
+use Rattle.receiver.specs.declared.State as plain-state
+use Rattle.receiver.specs.declared.Report.{Report}
 use Rattle.receiver.specs.declared.Report.the-variants as report
 use Rattle.receiver.specs.State as plain
 use Rattle.receiver.specs.Step as plain-step
+use Rattle.receiver.specs.Every as plain-every
+use Rattle.secure.specs.Layout.{firstLength, restPartLength, sealedLength}
+use Rattle.sealed_receiver.specs.declared.Stage.{Stage}
+use Rattle.sealed_receiver.specs.declared.Stage.the-variants as stage
+use Rattle.sealed_receiver.specs.declared.State as sealed-state
 use Rattle.sealed_receiver.specs.State as sealed
 use Rattle.sealed_receiver.specs.Step as sealed-step
+use Rattle.connection.specs.declared.Mode.{Mode}
+use Rattle.connection.specs.declared.Mode.the-variants as mode
 use Rattle.connection.specs.declared.State.{State}
 use Rattle.connection.specs.declared.Received.{Received}
 use Rattle.connection.specs.declared.Switched.{Switched}
 use Rattle.connection.specs.declared.Begun.{Begun}
 use Rattle.connection.specs.Step.{isSecure, begun, agrees, Answered, SwitchedWith, BegunWith}
+use Rattle.connection.specs.Calls.{Try}
 
 -- 26
 abbrev pub contradiction : Numbers
@@ -90,9 +102,80 @@ pub record SoundSwitch (st : State) (r : Switched) : Type 0 where
   -- a refused stream stays refused: no switch is made on it
   pub stays : agrees st ≡ true → refusedInUse st ≡ true → judgedBy (r .verdict) ≡ refused (numbersOf refusal.SwitchRefused)
 
+-- ---- bytes add up, over calls that share nothing but the state: any pieces, any stores, and tries to switch among them
+
+-- what a call was lent, what it handed back, and the store as it left it
+pub record Lent : Type 0 where
+  pub piece : List ℕ
+  pub store : List ℕ
+  pub received : Received
+  pub after : List ℕ
+
+pub data AnyCall : Type 0 where
+  taking : Lent → AnyCall
+  switching : Try → AnyCall
+
+abbrev pub Handed : State → List AnyCall → Type 0
+Handed st [] = Unit {0}
+Handed st (taking c ∷ cs) = Answered st (c .store) (c .piece) (c .received) (c .after) × Handed (c .received .state) cs
+Handed st (switching c ∷ cs) = SwitchedWith st (c .key) (c .receiving) (c .sending) (c .switched) × Handed (c .switched .state) cs
+
+abbrev pub allTaken : List AnyCall → ℕ
+allTaken [] = 0
+allTaken (taking c ∷ cs) = c .received .taken + allTaken cs
+allTaken (switching c ∷ cs) = allTaken cs
+
+-- what a report says of the bytes up to it: behind a switch a frame's length on the wire as a sealed one
+abbrev pub sealedLengthOf : Report → ℕ
+sealedLengthOf report.More = 0
+sealedLengthOf (report.Event (event.Banner p r)) = 0
+sealedLengthOf (report.Event (event.First h)) = 0
+sealedLengthOf (report.Event (event.Frame h)) = sealedLength h
+sealedLengthOf (report.Event (event.Dropped h)) = sealedLength h
+sealedLengthOf (report.Event (event.Refused n)) = 0
+
+abbrev pub lengthBy : Mode → Report → Known → ℕ
+lengthBy mode.Crc r v = plain-every.lengthOf r v
+lengthBy mode.Secure r v = sealedLengthOf r
+
+abbrev pub allReported : List AnyCall → ℕ
+allReported [] = 0
+allReported (taking c ∷ cs) = lengthBy (c .received .state .mode) (c .received .report) (c .received .state .crc .known) + allReported cs
+allReported (switching c ∷ cs) = allReported cs
+
+-- the bytes of an unfinished sealed frame that came before the part
+abbrev pub cameBefore : Stage → Header → ℕ
+cameBefore stage.First h = 0
+cameBefore stage.Rest h = firstLength
+cameBefore stage.Last h = firstLength + restPartLength h
+cameBefore stage.Refused h = 0
+
+-- THE UNFINISHED PART, a function of the state
+abbrev pub unfinishedBy : Mode → plain-state.State → sealed-state.State → ℕ
+unfinishedBy mode.Crc c x = plain-every.unfinished c
+unfinishedBy mode.Secure c x = cameBefore (x .position .stage) (x .known .header) + x .position .got
+
+abbrev pub unfinished : State → ℕ
+unfinished st = unfinishedBy (st .mode) (st .crc) (st .secure)
+
+-- with a refusal, the bytes of its banner or frame, as of a receiver of crc frames
+abbrev pub unfinishedAfter : Report → ℕ → Received → ℕ
+unfinishedAfter report.More n r = unfinished (r .state)
+unfinishedAfter (report.Event (event.Banner p v)) n r = unfinished (r .state)
+unfinishedAfter (report.Event (event.First h)) n r = unfinished (r .state)
+unfinishedAfter (report.Event (event.Frame h)) n r = unfinished (r .state)
+unfinishedAfter (report.Event (event.Dropped h)) n r = unfinished (r .state)
+unfinishedAfter (report.Event (event.Refused m)) n r = n + r .taken
+
+abbrev pub leftBy : ℕ → List AnyCall → ℕ
+leftBy n [] = n
+leftBy n (taking c ∷ cs) = leftBy (unfinishedAfter (c .received .report) n (c .received)) cs
+leftBy n (switching c ∷ cs) = leftBy n cs
+
 -- THE CLAIM
 unfoldable pub EveryCall : Type 0
 EveryCall =
     ((own : Features) (b : Begun) → BegunWith own b → Starts own b)
     × ((st : State) (s piece : List ℕ) (r : Received) (s′ : List ℕ) → Answered st s piece r s′ → Sound st s piece r s′)
     × ((st : State) (key receiving sending : List ℕ) (r : Switched) → SwitchedWith st key receiving sending r → SoundSwitch st r)
+    × ((own : Features) (cs : List AnyCall) → Handed (begun own) cs → allTaken cs ≡ allReported cs + leftBy 0 cs)

@@ -8,7 +8,6 @@ use native.Mathlib.Omega.{arith}
 use borrow.Author.Tests.{leb-true, leb-false}
 use lib.Dec.{leb}
 use lib.ListN.{length, length-append}
-use Rattle.buffer.specs.Splice.{splice}
 use Rattle.refusal.specs.declared.Numbers.{Numbers}
 use Rattle.refusal.specs.Refusals.{Judged, fine, refused}
 use Rattle.refusal.proofs.Judgements.{by-judgement}
@@ -18,7 +17,7 @@ use Rattle.builder.specs.Build.{Answer, wrote, turnedAway, answered}
 use Rattle.secure.specs.Layout.{allNonces, noncesOf, sealedParts, sealedLength, partCount, noRest, noLast, unlessNone, laterTexts, texts}
 use Rattle.sealed_builder.specs.declared.Sending.{Sending}
 use Rattle.sealed_builder.specs.Build.{Done, done, spentOf, freshSending, sentMore, sentParts, judgeSealed, outcome, sealedDone}
-use Rattle.sealed_builder.specs.Nonces.{Build, Meets, Chained, usedIn, usedBy, used, sendingAfter, left, AllDifferent}
+use Rattle.sealed_builder.specs.Nonces.{Build, Meets, Chained, usedIn, usedBy, used, sendingAfter, left, AllDifferent, SealedWith}
 use Rattle.sealed_builder.proofs.Accepted.{accepted, counted}
 use Rattle.sealed_builder.proofs.Runs.{run, length-run, run-of, run-on, all-different}
 
@@ -68,11 +67,15 @@ module _ (s : Sending) (b : Build) (m : Meets s b) where
   unspent r a =
       by-judgement (judged s b) (λ e. let w = when-fine e .0 in let z : _≡_ {A = ℕ} 0 1 = cc in absurd (omega arith)) (λ q e. when-refused q e .1)
 
-  pub bytes : (n : ℕ) → answered (b .answer .built) ≡ wrote n
-      → b .after ≡ splice (b .buffer) (b .queued) (sealedParts (keyExpansion (s .key)) (sentParts s (b .header) (b .abort) (b .source)))
-  bytes n a =
-      by-judgement (judged s b) (λ e. ap (λ (d : Done). d .buffer) (came fine e))
-      (λ q e. let w = when-refused q e .0 in let z : _≡_ {A = ℕ} 0 1 = cc in absurd (omega arith))
+  pub sealed-with : (n : ℕ) → answered (b .answer .built) ≡ wrote n → SealedWith s b
+  sealed-with n a =
+      record {
+        parts = sentParts s (b .header) (b .abort) (b .source);
+        bytes =
+            by-judgement (judged s b) (λ e. ap (λ (d : Done). d .buffer) (came fine e))
+            (λ q e. let w = when-refused q e .0 in let z : _≡_ {A = ℕ} 0 1 = cc in absurd (omega arith));
+        nonces = ap (λ (x : Answer). usedIn x (sentParts s (b .header) (b .abort) (b .source))) a;
+      }
 
 -- ---- the count
 
@@ -171,3 +174,14 @@ pub counted-all : (key nonce : List ℕ) (bs : List Build) → Chained (freshSen
     → spentOf (sendingAfter (freshSending key nonce) bs) ≡ length (used (freshSending key nonce) bs)
 unfolding freshSending
 counted-all key nonce bs c = let rest = counts (freshSending key nonce) bs c (omega arith) in omega (arith, rest)
+
+-- ---- under one key
+
+key-after : (s : Sending) (b : Build) → Meets s b → b .answer .sending .key ≡ s .key
+unfolding sentMore
+key-after s b m =
+    by-judgement (judged s b) (λ e. ap (λ (t : Sending). t .key) (when-fine s b m e .1)) (λ r e. ap (λ (t : Sending). t .key) (when-refused s b m r e .1))
+
+pub one-key : (s : Sending) (bs : List Build) → Chained s bs → sendingAfter s bs .key ≡ s .key
+one-key s [] c = refl
+one-key s (b ∷ bs) c = one-key (b .answer .sending) bs (c .1) ∙ key-after s b (c .0)

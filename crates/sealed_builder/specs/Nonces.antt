@@ -72,11 +72,17 @@ pub record Exactly (s : Sending) (b : Build) : Type 0 where
   pub due : judgeEarlier s (b .header) (b .abort) (length (b .source)) (length (b .buffer)) (b .queued) ≡ fine → left s < partCount (b .header)
       → answered (b .answer .built) ≡ turnedAway (numbersOf refusal.NoncesSpent)
 
+-- what a build wrote behind the queued bytes are parts, sealed each with its own nonce, and the nonces used are theirs
+pub record SealedWith (s : Sending) (b : Build) : Type 0 where
+  pub parts : List Part
+  pub bytes : b .after ≡ splice (b .buffer) (b .queued) (sealedParts (keyExpansion (s .key)) parts)
+  pub nonces : usedBy s b ≡ noncesOf parts
+
 pub record NoNonceTwice : Type 0 where
   pub different : (key nonce : List ℕ) (bs : List Build) → Chained (freshSending key nonce) bs → AllDifferent (used (freshSending key nonce) bs)
-  -- what a build wrote are those parts, sealed each with its own nonce
-  pub wrote : (s : Sending) (b : Build) (n : ℕ) → Meets s b → answered (b .answer .built) ≡ wrote n
-      → b .after ≡ splice (b .buffer) (b .queued) (sealedParts (keyExpansion (s .key)) (sentParts s (b .header) (b .abort) (b .source)))
+  -- they are those of the bytes that were written, which are all sealed under one key
+  pub wrote : (s : Sending) (b : Build) (n : ℕ) → Meets s b → answered (b .answer .built) ≡ wrote n → SealedWith s b
+  pub oneKey : (s : Sending) (bs : List Build) → Chained s bs → sendingAfter s bs .key ≡ s .key
   -- a switch's state has spent none, and from then on as many are spent as were used
   pub counted : (key nonce : List ℕ) (bs : List Build) → Chained (freshSending key nonce) bs
       → spentOf (sendingAfter (freshSending key nonce) bs) ≡ length (used (freshSending key nonce) bs)

@@ -1,5 +1,5 @@
 -- Two directions under one key: nonces from two starting ones on that are apart.
-use mathlib.Core.Path.{_≡_, refl, sym, ap, _∙_}
+use mathlib.Core.Path.{_≡_, refl, sym, ap, subst, _∙_}
 use mathlib.Core.List.{List}
 use Prim.Native.Nat.{ℕ, zero, suc, _+_, _%_, _^_, _<_}
 use native.Mathlib.Nat.{add-zero, mod-lt, mod-eq-of-lt}
@@ -8,11 +8,11 @@ use lib.ListN.{length}
 use Rattle.secure.specs.Layout.{nextNonce, nonceAfter}
 use Rattle.sealed_receiver.specs.State.{freshReceiving}
 use Rattle.sealed_builder.specs.declared.Sending.{Sending}
-use Rattle.sealed_builder.specs.Build.{Done, freshSending, refusedSending, agrees, judgeEarlier, judgeSealed}
+use Rattle.sealed_builder.specs.Build.{Done, spentOf, freshSending, refusedSending, agrees, judgeEarlier, judgeSealed}
 use Rattle.builder.specs.Build.{turnedAway, answered}
-use Rattle.sealed_builder.specs.Nonces.{Build, Meets, Chained, used, NoneIs}
+use Rattle.sealed_builder.specs.Nonces.{Build, Meets, Chained, used, sendingAfter, NoneIs, AllDifferent}
 use Rattle.sealed_builder.proofs.Runs.{run, length-run, after-next, counter, counter-after}
-use Rattle.sealed_builder.proofs.Once.{judged, came, when-refused, Line, line}
+use Rattle.sealed_builder.proofs.Once.{judged, came, when-refused, Line, line, different, counted-all, one-key}
 use Rattle.connection.specs.declared.State.{State}
 use Rattle.connection.specs.Step.{switchedSending}
 use Rattle.connection.specs.Calls.{Try}
@@ -64,6 +64,14 @@ shared a b m k xs ys e f d =
 
 -- ---- what is sealed from a switch on
 
+sends-fresh : (st : State) (c : Try) → Made st c → c .switched .sending ≡ freshSending (c .key) (c .sending)
+sends-fresh st c m =
+    m .switched .sends ∙ ap (λ (j : Judged). switchedSending j (c .key) (c .sending)) (sym (m .switched .verdict) ∙ m .verdict)
+
+-- what holds of all builds from a fresh sending state on
+from-fresh : (P : Sending → Type 0) (st : State) (c : Try) → Made st c → P (freshSending (c .key) (c .sending)) → P (c .switched .sending)
+from-fresh P st c m p = subst P (sym (sends-fresh st c m)) p
+
 record Sealed (c : Try) (bs : List Build) : Type 0 where
   count : ℕ
   is : used (c .switched .sending) bs ≡ run count (c .sending)
@@ -71,9 +79,8 @@ record Sealed (c : Try) (bs : List Build) : Type 0 where
 from-sending : (st : State) (c : Try) (bs : List Build) → Made st c → Chained (c .switched .sending) bs → Sealed c bs
 unfolding freshSending
 from-sending st c bs m ch =
-    let w = m .switched in
     let s : Sending = c .switched .sending in
-    let q : s ≡ freshSending (c .key) (c .sending) = w .sends ∙ ap (λ (j : Judged). switchedSending j (c .key) (c .sending)) (sym (w .verdict) ∙ m .verdict) in
+    let q : s ≡ freshSending (c .key) (c .sending) = sends-fresh st c m in
     let l : Line s (used s bs) = line s bs ch (rw q (omega arith)) in
     record { count = l .count; is = l .is ∙ ap (λ (x : Sending). run (l .count) (x .nonce)) q }
 
@@ -90,9 +97,13 @@ with-refused s b q m =
     (k .0, k .1, ap (λ (d : Done). d .buffer) (came s b m (refused (numbersOf SwitchRefused)) j))
 
 pub two-directions : TwoDirections
-unfolding freshReceiving
+unfolding freshSending freshReceiving
 two-directions =
     record {
+      once = λ st c bs m ch. from-fresh (λ (s : Sending). Chained s bs → AllDifferent (used s bs)) st c m (different (c .key) (c .sending) bs) ch;
+      spent = λ st c bs m ch.
+          from-fresh (λ (s : Sending). Chained s bs → spentOf (sendingAfter s bs) ≡ length (used s bs)) st c m (counted-all (c .key) (c .sending) bs) ch;
+      key = λ st c bs m ch. one-key (c .switched .sending) bs ch ∙ ap (λ (s : Sending). s .key) (sends-fresh st c m);
       opened = λ st c bs cs m ch ch′ d.
           let l = from-sending st c bs m ch in
           let r = from-switch st c cs m ch′ in

@@ -2,7 +2,7 @@
 use mathlib.Core.Path.{_≡_, refl, sym, ap, ap₂, subst, _∙_}
 use mathlib.Core.Bool.{Bool, true, false, cond, _&&_}
 use mathlib.Core.List.{List, [], _∷_, _++_, append-nil}
-use Prim.Native.Nat.{ℕ, _+_, _-_, _≤_}
+use Prim.Native.Nat.{ℕ, suc, _+_, _-_, _≤_}
 use native.Mathlib.Nat.{add-zero}
 use native.Mathlib.Numerals.{add-one}
 use native.Mathlib.Omega.{arith}
@@ -33,16 +33,17 @@ use Rattle.sealed_receiver.specs.State.{isRefused, openedOf, freshReceiving, op
 use Rattle.sealed_receiver.specs.State as sealed-states
 use Rattle.sealed_receiver.specs.Step as step
 use Rattle.sealed_receiver.specs.Step.{at, knowing, switched, Stepped, silent, refuse, unlessRefused, judgeOpened, textOf, judgePart, partText, endFrame, beginLast, beginRest, behindFirst, behindRest, behindLast, finish, absorbed, stored, reached, size, onByte, neededBy, feed}
-use Rattle.sealed_receiver.proofs.Traces.{opened-next}
+use Rattle.sealed_receiver.proofs.Openings.{opened-next}
 use Rattle.sealed_builder.specs.Nonces.{AllDifferent}
-use Rattle.sealed_builder.proofs.Runs.{run, run-on, all-different}
+use Rattle.sealed_builder.proofs.Runs.{run, length-run, run-on, all-different}
 use Rattle.connection.specs.declared.State.{State}
 use Rattle.connection.specs.declared.Received.{Received}
 use Rattle.connection.specs.declared.Mode.the-variants as mode
 use Rattle.connection.specs.Step.{agrees, Answer, answer, bySecure, Answered, judgeSwitch, switchedState, SwitchedWith}
 use Rattle.connection.specs.Calls.{Try}
+use Rattle.connection.specs.Every.{Lent, AnyCall, taking, switching, Handed}
 use Rattle.sealed_ends.proofs.Judging.{after-add}
-use Rattle.sealed_ends.specs.Openings.{Opening, partBytes, openingBy, openingAt, openingsOf, leftBy, behindBy, finishBy, reachedBy, outcomes, byteBy, unlessReported, openingsIn, openingsOn, openingsBy, Lent, Call, taking, switching, Chained, openings, noncesOf, Under, Made, NoNonceOpenedTwice}
+use Rattle.sealed_ends.specs.Openings.{Opening, partBytes, openingBy, openingAt, openingsOf, leftBy, behindBy, finishBy, reachedBy, outcomes, byteBy, unlessReported, openingsIn, openingsOn, openingsBy, openings, stateAfter, noncesOf, Under, Made, NoNonceOpenedTwice}
 
 -- ---- what a step leaves: what opens the next part, or a refusal
 
@@ -344,48 +345,79 @@ module _ (st : State) (c : Lent) (z : Secured st) (a : Answered st (c .store) (c
 
 -- ---- lists of calls
 
-gone-list : (st : State) (cs : List Call) → Secured st → Chained st cs → isRefused (st .secure .position .stage) ≡ true → openings st cs ≡ []
-gone-list st [] z ch e = refl
+gone-list : (st : State) (cs : List AnyCall) → Secured st → Handed st cs → isRefused (st .secure .position .stage) ≡ true
+    → (openings st cs ≡ []) × (isRefused (stateAfter st cs .secure .position .stage) ≡ true)
+gone-list st [] z ch e = (refl, e)
 gone-list st (taking c ∷ cs) z ch e =
     let g = secured-gone st c z (ch .0) e in
-    ap₂ (λ (os ps : List Opening). os ++ ps) (g .0) (gone-list (c .received .state) cs (still-secured st c z (ch .0)) (ch .1) (g .1))
+    let rest = gone-list (c .received .state) cs (still-secured st c z (ch .0)) (ch .1) (g .1) in
+    (ap₂ (λ (os ps : List Opening). os ++ ps) (g .0) (rest .0), rest .1)
 gone-list st (switching c ∷ cs) z ch e =
     let q = still st c (z .ready) (ch .0) in
-    ap (λ (y : State). openings y cs) q ∙ gone-list st cs z (subst (λ (y : State). Chained y cs) q (ch .1)) e
+    subst (λ (y : State). (openings y cs ≡ []) × (isRefused (stateAfter y cs .secure .position .stage) ≡ true)) (sym q)
+    (gone-list st cs z (subst (λ (y : State). Handed y cs) q (ch .1)) e)
 
-by-went : (r : Receiving) (os ps : List Opening) (y : sealed.State) → (isRefused (y .position .stage) ≡ false → openedOf (y .known .receiving) ≤ allNonces → Ran (y .known .receiving) ps)
-    → (isRefused (y .position .stage) ≡ true → ps ≡ []) → Went r os y → Ran r (os ++ ps)
-by-went r os ps y live gone (further a o) = ran-two r os ps y a o (live (o .live) (fewer r os y a o))
-by-went r os ps y live gone (over a e) = subst (Ran r) (sym (ap (λ (l : List Opening). os ++ l) (gone e) ∙ append-nil os)) a
+by-went : (r : Receiving) (os ps : List Opening) (x y : sealed.State)
+    → (isRefused (x .position .stage) ≡ false → openedOf (x .known .receiving) ≤ allNonces → Went (x .known .receiving) ps y)
+    → (isRefused (x .position .stage) ≡ true → (ps ≡ []) × (isRefused (y .position .stage) ≡ true)) → Went r os x → Went r (os ++ ps) y
+by-went r os ps x y live gone (further a o) = went-on r os ps x y a o (live (o .live) (fewer r os x a o))
+by-went r os ps x y live gone (over a e) =
+    let g = gone e in
+    over (subst (Ran r) (sym (ap (λ (l : List Opening). os ++ l) (g .0) ∙ append-nil os)) a) (g .1)
 
-ran-list : (st : State) (cs : List Call) → Secured st → Chained st cs → isRefused (st .secure .position .stage) ≡ false → openedOf (st .secure .known .receiving) ≤ allNonces
-    → Ran (st .secure .known .receiving) (openings st cs)
-ran-list st [] z ch e l = ran-none (st .secure .known .receiving) l
-ran-list st (taking c ∷ cs) z ch e l =
+went-list : (st : State) (cs : List AnyCall) → Secured st → Handed st cs → isRefused (st .secure .position .stage) ≡ false → openedOf (st .secure .known .receiving) ≤ allNonces
+    → Went (st .secure .known .receiving) (openings st cs) (stateAfter st cs .secure)
+went-list st [] z ch e l = went-none (st .secure) e l
+went-list st (taking c ∷ cs) z ch e l =
     let z′ = still-secured st c z (ch .0) in
-    by-went (st .secure .known .receiving) (openingsBy st (c .store) (c .piece)) (openings (c .received .state) cs) (c .received .state .secure)
-    (λ u v. ran-list (c .received .state) cs z′ (ch .1) u v) (λ u. gone-list (c .received .state) cs z′ (ch .1) u) (secured-went st c z (ch .0) e l)
-ran-list st (switching c ∷ cs) z ch e l =
+    by-went (st .secure .known .receiving) (openingsBy st (c .store) (c .piece)) (openings (c .received .state) cs) (c .received .state .secure) (stateAfter (c .received .state) cs .secure)
+    (λ u v. went-list (c .received .state) cs z′ (ch .1) u v) (λ u. gone-list (c .received .state) cs z′ (ch .1) u) (secured-went st c z (ch .0) e l)
+went-list st (switching c ∷ cs) z ch e l =
     let q = still st c (z .ready) (ch .0) in
-    subst (λ (y : State). Ran (st .secure .known .receiving) (openings y cs)) (sym q) (ran-list st cs z (subst (λ (y : State). Chained y cs) q (ch .1)) e l)
+    subst (λ (y : State). Went (st .secure .known .receiving) (openings y cs) (stateAfter y cs .secure)) (sym q) (went-list st cs z (subst (λ (y : State). Handed y cs) q (ch .1)) e l)
 
 -- from the switch on
-pub from-switch : (st : State) (c : Try) (cs : List Call) → Made st c → Chained (c .switched .state) cs → Ran (freshReceiving (c .key) (c .receiving)) (openings (c .switched .state) cs)
+went-switch : (st : State) (c : Try) (cs : List AnyCall) → Made st c → Handed (c .switched .state) cs
+    → Went (freshReceiving (c .key) (c .receiving)) (openings (c .switched .state) cs) (stateAfter (c .switched .state) cs .secure)
 unfolding switched freshReceiving
-from-switch st c cs m ch =
+went-switch st c cs m ch =
     let S : State = switchedState fine st (c .key) (c .receiving) in
     let w = m .switched in
     let q : c .switched .state ≡ S = w .state ∙ ap (λ (j : Judged). switchedState j st (c .key) (c .receiving)) (sym (w .verdict) ∙ m .verdict) in
     let z : Secured S = record { mode = refl; ready = refl } in
-    subst (λ (y : State). Ran (freshReceiving (c .key) (c .receiving)) (openings y cs)) (sym q) (ran-list S cs z (subst (λ (y : State). Chained y cs) q ch) refl (omega arith))
+    subst (λ (y : State). Went (freshReceiving (c .key) (c .receiving)) (openings y cs) (stateAfter y cs .secure)) (sym q)
+    (went-list S cs z (subst (λ (y : State). Handed y cs) q ch) refl (omega arith))
 
-different : (st : State) (c : Try) (cs : List Call) → Made st c → Chained (c .switched .state) cs → AllDifferent (noncesOf (openings (c .switched .state) cs))
+ran-of : {r : Receiving} {os : List Opening} {y : sealed.State} → Went r os y → Ran r os
+ran-of (further a o) = a
+ran-of (over a e) = a
+
+pub from-switch : (st : State) (c : Try) (cs : List AnyCall) → Made st c → Handed (c .switched .state) cs → Ran (freshReceiving (c .key) (c .receiving)) (openings (c .switched .state) cs)
+from-switch st c cs m ch = ran-of (went-switch st c cs m ch)
+
+-- as many as the state counts
+length-nonces : (os : List Opening) → length (noncesOf os) ≡ length os
+length-nonces [] = refl
+length-nonces (o ∷ os) = ap (λ (n : ℕ). suc n) (length-nonces os)
+
+count-of : {r : Receiving} {os : List Opening} {y : sealed.State} → Went r os y → isRefused (y .position .stage) ≡ false → openedOf (y .known .receiving) ≡ openedOf r + length os
+count-of {r} {os} (further a o) e =
+    o .opened ∙ ap (λ (n : ℕ). openedOf r + n) (sym (length-run (a .count) (r .nonce)) ∙ sym (ap length (a .is)) ∙ length-nonces os)
+count-of (over a g) e = wrong (sym e ∙ g)
+
+counted : (st : State) (c : Try) (cs : List AnyCall) → Made st c → Handed (c .switched .state) cs
+    → isRefused (stateAfter (c .switched .state) cs .secure .position .stage) ≡ false
+    → openedOf (stateAfter (c .switched .state) cs .secure .known .receiving) ≡ length (openings (c .switched .state) cs)
+unfolding freshReceiving
+counted st c cs m ch e = count-of (went-switch st c cs m ch) e ∙ omega arith
+
+different : (st : State) (c : Try) (cs : List AnyCall) → Made st c → Handed (c .switched .state) cs → AllDifferent (noncesOf (openings (c .switched .state) cs))
 unfolding freshReceiving
 different st c cs m ch = (let a = from-switch st c cs m ch in rw (a .is) (all-different (a .count) (c .receiving) (omega (arith, a .fits))))
 
-one-key : (st : State) (c : Try) (cs : List Call) → Made st c → Chained (c .switched .state) cs → Under (c .key) (openings (c .switched .state) cs)
+one-key : (st : State) (c : Try) (cs : List AnyCall) → Made st c → Handed (c .switched .state) cs → Under (c .key) (openings (c .switched .state) cs)
 unfolding freshReceiving
 one-key st c cs m ch = from-switch st c cs m ch .under
 
 pub no-nonce-opened-twice : NoNonceOpenedTwice
-no-nonce-opened-twice = record { different = different; oneKey = one-key; only = only }
+no-nonce-opened-twice = record { different = different; oneKey = one-key; counted = counted; only = only }

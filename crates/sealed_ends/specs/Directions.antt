@@ -8,12 +8,13 @@ use Rattle.refusal.specs.declared.Numbers.{Numbers}
 use Rattle.refusal.specs.declared.Refusal.the-variants.{SwitchRefused}
 use Rattle.refusal.specs.Refusals.{refused, numbersOf, judgedBy}
 use Rattle.builder.specs.Build.{turnedAway, answered}
-use Rattle.sealed_builder.specs.Nonces.{Build, Meets, Chained, used, NoneIs}
+use Rattle.sealed_builder.specs.Build.{spentOf}
+use Rattle.sealed_builder.specs.Nonces.{Build, Meets, Chained, used, sendingAfter, NoneIs, AllDifferent}
 use Rattle.connection.specs.declared.State.{State}
 use Rattle.connection.specs.Step.{SwitchedWith}
 use Rattle.connection.specs.Calls.{Try}
-use Rattle.sealed_ends.specs.Openings as calls
-use Rattle.sealed_ends.specs.Openings.{Call, openings, noncesOf, Made}
+use Rattle.connection.specs.Every.{AnyCall, Handed}
+use Rattle.sealed_ends.specs.Openings.{openings, noncesOf, Made}
 
 -- a nonce's first 4 bytes, and its counter so many parts on
 abbrev pub fixedPart : List ℕ → List ℕ
@@ -33,8 +34,13 @@ NoneShared [] ys = Unit {0}
 NoneShared (x ∷ xs) ys = NoneIs x ys × NoneShared xs ys
 
 pub record TwoDirections : Type 0 where
+  -- any builds from a switch on, refused ones among them: the nonces are all different, as many are spent as were used, and the key is the switch's
+  pub once : (st : State) (c : Try) (bs : List Build) → Made st c → Chained (c .switched .sending) bs → AllDifferent (used (c .switched .sending) bs)
+  pub spent : (st : State) (c : Try) (bs : List Build) → Made st c → Chained (c .switched .sending) bs
+      → spentOf (sendingAfter (c .switched .sending) bs) ≡ length (used (c .switched .sending) bs)
+  pub key : (st : State) (c : Try) (bs : List Build) → Made st c → Chained (c .switched .sending) bs → sendingAfter (c .switched .sending) bs .key ≡ c .key
   -- from a switch on: any builds with its sending state, and any calls
-  pub opened : (st : State) (c : Try) (bs : List Build) (cs : List Call) → Made st c → Chained (c .switched .sending) bs → calls.Chained (c .switched .state) cs
+  pub opened : (st : State) (c : Try) (bs : List Build) (cs : List AnyCall) → Made st c → Chained (c .switched .sending) bs → Handed (c .switched .state) cs
       → Apart (c .sending) (length (used (c .switched .sending) bs)) (c .receiving) (length (noncesOf (openings (c .switched .state) cs)))
       → NoneShared (used (c .switched .sending) bs) (noncesOf (openings (c .switched .state) cs))
   -- and what the two ends seal, each from its own switch on, whether it has come in or not

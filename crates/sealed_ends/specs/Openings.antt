@@ -22,9 +22,9 @@ use Rattle.sealed_receiver.specs.State as sealed-states
 use Rattle.sealed_receiver.specs.Step.{Stepped, silent, refuse, unlessRefused, judgeOpened, textOf, behindFirst, behindRest, behindLast, sealedIn, absorbed, stored, size, onByte, neededBy}
 use Rattle.sealed_builder.specs.Nonces.{AllDifferent}
 use Rattle.connection.specs.declared.State.{State}
-use Rattle.connection.specs.declared.Received.{Received}
-use Rattle.connection.specs.Step.{isSecure, readyRule, Answered, SwitchedWith}
+use Rattle.connection.specs.Step.{isSecure, readyRule, SwitchedWith}
 use Rattle.connection.specs.Calls.{Try}
+use Rattle.connection.specs.Every.{AnyCall, taking, switching, Handed}
 
 -- ---- what is opened
 
@@ -111,25 +111,15 @@ openingsBy st s piece = cond (readyRule st) (cond (isSecure (st .mode)) (opening
 
 -- ---- lists of calls, each given the state that the last one handed back: with any piece and any store, or a try to switch
 
-pub record Lent : Type 0 where
-  pub piece : List ℕ
-  pub store : List ℕ
-  pub received : Received
-  pub after : List ℕ
-
-pub data Call : Type 0 where
-  taking : Lent → Call
-  switching : Try → Call
-
-abbrev pub Chained : State → List Call → Type 0
-Chained st [] = Unit {0}
-Chained st (taking c ∷ cs) = Answered st (c .store) (c .piece) (c .received) (c .after) × Chained (c .received .state) cs
-Chained st (switching c ∷ cs) = SwitchedWith st (c .key) (c .receiving) (c .sending) (c .switched) × Chained (c .switched .state) cs
-
-abbrev pub openings : State → List Call → List Opening
+abbrev pub openings : State → List AnyCall → List Opening
 openings st [] = []
 openings st (taking c ∷ cs) = openingsBy st (c .store) (c .piece) ++ openings (c .received .state) cs
 openings st (switching c ∷ cs) = openings (c .switched .state) cs
+
+abbrev pub stateAfter : State → List AnyCall → State
+stateAfter st [] = st
+stateAfter st (taking c ∷ cs) = stateAfter (c .received .state) cs
+stateAfter st (switching c ∷ cs) = stateAfter (c .switched .state) cs
 
 -- ---- the claim
 
@@ -148,7 +138,11 @@ pub record Made (st : State) (c : Try) : Type 0 where
 
 pub record NoNonceOpenedTwice : Type 0 where
   -- the nonces are all different, and all parts are opened under the switch's key
-  pub different : (st : State) (c : Try) (cs : List Call) → Made st c → Chained (c .switched .state) cs → AllDifferent (noncesOf (openings (c .switched .state) cs))
-  pub oneKey : (st : State) (c : Try) (cs : List Call) → Made st c → Chained (c .switched .state) cs → Under (c .key) (openings (c .switched .state) cs)
+  pub different : (st : State) (c : Try) (cs : List AnyCall) → Made st c → Handed (c .switched .state) cs → AllDifferent (noncesOf (openings (c .switched .state) cs))
+  pub oneKey : (st : State) (c : Try) (cs : List AnyCall) → Made st c → Handed (c .switched .state) cs → Under (c .key) (openings (c .switched .state) cs)
+  -- as many parts were opened as the state that they left says, unless it is refused, which keeps no count
+  pub counted : (st : State) (c : Try) (cs : List AnyCall) → Made st c → Handed (c .switched .state) cs
+      → isRefused (stateAfter (c .switched .state) cs .secure .position .stage) ≡ false
+      → openedOf (stateAfter (c .switched .state) cs .secure .known .receiving) ≡ length (openings (c .switched .state) cs)
   -- these are all: what a byte comes to is settled by what they give
   pub only : (st : sealed.State) (s : List ℕ) (b : ℕ) → isRefused (st .position .stage) ≡ false → onByte st s b ≡ byteBy (outcomes (openingsOf st s b)) st s b

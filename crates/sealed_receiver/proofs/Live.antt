@@ -7,7 +7,7 @@ use native.Mathlib.Omega.{arith}
 use lib.ListN.{length, take, drop, getD, replicate, length-take, length-append, length-replicate}
 use lib.Seq.{length-sets}
 use lib.Dec.{lit<, leb, ltb, eqb}
-use borrow.Author.Tests.{lt-ltb, ltb-true}
+use borrow.Author.Tests.{le-leb, lt-ltb, ltb-true, leb-true}
 use Rattle.buffer.specs.Le.{numberAt}
 use Rattle.buffer.specs.Splice.{replaceFront, splice}
 use Rattle.buffer.proofs.Parts.{length-replaceFront, length-splice}
@@ -39,9 +39,10 @@ use Rattle.sealed_receiver.specs.declared.Stage.the-variants as stage
 use Rattle.sealed_receiver.specs.declared.Receiving.{Receiving}
 use Rattle.sealed_receiver.specs.declared.Known.{Known}
 use Rattle.sealed_receiver.specs.declared.State.{State}
-use Rattle.sealed_receiver.specs.State.{isFirst, isRefused, inFrame, sizeOf, needed, openedOf, freshReceiving, openedMore, noReceiving, receivingRule, headerRule, given, refusalRule, rules, countRule, blockRule, agreesAt, agrees}
+use Rattle.sealed_receiver.specs.State.{isFirst, isRefused, inFrame, sizeOf, needed, openedOf, freshReceiving, openedMore, noReceiving, receivingRule, openedRule, headerRule, given, refusalRule, rules, countRule, blockRule, agreesAt, agrees}
 use Rattle.sealed_receiver.specs.Step.{blank, at, knowing, nextFrame, switched, refusedState, Stepped, silent, refuse, unlessRefused, judgeOpened, judgePart, partText, endFrame, beginLast, beginRest, behindFirst, behindRest, behindLast, sealedIn, finish, blockWith, storeWith, absorbed, stored, reached, size, chunk, onByte, Running}
 use Rattle.sealed_receiver.proofs.Rooms.{there, segments-fit, rest-beyond, pads-fit}
+use Rattle.sealed_receiver.proofs.Openings.{opened-next}
 use Rattle.sealed_receiver.proofs.FirstPart.{first-fits, first-header}
 use Rattle.sealed_receiver.proofs.LastPart.{payload-fits}
 
@@ -113,14 +114,18 @@ opened-opens r bytes e =
 
 pub record Rules (k : Stage) (v : Known) : Type 0 where
   pub receiving : receivingRule k (v .receiving) ≡ true
+  pub opened : openedRule k (v .header) (v .receiving) ≡ true
   pub header : headerRule k (v .header) ≡ true
   pub refusal : refusalRule k (v .refusal) ≡ true
 
 rules-of : (k : Stage) (v : Known) → rules k v ≡ true → Rules k v
 rules-of k v e =
-    let b = both-right (receivingRule k (v .receiving)) (headerRule k (v .header) && refusalRule k (v .refusal)) e in
+    let nonces = receivingRule k (v .receiving) && openedRule k (v .header) (v .receiving) in
+    let a = both-left nonces (headerRule k (v .header) && refusalRule k (v .refusal)) e in
+    let b = both-right nonces (headerRule k (v .header) && refusalRule k (v .refusal)) e in
     record {
-      receiving = both-left (receivingRule k (v .receiving)) (headerRule k (v .header) && refusalRule k (v .refusal)) e;
+      receiving = both-left (receivingRule k (v .receiving)) (openedRule k (v .header) (v .receiving)) a;
+      opened = both-right (receivingRule k (v .receiving)) (openedRule k (v .header) (v .receiving)) a;
       header = both-left (headerRule k (v .header)) (refusalRule k (v .refusal)) b;
       refusal = both-right (headerRule k (v .header)) (refusalRule k (v .refusal)) b;
     }
@@ -143,7 +148,7 @@ pub record Live (k : Stage) (got : ℕ) (block : List ℕ) (v : Known) : Type 0 
 
 agree-live : (k : Stage) (got : ℕ) (b : List ℕ) (v : Known) → isRefused k ≡ false → Live k got b v → agreesAt k got b v ≡ true
 unfolding agreesAt
-agree-live k got b v o l = rw (l .rule .receiving, l .rule .header, l .rule .refusal, o, lt-ltb got (sizeOf k (v .header)) (l .inside), l .zeros)
+agree-live k got b v o l = rw (l .rule .receiving, l .rule .opened, l .rule .header, l .rule .refusal, o, lt-ltb got (sizeOf k (v .header)) (l .inside), l .zeros)
 
 pub live : {st : State} {s : List ℕ} → Running st s → Live (st .position .stage) (st .position .got) (st .position .block) (st .known)
 unfolding agreesAt
@@ -189,7 +194,7 @@ running-at k v s o r i f = record { agree = agree-live k 0 blank v o (record { r
 
 -- between two frames
 between : (r : Receiving) (s : List ℕ) → Opens r → Running (nextFrame r) s
-between r s o = running-at stage.First (knowing r noHeader) s refl (record { receiving = o; header = refl; refusal = refl }) (lit< tt) zero-le
+between r s o = running-at stage.First (knowing r noHeader) s refl (record { receiving = o; opened = le-leb 0 (openedOf r) zero-le; header = refl; refusal = refl }) (lit< tt) zero-le
 
 pub switched-running : (key nonce s : List ℕ) → Running (switched key nonce) s
 unfolding switched freshReceiving
@@ -237,41 +242,41 @@ frame-leaves dropped r h p s o k l f = record { after = between r (zeroed h s) o
 frame-leaves (turnedAway n) r h p s o k l f = record { after = gone-at n (k .gives n refl); same = length-zeroed h s f }
 
 module _ (r : Receiving) (h : Header) (s : List ℕ) (o : Opens r) (e : isFine (judgeHeader h) ≡ true) (f : layout.needed h ≤ length s) where
-  last-leaves : Leaves (length s) (beginLast r h s)
-  last-leaves = go (noLast h) refl
+  last-leaves : 1 + cond (noRest h) 0 1 ≤ openedOf r → Leaves (length s) (beginLast r h s)
+  last-leaves l = go (noLast h) refl
     where
       go : (b : Bool) → noLast h ≡ b → Leaves (length s) (cond b (endFrame whole r h (take (h .s1 .len) s) s) (silent (at stage.Last (knowing r h)) s))
       go true z = frame-leaves whole r h (take (h .s1 .len) s) s o (end-whole given) (omega (arith, taken-most (h .s1 .len) s, segments-fit h)) f
       go false z =
           let i : 0 < cond (noLast h) 0 (lastPart h) = rw z (omega arith) in
-          record { after = running-at stage.Last (knowing r h) s refl (record { receiving = o; header = e; refusal = refl }) i f; same = refl }
+          record { after = running-at stage.Last (knowing r h) s refl (record { receiving = o; opened = le-leb (1 + cond (noRest h) 0 1) (openedOf r) l; header = e; refusal = refl }) i f; same = refl }
 
-  rest-leaves : Leaves (length s) (beginRest r h s)
-  rest-leaves = go (noRest h) refl
+  rest-leaves : 1 ≤ openedOf r → Leaves (length s) (beginRest r h s)
+  rest-leaves l = go (noRest h) refl
     where
       go : (b : Bool) → noRest h ≡ b → Leaves (length s) (cond b (beginLast r h s) (silent (at stage.Rest (knowing r h)) s))
-      go true z = last-leaves
+      go true z = let one : 1 + cond (noRest h) 0 1 ≤ openedOf r = rw z l in last-leaves one
       go false z =
           let i : 0 < cond (noRest h) 0 (restPart h) = rw z (omega arith) in
-          record { after = running-at stage.Rest (knowing r h) s refl (record { receiving = o; header = e; refusal = refl }) i f; same = refl }
+          record { after = running-at stage.Rest (knowing r h) s refl (record { receiving = o; opened = le-leb 1 (openedOf r) l; header = e; refusal = refl }) i f; same = refl }
 
 -- ---- behind an opened part
 
-first-leaves : (r : Receiving) (text s : List ℕ) → Opens r → Leaves (length s) (behindFirst r text s)
+first-leaves : (r : Receiving) (text s : List ℕ) → Opens r → 1 ≤ openedOf r → Leaves (length s) (behindFirst r text s)
 unfolding behindFirst
-first-leaves r text s o =
+first-leaves r text s o one =
     judged-leaves (judgeFirst text (length s)) s _ (length s) (given-first text (length s)) refl
     (λ e.
     let h = headerOf text in
     let f = first-fits text (length s) e in
     let xs = take (h .s1 .len) (drop 32 text) in
     let l : length (replaceFront xs s) ≡ length s = length-replaceFront xs s (omega (arith, taken-most (h .s1 .len) (drop 32 text), segments-fit h)) in
-    rw l at (rest-leaves r h (replaceFront xs s) o (ap isFine (first-header text (length s) e)) (rw l f)))
+    rw l at (rest-leaves r h (replaceFront xs s) o (ap isFine (first-header text (length s) e)) (rw l f) one))
 
-later-leaves : (r : Receiving) (h : Header) (text s : List ℕ) → Opens r → isFine (judgeHeader h) ≡ true → layout.needed h ≤ length s → noRest h ≡ false
+later-leaves : (r : Receiving) (h : Header) (text s : List ℕ) → Opens r → 2 ≤ openedOf r → isFine (judgeHeader h) ≡ true → layout.needed h ≤ length s → noRest h ≡ false
     → Leaves (length s) (behindRest r h text s)
 unfolding behindRest
-later-leaves r h text s o e f some =
+later-leaves r h text s o two e f some =
     let n = h .s1 .len - 48 in
     judged-leaves (judgePadding (drop n text)) (zeroed h s) _ (length s) (given-padding (drop n text)) (length-zeroed h s f)
     (λ _.
@@ -282,7 +287,8 @@ later-leaves r h text s o e f some =
     let l : length (splice s 48 (take n text ++ zs)) ≡ length s =
     length-splice s 48 (take n text ++ zs) (omega (arith, k, taken-most n text, rest-beyond h some, pads-fit h some (padding n) refl))
     in
-    rw l at (last-leaves r h (splice s 48 (take n text ++ zs)) o e (rw l f)))
+    let both : 1 + cond (noRest h) 0 1 ≤ openedOf r = rw some two in
+    rw l at (last-leaves r h (splice s 48 (take n text ++ zs)) o e (rw l f) both))
 
 ended-leaves : (r : Receiving) (h : Header) (text s : List ℕ) → Opens r → layout.needed h ≤ length s → Leaves (length s) (behindLast r h text s)
 unfolding behindLast
@@ -294,13 +300,14 @@ finish-leaves : (k : Stage) (b : List ℕ) (v : Known) (s : List ℕ) → Rules 
 unfolding finish
 finish-leaves stage.First b v s r o i f =
     judged-leaves (judgePart (v .receiving) b) s _ (length s) (given-part (v .receiving) b) refl
-    (λ e. first-leaves (openedMore (v .receiving)) (partText (v .receiving) b) s (opened-opens (v .receiving) b e))
+    (λ e. first-leaves (openedMore (v .receiving)) (partText (v .receiving) b) s (opened-opens (v .receiving) b e) (omega (arith, opened-next (v .receiving) b e)))
 finish-leaves stage.Rest b v s r o i f =
     let h = v .header in
     let bytes = sealedIn stage.Rest h s in
     judged-leaves (judgePart (v .receiving) bytes) (zeroed h s) _ (length s) (given-part (v .receiving) bytes) (length-zeroed h s f)
     (λ e.
-    later-leaves (openedMore (v .receiving)) h (partText (v .receiving) bytes) s (opened-opens (v .receiving) bytes e) (r .header) f
+    let two : 2 ≤ openedOf (openedMore (v .receiving)) = omega (arith, opened-next (v .receiving) bytes e, leb-true 1 (openedOf (v .receiving)) (r .opened)) in
+    later-leaves (openedMore (v .receiving)) h (partText (v .receiving) bytes) s (opened-opens (v .receiving) bytes e) two (r .header) f
     (there (noRest h) (restPart h) i))
 finish-leaves stage.Last b v s r o i f =
     let h = v .header in

@@ -1,11 +1,12 @@
 -- A part that is opened where it stands.
 use mathlib.Core.Path.{_≡_, refl, sym, ap, ap₂, _∙_}
 use mathlib.Core.List.{List, _++_}
-use mathlib.Core.Bool.{Bool, true, false, cond, _&&_}
-use Prim.Native.Nat.{ℕ, _+_, _-_, _≤_, _<_}
+use mathlib.Core.Bool.{Bool, true, false, cond, _&&_, _||_}
+use Prim.Native.Nat.{ℕ, suc, _+_, _-_, _%_, _≤_, _<_}
+use native.Mathlib.Nat.{mod-eq-of-lt}
 use native.Mathlib.Omega.{arith}
-use borrow.Author.Tests.{le-leb, lt-ltb}
-use lib.Dec.{leb}
+use borrow.Author.Tests.{le-leb, lt-ltb, ltb-true, leb-true, leb-false}
+use lib.Dec.{leb, ltb}
 use lib.ListN.{length, take, drop}
 use lib.Seq.{length-take-le}
 use Rattle.refusal.specs.declared.Numbers.{Numbers}
@@ -13,7 +14,7 @@ use Rattle.refusal.specs.declared.Refusal.the-variants as refusal
 use Rattle.refusal.specs.declared.Verdict.{Verdict}
 use Rattle.refusal.specs.declared.Verdict.the-variants as verdict
 use Rattle.refusal.specs.Refusals.{Judged, fine, refused, numbersOf, refusedWith, judgedBy, orElse, unless}
-use Rattle.refusal.proofs.Judgements.{both-fine}
+use Rattle.refusal.proofs.Judgements.{both-fine, passed}
 use Rattle.aes.specs.Aes.{State, keyExpansion}
 use Rattle.aes.specs.Counter.{gctr}
 use Rattle.aes.proofs.Counters.{gctr-length}
@@ -25,7 +26,7 @@ use Rattle.gcm.specs.declared.Outcome.the-variants as outcome
 use Rattle.secure.specs.Layout.{allNonces}
 use Rattle.secure.specs.Reading.{judgeNonce}
 use Rattle.sealed_receiver.specs.declared.Receiving.{Receiving}
-use Rattle.sealed_receiver.specs.State.{openedOf}
+use Rattle.sealed_receiver.specs.State.{openedOf, openedMore}
 use Rattle.sealed_receiver.specs.Step.{judgeOpened, textOf, judgePart, partText, judgedAs, OpenedPart}
 
 differ : {A : Type 0} {n : Numbers} → refused n ≡ fine → A
@@ -53,6 +54,31 @@ text-if w nonce s j fail e f = differ (both-fine j (judgeOpened fail) f .1)
 pub part-text-length : (r : Receiving) (bytes : List ℕ) → judgePart r bytes ≡ fine → length (partText r bytes) ≡ length bytes - 16
 unfolding judgePart partText
 part-text-length r bytes f = text-if (keyExpansion (r .key)) (r .nonce) bytes (judgeNonce (openedOf r)) (opened (r .key) (r .nonce) bytes) refl f
+
+-- ---- one nonce more is used
+
+pub not-spent : (n : ℕ) → judgeNonce n ≡ fine → n < allNonces
+not-spent n j = ltb-true n allNonces (passed (ltb n allNonces) refusal.NoncesSpent j)
+
+one-more : (exhausted : Bool) (n : ℕ) → cond exhausted allNonces n < allNonces
+    → cond (leb allNonces (n + 1)) allNonces ((n + 1) % allNonces) ≡ suc (cond exhausted allNonces n)
+one-more true n h = absurd (omega arith)
+one-more false n h = go (leb allNonces (n + 1)) refl
+  where
+    go : (b : Bool) → leb allNonces (n + 1) ≡ b → cond (leb allNonces (n + 1)) allNonces ((n + 1) % allNonces) ≡ suc n
+    go true e = let l = leb-true allNonces (n + 1) e in rw e (omega arith)
+    go false e = let l = leb-false allNonces (n + 1) e in rw e (mod-eq-of-lt (let l′ : n + 1 < allNonces = omega arith in l′) ∙ omega arith)
+
+pub opened-next : (r : Receiving) (bytes : List ℕ) → judgePart r bytes ≡ fine → openedOf (openedMore r) ≡ suc (openedOf r)
+unfolding judgePart openedMore
+opened-next r bytes j =
+    one-more (r .exhausted) (r .opened)
+    (not-spent (openedOf r) (both-fine (judgeNonce (openedOf r)) (judgeOpened (opened (r .key) (r .nonce) bytes)) j .0))
+
+-- at least so many parts were opened, as code tests it
+pub enough : (exhausted : Bool) (m : ℕ) {n k : ℕ} → n ≡ k → n < 3 → (exhausted || leb n m) ≡ leb k (cond exhausted allNonces m)
+enough true m {n} {k} e l = sym (le-leb k allNonces (omega (arith, e, l)))
+enough false m e l = ap (λ (i : ℕ). leb i m) e
 
 -- ---- no nonce is left
 

@@ -1,19 +1,17 @@
 -- The receiver's step, run over a stream of sealed frames, gives what the definition over whole streams has.
-use Prim.Native.Nat.{ℕ, zero, suc, _+_, _-_, _%_, _≤_, _<_, zero-le}
+use Prim.Native.Nat.{ℕ, zero, suc, _+_, _-_, _≤_, _<_, zero-le}
 use mathlib.Core.List.{List, [], _∷_, _++_, append-assoc}
 use mathlib.Core.Path.{_≡_, refl, sym, ap, ap₂, _∙_}
 use mathlib.Core.Bool.{Bool, true, false, cond}
 use native.Mathlib.Omega.{arith}
-use native.Mathlib.Nat.{le-refl, add-zero, zero-add, mod-eq-of-lt}
+use native.Mathlib.Nat.{le-refl, add-zero, zero-add}
 use lib.ListN.{length, take, drop, replicate, length-take, length-drop, length-append, length-replicate}
 use lib.Seq.{sets, sets-eq, length-take-le, take-at}
-use lib.Dec.{lit<, ltb, leb}
+use lib.Dec.{lit<, ltb}
 use borrow.Author.Tests.{le-ltb, ltb-true, ltb-false, leb-true, leb-false}
 use Rattle.buffer.specs.Splice.{replaceFront, splice}
 use Rattle.buffer.proofs.Parts.{replaceFront-next, length-replaceFront, over-longer}
-use Rattle.refusal.specs.declared.Refusal.the-variants as refusal
 use Rattle.refusal.specs.Refusals.{Judged, fine, refused, orElse}
-use Rattle.refusal.proofs.Judgements.{both-fine, passed}
 use Rattle.preamble.specs.declared.Header.{Header}
 use Rattle.preamble.specs.Judge.{headerOf}
 use Rattle.body.specs.End.{Ended, whole, dropped, turnedAway}
@@ -26,7 +24,7 @@ use Rattle.receiver.proofs.Machine.{Silent, scan, scan-none, scan-silent}
 use Rattle.receiver.proofs.Gathers.{traceBy, run, byteStep, short, full}
 use Rattle.aes.specs.Aes.{keyExpansion}
 use Rattle.gcm.specs.Gcm.{Opened, plain, fail, openedBy}
-use Rattle.secure.specs.Layout.{allNonces, nextNonce, padding, inlineLength, firstLength, noRest, noLast, restPart, lastPart, restPartLength, lastPartLength, lastLengths, needed}
+use Rattle.secure.specs.Layout.{nextNonce, padding, inlineLength, firstLength, noRest, noLast, restPart, lastPart, restPartLength, lastPartLength, lastLengths, needed}
 use Rattle.secure.specs.Reading.{judgeNonce, judgePadding, judgeFirst, unpadded, lastEnded, zeroed, holding, byOpening, partTrace, atEnd, lastTrace, restTrace, frames, sealedTrace}
 use Rattle.sealed_receiver.specs.declared.Stage.the-variants as stage
 use Rattle.sealed_receiver.specs.declared.Receiving.{Receiving}
@@ -34,7 +32,7 @@ use Rattle.sealed_receiver.specs.declared.State.{State}
 use Rattle.sealed_receiver.specs.State.{openedOf, freshReceiving, openedMore}
 use Rattle.sealed_receiver.specs.Step.{blank, at, knowing, nextFrame, switched, refusedState, Stepped, unlessRefused, judgeOpened, textOf, judgePart, partText, endFrame, beginLast, beginRest, behindFirst, behindRest, behindLast, finish, stored}
 use Rattle.sealed_receiver.proofs.Rooms.{segments-fit, rest-beyond, rest-size, rest-fits, last-size, last-fits}
-use Rattle.sealed_receiver.proofs.Openings.{part-text-length}
+use Rattle.sealed_receiver.proofs.Openings.{part-text-length, opened-next}
 use Rattle.sealed_receiver.proofs.FirstPart.{first-fits}
 use Rattle.sealed_receiver.proofs.Gathered.{bare, parts}
 use Rattle.sealed_receiver.proofs.Stores.{front-there, part-there, again, zeroed-over, holding-over}
@@ -77,26 +75,6 @@ part-trace r bytes P s next = opened-trace (judgeNonce (openedOf r)) (openedBy (
 part-next : (j : Judged) (P : ℕ) (s : List ℕ) (x y : Trace) → (j ≡ fine → x ≡ y) → stream.unlessRefused j P s x ≡ stream.unlessRefused j P s y
 part-next fine P s x y h = h refl
 part-next (refused n) P s x y h = refl
-
--- ---- nonces
-
-pub not-spent : (n : ℕ) → judgeNonce n ≡ fine → n < allNonces
-not-spent n j = ltb-true n allNonces (passed (ltb n allNonces) refusal.NoncesSpent j)
-
-one-more : (exhausted : Bool) (n : ℕ) → cond exhausted allNonces n < allNonces
-    → cond (leb allNonces (n + 1)) allNonces ((n + 1) % allNonces) ≡ suc (cond exhausted allNonces n)
-one-more true n h = absurd (omega arith)
-one-more false n h = go (leb allNonces (n + 1)) refl
-  where
-    go : (b : Bool) → leb allNonces (n + 1) ≡ b → cond (leb allNonces (n + 1)) allNonces ((n + 1) % allNonces) ≡ suc n
-    go true e = let l = leb-true allNonces (n + 1) e in rw e (omega arith)
-    go false e = let l = leb-false allNonces (n + 1) e in rw e (mod-eq-of-lt (let l′ : n + 1 < allNonces = omega arith in l′) ∙ omega arith)
-
-pub opened-next : (r : Receiving) (bytes : List ℕ) → judgePart r bytes ≡ fine → openedOf (openedMore r) ≡ suc (openedOf r)
-unfolding judgePart openedMore
-opened-next r bytes j =
-    one-more (r .exhausted) (r .opened)
-    (not-spent (openedOf r) (both-fine (judgeNonce (openedOf r)) (judgeOpened (openedBy (keyExpansion (r .key)) (r .nonce) bytes)) j .0))
 
 -- what of segment 1 stands in the inline buffer
 inline-size : (text : List ℕ) (h : Header) (b : Bool) → noRest h ≡ b → length text ≡ 80 → length (take (h .s1 .len) (drop 32 text)) ≡ cond b (h .s1 .len) inlineLength

@@ -9,7 +9,7 @@ use Rattle.refusal.specs.Refusals.{isFine}
 use Rattle.preamble.specs.declared.Header.{Header}
 use Rattle.preamble.specs.Judge.{judgeHeader}
 use Rattle.receiver.specs.State.{isNoHeader, isNoRefusal}
-use Rattle.secure.specs.Layout.{allNonces, nextNonce, inlineLength, firstLength, restPartLength, lastPartLength}
+use Rattle.secure.specs.Layout.{allNonces, nextNonce, inlineLength, firstLength, noRest, restPartLength, lastPartLength}
 use Rattle.buffer.specs.Zeros.{allZero}
 use Rattle.secure.specs.Layout as layout
 use Rattle.sealed_receiver.specs.declared.Stage.{Stage}
@@ -83,6 +83,16 @@ isNoReceiving r = (allZero (r .key) && allZero (r .nonce)) && (eqb (r .opened) 0
 abbrev pub receivingRule : Stage → Receiving → Bool
 receivingRule k r = cond (isRefused k) (isNoReceiving r) (not (r .exhausted) || eqb (r .opened) 0)
 
+-- the parts of the frame under way before this one, each of which was opened with a nonce of its own
+abbrev pub openedBefore : Stage → Header → ℕ
+openedBefore stage.First h = 0
+openedBefore stage.Rest h = 1
+openedBefore stage.Last h = 1 + cond (noRest h) 0 1
+openedBefore stage.Refused h = 0
+
+abbrev pub openedRule : Stage → Header → Receiving → Bool
+openedRule k h r = leb (openedBefore k h) (openedOf r)
+
 -- a header, from an accepted preamble to the frame's end
 abbrev pub headerRule : Stage → Header → Bool
 headerRule k h = cond (inFrame k) (isFine (judgeHeader h)) (isNoHeader h)
@@ -108,7 +118,7 @@ abbrev pub blockRule : Stage → ℕ → List ℕ → Bool
 blockRule k got block = allZero (drop (inBlock k got) block)
 
 abbrev pub rules : Stage → Known → Bool
-rules k v = receivingRule k (v .receiving) && (headerRule k (v .header) && refusalRule k (v .refusal))
+rules k v = (receivingRule k (v .receiving) && openedRule k (v .header) (v .receiving)) && (headerRule k (v .header) && refusalRule k (v .refusal))
 
 -- A STATE AGREES WITH ITSELF where all rules hold; 26 is for any other
 unfoldable pub agreesAt : Stage → ℕ → List ℕ → Known → Bool

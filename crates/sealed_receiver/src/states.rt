@@ -17,12 +17,15 @@ use secure::all_zero;
 use secure::last_part_length;
 use secure::needed_of;
 use secure::next_nonce;
+use secure::no_rest;
 use secure::rest_part_length;
 ghost use mathlib.Core.Path.{_≡_};
-ghost use Prim.Native.Nat.{_<_};
+ghost use mathlib.Core.Bool.{cond};
+ghost use Prim.Native.Nat.{_+_, _<_};
 ghost use Rattle.receiver.specs.State.{noHeader, noRefusal};
+ghost use Rattle.secure.specs.Layout.{noRest};
 ghost use Rattle.sealed_receiver.specs.declared.Stage.the-variants as stage;
-ghost use Rattle.sealed_receiver.specs.State.{isFirst, isRefused, sizeOf, placeOf, inFrame, needed, freshReceiving, openedMore, noReceiving, isNoReceiving, receivingRule, headerRule, given, refusalRule, countRule, inBlock, blockRule, rules, agrees};
+ghost use Rattle.sealed_receiver.specs.State.{isFirst, isRefused, sizeOf, placeOf, inFrame, needed, freshReceiving, openedMore, noReceiving, isNoReceiving, receivingRule, openedBefore, openedRule, headerRule, given, refusalRule, countRule, inBlock, blockRule, rules, agrees};
 ghost use Rattle.sealed_receiver.specs.Step.{at, knowing, nextFrame, refusedState};
 
 // ---- states
@@ -208,6 +211,34 @@ fn receiving_rule(stage: Stage, r: Receiving) -> bool
     either(!r.exhausted, r.opened == 0)
 }
 
+// The parts of a frame before its last one.
+fn before_last(h: Header) -> u64
+    ensures { λ r. ⌜ (r ≡ 1 + cond (noRest h) 0 1) × (r < 3) ⌝ }
+{
+    if no_rest(h) {
+        return 1;
+    }
+    2
+}
+
+// And before any.
+fn opened_before(stage: Stage, h: Header) -> u64
+    ensures { λ r. ⌜ (r ≡ openedBefore stage h) × (r < 3) ⌝ }
+{
+    match stage {
+        Stage::First => 0,
+        Stage::Rest => 1,
+        Stage::Last => before_last(h),
+        Stage::Refused => 0,
+    }
+}
+
+fn opened_rule(stage: Stage, h: Header, r: Receiving) -> bool
+    ensures { λ q. ⌜ q ≡ openedRule stage h r ⌝ }
+{
+    either(r.exhausted, opened_before(stage, h) <= r.opened)
+}
+
 fn header_rule(stage: Stage, h: Header) -> bool
     ensures { λ r. ⌜ r ≡ headerRule stage h ⌝ }
 {
@@ -268,7 +299,11 @@ fn rules_hold(stage: Stage, v: Known) -> bool
     let header = v.header;
     let refusal = v.refusal;
     let last = both(header_rule(stage, header), refusal_rule(stage, refusal));
-    both(receiving_rule(stage, receiving), last)
+    let nonces = both(
+        receiving_rule(stage, receiving),
+        opened_rule(stage, header, receiving),
+    );
+    both(nonces, last)
 }
 
 // The fields agree: what refusal 26 asks.

@@ -2,6 +2,7 @@
 use mathlib.Core.Bool.{true, false}
 use mathlib.Core.List.{[], _∷_, _++_}
 use mathlib.Core.Path.{_≡_, refl, ap}
+use lib.ListN.{replicate}
 use Rattle.buffer.specs.Le.{numberAt}
 use Rattle.crc32c.specs.Crc.{crcOf, steps, step}
 use Rattle.refusal.specs.Refusals.{row}
@@ -12,7 +13,7 @@ use Rattle.aes.specs.Aes.{keyExpansion}
 use Rattle.builder.specs.Build.{wrote, turnedAway}
 use Rattle.secure.specs.Layout.{nextNonce, nonceAfter, sealedLength, partCount, needed, firstText, lastText, laterTexts, texts, sealedFrame}
 use Rattle.sealed_builder.specs.Build.{done, outcome, sendingState, freshSending, refusedSending, agrees, sentMore, judgeEarlier, judgeSealed, sealedDone}
-use Rattle.secure_examples.specs.Parts.{key, nonce0, two0, none0, two1, two2, aborted2}
+use Rattle.secure_examples.specs.Parts.{key, nonce0, nonce1, two0, none0, two1, two2, aborted2}
 use Rattle.secure_examples.specs.Examples.{seg1, seg2, two, none}
 use Rattle.secure_examples.specs.Builds.{sending, nonce3, buffer, lengthRows, nonceRows, textRows, sealedRows, agreeRows, spendRows, orderRows, buildRows}
 use Rattle.secure_examples.proofs.Seals.{sealed-two0, sealed-none0, sealed-two1, sealed-two2, sealed-aborted2}
@@ -70,6 +71,22 @@ refused-18 : sealedDone (sending 18446744073709551614 false false) two false (se
 unfolding agrees shapeFault limitFault judgeHeader sealedLength partCount judgeEarlier judgeSealed sealedDone
 refused-18 = refl
 
+refused-13 : sealedDone (sending 0 false false) two false seg1 buffer 0 ≡ done (turnedAway (row 13 0 0 0)) (sending 0 false false) buffer
+unfolding agrees shapeFault limitFault judgeHeader sealedLength partCount judgeEarlier judgeSealed sealedDone
+refused-13 = refl
+
+refused-14 : sealedDone (sending 0 false false) two false (seg1 ++ seg2) (replicate 175 0xbb) 0 ≡ done (turnedAway (row 14 176 0 0)) (sending 0 false false) (replicate 175 0xbb)
+unfolding agrees shapeFault limitFault judgeHeader sealedLength partCount judgeEarlier judgeSealed sealedDone
+refused-14 = refl
+
+built-aborted : sealedDone (sending 0 false false) two true (seg1 ++ seg2) buffer 2 ≡ done (wrote 176) (sendingState key nonce3 3 false false) ((0xbb ∷ 0xbb ∷ []) ++ (two0 ++ two1 ++ aborted2) ++ (0xbb ∷ 0xbb ∷ []))
+unfolding sealedFrame nextNonce nonceAfter numberAt sentMore agrees shapeFault limitFault judgeHeader sealedLength partCount judgeEarlier judgeSealed sealedDone
+built-aborted = ap (outcome (judgeSealed (sending 0 false false) two true 50 180 2) (sending 0 false false) two buffer 2) aborted-frame
+
+built-one : sealedDone (sending 0 false false) none false [] (replicate 97 0xbb) 1 ≡ done (wrote 96) (sendingState key nonce1 1 false false) (0xbb ∷ none0)
+unfolding sealedFrame nextNonce nonceAfter numberAt sentMore agrees shapeFault limitFault judgeHeader sealedLength partCount judgeEarlier judgeSealed sealedDone
+built-one = ap (outcome (judgeSealed (sending 0 false false) none false 0 97 1) (sending 0 false false) none (replicate 97 0xbb) 1) empty-frame
+
 pub buildRows-hold : Holds buildRows
 unfolding buildRows
-buildRows-hold = held built (held refused-18 refl)
+buildRows-hold = held built (held refused-18 (held refused-13 (held refused-14 (held built-aborted (held built-one refl)))))

@@ -388,3 +388,45 @@ sealed-padded2 = seal-is nonce2 parts.padded2Text (take 32 parts.padded2) (drop 
 
 pub opened-padded2 : openedBy (keyExpansion key) nonce2 parts.padded2 ≡ plain parts.padded2Text
 opened-padded2 = open-is nonce2 parts.padded2Text parts.padded2 sealed-padded2
+
+mask-single0 : gctr w nonce0 parts.single0Text ≡ take 80 parts.single0
+unfolding gctrFrom streamByte
+mask-single0 = rw (block0-2, block0-3, block0-4, block0-5, block0-6)
+
+tag-single0 : tagOf w nonce0 (take 80 parts.single0) ≡ drop 80 parts.single0
+unfolding tagged step mulFrom quadAt blockAt ghashFrom ghash columnNumber blockNumber blockBytes
+tag-single0 = tag-is (take 80 parts.single0) nonce0 _ block0-1 ∙ refl
+
+sealed-single0 : sealedBy (keyExpansion key) nonce0 parts.single0Text ≡ parts.single0
+sealed-single0 = seal-is nonce0 parts.single0Text (take 80 parts.single0) (drop 80 parts.single0) mask-single0 tag-single0
+
+pub opened-single0 : openedBy (keyExpansion key) nonce0 parts.single0 ≡ plain parts.single0Text
+opened-single0 = open-is nonce0 parts.single0Text parts.single0 sealed-single0
+
+mask-one0 : gctr w nonce0 parts.one0Text ≡ take 80 parts.one0
+unfolding gctrFrom streamByte
+mask-one0 = rw (block0-2, block0-3, block0-4, block0-5, block0-6)
+
+tag-one0 : tagOf w nonce0 (take 80 parts.one0) ≡ drop 80 parts.one0
+unfolding tagged step mulFrom quadAt blockAt ghashFrom ghash columnNumber blockNumber blockBytes
+tag-one0 = tag-is (take 80 parts.one0) nonce0 _ block0-1 ∙ refl
+
+sealed-one0 : sealedBy (keyExpansion key) nonce0 parts.one0Text ≡ parts.one0
+sealed-one0 = seal-is nonce0 parts.one0Text (take 80 parts.one0) (drop 80 parts.one0) mask-one0 tag-one0
+
+pub opened-one0 : openedBy (keyExpansion key) nonce0 parts.one0 ≡ plain parts.one0Text
+opened-one0 = open-is nonce0 parts.one0Text parts.one0 sealed-one0
+
+mask-first1 : gctr w nonce1 parts.first1Text ≡ take 16 parts.first1
+unfolding gctrFrom streamByte
+mask-first1 = rw (block1-2)
+
+tag-first1 : tagOf w nonce1 (take 16 parts.first1) ≡ drop 16 parts.first1
+unfolding tagged step mulFrom quadAt blockAt ghashFrom ghash columnNumber blockNumber blockBytes
+tag-first1 = tag-is (take 16 parts.first1) nonce1 _ block1-1 ∙ refl
+
+sealed-first1 : sealedBy (keyExpansion key) nonce1 parts.first1Text ≡ parts.first1
+sealed-first1 = seal-is nonce1 parts.first1Text (take 16 parts.first1) (drop 16 parts.first1) mask-first1 tag-first1
+
+pub opened-first1 : openedBy (keyExpansion key) nonce1 parts.first1 ≡ plain parts.first1Text
+opened-first1 = open-is nonce1 parts.first1Text parts.first1 sealed-first1

@@ -2,7 +2,7 @@
 use mathlib.Core.Bool.{Bool, true, false}
 use mathlib.Core.List.{List, [], _∷_, _++_}
 use Prim.Native.Nat.{ℕ}
-use lib.ListN.{replicate}
+use lib.ListN.{take, replicate}
 use Rattle.refusal.specs.Refusals.{Judged, fine, refused, row}
 use Rattle.preamble.specs.declared.Header.{Header}
 use Rattle.stream.specs.Rows.{Row, _⇒_, segment, header, sized}
@@ -11,8 +11,8 @@ use Rattle.builder.specs.Build.{wrote, turnedAway}
 use Rattle.secure.specs.Layout.{nextNonce, sealedLength, partCount, needed, texts, sealedFrame}
 use Rattle.sealed_builder.specs.declared.Sending.{Sending}
 use Rattle.sealed_builder.specs.Build.{Done, done, sendingState, freshSending, refusedSending, agrees, sentMore, judgeSealed, sealedDone}
-use Rattle.secure_examples.specs.Parts.{key, nonce0, nonce1, nonce2, two0, none0, two1, two2, aborted2}
-use Rattle.secure_examples.specs.Examples.{zeros, seg1, seg2, two, none}
+use Rattle.secure_examples.specs.Parts.{key, nonce0, nonce1, nonce2, two0, none0, blocks1Text, two1, two2, aborted2}
+use Rattle.secure_examples.specs.Examples.{zeros, seg1, seg2, seg64, two, none}
 
 -- on the wire (000's examples; 02: 0+0+0+0 is 96, 105+70+0+350 is 640), in parts, and in the store
 unfoldable pub lengthRows : List (Row ℕ)
@@ -80,6 +80,10 @@ textRows =
     ∷ 0x00 ∷ 0x00 ∷ 0x00 ∷ 0x00 ∷ 0x00 ∷ 0x00 ∷ 0x00 ∷ 0x00 ∷ 0x00 ∷ 0x00 ∷ 0x00 ∷ 0x00 ∷ 0x00 ∷ 0x00 ∷ 0x00 ∷ 0x00
     ∷ 0x01 ∷ 0x00 ∷ 0x00 ∷ 0x00 ∷ 0x00 ∷ 0x00 ∷ 0x00 ∷ 0x00 ∷ 0x00 ∷ 0x00 ∷ 0x00 ∷ 0x00 ∷ 0x00 ∷ 0x00 ∷ 0x00 ∷ 0x00 ∷ [])
     ∷ [])
+    -- one segment of 64 bytes: what did not go in is a whole block, and gets no padding
+    ∷ texts (header 17 1 (segment 64 8) (segment 0 0) (segment 0 0) (segment 0 0)) false seg64
+    ⇒ (((0x11 ∷ 0x01 ∷ 0x40 ∷ 0x00 ∷ 0x00 ∷ 0x00 ∷ 0x08 ∷ 0x00 ∷ 0x00 ∷ 0x00 ∷ 0x00 ∷ 0x00 ∷ 0x00 ∷ 0x00 ∷ 0x00 ∷ 0x00
+    ∷ 0x00 ∷ 0x00 ∷ 0x00 ∷ 0x00 ∷ 0x00 ∷ 0x00 ∷ 0x00 ∷ 0x00 ∷ 0x00 ∷ 0x00 ∷ 0x00 ∷ 0x00 ∷ 0xa7 ∷ 0x47 ∷ 0x49 ∷ 0x58 ∷ []) ++ take 48 seg1) ∷ blocks1Text ∷ [])
     ∷ []
 
 -- sealed, as another implementation seals them
@@ -115,6 +119,9 @@ spendRows =
     sentMore (sending 0 false false) 3 ⇒ sendingState key nonce3 3 false false
     -- the last three of all
     ∷ sentMore (sending 18446744073709551613 false false) 3 ⇒ sendingState key nonce3 0 true false
+    -- the last two, and the last one
+    ∷ sentMore (sending 18446744073709551614 false false) 2 ⇒ sendingState key nonce2 0 true false
+    ∷ sentMore (sending 18446744073709551615 false false) 1 ⇒ sendingState key nonce1 0 true false
     ∷ []
 
 -- ---- the builder's order: 26, 27, 6, 8, 9, 13, 15, 14, 18. A row with two numbers has both faults at once
@@ -148,8 +155,12 @@ orderRows =
     -- 18: three nonces are needed and two are left, or none
     ∷ judgeSealed (sending 18446744073709551614 false false) two false 50 176 0 ⇒ is 18 0
     ∷ judgeSealed (sending 0 true false) none false 0 96 0 ⇒ is 18 0
-    -- just enough
+    -- two are needed and one is left
+    ∷ judgeSealed (sending 18446744073709551615 false false) (sized 1 49 0 0 0) false 49 128 0 ⇒ is 18 0
+    -- just enough, for three parts, two and one
     ∷ judgeSealed (sending 18446744073709551613 false false) two false 50 176 0 ⇒ fine
+    ∷ judgeSealed (sending 18446744073709551614 false false) (sized 1 49 0 0 0) false 49 128 0 ⇒ fine
+    ∷ judgeSealed (sending 18446744073709551615 false false) none false 0 96 0 ⇒ fine
     ∷ []
 
 -- ---- builds: behind two queued bytes, and refused
@@ -163,4 +174,14 @@ buildRows =
     ⇒ done (wrote 176) (sendingState key nonce3 3 false false) ((0xbb ∷ 0xbb ∷ []) ++ (two0 ++ two1 ++ two2) ++ (0xbb ∷ 0xbb ∷ []))
     ∷ sealedDone (sending 18446744073709551614 false false) two false (seg1 ++ seg2) buffer 2
     ⇒ done (turnedAway (row 18 0 0 0)) (sending 18446744073709551614 false false) buffer
+    -- 13 and 14
+    ∷ sealedDone (sending 0 false false) two false seg1 buffer 0 ⇒ done (turnedAway (row 13 0 0 0)) (sending 0 false false) buffer
+    ∷ sealedDone (sending 0 false false) two false (seg1 ++ seg2) (replicate 175 0xbb) 0
+    ⇒ done (turnedAway (row 14 176 0 0)) (sending 0 false false) (replicate 175 0xbb)
+    -- aborted
+    ∷ sealedDone (sending 0 false false) two true (seg1 ++ seg2) buffer 2
+    ⇒ done (wrote 176) (sendingState key nonce3 3 false false) ((0xbb ∷ 0xbb ∷ []) ++ (two0 ++ two1 ++ aborted2) ++ (0xbb ∷ 0xbb ∷ []))
+    -- one part, up to the buffer's end
+    ∷ sealedDone (sending 0 false false) none false [] (replicate 97 0xbb) 1
+    ⇒ done (wrote 96) (sendingState key nonce1 1 false false) (0xbb ∷ none0)
     ∷ []

@@ -2,15 +2,16 @@
 use mathlib.Core.List.{List, [], _∷_, _++_}
 use Prim.Native.Nat.{ℕ}
 use lib.ListN.{length, take, drop, set, replicate}
-use Rattle.refusal.specs.Refusals.{row}
+use Rattle.refusal.specs.Refusals.{Judged, fine, refused, row}
 use Rattle.banner.specs.declared.Revision.the-variants.{Msgr21}
 use Rattle.preamble.specs.declared.Header.{Header}
+use Rattle.body.specs.End.{Ended, turnedAway}
 use Rattle.stream.specs.declared.Event.the-variants.{Banner, Frame, Dropped, Refused}
 use Rattle.stream.specs.Stream.{Entry, entry, Trace}
 use Rattle.stream.specs.Rows.{Row, _⇒_, features, segment, header}
-use Rattle.secure.specs.Reading.{sealedTrace}
+use Rattle.secure.specs.Reading.{judgeFirst, lastEnded, sealedTrace}
 use Rattle.connection.specs.Switched.{behind, traceWith}
-use Rattle.secure_examples.specs.Parts.{key, nonce0, two0, none0, none0Text, sumAndShape0, shapeAndFlags0, flagsAndTag0, tagAndLimit0, limitAndStore0, padded0, full0, blocks0, two1, padded1, blocks1, blocks1Text, full1, late1, none1, two2, aborted2, high2, highAborted2, lateAndPadding2, paddingAndDrop2, padded2}
+use Rattle.secure_examples.specs.Parts.{key, nonce0, two0, none0, none0Text, sumAndShape0, shapeAndFlags0, flagsAndTag0, tagAndLimit0, limitAndStore0, padded0, full0, full0Text, blocks0, two1, padded1, blocks1, blocks1Text, full1, full1Text, late1, none1, two2, aborted2, high2, highAborted2, lateAndPadding2, paddingAndDrop2, padded2, single0, one0, first1}
 
 -- ---- what the rows are made of
 
@@ -29,6 +30,12 @@ seg2 = 0x5a ∷ []
 
 abbrev pub two : Header
 two = header 17 2 (segment 49 8) (segment 1 8) (segment 0 0) (segment 0 0)
+
+abbrev pub single : Header
+single = header 17 1 (segment 49 8) (segment 0 0) (segment 0 0) (segment 0 0)
+
+abbrev pub one : Header
+one = header 17 1 (segment 1 8) (segment 0 0) (segment 0 0) (segment 0 0)
 
 abbrev pub none : Header
 none = header 16 1 (segment 0 8) (segment 0 0) (segment 0 0) (segment 0 0)
@@ -87,6 +94,11 @@ frameRows =
     ∷ reading 0 (two0 ++ two1 ++ two2) (take 112 store) (frameAt 234 two (take 112 (front (seg1 ++ seg2 ++ zeros 62))) ∷ []) (take 112 (front (seg1 ++ seg2 ++ zeros 62)))
     -- two parts, with padding behind each of segments 2 to 4: the segments one behind the other
     ∷ reading 0 (full0 ++ full1) store (frameAt 250 full (front (fullSegments ++ zeros 89)) ∷ []) (front (fullSegments ++ zeros 89))
+    -- one segment, in one part and in two: zeros behind it in what is needed
+    ∷ reading 0 one0 store (frameAt 154 one (front (0x61 ∷ zeros 47)) ∷ []) (front (0x61 ∷ zeros 47))
+    ∷ reading 0 (single0 ++ two1) store (frameAt 186 single (front (seg1 ++ zeros 47)) ∷ []) (front (seg1 ++ zeros 47))
+    -- a frame of one part uses one nonce: the last two of all
+    ∷ reading 18446744073709551614 (none0 ++ none1) store (frameAt 154 none (front (zeros 32)) ∷ frameAt 250 none (front (zeros 32)) ∷ []) (front (zeros 32))
     ∷ []
 
 -- byte 96: 18, 17, 5, 6, 7, 8, 9, 10, 19. A row with two numbers has both faults at once: the order decides
@@ -114,7 +126,35 @@ firstRows =
     ∷ reading 0 (padded0) store (refusalAt 154 19 0 (store) ∷ []) (store)
     -- 10: the last byte of what is needed is missing
     ∷ reading 0 (two0 ++ two1) (take 111 store) (refusalAt 154 10 112 (take 111 store) ∷ []) (take 111 store)
+    -- 18 behind an aborted frame, whose three nonces were the last
+    ∷ reading 18446744073709551613 (two0 ++ two1 ++ aborted2 ++ none1) store (dropAt 234 two (front (zeros 112)) ∷ refusalAt 330 18 0 (front (zeros 112)) ∷ []) (front (zeros 112))
+    -- and behind a frame of one segment in two parts: the store stays as that frame left it
+    ∷ reading 18446744073709551614 (single0 ++ two1 ++ none1) store (frameAt 186 single (front (seg1 ++ zeros 47)) ∷ refusalAt 282 18 0 (front (seg1 ++ zeros 47)) ∷ []) (front (seg1 ++ zeros 47))
     ∷ []
+
+-- the same judgements by themselves: all of the inline buffer behind segment 1 is padding, of an empty segment too; an empty frame needs 32 bytes; byte 26
+abbrev pub flags0Text : List ℕ
+flags0Text = set (set (set (set (set none0Text 26 0x01) 28 0xbf) 29 0x7b) 30 0x08) 31 0xa3
+
+unfoldable pub judgeRows : List (Row Judged)
+judgeRows =
+    judgeFirst none0Text 32 ⇒ fine
+    ∷ judgeFirst none0Text 31 ⇒ refused (row 10 32 0 0)
+    ∷ judgeFirst flags0Text 114 ⇒ refused (row 7 26 0 0)
+    ∷ judgeFirst (set none0Text 79 1) 114 ⇒ refused (row 19 0 0 0)
+    ∷ judgeFirst (set full0Text 34 1) 114 ⇒ refused (row 19 0 0 0)
+    ∷ []
+
+-- the first and the last byte of each padding of a last part, in a complete frame and in an aborted one
+abbrev pub padded : List ℕ → List ℕ → List (Row Ended)
+padded text [] = []
+padded text (i ∷ is) = lastEnded full (set text i 1) ⇒ turnedAway (row 19 0 0 0) ∷ padded text is
+
+abbrev pub paddings : List ℕ
+paddings = 1 ∷ 15 ∷ 33 ∷ 47 ∷ 51 ∷ 63 ∷ 65 ∷ 79 ∷ []
+
+unfoldable pub paddingRows : List (Row Ended)
+paddingRows = padded full1Text paddings ++ padded (set full1Text 64 1) paddings
 
 -- the rest of segment 1: 18, 17, 19; the last part: 18, 17, 12, 19, drop
 unfoldable pub laterRows : List (Row Trace)
@@ -125,6 +165,10 @@ laterRows =
     ∷ reading 0 (two0 ++ (set padded1 31 0x4a)) store (refusalAt 186 17 0 (front (zeros 112)) ∷ []) (front (zeros 112))
     -- 19
     ∷ reading 0 (two0 ++ padded1) store (refusalAt 186 19 0 (front (zeros 112)) ∷ []) (front (zeros 112))
+    -- its first padding byte
+    ∷ reading 0 (two0 ++ first1) store (refusalAt 186 19 0 (front (zeros 112)) ∷ []) (front (zeros 112))
+    -- where no part follows
+    ∷ reading 0 (single0 ++ padded1) store (refusalAt 186 19 0 (front (zeros 96)) ∷ []) (front (zeros 96))
     -- the last part: 18 and 17
     ∷ reading 18446744073709551614 (two0 ++ two1 ++ (set two2 47 0x7f)) store (refusalAt 234 18 0 (front (zeros 112)) ∷ []) (front (zeros 112))
     -- 17 and 12

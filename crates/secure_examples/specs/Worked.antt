@@ -1,6 +1,6 @@
 -- All tables of worked examples.
 use Rattle.stream.specs.Rows.{Holds}
-use Rattle.secure_examples.specs.Examples.{frameRows, firstRows, laterRows, cutRows, switchedRows}
+use Rattle.secure_examples.specs.Examples.{frameRows, firstRows, judgeRows, paddingRows, laterRows, cutRows, switchedRows}
 use Rattle.secure_examples.specs.Builds.{lengthRows, nonceRows, textRows, sealedRows, agreeRows, spendRows, orderRows, buildRows}
 
 -- THE CLAIM: each table holds
@@ -11,6 +11,8 @@ pub record Worked : Type 0 where
   pub sealed : Holds sealedRows
   pub frames : Holds frameRows
   pub first : Holds firstRows
+  pub judged : Holds judgeRows
+  pub paddings : Holds paddingRows
   pub later : Holds laterRows
   pub cut : Holds cutRows
   pub switched : Holds switchedRows

@@ -19,18 +19,6 @@ use borrow.Author.Needs.{needs}
 use Rattle.build_cases.proofs.build_record.Statement.{statement}
 use Rattle.build_cases.proofs.build_record.Tie as tie
 
-build-size-requires : tie.Need-build-size-requires
-build-size-requires c κs = search needs
-
-is-whole-requires : tie.Need-is-whole-requires
-is-whole-requires c κs = search needs
-
-bad-record-requires : tie.Need-bad-record-requires
-bad-record-requires c κs = search needs
-
-same-length : tie.Need-same-length
-same-length c = search needs
-
 returns : tie.Need-returns
 unfolding buildPart
 returns c = let a = c .before .before .before .before .before .before .before .before .before .before .args in
@@ -38,12 +26,6 @@ returns c = let a = c .before .before .before .before .before .before .before .b
     let room = length (a .space .now) in
     let e : isWhole (buildSize room s) s ≡ false = ap (λ (k : ℕ). isWhole k s) (sym (c .before .before .before .before .before .before .build-size .ensures)) ∙ sym (c .before .before .before .before .before .is-whole .ensures) ∙ not-true (c .before .before .before .before .before .is-whole .result) (c .before .before .before .before .if1 .taken) in
     part-bad (buildSize room s) (sealedLine (doneBy (a .builds .sending) s) ∷ []) (buildsAfter (a .builds) s) (a .builds) e (c .before .before .bad-record .ensures .0) (c .before .before .bad-record .ensures .1) refl
-
-u32-at-requires : tie.Need-u32-at-requires
-u32-at-requires c κs = search needs
-
-cast-n : tie.Need-cast-n
-cast-n c = search needs
 
 slice-relend-prefix-buf : tie.Need-slice-relend-prefix-buf
 slice-relend-prefix-buf c = let s = c .before .before .before .before .before .before .before .args .s .now in
@@ -58,48 +40,6 @@ slice-aggregate-buf c = let s = c .before .before .before .before .before .befor
     let e : isWhole (buildSize room s) s ≡ true = ap (λ (k : ℕ). isWhole k s) (sym (c .before .before .before .before .build-size .ensures)) ∙ sym (c .before .before .before .is-whole .ensures) ∙ not-false (c .before .before .before .is-whole .result) (c .before .before .if1 .left) in
     let h = build-buffer room s e in
     sym (length-take-le (c .before .u32-at .result) (c .before .before .before .before .before .before .before .before .args .space .now) (omega (arith, c .before .u32-at .ensures)))
-
-byte-at-requires : tie.Need-byte-at-requires
-byte-at-requires c κs = search needs
-
-count-up-requires : tie.Need-count-up-requires
-count-up-requires c κs = search needs
-
-u64-at-requires : tie.Need-u64-at-requires
-u64-at-requires c κs = search needs
-
-read-header-requires : tie.Need-read-header-requires
-read-header-requires c κs = search needs
-
-u32-at-requires-2 : tie.Need-u32-at-requires-2
-u32-at-requires-2 c κs = search needs
-
-cast-part : tie.Need-cast-part
-cast-part c = search needs
-
-part-requires : tie.Need-part-requires
-part-requires c κs = search needs
-
-byte-at-requires-2 : tie.Need-byte-at-requires-2
-byte-at-requires-2 c κs = search needs
-
-build-sealed-requires : tie.Need-build-sealed-requires
-build-sealed-requires c κs = search needs
-
-checksum-requires : tie.Need-checksum-requires
-checksum-requires c κs = search needs
-
-print-built-requires : tie.Need-print-built-requires
-print-built-requires c κs = search needs
-
-one-less-requires : tie.Need-one-less-requires
-one-less-requires c κs = search needs
-
-same-length-2 : tie.Need-same-length-2
-same-length-2 c = search needs
-
-same-length-3 : tie.Need-same-length-3
-same-length-3 c = search needs
 
 returns-2 : tie.Need-returns-2
 unfolding buildPart prints
@@ -130,27 +70,27 @@ pub build-record-spec : {M : Type 1} → statement M
 build-record-spec =
     tie.close
     (tie.spec
-    build-size-requires
-    is-whole-requires
-    bad-record-requires
-    same-length
+    (λ c κs. search needs)
+    (λ c κs. search needs)
+    (λ c κs. search needs)
+    (λ c. search needs)
     returns
-    u32-at-requires
-    cast-n
+    (λ c κs. search needs)
+    (λ c. search needs)
     slice-relend-prefix-buf
     slice-aggregate-buf
-    byte-at-requires
-    count-up-requires
-    u64-at-requires
-    read-header-requires
-    u32-at-requires-2
-    cast-part
-    part-requires
-    byte-at-requires-2
-    build-sealed-requires
-    checksum-requires
-    print-built-requires
-    one-less-requires
-    same-length-2
-    same-length-3
+    (λ c κs. search needs)
+    (λ c κs. search needs)
+    (λ c κs. search needs)
+    (λ c κs. search needs)
+    (λ c κs. search needs)
+    (λ c. search needs)
+    (λ c κs. search needs)
+    (λ c κs. search needs)
+    (λ c κs. search needs)
+    (λ c κs. search needs)
+    (λ c κs. search needs)
+    (λ c κs. search needs)
+    (λ c. search needs)
+    (λ c. search needs)
     returns-2)

@@ -10,30 +10,12 @@ use borrow.Author.Needs.{needs}
 use Rattle.build_cases.proofs.builds_record.Statement.{statement}
 use Rattle.build_cases.proofs.builds_record.Tie as tie
 
-head-size-requires : tie.Need-head-size-requires
-head-size-requires c κs = search needs
-
-is-whole-requires : tie.Need-is-whole-requires
-is-whole-requires c κs = search needs
-
-bad-record-requires : tie.Need-bad-record-requires
-bad-record-requires c κs = search needs
-
-same-length : tie.Need-same-length
-same-length c = search needs
-
 returns : tie.Need-returns
 unfolding headPart
 returns c = let a = c .before .before .before .before .before .before .before .before .before .args in
     let s = a .s .now in
     let e : isWhole (headSize s) s ≡ false = ap (λ (k : ℕ). isWhole k s) (sym (c .before .before .before .before .before .before .head-size .ensures)) ∙ sym (c .before .before .before .before .before .is-whole .ensures) ∙ not-true (c .before .before .before .before .before .is-whole .result) (c .before .before .before .before .if1 .taken) in
     part-bad (headSize s) [] (headBuilds s) (a .before) e (c .before .before .bad-record .ensures .0) (c .before .before .bad-record .ensures .1) refl
-
-u16-at-requires : tie.Need-u16-at-requires
-u16-at-requires c κs = search needs
-
-cast-n : tie.Need-cast-n
-cast-n c = search needs
 
 sending-of-requires : tie.Need-sending-of-requires
 sending-of-requires c κs = let s = c .before .before .before .before .before .before .args .s .now in
@@ -51,12 +33,12 @@ pub builds-record-spec : {M : Type 1} → statement M
 builds-record-spec =
     tie.close
     (tie.spec
-    head-size-requires
-    is-whole-requires
-    bad-record-requires
-    same-length
+    (λ c κs. search needs)
+    (λ c κs. search needs)
+    (λ c κs. search needs)
+    (λ c. search needs)
     returns
-    u16-at-requires
-    cast-n
+    (λ c κs. search needs)
+    (λ c. search needs)
     sending-of-requires
     returns-2)

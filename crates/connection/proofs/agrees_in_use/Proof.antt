@@ -7,20 +7,11 @@ use borrow.Author.Needs.{needs}
 use Rattle.connection.proofs.agrees_in_use.Statement.{statement}
 use Rattle.connection.proofs.agrees_in_use.Tie as tie
 
-is-secure-requires : tie.Need-is-secure-requires
-is-secure-requires c κs = search needs
-
-agrees-with-itself-requires : tie.Need-agrees-with-itself-requires
-agrees-with-itself-requires c κs = search needs
-
 returns : tie.Need-returns
 returns c =
     let st = c .before .before .before .args .st in
     let e : isSecure (st .mode) ≡ true = sym (c .before .before .is-secure .ensures) ∙ c .before .if1 .taken in
     c .agrees-with-itself .ensures ∙ ap (λ (b : Bool). cond b (sealed.agrees (st .secure)) (crc.agrees (st .crc))) (sym e)
-
-agrees-with-itself-requires-2 : tie.Need-agrees-with-itself-requires-2
-agrees-with-itself-requires-2 c κs = search needs
 
 returns-2 : tie.Need-returns-2
 returns-2 c =
@@ -32,8 +23,8 @@ pub agrees-in-use-spec : {M : Type 1} → statement M
 agrees-in-use-spec =
     tie.close
     (tie.spec
-    is-secure-requires
-    agrees-with-itself-requires
+    (λ c κs. search needs)
+    (λ c κs. search needs)
     returns
-    agrees-with-itself-requires-2
+    (λ c κs. search needs)
     returns-2)

@@ -9,12 +9,6 @@ use borrow.Author.Needs.{needs}
 use Rattle.connection.proofs.begin.Statement.{statement}
 use Rattle.connection.proofs.begin.Tie as tie
 
-start-requires : tie.Need-start-requires
-start-requires c κs = search needs
-
-no-secure-requires : tie.Need-no-secure-requires
-no-secure-requires c κs = search needs
-
 returns : tie.Need-returns
 unfolding begun
 returns c =
@@ -25,4 +19,4 @@ returns c =
     }
 
 pub begin-spec : {M : Type 1} → statement M
-begin-spec = tie.close (tie.spec start-requires no-secure-requires returns)
+begin-spec = tie.close (tie.spec (λ c κs. search needs) (λ c κs. search needs) returns)

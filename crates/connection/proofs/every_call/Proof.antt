@@ -1,4 +1,4 @@
-use Rattle.connection.proofs.Every.{every-call}
+use Rattle.connection.proofs.Adds.{every-call}
 use Rattle.connection.proofs.every_call.Statement.{statement}
 use Rattle.connection.proofs.every_call.Tie as tie
 

@@ -6,15 +6,6 @@ use borrow.Author.Needs.{needs}
 use Rattle.connection.proofs.ready_rule.Statement.{statement}
 use Rattle.connection.proofs.ready_rule.Tie as tie
 
-is-secure-requires : tie.Need-is-secure-requires
-is-secure-requires c κs = search needs
-
-at-preamble-requires : tie.Need-at-preamble-requires
-at-preamble-requires c κs = search needs
-
-both-requires : tie.Need-both-requires
-both-requires c κs = search needs
-
 returns : tie.Need-returns
 returns c =
     let st = c .before .before .before .before .args .st in
@@ -23,9 +14,6 @@ returns c =
     ∙ ap₂ (λ (a b : Bool). not a && b) (c .before .before .is-secure .ensures) (c .before .at-preamble .ensures)
     ∙ ap (λ (b : Bool). cond b (not (isSecure (st .mode)) && before (st .crc)) true) (sym e)
 
-returns-2 : tie.Need-returns-2
-returns-2 c = search needs
-
 pub ready-rule-spec : {M : Type 1} → statement M
 ready-rule-spec =
-    tie.close (tie.spec is-secure-requires at-preamble-requires both-requires returns returns-2)
+    tie.close (tie.spec (λ c κs. search needs) (λ c κs. search needs) (λ c κs. search needs) returns (λ c. search needs))

@@ -7,26 +7,11 @@ use borrow.Author.Needs.{needs}
 use Rattle.connection.proofs.receive.Statement.{statement}
 use Rattle.connection.proofs.receive.Tie as tie
 
-ready-rule-requires : tie.Need-ready-rule-requires
-ready-rule-requires c κs = search needs
-
-in-numbers-requires : tie.Need-in-numbers-requires
-in-numbers-requires c κs = search needs
-
 returns : tie.Need-returns
 returns c =
     let z = c .before .before .before .before .before .args in
     let e : readyRule (z .state) ≡ false = sym (c .before .before .ready-rule .ensures) ∙ negated _ (c .before .if1 .taken) in
     contradicted (z .state) (now (z .store)) (now (z .piece)) _ e (c .in-numbers .ensures)
-
-is-secure-requires : tie.Need-is-secure-requires
-is-secure-requires c κs = search needs
-
-receive-secure-requires : tie.Need-receive-secure-requires
-receive-secure-requires c κs = search needs
-
-same-length : tie.Need-same-length
-same-length c = search needs
 
 returns-2 : tie.Need-returns-2
 returns-2 c =
@@ -34,12 +19,6 @@ returns-2 c =
     let e : readyRule (z .state) ≡ true = sym (c .before .before .before .before .before .before .before .ready-rule .ensures) ∙ affirmed _ (c .before .before .before .before .before .before .if1 .left) in
     let m : isSecure (z .state .mode) ≡ true = sym (c .before .before .before .before .before .is-secure .ensures) ∙ c .before .before .before .before .if2 .taken in
     secure-answered (z .state) (now (z .store)) (now (z .piece)) _ _ e m (c .before .before .receive-secure .ensures)
-
-receive-crc-requires : tie.Need-receive-crc-requires
-receive-crc-requires c κs = search needs
-
-same-length-2 : tie.Need-same-length-2
-same-length-2 c = search needs
 
 returns-3 : tie.Need-returns-3
 returns-3 c =
@@ -52,13 +31,13 @@ pub receive-spec : {M : Type 1} → statement M
 receive-spec =
     tie.close
     (tie.spec
-    ready-rule-requires
-    in-numbers-requires
+    (λ c κs. search needs)
+    (λ c κs. search needs)
     returns
-    is-secure-requires
-    receive-secure-requires
-    same-length
+    (λ c κs. search needs)
+    (λ c κs. search needs)
+    (λ c. search needs)
     returns-2
-    receive-crc-requires
-    same-length-2
+    (λ c κs. search needs)
+    (λ c. search needs)
     returns-3)

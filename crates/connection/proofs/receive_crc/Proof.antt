@@ -7,21 +7,6 @@ use borrow.Author.Needs.{needs}
 use Rattle.connection.proofs.receive_crc.Statement.{statement}
 use Rattle.connection.proofs.receive_crc.Tie as tie
 
-receive-requires : tie.Need-receive-requires
-receive-requires c κs = search needs
-
-closing-requires : tie.Need-closing-requires
-closing-requires c κs = search needs
-
-both-requires : tie.Need-both-requires
-both-requires c κs = search needs
-
-either-requires : tie.Need-either-requires
-either-requires c κs = search needs
-
-same-length : tie.Need-same-length
-same-length c = search needs
-
 returns : tie.Need-returns
 returns c =
     let a = c .before .before .before .before .before .before .before .receive .ensures in
@@ -36,4 +21,4 @@ returns c =
 pub receive-crc-spec : {M : Type 1} → statement M
 receive-crc-spec =
     tie.close
-    (tie.spec receive-requires closing-requires both-requires either-requires same-length returns)
+    (tie.spec (λ c κs. search needs) (λ c κs. search needs) (λ c κs. search needs) (λ c κs. search needs) (λ c. search needs) returns)

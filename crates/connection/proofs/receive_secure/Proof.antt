@@ -5,12 +5,6 @@ use borrow.Author.Needs.{needs}
 use Rattle.connection.proofs.receive_secure.Statement.{statement}
 use Rattle.connection.proofs.receive_secure.Tie as tie
 
-receive-requires : tie.Need-receive-requires
-receive-requires c κs = search needs
-
-same-length : tie.Need-same-length
-same-length c = search needs
-
 returns : tie.Need-returns
 returns c =
     let a = c .before .before .before .before .receive .ensures in
@@ -21,4 +15,4 @@ returns c =
     }
 
 pub receive-secure-spec : {M : Type 1} → statement M
-receive-secure-spec = tie.close (tie.spec receive-requires same-length returns)
+receive-secure-spec = tie.close (tie.spec (λ c κs. search needs) (λ c. search needs) returns)

@@ -7,13 +7,10 @@ use borrow.Author.Needs.{needs}
 use Rattle.connection.proofs.secure_from.Statement.{statement}
 use Rattle.connection.proofs.secure_from.Tie as tie
 
-switch-on-requires : tie.Need-switch-on-requires
-switch-on-requires c κs = search needs
-
 returns : tie.Need-returns
 returns c =
     let st = c .before .before .args .st in
     ap (λ (x : sealed-state.State). record { mode = mode.Secure; ready = false; crc = st .crc; secure = x }) (c .switch-on .ensures)
 
 pub secure-from-spec : {M : Type 1} → statement M
-secure-from-spec = tie.close (tie.spec switch-on-requires returns)
+secure-from-spec = tie.close (tie.spec (λ c κs. search needs) returns)

@@ -5,23 +5,8 @@ use borrow.Author.Needs.{needs}
 use Rattle.connection.proofs.switch.Statement.{statement}
 use Rattle.connection.proofs.switch.Tie as tie
 
-judge-switch-requires : tie.Need-judge-switch-requires
-judge-switch-requires c κs = search needs
-
 enum-told : tie.Need-enum-told
 enum-told c = search needs
-
-secure-from-requires : tie.Need-secure-from-requires
-secure-from-requires c κs = search needs
-
-fresh-sending-requires : tie.Need-fresh-sending-requires
-fresh-sending-requires c κs = search needs
-
-enum-known-verdict : tie.Need-enum-known-verdict
-enum-known-verdict c = search needs
-
-refused-sending-requires : tie.Need-refused-sending-requires
-refused-sending-requires c κs = search needs
 
 returns : tie.Need-returns
 returns c =
@@ -47,11 +32,11 @@ pub switch-spec : {M : Type 1} → statement M
 switch-spec =
     tie.close
     (tie.spec
-    judge-switch-requires
+    (λ c κs. search needs)
     enum-told
-    secure-from-requires
-    fresh-sending-requires
-    enum-known-verdict
-    refused-sending-requires
+    (λ c κs. search needs)
+    (λ c κs. search needs)
+    (λ c. search needs)
+    (λ c κs. search needs)
     returns
     returns-2)

@@ -7,12 +7,6 @@ use borrow.Author.Needs.{needs}
 use Rattle.connection_cases.proofs.make_either.Statement.{statement}
 use Rattle.connection_cases.proofs.make_either.Tie as tie
 
-is-try-requires : tie.Need-is-try-requires
-is-try-requires c κs = search needs
-
-cast-place : tie.Need-cast-place
-cast-place c = search needs
-
 sub-place : tie.Need-sub-place
 sub-place c =
     let a = c .before .before .before .before .before .before .before .args in
@@ -41,23 +35,11 @@ try-switch-requires c κs =
     let h = try-fits (a .l) (a .call .number) e in
     omega (arith, h .0, h .1, h .2, c .before .before .before .before .before .before .before .before .pre)
 
-same-length : tie.Need-same-length
-same-length c = search needs
-
 returns : tie.Need-returns
 returns c =
     let a = c .before .before .before .before .before .before .before .before .before .before .before .args in
     let e : isTry (a .l) (a .call .number) ≡ true = sym (c .before .before .before .before .before .before .is-try .ensures) ∙ c .before .before .before .before .before .if1 .taken in
     either-try (a .l) (a .s .now) (a .state) (a .call) (a .rest .now) (a .store .now) e (c .before .before .try-switch .ensures (a .store .now))
-
-make-call-requires : tie.Need-make-call-requires
-make-call-requires c κs = search needs
-
-same-length-2 : tie.Need-same-length-2
-same-length-2 c = search needs
-
-same-length-3 : tie.Need-same-length-3
-same-length-3 c = search needs
 
 returns-2 : tie.Need-returns-2
 returns-2 c =
@@ -69,15 +51,15 @@ pub make-either-spec : {M : Type 1} → statement M
 make-either-spec =
     tie.close
     (tie.spec
-    is-try-requires
-    cast-place
+    (λ c κs. search needs)
+    (λ c. search needs)
     sub-place
     mul-place
     add-place
     try-switch-requires
-    same-length
+    (λ c. search needs)
     returns
-    make-call-requires
-    same-length-2
-    same-length-3
+    (λ c κs. search needs)
+    (λ c. search needs)
+    (λ c. search needs)
     returns-2)

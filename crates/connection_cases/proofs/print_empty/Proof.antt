@@ -8,36 +8,6 @@ use borrow.Author.Needs.{needs}
 use Rattle.connection_cases.proofs.print_empty.Statement.{statement}
 use Rattle.connection_cases.proofs.print_empty.Tie as tie
 
-slice-aggregate-count-up : tie.Need-slice-aggregate-count-up
-slice-aggregate-count-up c = search needs
-
-count-up-requires : tie.Need-count-up-requires
-count-up-requires c κs = search needs
-
-slice-aggregate-build-sealed : tie.Need-slice-aggregate-build-sealed
-slice-aggregate-build-sealed c = search needs
-
-empty-header-requires : tie.Need-empty-header-requires
-empty-header-requires c κs = search needs
-
-slice-aggregate-build-sealed-2 : tie.Need-slice-aggregate-build-sealed-2
-slice-aggregate-build-sealed-2 c = search needs
-
-build-sealed-requires : tie.Need-build-sealed-requires
-build-sealed-requires c κs = search needs
-
-slice-aggregate-checksum : tie.Need-slice-aggregate-checksum
-slice-aggregate-checksum c = search needs
-
-checksum-requires : tie.Need-checksum-requires
-checksum-requires c κs = search needs
-
-print-built-requires : tie.Need-print-built-requires
-print-built-requires c κs = search needs
-
-same-length : tie.Need-same-length
-same-length c = search needs
-
 returns : tie.Need-returns
 returns c =
     let a = c .before .before .before .before .before .before .before .before .before .before .before .before .before .before .before .args in
@@ -54,14 +24,14 @@ pub print-empty-spec : {M : Type 1} → statement M
 print-empty-spec =
     tie.close
     (tie.spec
-    slice-aggregate-count-up
-    count-up-requires
-    slice-aggregate-build-sealed
-    empty-header-requires
-    slice-aggregate-build-sealed-2
-    build-sealed-requires
-    slice-aggregate-checksum
-    checksum-requires
-    print-built-requires
-    same-length
+    (λ c. search needs)
+    (λ c κs. search needs)
+    (λ c. search needs)
+    (λ c κs. search needs)
+    (λ c. search needs)
+    (λ c κs. search needs)
+    (λ c. search needs)
+    (λ c κs. search needs)
+    (λ c κs. search needs)
+    (λ c. search needs)
     returns)

@@ -11,27 +11,12 @@ use borrow.Author.Needs.{needs}
 use Rattle.connection_cases.proofs.receive_lent.Statement.{statement}
 use Rattle.connection_cases.proofs.receive_lent.Tie as tie
 
-slice-relend-prefix-receive : tie.Need-slice-relend-prefix-receive
-slice-relend-prefix-receive c = search needs
-
 slice-aggregate-receive : tie.Need-slice-aggregate-receive
 slice-aggregate-receive c = sym (length-take-le (c .before .before .before .before .args .lent) (c .before .before .before .before .args .store .now) (omega arith))
-
-receive-requires : tie.Need-receive-requires
-receive-requires c κs = search needs
-
-same-length : tie.Need-same-length
-same-length c = search needs
 
 returns : tie.Need-returns
 unfolding lentAnswer
 returns c = record { received = c .before .before .receive .ensures .received; store = ap (λ (l : List ℕ). l ++ drop (c .before .before .before .before .before .before .before .args .lent) (c .before .before .before .before .before .before .before .args .store .now)) (c .before .before .receive .ensures .store) }
-
-receive-requires-2 : tie.Need-receive-requires-2
-receive-requires-2 c κs = search needs
-
-same-length-2 : tie.Need-same-length-2
-same-length-2 c = search needs
 
 returns-2 : tie.Need-returns-2
 returns-2 c =
@@ -42,11 +27,11 @@ pub receive-lent-spec : {M : Type 1} → statement M
 receive-lent-spec =
     tie.close
     (tie.spec
-    slice-relend-prefix-receive
+    (λ c. search needs)
     slice-aggregate-receive
-    receive-requires
-    same-length
+    (λ c κs. search needs)
+    (λ c. search needs)
     returns
-    receive-requires-2
-    same-length-2
+    (λ c κs. search needs)
+    (λ c. search needs)
     returns-2)

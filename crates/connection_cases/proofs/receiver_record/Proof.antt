@@ -19,21 +19,6 @@ use borrow.Author.Needs.{needs}
 use Rattle.connection_cases.proofs.receiver_record.Statement.{statement}
 use Rattle.connection_cases.proofs.receiver_record.Tie as tie
 
-layout-of-requires : tie.Need-layout-of-requires
-layout-of-requires c κs = search needs
-
-receiver-size-requires : tie.Need-receiver-size-requires
-receiver-size-requires c κs = search needs
-
-is-whole-requires : tie.Need-is-whole-requires
-is-whole-requires c κs = search needs
-
-bad-record-requires : tie.Need-bad-record-requires
-bad-record-requires c κs = search needs
-
-same-length : tie.Need-same-length
-same-length c = search needs
-
 returns : tie.Need-returns
 returns c =
     let a = c .before .before .before .before .before .before .before .before .before .before .before .args in
@@ -42,33 +27,6 @@ returns c =
     let l = c .before .before .before .before .before .before .before .layout-of .result in
     let e : isWhole (receiverSize room l s) s ≡ false = ap (λ (k : ℕ). isWhole k s) (sym (c .before .before .before .before .before .before .receiver-size .ensures)) ∙ sym (c .before .before .before .before .before .is-whole .ensures) ∙ not-true (c .before .before .before .before .before .is-whole .result) (c .before .before .before .before .if1 .taken) in
     receiver-did (a .switches) (a .lends) room l (c .before .before .before .before .before .before .before .layout-of .ensures) (did-bad (receiverSize room l s) (receiverLines l s) e (c .before .before .bad-record .ensures .0) (c .before .before .bad-record .ensures .1))
-
-calls-of-requires : tie.Need-calls-of-requires
-calls-of-requires c κs = search needs
-
-calls-at-requires : tie.Need-calls-at-requires
-calls-at-requires c κs = search needs
-
-stream-at-requires : tie.Need-stream-at-requires
-stream-at-requires c κs = search needs
-
-add-part : tie.Need-add-part
-add-part c = search needs
-
-u32-at-requires : tie.Need-u32-at-requires
-u32-at-requires c κs = search needs
-
-cast-part : tie.Need-cast-part
-cast-part c = search needs
-
-part-requires : tie.Need-part-requires
-part-requires c κs = search needs
-
-u32-at-requires-2 : tie.Need-u32-at-requires-2
-u32-at-requires-2 c κs = search needs
-
-cast-n : tie.Need-cast-n
-cast-n c = search needs
 
 slice-relend-prefix-store : tie.Need-slice-relend-prefix-store
 slice-relend-prefix-store c =
@@ -90,27 +48,6 @@ slice-aggregate-store c =
     let h = receiver-store room l s e in
     sym (length-take-le (c .before .u32-at2 .result) (a .space .now) (omega (arith, c .before .u32-at2 .ensures)))
 
-byte-at-requires : tie.Need-byte-at-requires
-byte-at-requires c κs = search needs
-
-count-up-requires : tie.Need-count-up-requires
-count-up-requires c κs = search needs
-
-u64-at-requires : tie.Need-u64-at-requires
-u64-at-requires c κs = search needs
-
-u64-at-requires-2 : tie.Need-u64-at-requires-2
-u64-at-requires-2 c κs = search needs
-
-begin-requires : tie.Need-begin-requires
-begin-requires c κs = search needs
-
-slice-aggregate-print-verdict : tie.Need-slice-aggregate-print-verdict
-slice-aggregate-print-verdict c = search needs
-
-print-verdict-requires : tie.Need-print-verdict-requires
-print-verdict-requires c κs = search needs
-
 make-calls-requires : tie.Need-make-calls-requires
 make-calls-requires c κs =
     let a = c .before .before .before .before .before .before .before .before .before .before .before .before .before .before .before .before .before .before .before .before .before .before .before .before .before .before .before .before .before .args in
@@ -119,12 +56,6 @@ make-calls-requires c κs =
     let l = c .before .before .before .before .before .before .before .before .before .before .before .before .before .before .before .before .before .before .before .before .before .before .before .before .before .layout-of .result in
     let e : isWhole (receiverSize room l s) s ≡ true = ap (λ (k : ℕ). isWhole k s) (sym (c .before .before .before .before .before .before .before .before .before .before .before .before .before .before .before .before .before .before .before .before .before .before .before .before .receiver-size .ensures)) ∙ sym (c .before .before .before .before .before .before .before .before .before .before .before .before .before .before .before .before .before .before .before .before .before .before .before .is-whole .ensures) ∙ not-false (c .before .before .before .before .before .before .before .before .before .before .before .before .before .before .before .before .before .before .before .before .before .before .before .is-whole .result) (c .before .before .before .before .before .before .before .before .before .before .before .before .before .before .before .before .before .before .before .before .before .before .if1 .left) in
     ((omega (arith, c .before .before .before .before .before .before .before .before .before .before .before .before .before .before .before .before .before .before .before .before .before .calls-of .ensures .1), omega (arith, c .before .before .before .before .before .before .before .before .before .before .before .before .before .before .before .before .before .before .before .before .calls-at .ensures .1)), switches-there room l s e)
-
-same-length-2 : tie.Need-same-length-2
-same-length-2 c = search needs
-
-same-length-3 : tie.Need-same-length-3
-same-length-3 c = search needs
 
 returns-2 : tie.Need-returns-2
 returns-2 c =
@@ -153,31 +84,31 @@ pub receiver-record-spec : {M : Type 1} → statement M
 receiver-record-spec =
     tie.close
     (tie.spec
-    layout-of-requires
-    receiver-size-requires
-    is-whole-requires
-    bad-record-requires
-    same-length
+    (λ c κs. search needs)
+    (λ c κs. search needs)
+    (λ c κs. search needs)
+    (λ c κs. search needs)
+    (λ c. search needs)
     returns
-    calls-of-requires
-    calls-at-requires
-    stream-at-requires
-    add-part
-    u32-at-requires
-    cast-part
-    part-requires
-    u32-at-requires-2
-    cast-n
+    (λ c κs. search needs)
+    (λ c κs. search needs)
+    (λ c κs. search needs)
+    (λ c. search needs)
+    (λ c κs. search needs)
+    (λ c. search needs)
+    (λ c κs. search needs)
+    (λ c κs. search needs)
+    (λ c. search needs)
     slice-relend-prefix-store
     slice-aggregate-store
-    byte-at-requires
-    count-up-requires
-    u64-at-requires
-    u64-at-requires-2
-    begin-requires
-    slice-aggregate-print-verdict
-    print-verdict-requires
+    (λ c κs. search needs)
+    (λ c κs. search needs)
+    (λ c κs. search needs)
+    (λ c κs. search needs)
+    (λ c κs. search needs)
+    (λ c. search needs)
+    (λ c κs. search needs)
     make-calls-requires
-    same-length-2
-    same-length-3
+    (λ c. search needs)
+    (λ c. search needs)
     returns-2)

@@ -5,36 +5,6 @@ use borrow.Author.Needs.{needs}
 use Rattle.sealed_builder.proofs.agrees_with_itself.Statement.{statement}
 use Rattle.sealed_builder.proofs.agrees_with_itself.Tie as tie
 
-both-requires : tie.Need-both-requires
-both-requires c κs = search needs
-
-slice-aggregate-all-zero : tie.Need-slice-aggregate-all-zero
-slice-aggregate-all-zero c = search needs
-
-all-zero-requires : tie.Need-all-zero-requires
-all-zero-requires c κs = search needs
-
-slice-aggregate-all-zero-2 : tie.Need-slice-aggregate-all-zero-2
-slice-aggregate-all-zero-2 c = search needs
-
-all-zero-requires-2 : tie.Need-all-zero-requires-2
-all-zero-requires-2 c κs = search needs
-
-both-requires-2 : tie.Need-both-requires-2
-both-requires-2 c κs = search needs
-
-both-requires-3 : tie.Need-both-requires-3
-both-requires-3 c κs = search needs
-
-either-requires : tie.Need-either-requires
-either-requires c κs = search needs
-
-either-requires-2 : tie.Need-either-requires-2
-either-requires-2 c κs = search needs
-
-both-requires-4 : tie.Need-both-requires-4
-both-requires-4 c κs = search needs
-
 returns : tie.Need-returns
 unfolding agrees
 returns c =
@@ -47,14 +17,14 @@ pub agrees-with-itself-spec : {M : Type 1} → statement M
 agrees-with-itself-spec =
     tie.close
     (tie.spec
-    both-requires
-    slice-aggregate-all-zero
-    all-zero-requires
-    slice-aggregate-all-zero-2
-    all-zero-requires-2
-    both-requires-2
-    both-requires-3
-    either-requires
-    either-requires-2
-    both-requires-4
+    (λ c κs. search needs)
+    (λ c. search needs)
+    (λ c κs. search needs)
+    (λ c. search needs)
+    (λ c κs. search needs)
+    (λ c κs. search needs)
+    (λ c κs. search needs)
+    (λ c κs. search needs)
+    (λ c κs. search needs)
+    (λ c κs. search needs)
     returns)

@@ -16,17 +16,8 @@ use borrow.Author.Needs.{needs}
 use Rattle.sealed_builder.proofs.build_sealed.Statement.{statement}
 use Rattle.sealed_builder.proofs.build_sealed.Tie as tie
 
-judge-sealed-requires : tie.Need-judge-sealed-requires
-judge-sealed-requires c κs = search needs
-
-enum-known-verdict : tie.Need-enum-known-verdict
-enum-known-verdict c = search needs
-
 enum-told : tie.Need-enum-told
 enum-told c = search needs
-
-expand-requires : tie.Need-expand-requires
-expand-requires c κs = search needs
 
 sub-put-sealed : tie.Need-sub-put-sealed
 sub-put-sealed c =
@@ -40,21 +31,12 @@ part-put-sealed-start c =
     let f = accepted (g .sending) (g .header) (g .abort) (length (g .source .now)) (length (g .buf .now)) (g .queued) (sym (c .before .before .before .before .before .judge-sealed .ensures) ∙ ap judgedBy (c .before .before .before .enum-told .given .1)) in
     omega arith
 
-part-put-sealed-end : tie.Need-part-put-sealed-end
-part-put-sealed-end c = search needs
-
 put-sealed-requires : tie.Need-put-sealed-requires
 put-sealed-requires c κs =
     let g = c .before .before .before .before .before .before .before .before .before .before .args in
     let f = accepted (g .sending) (g .header) (g .abort) (length (g .source .now)) (length (g .buf .now)) (g .queued) (sym (c .before .before .before .before .before .before .before .judge-sealed .ensures) ∙ ap judgedBy (c .before .before .before .before .before .enum-told .given .1)) in
     let b : length (rest (g .buf .now) (g .queued)) ≡ length (g .buf .now) - g .queued = length-rest (g .buf .now) (g .queued) in
     (f .whole, omega arith)
-
-sealed-length-requires : tie.Need-sealed-length-requires
-sealed-length-requires c κs = search needs
-
-part-count-requires : tie.Need-part-count-requires
-part-count-requires c κs = search needs
 
 sent-more-requires : tie.Need-sent-more-requires
 sent-more-requires c κs =
@@ -67,9 +49,6 @@ returns : tie.Need-returns
 unfolding sealedDone
 returns c =
     record { promise = rw (sym (c .before .before .before .judge-sealed .ensures) ∙ ap judgedBy (c .before .verdict .given .1)) }
-
-same-length : tie.Need-same-length
-same-length c = search needs
 
 returns-2 : tie.Need-returns-2
 unfolding sealedDone
@@ -90,17 +69,17 @@ pub build-sealed-spec : {M : Type 1} → statement M
 build-sealed-spec =
     tie.close
     (tie.spec
-    judge-sealed-requires
-    enum-known-verdict
+    (λ c κs. search needs)
+    (λ c. search needs)
     enum-told
-    expand-requires
+    (λ c κs. search needs)
     sub-put-sealed
     part-put-sealed-start
-    part-put-sealed-end
+    (λ c. search needs)
     put-sealed-requires
-    sealed-length-requires
-    part-count-requires
+    (λ c κs. search needs)
+    (λ c κs. search needs)
     sent-more-requires
     returns
-    same-length
+    (λ c. search needs)
     returns-2)

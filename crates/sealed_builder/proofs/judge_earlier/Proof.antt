@@ -9,51 +9,6 @@ use borrow.Author.Needs.{needs}
 use Rattle.sealed_builder.proofs.judge_earlier.Statement.{statement}
 use Rattle.sealed_builder.proofs.judge_earlier.Tie as tie
 
-sealed-length-requires : tie.Need-sealed-length-requires
-sealed-length-requires c κs = search needs
-
-room-requires : tie.Need-room-requires
-room-requires c κs = search needs
-
-unless-ok-requires : tie.Need-unless-ok-requires
-unless-ok-requires c κs = search needs
-
-judge-abort-requires : tie.Need-judge-abort-requires
-judge-abort-requires c κs = search needs
-
-or-else-requires : tie.Need-or-else-requires
-or-else-requires c κs = search needs
-
-total-of-requires : tie.Need-total-of-requires
-total-of-requires c κs = search needs
-
-unless-ok-requires-2 : tie.Need-unless-ok-requires-2
-unless-ok-requires-2 c κs = search needs
-
-or-else-requires-2 : tie.Need-or-else-requires-2
-or-else-requires-2 c κs = search needs
-
-judge-header-requires : tie.Need-judge-header-requires
-judge-header-requires c κs = search needs
-
-or-else-requires-3 : tie.Need-or-else-requires-3
-or-else-requires-3 c κs = search needs
-
-unless-ok-requires-3 : tie.Need-unless-ok-requires-3
-unless-ok-requires-3 c κs = search needs
-
-or-else-requires-4 : tie.Need-or-else-requires-4
-or-else-requires-4 c κs = search needs
-
-agrees-with-itself-requires : tie.Need-agrees-with-itself-requires
-agrees-with-itself-requires c κs = search needs
-
-unless-ok-requires-4 : tie.Need-unless-ok-requires-4
-unless-ok-requires-4 c κs = search needs
-
-or-else-requires-5 : tie.Need-or-else-requires-5
-or-else-requires-5 c κs = search needs
-
 returns : tie.Need-returns
 unfolding judgeEarlier
 returns c =
@@ -73,19 +28,19 @@ pub judge-earlier-spec : {M : Type 1} → statement M
 judge-earlier-spec =
     tie.close
     (tie.spec
-    sealed-length-requires
-    room-requires
-    unless-ok-requires
-    judge-abort-requires
-    or-else-requires
-    total-of-requires
-    unless-ok-requires-2
-    or-else-requires-2
-    judge-header-requires
-    or-else-requires-3
-    unless-ok-requires-3
-    or-else-requires-4
-    agrees-with-itself-requires
-    unless-ok-requires-4
-    or-else-requires-5
+    (λ c κs. search needs)
+    (λ c κs. search needs)
+    (λ c κs. search needs)
+    (λ c κs. search needs)
+    (λ c κs. search needs)
+    (λ c κs. search needs)
+    (λ c κs. search needs)
+    (λ c κs. search needs)
+    (λ c κs. search needs)
+    (λ c κs. search needs)
+    (λ c κs. search needs)
+    (λ c κs. search needs)
+    (λ c κs. search needs)
+    (λ c κs. search needs)
+    (λ c κs. search needs)
     returns)

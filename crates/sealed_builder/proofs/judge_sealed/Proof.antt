@@ -6,21 +6,6 @@ use borrow.Author.Needs.{needs}
 use Rattle.sealed_builder.proofs.judge_sealed.Statement.{statement}
 use Rattle.sealed_builder.proofs.judge_sealed.Tie as tie
 
-judge-earlier-requires : tie.Need-judge-earlier-requires
-judge-earlier-requires c κs = search needs
-
-part-count-requires : tie.Need-part-count-requires
-part-count-requires c κs = search needs
-
-nonces-left-requires : tie.Need-nonces-left-requires
-nonces-left-requires c κs = search needs
-
-unless-ok-requires : tie.Need-unless-ok-requires
-unless-ok-requires c κs = search needs
-
-or-else-requires : tie.Need-or-else-requires
-or-else-requires c κs = search needs
-
 returns : tie.Need-returns
 unfolding judgeSealed
 returns c =
@@ -32,9 +17,9 @@ pub judge-sealed-spec : {M : Type 1} → statement M
 judge-sealed-spec =
     tie.close
     (tie.spec
-    judge-earlier-requires
-    part-count-requires
-    nonces-left-requires
-    unless-ok-requires
-    or-else-requires
+    (λ c κs. search needs)
+    (λ c κs. search needs)
+    (λ c κs. search needs)
+    (λ c κs. search needs)
+    (λ c κs. search needs)
     returns)

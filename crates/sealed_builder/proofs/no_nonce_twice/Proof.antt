@@ -1,4 +1,4 @@
-use Rattle.sealed_builder.proofs.Once.{different, bytes, counted-all, needs, unspent}
+use Rattle.sealed_builder.proofs.Once.{different, sealed-with, one-key, counted-all, needs, unspent}
 use Rattle.sealed_builder.proofs.Eighteen.{exactly}
 use Rattle.sealed_builder.proofs.no_nonce_twice.Statement.{statement}
 use Rattle.sealed_builder.proofs.no_nonce_twice.Tie as tie
@@ -7,7 +7,8 @@ returns : tie.Need-returns
 returns c =
     record {
       different = different;
-      wrote = λ s b n m a. bytes s b m n a;
+      wrote = λ s b n m a. sealed-with s b m n a;
+      oneKey = one-key;
       counted = counted-all;
       needs = needs;
       eighteen = exactly;

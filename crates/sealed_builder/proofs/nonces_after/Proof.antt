@@ -6,24 +6,15 @@ use borrow.Author.Needs.{needs}
 use Rattle.sealed_builder.proofs.nonces_after.Statement.{statement}
 use Rattle.sealed_builder.proofs.nonces_after.Tie as tie
 
-next-nonce-requires : tie.Need-next-nonce-requires
-next-nonce-requires c κs = search needs
-
 returns : tie.Need-returns
 unfolding nonceAfter
 returns c =
     c .before .next-nonce .ensures ∙ sym (ap (λ (k : ℕ). nonceAfter k (c .before .before .args .nonce)) (c .if1 .taken))
 
-next-nonce-requires-2 : tie.Need-next-nonce-requires-2
-next-nonce-requires-2 c κs = search needs
-
 returns-2 : tie.Need-returns-2
 unfolding nonceAfter
 returns-2 c =
     c .before .next-nonce2 .ensures ∙ ap nextNonce (c .before .before .before .next-nonce .ensures) ∙ sym (ap (λ (k : ℕ). nonceAfter k (c .before .before .before .before .args .nonce)) (c .if2 .taken))
-
-next-nonce-requires-3 : tie.Need-next-nonce-requires-3
-next-nonce-requires-3 c κs = search needs
 
 returns-3 : tie.Need-returns-3
 unfolding nonceAfter
@@ -35,9 +26,9 @@ pub nonces-after-spec : {M : Type 1} → statement M
 nonces-after-spec =
     tie.close
     (tie.spec
-    next-nonce-requires
+    (λ c κs. search needs)
     returns
-    next-nonce-requires-2
+    (λ c κs. search needs)
     returns-2
-    next-nonce-requires-3
+    (λ c κs. search needs)
     returns-3)

@@ -14,15 +14,9 @@ returns : tie.Need-returns
 returns c =
     sym (ap (λ (b : Bool). leb (cond b allNonces (c .before .args .s .spent) + c .before .args .k) allNonces) (c .if1 .taken) ∙ lt-leb (allNonces + c .before .args .k) allNonces (omega (arith, c .before .pre)))
 
-sub-result : tie.Need-sub-result
-sub-result c = search needs
-
-sub-result-2 : tie.Need-sub-result-2
-sub-result-2 c = search needs
-
 returns-2 : tie.Need-returns-2
 returns-2 c =
     left-is (c .before .before .args .s .spent) (c .before .before .args .k) (c .before .before .pre .0) (c .before .before .pre .1) ∙ sym (ap (λ (b : Bool). leb (cond b allNonces (c .before .before .args .s .spent) + c .before .before .args .k) allNonces) (c .before .if1 .left))
 
 pub nonces-left-spec : {M : Type 1} → statement M
-nonces-left-spec = tie.close (tie.spec returns sub-result sub-result-2 returns-2)
+nonces-left-spec = tie.close (tie.spec returns (λ c. search needs) (λ c. search needs) returns-2)

@@ -8,18 +8,6 @@ use borrow.Author.Needs.{needs}
 use Rattle.sealed_builder.proofs.put_epilogue.Statement.{statement}
 use Rattle.sealed_builder.proofs.put_epilogue.Tie as tie
 
-late-byte-requires : tie.Need-late-byte-requires
-late-byte-requires c κs = search needs
-
-slice-aggregate-put : tie.Need-slice-aggregate-put
-slice-aggregate-put c = search needs
-
-put-requires : tie.Need-put-requires
-put-requires c κs = search needs
-
-same-length : tie.Need-same-length
-same-length c = search needs
-
 returns : tie.Need-returns
 returns c =
     let g = c .before .before .before .before .before .before .before .args in
@@ -27,4 +15,4 @@ returns c =
 
 pub put-epilogue-spec : {M : Type 1} → statement M
 put-epilogue-spec =
-    tie.close (tie.spec late-byte-requires slice-aggregate-put put-requires same-length returns)
+    tie.close (tie.spec (λ c κs. search needs) (λ c. search needs) (λ c κs. search needs) (λ c. search needs) returns)

@@ -6,24 +6,6 @@ use borrow.Author.Needs.{needs}
 use Rattle.sealed_builder.proofs.put_first.Statement.{statement}
 use Rattle.sealed_builder.proofs.put_first.Tie as tie
 
-put-preamble-requires : tie.Need-put-preamble-requires
-put-preamble-requires c κs = search needs
-
-sub-put-inline : tie.Need-sub-put-inline
-sub-put-inline c = search needs
-
-part-put-inline-start : tie.Need-part-put-inline-start
-part-put-inline-start c = search needs
-
-part-put-inline-end : tie.Need-part-put-inline-end
-part-put-inline-end c = search needs
-
-put-inline-requires : tie.Need-put-inline-requires
-put-inline-requires c κs = search needs
-
-same-length : tie.Need-same-length
-same-length c = search needs
-
 returns : tie.Need-returns
 unfolding firstText
 returns c =
@@ -35,10 +17,10 @@ pub put-first-spec : {M : Type 1} → statement M
 put-first-spec =
     tie.close
     (tie.spec
-    put-preamble-requires
-    sub-put-inline
-    part-put-inline-start
-    part-put-inline-end
-    put-inline-requires
-    same-length
+    (λ c κs. search needs)
+    (λ c. search needs)
+    (λ c. search needs)
+    (λ c. search needs)
+    (λ c κs. search needs)
+    (λ c. search needs)
     returns)

@@ -10,12 +10,6 @@ use borrow.Author.Needs.{needs}
 use Rattle.sealed_builder.proofs.put_inline.Statement.{statement}
 use Rattle.sealed_builder.proofs.put_inline.Tie as tie
 
-part-requires : tie.Need-part-requires
-part-requires c κs = search needs
-
-put-requires : tie.Need-put-requires
-put-requires c κs = search needs
-
 sub-put-zeros : tie.Need-sub-put-zeros
 sub-put-zeros c =
     omega (arith, front-short (c .before .before .before .before .before .before .before .args .first .now) (c .before .before .before .before .part .result .now) (c .before .before .before .before .part .ensures))
@@ -24,18 +18,9 @@ part-put-zeros-start : tie.Need-part-put-zeros-start
 part-put-zeros-start c =
     omega (arith, front-short (c .before .before .before .before .before .before .before .args .first .now) (c .before .before .before .before .part .result .now) (c .before .before .before .before .part .ensures))
 
-part-put-zeros-end : tie.Need-part-put-zeros-end
-part-put-zeros-end c = search needs
-
 sub-put-zeros-2 : tie.Need-sub-put-zeros-2
 sub-put-zeros-2 c =
     omega (arith, front-short (c .before .before .before .before .before .before .before .before .args .first .now) (c .before .before .before .before .before .part .result .now) (c .before .before .before .before .before .part .ensures))
-
-put-zeros-requires : tie.Need-put-zeros-requires
-put-zeros-requires c κs = search needs
-
-same-length : tie.Need-same-length
-same-length c = search needs
 
 returns : tie.Need-returns
 returns c =
@@ -53,12 +38,12 @@ pub put-inline-spec : {M : Type 1} → statement M
 put-inline-spec =
     tie.close
     (tie.spec
-    part-requires
-    put-requires
+    (λ c κs. search needs)
+    (λ c κs. search needs)
     sub-put-zeros
     part-put-zeros-start
-    part-put-zeros-end
+    (λ c. search needs)
     sub-put-zeros-2
-    put-zeros-requires
-    same-length
+    (λ c κs. search needs)
+    (λ c. search needs)
     returns)

@@ -13,42 +13,12 @@ use borrow.Author.Needs.{needs}
 use Rattle.sealed_builder.proofs.put_last.Statement.{statement}
 use Rattle.sealed_builder.proofs.put_last.Tie as tie
 
-cast-n : tie.Need-cast-n
-cast-n c = search needs
-
-cast-n3 : tie.Need-cast-n3
-cast-n3 c = search needs
-
-cast-n4 : tie.Need-cast-n4
-cast-n4 c = search needs
-
-padding-requires : tie.Need-padding-requires
-padding-requires c κs = search needs
-
-add-e : tie.Need-add-e
-add-e c = search needs
-
-part-requires : tie.Need-part-requires
-part-requires c κs = search needs
-
 put-padded-requires : tie.Need-put-padded-requires
 put-padded-requires c κs =
     let bytes : List ℕ = c .before .before .before .before .before .before .before .before .args .rest .now in
     let n : ℕ = c .before .before .before .before .before .before .before .before .args .h .s2 .len in
     let e : roundUp (length (c .part .result .now)) ≡ roundUp n = ap (λ (l : List ℕ). roundUp (length l)) (c .part .ensures) ∙ ap roundUp (length-take-le n bytes (omega (arith, c .before .before .before .before .before .before .before .before .pre .0))) in
     omega (arith, e, c .before .before .before .before .before .before .before .before .pre .1)
-
-sub-put-third : tie.Need-sub-put-third
-sub-put-third c = search needs
-
-part-put-third-start : tie.Need-part-put-third-start
-part-put-third-start c = search needs
-
-part-put-third-end : tie.Need-part-put-third-end
-part-put-third-end c = search needs
-
-behind-requires : tie.Need-behind-requires
-behind-requires c κs = search needs
 
 put-third-requires : tie.Need-put-third-requires
 put-third-requires c κs =
@@ -59,9 +29,6 @@ put-third-requires c κs =
     let r : length (rest l₁ (n + c .before .before .before .before .before .before .before .padding .result)) ≡ length l₁ - (n + c .before .before .before .before .before .before .before .padding .result) = length-rest l₁ (n + c .before .before .before .before .before .before .before .padding .result) in
     let k : length l₁ ≡ length (c .before .before .before .before .before .before .before .before .before .before .before .before .before .args .out .now) = search needs in
     (omega (arith, c .before .before .before .before .before .before .before .before .before .before .before .before .before .pre .0), omega (arith, c .before .before .before .before .before .before .before .padding .ensures .0, c .before .before .before .before .before .before .before .before .before .before .before .before .before .pre .1))
-
-same-length : tie.Need-same-length
-same-length c = search needs
 
 returns : tie.Need-returns
 unfolding lastText
@@ -76,17 +43,17 @@ pub put-last-spec : {M : Type 1} → statement M
 put-last-spec =
     tie.close
     (tie.spec
-    cast-n
-    cast-n3
-    cast-n4
-    padding-requires
-    add-e
-    part-requires
+    (λ c. search needs)
+    (λ c. search needs)
+    (λ c. search needs)
+    (λ c κs. search needs)
+    (λ c. search needs)
+    (λ c κs. search needs)
     put-padded-requires
-    sub-put-third
-    part-put-third-start
-    part-put-third-end
-    behind-requires
+    (λ c. search needs)
+    (λ c. search needs)
+    (λ c. search needs)
+    (λ c κs. search needs)
     put-third-requires
-    same-length
+    (λ c. search needs)
     returns)

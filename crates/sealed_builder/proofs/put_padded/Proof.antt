@@ -12,27 +12,6 @@ use borrow.Author.Needs.{needs}
 use Rattle.sealed_builder.proofs.put_padded.Statement.{statement}
 use Rattle.sealed_builder.proofs.put_padded.Tie as tie
 
-put-sent-requires : tie.Need-put-sent-requires
-put-sent-requires c κs = search needs
-
-sub-put-zeros : tie.Need-sub-put-zeros
-sub-put-zeros c = search needs
-
-part-put-zeros-start : tie.Need-part-put-zeros-start
-part-put-zeros-start c = search needs
-
-part-put-zeros-end : tie.Need-part-put-zeros-end
-part-put-zeros-end c = search needs
-
-padding-requires : tie.Need-padding-requires
-padding-requires c κs = search needs
-
-put-zeros-requires : tie.Need-put-zeros-requires
-put-zeros-requires c κs = search needs
-
-same-length : tie.Need-same-length
-same-length c = search needs
-
 returns : tie.Need-returns
 returns c =
     let g = c .before .before .before .before .before .before .before .before .before .before .before .args in
@@ -50,11 +29,11 @@ pub put-padded-spec : {M : Type 1} → statement M
 put-padded-spec =
     tie.close
     (tie.spec
-    put-sent-requires
-    sub-put-zeros
-    part-put-zeros-start
-    part-put-zeros-end
-    padding-requires
-    put-zeros-requires
-    same-length
+    (λ c κs. search needs)
+    (λ c. search needs)
+    (λ c. search needs)
+    (λ c. search needs)
+    (λ c κs. search needs)
+    (λ c κs. search needs)
+    (λ c. search needs)
     returns)

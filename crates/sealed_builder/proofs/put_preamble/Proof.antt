@@ -12,42 +12,6 @@ use borrow.Author.Needs.{needs}
 use Rattle.sealed_builder.proofs.put_preamble.Statement.{statement}
 use Rattle.sealed_builder.proofs.put_preamble.Tie as tie
 
-preamble-front-requires : tie.Need-preamble-front-requires
-preamble-front-requires c κs = search needs
-
-slice-aggregate-put : tie.Need-slice-aggregate-put
-slice-aggregate-put c = search needs
-
-put-requires : tie.Need-put-requires
-put-requires c κs = search needs
-
-slice-aggregate-checksum : tie.Need-slice-aggregate-checksum
-slice-aggregate-checksum c = search needs
-
-checksum-requires : tie.Need-checksum-requires
-checksum-requires c κs = search needs
-
-u32-bytes-requires : tie.Need-u32-bytes-requires
-u32-bytes-requires c κs = search needs
-
-sub-put : tie.Need-sub-put
-sub-put c = search needs
-
-part-put-start : tie.Need-part-put-start
-part-put-start c = search needs
-
-part-put-end : tie.Need-part-put-end
-part-put-end c = search needs
-
-slice-aggregate-put-2 : tie.Need-slice-aggregate-put-2
-slice-aggregate-put-2 c = search needs
-
-put-requires-2 : tie.Need-put-requires-2
-put-requires-2 c κs = search needs
-
-same-length : tie.Need-same-length
-same-length c = search needs
-
 returns : tie.Need-returns
 unfolding preambleBytes
 returns c =
@@ -64,16 +28,16 @@ pub put-preamble-spec : {M : Type 1} → statement M
 put-preamble-spec =
     tie.close
     (tie.spec
-    preamble-front-requires
-    slice-aggregate-put
-    put-requires
-    slice-aggregate-checksum
-    checksum-requires
-    u32-bytes-requires
-    sub-put
-    part-put-start
-    part-put-end
-    slice-aggregate-put-2
-    put-requires-2
-    same-length
+    (λ c κs. search needs)
+    (λ c. search needs)
+    (λ c κs. search needs)
+    (λ c. search needs)
+    (λ c κs. search needs)
+    (λ c κs. search needs)
+    (λ c. search needs)
+    (λ c. search needs)
+    (λ c. search needs)
+    (λ c. search needs)
+    (λ c κs. search needs)
+    (λ c. search needs)
     returns)

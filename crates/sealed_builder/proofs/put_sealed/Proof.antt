@@ -16,18 +16,6 @@ use borrow.Author.Needs.{needs}
 use Rattle.sealed_builder.proofs.put_sealed.Statement.{statement}
 use Rattle.sealed_builder.proofs.put_sealed.Tie as tie
 
-cast-n : tie.Need-cast-n
-cast-n c = search needs
-
-part-requires : tie.Need-part-requires
-part-requires c κs = search needs
-
-behind-requires : tie.Need-behind-requires
-behind-requires c κs = search needs
-
-next-nonce-requires : tie.Need-next-nonce-requires
-next-nonce-requires c κs = search needs
-
 seal-first-requires : tie.Need-seal-first-requires
 unfolding sealedLength
 seal-first-requires c κs = omega (arith, c .before .before .before .before .before .before .before .pre .1)
@@ -42,9 +30,6 @@ unfolding sealedLength
 part-seal-later-start c =
     omega (arith, c .before .before .before .before .before .before .before .before .before .before .pre .1, c .before .before .seal-first .kept .0)
 
-part-seal-later-end : tie.Need-part-seal-later-end
-part-seal-later-end c = search needs
-
 seal-later-requires : tie.Need-seal-later-requires
 unfolding sealedLength
 seal-later-requires c κs =
@@ -55,9 +40,6 @@ seal-later-requires c κs =
       ap length (c .before .before .before .before .before .before .behind .ensures) ∙ length-drop (c .before .before .before .before .before .before .before .before .before .before .before .args .h .s1 .len) (c .before .before .before .before .before .before .before .before .before .before .before .args .source .now) ∙ omega (arith, c .before .before .before .before .before .before .before .before .before .before .before .pre .0),
       omega (arith, c .before .before .before .before .before .before .before .before .before .before .before .pre .1, c .before .before .before .seal-first .kept .0, length-rest l₁ 96),
     )
-
-same-length : tie.Need-same-length
-same-length c = search needs
 
 returns : tie.Need-returns
 unfolding texts
@@ -80,14 +62,14 @@ pub put-sealed-spec : {M : Type 1} → statement M
 put-sealed-spec =
     tie.close
     (tie.spec
-    cast-n
-    part-requires
-    behind-requires
-    next-nonce-requires
+    (λ c. search needs)
+    (λ c κs. search needs)
+    (λ c κs. search needs)
+    (λ c κs. search needs)
     seal-first-requires
     sub-seal-later
     part-seal-later-start
-    part-seal-later-end
+    (λ c. search needs)
     seal-later-requires
-    same-length
+    (λ c. search needs)
     returns)

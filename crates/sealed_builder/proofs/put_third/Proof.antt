@@ -13,33 +13,12 @@ use borrow.Author.Needs.{needs}
 use Rattle.sealed_builder.proofs.put_third.Statement.{statement}
 use Rattle.sealed_builder.proofs.put_third.Tie as tie
 
-padding-requires : tie.Need-padding-requires
-padding-requires c κs = search needs
-
-add-e : tie.Need-add-e
-add-e c = search needs
-
-part-requires : tie.Need-part-requires
-part-requires c κs = search needs
-
 put-padded-requires : tie.Need-put-padded-requires
 put-padded-requires c κs =
     let bytes : List ℕ = c .before .before .before .before .before .args .rest .now in
     let n : ℕ = c .before .before .before .before .before .args .n in
     let e : roundUp (length (c .part .result .now)) ≡ roundUp n = ap (λ (l : List ℕ). roundUp (length l)) (c .part .ensures) ∙ ap roundUp (length-take-le n bytes (omega (arith, c .before .before .before .before .before .pre .0))) in
     omega (arith, e, c .before .before .before .before .before .pre .1)
-
-sub-put-fourth : tie.Need-sub-put-fourth
-sub-put-fourth c = search needs
-
-part-put-fourth-start : tie.Need-part-put-fourth-start
-part-put-fourth-start c = search needs
-
-part-put-fourth-end : tie.Need-part-put-fourth-end
-part-put-fourth-end c = search needs
-
-behind-requires : tie.Need-behind-requires
-behind-requires c κs = search needs
 
 put-fourth-requires : tie.Need-put-fourth-requires
 put-fourth-requires c κs =
@@ -50,9 +29,6 @@ put-fourth-requires c κs =
     let r : length (rest l₁ (n + c .before .before .before .before .before .before .before .padding .result)) ≡ length l₁ - (n + c .before .before .before .before .before .before .before .padding .result) = length-rest l₁ (n + c .before .before .before .before .before .before .before .padding .result) in
     let k : length l₁ ≡ length (c .before .before .before .before .before .before .before .before .before .before .args .out .now) = search needs in
     (omega (arith, c .before .before .before .before .before .before .before .before .before .before .pre .0), omega (arith, c .before .before .before .before .before .before .before .padding .ensures .0, c .before .before .before .before .before .before .before .before .before .before .pre .1))
-
-same-length : tie.Need-same-length
-same-length c = search needs
 
 returns : tie.Need-returns
 returns c =
@@ -66,14 +42,14 @@ pub put-third-spec : {M : Type 1} → statement M
 put-third-spec =
     tie.close
     (tie.spec
-    padding-requires
-    add-e
-    part-requires
+    (λ c κs. search needs)
+    (λ c. search needs)
+    (λ c κs. search needs)
     put-padded-requires
-    sub-put-fourth
-    part-put-fourth-start
-    part-put-fourth-end
-    behind-requires
+    (λ c. search needs)
+    (λ c. search needs)
+    (λ c. search needs)
+    (λ c κs. search needs)
     put-fourth-requires
-    same-length
+    (λ c. search needs)
     returns)

@@ -6,15 +6,6 @@ use borrow.Author.Needs.{needs}
 use Rattle.sealed_builder.proofs.seal_first.Statement.{statement}
 use Rattle.sealed_builder.proofs.seal_first.Tie as tie
 
-put-first-requires : tie.Need-put-first-requires
-put-first-requires c κs = search needs
-
-seal-front-requires : tie.Need-seal-front-requires
-seal-front-requires c κs = search needs
-
-same-length : tie.Need-same-length
-same-length c = search needs
-
 returns : tie.Need-returns
 returns c =
     let g = c .before .before .before .before .before .before .before .before .before .before .args in
@@ -22,4 +13,4 @@ returns c =
     (length-first-text (g .h) (g .first .now)) (omega (arith, c .before .before .before .before .before .before .before .before .before .before .pre)) (c .before .before .before .before .before .before .put-first .ensures) (c .before .before .seal-front .ensures)
 
 pub seal-first-spec : {M : Type 1} → statement M
-seal-first-spec = tie.close (tie.spec put-first-requires seal-front-requires same-length returns)
+seal-first-spec = tie.close (tie.spec (λ c κs. search needs) (λ c κs. search needs) (λ c. search needs) returns)

@@ -6,21 +6,9 @@ use borrow.Author.Needs.{needs}
 use Rattle.sealed_builder.proofs.seal_front.Statement.{statement}
 use Rattle.sealed_builder.proofs.seal_front.Tie as tie
 
-add-e : tie.Need-add-e
-add-e c = search needs
-
-slice-relend-prefix-seal-in-place : tie.Need-slice-relend-prefix-seal-in-place
-slice-relend-prefix-seal-in-place c = search needs
-
 slice-aggregate-seal-in-place : tie.Need-slice-aggregate-seal-in-place
 slice-aggregate-seal-in-place c =
     sym (length-take-le (c .before .before .args .n + 16) (c .before .before .args .out .now) (c .before .before .pre .0))
-
-seal-in-place-requires : tie.Need-seal-in-place-requires
-seal-in-place-requires c κs = search needs
-
-same-length : tie.Need-same-length
-same-length c = search needs
 
 returns : tie.Need-returns
 returns c =
@@ -30,9 +18,9 @@ pub seal-front-spec : {M : Type 1} → statement M
 seal-front-spec =
     tie.close
     (tie.spec
-    add-e
-    slice-relend-prefix-seal-in-place
+    (λ c. search needs)
+    (λ c. search needs)
     slice-aggregate-seal-in-place
-    seal-in-place-requires
-    same-length
+    (λ c κs. search needs)
+    (λ c. search needs)
     returns)

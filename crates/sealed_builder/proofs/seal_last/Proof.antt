@@ -15,15 +15,9 @@ use borrow.Author.Needs.{needs}
 use Rattle.sealed_builder.proofs.seal_last.Statement.{statement}
 use Rattle.sealed_builder.proofs.seal_last.Tie as tie
 
-no-last-requires : tie.Need-no-last-requires
-no-last-requires c κs = search needs
-
 returns : tie.Need-returns
 returns c =
     last-none (c .before .before .before .before .args .w .now) (c .before .before .before .before .args .nonce) (c .before .before .before .before .args .h) (lastText (c .before .before .before .before .args .h) (lateByte Msgr21 (c .before .before .before .before .args .abort)) (restSent (c .before .before .before .before .args .abort) (c .before .before .before .before .args .rest .now))) (c .before .before .before .before .args .out .now) (sym (c .before .no-last .ensures) ∙ c .if1 .taken)
-
-last-part-length-requires : tie.Need-last-part-length-requires
-last-part-length-requires c κs = search needs
 
 sub-n : tie.Need-sub-n
 sub-n c =
@@ -42,9 +36,6 @@ seal-front-requires c κs =
     let n : c .before .before .before .before .before .last-part-length .result ≡ lastPart (c .before .before .before .before .before .before .before .before .before .before .args .h) = c .before .before .before .before .before .last-part-length .ensures .0 ∙ last-length (c .before .before .before .before .before .before .before .before .before .before .args .h) there in
     (omega (arith, last-length (c .before .before .before .before .before .before .before .before .before .before .args .h) there, c .before .before .before .before .before .before .before .before .before .before .pre .1, c .before .before .before .put-last .kept .0), omega (arith, c .before .before .before .before .before .last-part-length .ensures .1))
 
-same-length : tie.Need-same-length
-same-length c = search needs
-
 returns-2 : tie.Need-returns-2
 returns-2 c =
     let g = c .before .before .before .before .before .before .before .before .before .before .before .before .before .args in
@@ -61,11 +52,11 @@ pub seal-last-spec : {M : Type 1} → statement M
 seal-last-spec =
     tie.close
     (tie.spec
-    no-last-requires
+    (λ c κs. search needs)
     returns
-    last-part-length-requires
+    (λ c κs. search needs)
     sub-n
     put-last-requires
     seal-front-requires
-    same-length
+    (λ c. search needs)
     returns-2)

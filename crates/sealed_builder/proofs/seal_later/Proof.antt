@@ -16,15 +16,6 @@ use borrow.Author.Needs.{needs}
 use Rattle.sealed_builder.proofs.seal_later.Statement.{statement}
 use Rattle.sealed_builder.proofs.seal_later.Tie as tie
 
-no-rest-requires : tie.Need-no-rest-requires
-no-rest-requires c κs = search needs
-
-seal-last-requires : tie.Need-seal-last-requires
-seal-last-requires c κs = search needs
-
-same-length : tie.Need-same-length
-same-length c = search needs
-
 returns : tie.Need-returns
 returns c =
     rest-none (c .before .before .before .before .before .before .before .before .before .args .w .now) (c .before .before .before .before .before .before .before .before .before .args .nonce) (c .before .before .before .before .before .before .before .before .before .args .h) (lateByte Msgr21 (c .before .before .before .before .before .before .before .before .before .args .abort)) (c .before .before .before .before .before .before .before .before .before .args .first .now) (restSent (c .before .before .before .before .before .before .before .before .before .args .abort) (c .before .before .before .before .before .before .before .before .before .args .rest .now)) (c .before .before .before .before .before .before .before .before .before .args .out .now) (c .before .before .seal-last .last .0) (sym (c .before .before .before .before .before .no-rest .ensures) ∙ c .before .before .before .before .if1 .taken) (c .before .before .seal-last .ensures)
@@ -33,18 +24,6 @@ sub-n : tie.Need-sub-n
 sub-n c =
     let there : noRest (c .before .before .before .before .before .args .h) ≡ false = sym (c .before .no-rest .ensures) ∙ c .if1 .left in
     omega (arith, leb-false (c .before .before .before .before .before .args .h .s1 .len) 48 there, c .before .before .before .before .before .pre .0)
-
-padding-requires : tie.Need-padding-requires
-padding-requires c κs = search needs
-
-add-a : tie.Need-add-a
-add-a c = search needs
-
-add-a-2 : tie.Need-add-a-2
-add-a-2 c = search needs
-
-next-nonce-requires : tie.Need-next-nonce-requires
-next-nonce-requires c κs = search needs
 
 seal-rest-requires : tie.Need-seal-rest-requires
 seal-rest-requires c κs =
@@ -64,9 +43,6 @@ part-seal-last-start c =
     let size : roundUp (length (c .before .before .before .before .before .before .before .before .before .before .before .args .first .now) - 48) ≡ roundUp (c .before .before .before .before .before .before .before .before .before .before .before .args .h .s1 .len - 48) = ap (λ (k : ℕ). roundUp (k - 48)) (c .before .before .before .before .before .before .before .before .before .before .before .pre .0) in
     omega (arith, rest-length (c .before .before .before .before .before .before .before .before .before .before .before .args .h) there, c .before .before .before .before .before .before .before .before .before .before .before .pre .3, c .before .before .before .before .before .padding .ensures .0, c .before .before .seal-rest .kept .0)
 
-part-seal-last-end : tie.Need-part-seal-last-end
-part-seal-last-end c = search needs
-
 seal-last-requires-2 : tie.Need-seal-last-requires-2
 seal-last-requires-2 c κs =
     let there : noRest (c .before .before .before .before .before .before .before .before .before .before .before .before .args .h) ≡ false = sym (c .before .before .before .before .before .before .before .before .no-rest .ensures) ∙ c .before .before .before .before .before .before .before .if1 .left in
@@ -74,9 +50,6 @@ seal-last-requires-2 c κs =
     let l₁ : List ℕ = c .before .before .before .seal-rest .last .0 in
     let a : ℕ = length (c .before .before .before .before .before .before .before .before .before .before .before .before .args .first .now) - 48 + c .before .before .before .before .before .before .padding .result + 16 in
     (c .before .before .before .before .before .before .before .before .before .before .before .before .pre .2, omega (arith, rest-length (c .before .before .before .before .before .before .before .before .before .before .before .before .args .h) there, c .before .before .before .before .before .before .before .before .before .before .before .before .pre .3, c .before .before .before .before .before .before .padding .ensures .0, c .before .before .before .seal-rest .kept .0, length-rest l₁ a))
-
-same-length-2 : tie.Need-same-length-2
-same-length-2 c = search needs
 
 returns-2 : tie.Need-returns-2
 returns-2 c =
@@ -94,19 +67,19 @@ pub seal-later-spec : {M : Type 1} → statement M
 seal-later-spec =
     tie.close
     (tie.spec
-    no-rest-requires
-    seal-last-requires
-    same-length
+    (λ c κs. search needs)
+    (λ c κs. search needs)
+    (λ c. search needs)
     returns
     sub-n
-    padding-requires
-    add-a
-    add-a-2
-    next-nonce-requires
+    (λ c κs. search needs)
+    (λ c. search needs)
+    (λ c. search needs)
+    (λ c κs. search needs)
     seal-rest-requires
     sub-seal-last
     part-seal-last-start
-    part-seal-last-end
+    (λ c. search needs)
     seal-last-requires-2
-    same-length-2
+    (λ c. search needs)
     returns-2)

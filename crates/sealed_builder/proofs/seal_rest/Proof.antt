@@ -11,15 +11,6 @@ use borrow.Author.Needs.{needs}
 use Rattle.sealed_builder.proofs.seal_rest.Statement.{statement}
 use Rattle.sealed_builder.proofs.seal_rest.Tie as tie
 
-behind-requires : tie.Need-behind-requires
-behind-requires c κs = search needs
-
-padding-requires : tie.Need-padding-requires
-padding-requires c κs = search needs
-
-add-m : tie.Need-add-m
-add-m c = search needs
-
 put-padded-requires : tie.Need-put-padded-requires
 put-padded-requires c κs =
     let tail : length (c .before .before .behind .result .now) ≡ length (c .before .before .before .before .before .args .first .now) - 48 = ap length (c .before .before .behind .ensures) ∙ length-drop 48 (c .before .before .before .before .before .args .first .now) in
@@ -31,9 +22,6 @@ seal-front-requires c κs =
     let tail : length (c .before .before .before .before .before .before .behind .result .now) ≡ length (c .before .before .before .before .before .before .before .before .before .args .first .now) - 48 = ap length (c .before .before .before .before .before .before .behind .ensures) ∙ length-drop 48 (c .before .before .before .before .before .before .before .before .before .args .first .now) in
     let e : roundUp (length (c .before .before .before .before .before .before .behind .result .now)) ≡ roundUp (length (c .before .before .before .before .before .before .before .before .before .args .first .now) - 48) = ap roundUp tail in
     (omega (arith, c .before .before .before .before .before .before .before .before .before .pre .0, c .before .before .before .before .before .padding .ensures .0, c .before .before .before .put-padded .kept .0), omega (arith, c .before .before .before .before .before .before .before .before .before .pre .1, c .before .before .before .before .before .padding .ensures .1))
-
-same-length : tie.Need-same-length
-same-length c = search needs
 
 returns : tie.Need-returns
 returns c =
@@ -51,10 +39,10 @@ pub seal-rest-spec : {M : Type 1} → statement M
 seal-rest-spec =
     tie.close
     (tie.spec
-    behind-requires
-    padding-requires
-    add-m
+    (λ c κs. search needs)
+    (λ c κs. search needs)
+    (λ c. search needs)
     put-padded-requires
     seal-front-requires
-    same-length
+    (λ c. search needs)
     returns)

@@ -10,12 +10,6 @@ use borrow.Author.Needs.{needs}
 use Rattle.sealed_builder.proofs.sent_more.Statement.{statement}
 use Rattle.sealed_builder.proofs.sent_more.Tie as tie
 
-nonces-after-requires : tie.Need-nonces-after-requires
-nonces-after-requires c κs = search needs
-
-wrapping-add-u64-requires : tie.Need-wrapping-add-u64-requires
-wrapping-add-u64-requires c κs = search needs
-
 returns : tie.Need-returns
 unfolding sentMore
 returns c =
@@ -26,4 +20,4 @@ returns c =
     ∙ ap (λ (b : Bool). sendingState (s .key) (nonceAfter k (s .nonce)) ((s .spent + k) % 2 ^ 64) b (s .refused)) (came-round (s .spent) k (c .before .before .before .before .pre .0) (c .before .before .before .before .pre .2))
 
 pub sent-more-spec : {M : Type 1} → statement M
-sent-more-spec = tie.close (tie.spec nonces-after-requires wrapping-add-u64-requires returns)
+sent-more-spec = tie.close (tie.spec (λ c κs. search needs) (λ c κs. search needs) returns)

@@ -28,15 +28,6 @@ running a =
       fits = rw (a .before .needed-by .ensures) at (a .if3 .left);
     }
 
-agrees-with-itself-requires : tie.Need-agrees-with-itself-requires
-agrees-with-itself-requires c κs = search needs
-
-in-numbers-requires : tie.Need-in-numbers-requires
-in-numbers-requires c κs = search needs
-
-refuse-unchanged-requires : tie.Need-refuse-unchanged-requires
-refuse-unchanged-requires c κs = search needs
-
 returns : tie.Need-returns
 returns c =
     let z = c .before .before .before .before .before .before in
@@ -53,12 +44,6 @@ returns c =
       store = ap (λ (x : step.Answer). x .store) e;
     }
 
-is-refused-requires : tie.Need-is-refused-requires
-is-refused-requires c κs = search needs
-
-refuse-unchanged-requires-2 : tie.Need-refuse-unchanged-requires-2
-refuse-unchanged-requires-2 c κs = search needs
-
 returns-2 : tie.Need-returns-2
 returns-2 c =
     let z = c .before .before .before .before .before .before .before .before .before in
@@ -67,18 +52,6 @@ returns-2 c =
     let r = sym (c .before .before .is-refused .ensures) ∙ c .before .if2 .taken in
     let e = sym (repeating st s (z .args .piece .now) (agreed (c .before .before .before .before .before)) r) in
     record { received = c .refuse-unchanged2 .ensures s ∙ ap (λ (x : step.Answer). x .received) e; store = ap (λ (x : step.Answer). x .store) e }
-
-needed-by-requires : tie.Need-needed-by-requires
-needed-by-requires c κs = search needs
-
-in-numbers-requires-2 : tie.Need-in-numbers-requires-2
-in-numbers-requires-2 c κs = search needs
-
-refused-state-requires : tie.Need-refused-state-requires
-refused-state-requires c κs = search needs
-
-refuse-unchanged-requires-3 : tie.Need-refuse-unchanged-requires-3
-refuse-unchanged-requires-3 c κs = search needs
 
 returns-3 : tie.Need-returns-3
 returns-3 c =
@@ -99,9 +72,6 @@ returns-3 c =
 take-piece-requires : tie.Need-take-piece-requires
 take-piece-requires c κs = running (c .before)
 
-same-length : tie.Need-same-length
-same-length c = search needs
-
 returns-4 : tie.Need-returns-4
 returns-4 c =
     let z = c .before .before .before .before .before .before .before .before .before .before .before .before .before .before in
@@ -115,18 +85,18 @@ pub receive-spec : {M : Type 1} → statement M
 receive-spec =
     tie.close
     (tie.spec
-    agrees-with-itself-requires
-    in-numbers-requires
-    refuse-unchanged-requires
+    (λ c κs. search needs)
+    (λ c κs. search needs)
+    (λ c κs. search needs)
     returns
-    is-refused-requires
-    refuse-unchanged-requires-2
+    (λ c κs. search needs)
+    (λ c κs. search needs)
     returns-2
-    needed-by-requires
-    in-numbers-requires-2
-    refused-state-requires
-    refuse-unchanged-requires-3
+    (λ c κs. search needs)
+    (λ c κs. search needs)
+    (λ c κs. search needs)
+    (λ c κs. search needs)
     returns-3
     take-piece-requires
-    same-length
+    (λ c. search needs)
     returns-4)

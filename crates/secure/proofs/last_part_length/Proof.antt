@@ -6,29 +6,8 @@ use borrow.Author.Needs.{needs}
 use Rattle.secure.proofs.last_part_length.Statement.{statement}
 use Rattle.secure.proofs.last_part_length.Tie as tie
 
-no-last-requires : tie.Need-no-last-requires
-no-last-requires c κs = search needs
-
 returns : tie.Need-returns
 returns c = (simp (sym (c .before .no-last .ensures) ∙ c .if1 .taken), omega arith)
-
-rounded-requires : tie.Need-rounded-requires
-rounded-requires c κs = search needs
-
-rounded-requires-2 : tie.Need-rounded-requires-2
-rounded-requires-2 c κs = search needs
-
-rounded-requires-3 : tie.Need-rounded-requires-3
-rounded-requires-3 c κs = search needs
-
-add-result : tie.Need-add-result
-add-result c = search needs
-
-add-result-2 : tie.Need-add-result-2
-add-result-2 c = search needs
-
-add-result-3 : tie.Need-add-result-3
-add-result-3 c = search needs
 
 returns-2 : tie.Need-returns-2
 returns-2 c =
@@ -40,12 +19,12 @@ pub last-part-length-spec : {M : Type 1} → statement M
 last-part-length-spec =
     tie.close
     (tie.spec
-    no-last-requires
+    (λ c κs. search needs)
     returns
-    rounded-requires
-    rounded-requires-2
-    rounded-requires-3
-    add-result
-    add-result-2
-    add-result-3
+    (λ c κs. search needs)
+    (λ c κs. search needs)
+    (λ c κs. search needs)
+    (λ c. search needs)
+    (λ c. search needs)
+    (λ c. search needs)
     returns-2)

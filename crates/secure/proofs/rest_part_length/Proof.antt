@@ -6,9 +6,6 @@ use borrow.Author.Needs.{needs}
 use Rattle.secure.proofs.rest_part_length.Statement.{statement}
 use Rattle.secure.proofs.rest_part_length.Tie as tie
 
-no-rest-requires : tie.Need-no-rest-requires
-no-rest-requires c κs = search needs
-
 returns : tie.Need-returns
 returns c = (simp (sym (c .before .no-rest .ensures) ∙ c .if1 .taken), omega arith)
 
@@ -17,16 +14,10 @@ sub-rounded c =
     let n = c .before .before .args .h .s1 .len in
     omega (arith, leb-false n 48 (sym (c .before .no-rest .ensures) ∙ c .if1 .left))
 
-rounded-requires : tie.Need-rounded-requires
-rounded-requires c κs = search needs
-
-add-result : tie.Need-add-result
-add-result c = search needs
-
 returns-2 : tie.Need-returns-2
 returns-2 c =
     (ap (λ (n : ℕ). n + 16) (c .rounded .ensures .0) ∙ sym (simp (sym (c .before .before .no-rest .ensures) ∙ c .before .if1 .left)), omega arith)
 
 pub rest-part-length-spec : {M : Type 1} → statement M
 rest-part-length-spec =
-    tie.close (tie.spec no-rest-requires returns sub-rounded rounded-requires add-result returns-2)
+    tie.close (tie.spec (λ c κs. search needs) returns sub-rounded (λ c κs. search needs) (λ c. search needs) returns-2)

@@ -1,4 +1,4 @@
-use Rattle.secure_examples.proofs.Rows.{frameRows-hold, firstRows-hold, laterRows-hold, cutRows-hold}
+use Rattle.secure_examples.proofs.Rows.{frameRows-hold, firstRows-hold, judgeRows-hold, paddingRows-hold, laterRows-hold, cutRows-hold}
 use Rattle.secure_examples.proofs.Switched.{switchedRows-hold}
 use Rattle.secure_examples.proofs.Made.{lengthRows-hold, nonceRows-hold, textRows-hold, sealedRows-hold, agreeRows-hold, spendRows-hold, orderRows-hold, buildRows-hold}
 use Rattle.secure_examples.proofs.worked.Statement.{statement}
@@ -13,6 +13,8 @@ returns c =
       sealed = sealedRows-hold;
       frames = frameRows-hold;
       first = firstRows-hold;
+      judged = judgeRows-hold;
+      paddings = paddingRows-hold;
       later = laterRows-hold;
       cut = cutRows-hold;
       switched = switchedRows-hold;

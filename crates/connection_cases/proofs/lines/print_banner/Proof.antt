@@ -2,26 +2,8 @@ use borrow.Author.Needs.{needs}
 use Rattle.connection_cases.proofs.lines.print_banner.Statement.{statement}
 use Rattle.connection_cases.proofs.lines.print_banner.Tie as tie
 
-room-requires : tie.Need-room-requires
-room-requires c κs = search needs
-
-slice-aggregate-put-field : tie.Need-slice-aggregate-put-field
-slice-aggregate-put-field c = search needs
-
-put-field-requires : tie.Need-put-field-requires
-put-field-requires c κs = search needs
-
-put-peer-requires : tie.Need-put-peer-requires
-put-peer-requires c κs = search needs
-
-put-sum-requires : tie.Need-put-sum-requires
-put-sum-requires c κs = search needs
-
-same-length : tie.Need-same-length
-same-length c = search needs
-
 returns : tie.Need-returns
 returns c = cc
 
 pub print-banner-spec : {M : Type 1} → statement M
-print-banner-spec = tie.close (tie.spec room-requires slice-aggregate-put-field put-field-requires put-peer-requires put-sum-requires same-length returns)
+print-banner-spec = tie.close (tie.spec (λ c κs. search needs) (λ c. search needs) (λ c κs. search needs) (λ c κs. search needs) (λ c κs. search needs) (λ c. search needs) returns)

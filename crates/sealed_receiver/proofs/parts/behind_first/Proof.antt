@@ -13,23 +13,8 @@ use borrow.Author.Needs.{needs}
 use Rattle.sealed_receiver.proofs.parts.behind_first.Statement.{statement}
 use Rattle.sealed_receiver.proofs.parts.behind_first.Tie as tie
 
-judge-first-requires : tie.Need-judge-first-requires
-judge-first-requires c κs = search needs
-
 enum-told : tie.Need-enum-told
 enum-told c = search needs
-
-read-header-requires : tie.Need-read-header-requires
-read-header-requires c κs = search needs
-
-cast-part : tie.Need-cast-part
-cast-part c = search needs
-
-part-requires : tie.Need-part-requires
-part-requires c κs = search needs
-
-put-requires : tie.Need-put-requires
-put-requires c κs = search needs
 
 begin-rest-requires : tie.Need-begin-rest-requires
 begin-rest-requires c κs =
@@ -37,18 +22,6 @@ begin-rest-requires c κs =
     let s = c .before .before .before .before .before .before .before .before .before .before .before .before .before .args .store .now in
     let j : judgeFirst text (length s) ≡ fine = sym (c .before .before .before .before .before .before .before .before .before .before .judge-first .ensures) ∙ ap judgedBy (c .before .before .before .before .before .before .before .before .enum-told .given .1) in
     (omega (arith, ap needed (c .before .before .before .before .before .before .before .read-header .ensures), first-fits text (length s) j, c .before .before .before .put .kept .0), ap (λ (x : Header). isFine (judgeHeader x)) (c .before .before .before .before .before .before .before .read-header .ensures) ∙ ap isFine (first-header text (length s) j))
-
-enum-known-judged : tie.Need-enum-known-judged
-enum-known-judged c = search needs
-
-in-numbers-requires : tie.Need-in-numbers-requires
-in-numbers-requires c κs = search needs
-
-refuse-requires : tie.Need-refuse-requires
-refuse-requires c κs = search needs
-
-same-length : tie.Need-same-length
-same-length c = search needs
 
 returns : tie.Need-returns
 returns c =
@@ -65,16 +38,16 @@ pub behind-first-spec : {M : Type 1} → statement M
 behind-first-spec =
     tie.close
     (tie.spec
-    judge-first-requires
+    (λ c κs. search needs)
     enum-told
-    read-header-requires
-    cast-part
-    part-requires
-    put-requires
+    (λ c κs. search needs)
+    (λ c. search needs)
+    (λ c κs. search needs)
+    (λ c κs. search needs)
     begin-rest-requires
-    enum-known-judged
-    in-numbers-requires
-    refuse-requires
-    same-length
+    (λ c. search needs)
+    (λ c κs. search needs)
+    (λ c κs. search needs)
+    (λ c. search needs)
     returns
     returns-2)

@@ -9,41 +9,14 @@ use borrow.Author.Needs.{needs}
 use Rattle.sealed_receiver.proofs.parts.behind_rest.Statement.{statement}
 use Rattle.sealed_receiver.proofs.parts.behind_rest.Tie as tie
 
-cast-n : tie.Need-cast-n
-cast-n c = search needs
-
 sub-padding : tie.Need-sub-padding
 sub-padding c = omega (arith, rest-beyond (c .before .before .args .h) (c .before .before .pre .2))
-
-padding-requires : tie.Need-padding-requires
-padding-requires c κs = search needs
-
-part-requires : tie.Need-part-requires
-part-requires c κs = search needs
-
-all-zero-requires : tie.Need-all-zero-requires
-all-zero-requires c κs = search needs
-
-add-put-zeros : tie.Need-add-put-zeros
-add-put-zeros c = search needs
 
 sub-put-zeros : tie.Need-sub-put-zeros
 sub-put-zeros c = omega (arith, pads-fit (c .before .before .before .before .before .before .before .args .h) (c .before .before .before .before .before .before .before .pre .2) (c .before .before .before .before .padding .result) (c .before .before .before .before .padding .ensures .0), c .before .before .before .before .before .before .before .pre .0)
 
 part-put-zeros-start : tie.Need-part-put-zeros-start
 part-put-zeros-start c = omega (arith, pads-fit (c .before .before .before .before .before .before .before .args .h) (c .before .before .before .before .before .before .before .pre .2) (c .before .before .before .before .padding .result) (c .before .before .before .before .padding .ensures .0), c .before .before .before .before .before .before .before .pre .0)
-
-part-put-zeros-end : tie.Need-part-put-zeros-end
-part-put-zeros-end c = search needs
-
-put-zeros-requires : tie.Need-put-zeros-requires
-put-zeros-requires c κs = search needs
-
-begin-last-requires : tie.Need-begin-last-requires
-begin-last-requires c κs = search needs
-
-same-length : tie.Need-same-length
-same-length c = search needs
 
 returns : tie.Need-returns
 returns c =
@@ -52,12 +25,6 @@ returns c =
     let pad = c .before .before .before .before .before .before .before .before .before .before .before .before .padding .result in
     let z : allZero (take pad (drop (g .h .s1 .len) s)) ≡ true = sym (c .before .before .before .before .before .before .before .before .before .all-zero .ensures ∙ ap allZero (c .before .before .before .before .before .before .before .before .before .before .part .ensures)) ∙ c .before .before .before .before .before .before .before .before .if1 .taken in
     c .before .before .begin-last .ensures ∙ rest-padded (g .r) (g .h) s pad (c .before .before .before .before .before .before .before .before .before .before .before .before .padding .ensures .0) (c .before .before .before .before .before .before .before .before .before .before .before .before .before .before .before .pre .2) (c .before .before .before .before .before .before .before .before .before .before .before .before .before .before .before .pre .0) z (c .before .before .before .before .before .before .put-zeros .last .0) (c .before .before .before .before .before .before .put-zeros .ensures)
-
-refuse-frame-requires : tie.Need-refuse-frame-requires
-refuse-frame-requires c κs = search needs
-
-same-length-2 : tie.Need-same-length-2
-same-length-2 c = search needs
 
 returns-2 : tie.Need-returns-2
 returns-2 c =
@@ -71,19 +38,19 @@ pub behind-rest-spec : {M : Type 1} → statement M
 behind-rest-spec =
     tie.close
     (tie.spec
-    cast-n
+    (λ c. search needs)
     sub-padding
-    padding-requires
-    part-requires
-    all-zero-requires
-    add-put-zeros
+    (λ c κs. search needs)
+    (λ c κs. search needs)
+    (λ c κs. search needs)
+    (λ c. search needs)
     sub-put-zeros
     part-put-zeros-start
-    part-put-zeros-end
-    put-zeros-requires
-    begin-last-requires
-    same-length
+    (λ c. search needs)
+    (λ c κs. search needs)
+    (λ c κs. search needs)
+    (λ c. search needs)
     returns
-    refuse-frame-requires
-    same-length-2
+    (λ c κs. search needs)
+    (λ c. search needs)
     returns-2)

@@ -5,18 +5,6 @@ use Rattle.sealed_receiver.proofs.parts.by_late_status.Tie as tie
 enum-told : tie.Need-enum-told
 enum-told c = search needs
 
-enum-told-2 : tie.Need-enum-told-2
-enum-told-2 c = search needs
-
-returns : tie.Need-returns
-returns c = search needs
-
-enum-told-3 : tie.Need-enum-told-3
-enum-told-3 c = search needs
-
-returns-2 : tie.Need-returns-2
-returns-2 c = search needs
-
 returns-3 : tie.Need-returns-3
 returns-3 c = rw (c .enum-told .given .1)
 
@@ -29,4 +17,4 @@ returns-5 c = rw (c .before .enum-told3 .given .1, c .if2 .left)
 pub by-late-status-spec : {M : Type 1} → statement M
 by-late-status-spec =
     tie.close
-    (tie.spec enum-told enum-told-2 returns enum-told-3 returns-2 returns-3 returns-4 returns-5)
+    (tie.spec enum-told (λ c. search needs) (λ c. search needs) (λ c. search needs) (λ c. search needs) returns-3 returns-4 returns-5)

@@ -11,23 +11,8 @@ use borrow.Author.Needs.{needs}
 use Rattle.sealed_receiver.proofs.parts.end_first.Statement.{statement}
 use Rattle.sealed_receiver.proofs.parts.end_first.Tie as tie
 
-sub-open-part : tie.Need-sub-open-part
-sub-open-part c = search needs
-
-part-b-start : tie.Need-part-b-start
-part-b-start c = search needs
-
-part-b-end : tie.Need-part-b-end
-part-b-end c = search needs
-
-open-part-requires : tie.Need-open-part-requires
-open-part-requires c κs = search needs
-
 enum-told : tie.Need-enum-told
 enum-told c = search needs
-
-opened-more-requires : tie.Need-opened-more-requires
-opened-more-requires c κs = search needs
 
 slice-aggregate-part : tie.Need-slice-aggregate-part
 slice-aggregate-part c =
@@ -35,26 +20,11 @@ slice-aggregate-part c =
     let block = c .before .before .before .before .before .before .before .before .before .args .block in
     omega (arith, length-append ys (drop 96 block), length-drop 96 block, length-take 96 block, c .before .before .before .before .before .open-part .kept .1 .0, c .before .before .before .before .before .before .before .before .before .good .0 .1 .0 .1)
 
-part-requires : tie.Need-part-requires
-part-requires c κs = search needs
-
 behind-first-requires : tie.Need-behind-first-requires
 behind-first-requires c κs =
     let ys = c .before .before .before .before .before .before .before .open-part .last .1 .0 in
     let block = c .before .before .before .before .before .before .before .before .before .before .before .args .block in
     ap length (c .before .part .ensures) ∙ length-take-le 80 (ys ++ drop 96 block) (omega (arith, length-append ys (drop 96 block), length-take 96 block, c .before .before .before .before .before .before .before .open-part .kept .1 .0, c .before .before .before .before .before .before .before .before .before .before .before .good .0 .1 .0 .1))
-
-enum-known-opened : tie.Need-enum-known-opened
-enum-known-opened c = search needs
-
-in-numbers-requires : tie.Need-in-numbers-requires
-in-numbers-requires c κs = search needs
-
-refuse-requires : tie.Need-refuse-requires
-refuse-requires c κs = search needs
-
-same-length : tie.Need-same-length
-same-length c = search needs
 
 returns : tie.Need-returns
 returns c =
@@ -77,18 +47,18 @@ pub end-first-spec : {M : Type 1} → statement M
 end-first-spec =
     tie.close
     (tie.spec
-    sub-open-part
-    part-b-start
-    part-b-end
-    open-part-requires
+    (λ c. search needs)
+    (λ c. search needs)
+    (λ c. search needs)
+    (λ c κs. search needs)
     enum-told
-    opened-more-requires
+    (λ c κs. search needs)
     slice-aggregate-part
-    part-requires
+    (λ c κs. search needs)
     behind-first-requires
-    enum-known-opened
-    in-numbers-requires
-    refuse-requires
-    same-length
+    (λ c. search needs)
+    (λ c κs. search needs)
+    (λ c κs. search needs)
+    (λ c. search needs)
     returns
     returns-2)

@@ -12,18 +12,6 @@ use borrow.Author.Needs.{needs}
 use Rattle.sealed_receiver.proofs.parts.end_rest.Statement.{statement}
 use Rattle.sealed_receiver.proofs.parts.end_rest.Tie as tie
 
-rest-part-length-requires : tie.Need-rest-part-length-requires
-rest-part-length-requires c κs = search needs
-
-add-open-part : tie.Need-add-open-part
-add-open-part c = search needs
-
-sub-open-part : tie.Need-sub-open-part
-sub-open-part c = search needs
-
-part-open-part-start : tie.Need-part-open-part-start
-part-open-part-start c = search needs
-
 part-open-part-end : tie.Need-part-open-part-end
 part-open-part-end c =
     let v = c .before .before .before .before .args .v in
@@ -46,9 +34,6 @@ open-part-requires c κs =
 enum-told : tie.Need-enum-told
 enum-told c = search needs
 
-opened-more-requires : tie.Need-opened-more-requires
-opened-more-requires c κs = search needs
-
 behind-rest-requires : tie.Need-behind-rest-requires
 behind-rest-requires c κs =
     let v = c .before .before .before .before .before .before .before .before .before .before .before .before .args .v in
@@ -57,15 +42,6 @@ behind-rest-requires c κs =
     let n = c .before .before .before .before .before .before .before .before .rest-part-length .result in
     let em : 48 + n - 48 ≡ restPartLength (v .header) = omega (arith, c .before .before .before .before .before .before .before .before .rest-part-length .ensures .0) in
     (rest-left v s (c .before .before .before .before .before .before .open-part .last .1 .0) (48 + n - 48) em e (c .before .before .before .before .before .before .before .before .before .before .before .before .pre .fits) (c .before .before .before .before .before .before .open-part .kept .1 .0), c .before .before .before .before .before .before .before .before .before .before .before .before .pre .header refl, e)
-
-enum-known-opened : tie.Need-enum-known-opened
-enum-known-opened c = search needs
-
-refuse-frame-requires : tie.Need-refuse-frame-requires
-refuse-frame-requires c κs = search needs
-
-same-length : tie.Need-same-length
-same-length c = search needs
 
 returns : tie.Need-returns
 returns c =
@@ -78,9 +54,6 @@ returns c =
     let j : step.judgePart (v .receiving) (take (48 + n - 48) (drop 48 s)) ≡ fine = sym (c .before .before .before .before .before .before .before .before .before .open-part .ensures .judged) ∙ ap judgedBy (c .before .before .before .before .before .enum-told .given .1) in
     (rw (c .before .before .before .before .opened-more .ensures) at (c .before .before .behind-rest .ensures))
     ∙ rest-opened v s (c .before .before .before .before .before .before .before .before .before .open-part .last .1 .0) (48 + n - 48) em e (c .before .before .before .before .before .before .before .before .before .before .before .before .before .before .before .pre .fits) (c .before .before .before .before .before .before .before .before .before .open-part .kept .1 .0) b j (c .before .before .before .before .before .before .before .before .before .open-part .ensures .text j)
-
-same-length-2 : tie.Need-same-length-2
-same-length-2 c = search needs
 
 returns-2 : tie.Need-returns-2
 returns-2 c =
@@ -97,18 +70,18 @@ pub end-rest-spec : {M : Type 1} → statement M
 end-rest-spec =
     tie.close
     (tie.spec
-    rest-part-length-requires
-    add-open-part
-    sub-open-part
-    part-open-part-start
+    (λ c κs. search needs)
+    (λ c. search needs)
+    (λ c. search needs)
+    (λ c. search needs)
     part-open-part-end
     open-part-requires
     enum-told
-    opened-more-requires
+    (λ c κs. search needs)
     behind-rest-requires
-    enum-known-opened
-    refuse-frame-requires
-    same-length
+    (λ c. search needs)
+    (λ c κs. search needs)
+    (λ c. search needs)
     returns
-    same-length-2
+    (λ c. search needs)
     returns-2)

@@ -12,32 +12,14 @@ use borrow.Author.Needs.{needs}
 use Rattle.sealed_receiver.proofs.parts.end_whole.Statement.{statement}
 use Rattle.sealed_receiver.proofs.parts.end_whole.Tie as tie
 
-total-of-requires : tie.Need-total-of-requires
-total-of-requires c κs = search needs
-
 sub-put-zeros : tie.Need-sub-put-zeros
 sub-put-zeros c = omega (arith, segments-fit (c .before .before .args .h), c .total-of .ensures, c .before .before .pre)
 
 part-put-zeros-start : tie.Need-part-put-zeros-start
 part-put-zeros-start c = omega (arith, segments-fit (c .before .before .args .h), c .total-of .ensures, c .before .before .pre)
 
-part-put-zeros-end : tie.Need-part-put-zeros-end
-part-put-zeros-end c = search needs
-
-needed-of-requires : tie.Need-needed-of-requires
-needed-of-requires c κs = search needs
-
 sub-put-zeros-2 : tie.Need-sub-put-zeros-2
 sub-put-zeros-2 c = omega (arith, segments-fit (c .before .before .before .before .args .h), c .before .before .total-of .ensures, c .needed-of .ensures .0)
-
-put-zeros-requires : tie.Need-put-zeros-requires
-put-zeros-requires c κs = search needs
-
-next-frame-requires : tie.Need-next-frame-requires
-next-frame-requires c κs = search needs
-
-same-length : tie.Need-same-length
-same-length c = search needs
 
 returns : tie.Need-returns
 returns c =
@@ -49,13 +31,13 @@ pub end-whole-spec : {M : Type 1} → statement M
 end-whole-spec =
     tie.close
     (tie.spec
-    total-of-requires
+    (λ c κs. search needs)
     sub-put-zeros
     part-put-zeros-start
-    part-put-zeros-end
-    needed-of-requires
+    (λ c. search needs)
+    (λ c κs. search needs)
     sub-put-zeros-2
-    put-zeros-requires
-    next-frame-requires
-    same-length
+    (λ c κs. search needs)
+    (λ c κs. search needs)
+    (λ c. search needs)
     returns)

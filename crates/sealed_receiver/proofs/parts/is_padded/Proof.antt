@@ -5,21 +5,9 @@ use borrow.Author.Needs.{needs}
 use Rattle.sealed_receiver.proofs.parts.is_padded.Statement.{statement}
 use Rattle.sealed_receiver.proofs.parts.is_padded.Tie as tie
 
-add-part : tie.Need-add-part
-add-part c = search needs
-
-padding-requires : tie.Need-padding-requires
-padding-requires c κs = search needs
-
-part-requires : tie.Need-part-requires
-part-requires c κs = search needs
-
-all-zero-requires : tie.Need-all-zero-requires
-all-zero-requires c κs = search needs
-
 returns : tie.Need-returns
 returns c = let g = c .before .before .before .before .args in c .all-zero .ensures ∙ ap allZero (c .before .part .ensures ∙ pads (g .text .now) (g .at) (g .n) (c .before .before .padding .result) (c .before .before .padding .ensures .0))
 
 pub is-padded-spec : {M : Type 1} → statement M
 is-padded-spec =
-    tie.close (tie.spec add-part padding-requires part-requires all-zero-requires returns)
+    tie.close (tie.spec (λ c. search needs) (λ c κs. search needs) (λ c κs. search needs) (λ c κs. search needs) returns)

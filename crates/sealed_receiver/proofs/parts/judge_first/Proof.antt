@@ -13,39 +13,6 @@ use borrow.Author.Needs.{needs}
 use Rattle.sealed_receiver.proofs.parts.judge_first.Statement.{statement}
 use Rattle.sealed_receiver.proofs.parts.judge_first.Tie as tie
 
-read-header-requires : tie.Need-read-header-requires
-read-header-requires c κs = search needs
-
-cast-n : tie.Need-cast-n
-cast-n c = search needs
-
-add-behind : tie.Need-add-behind
-add-behind c = search needs
-
-behind-requires : tie.Need-behind-requires
-behind-requires c κs = search needs
-
-all-zero-requires : tie.Need-all-zero-requires
-all-zero-requires c κs = search needs
-
-needed-of-requires : tie.Need-needed-of-requires
-needed-of-requires c κs = search needs
-
-unless-ok-requires : tie.Need-unless-ok-requires
-unless-ok-requires c κs = search needs
-
-unless-ok-requires-2 : tie.Need-unless-ok-requires-2
-unless-ok-requires-2 c κs = search needs
-
-or-else-requires : tie.Need-or-else-requires
-or-else-requires c κs = search needs
-
-judge-preamble-requires : tie.Need-judge-preamble-requires
-judge-preamble-requires c κs = search needs
-
-or-else-requires-2 : tie.Need-or-else-requires-2
-or-else-requires-2 c κs = search needs
-
 returns : tie.Need-returns
 returns c =
     let text = c .before .before .before .before .before .before .before .before .before .before .before .args .text .now in
@@ -62,15 +29,15 @@ pub judge-first-spec : {M : Type 1} → statement M
 judge-first-spec =
     tie.close
     (tie.spec
-    read-header-requires
-    cast-n
-    add-behind
-    behind-requires
-    all-zero-requires
-    needed-of-requires
-    unless-ok-requires
-    unless-ok-requires-2
-    or-else-requires
-    judge-preamble-requires
-    or-else-requires-2
+    (λ c κs. search needs)
+    (λ c. search needs)
+    (λ c. search needs)
+    (λ c κs. search needs)
+    (λ c κs. search needs)
+    (λ c κs. search needs)
+    (λ c κs. search needs)
+    (λ c κs. search needs)
+    (λ c κs. search needs)
+    (λ c κs. search needs)
+    (λ c κs. search needs)
     returns)

@@ -9,18 +9,6 @@ use Rattle.sealed_receiver.proofs.parts.open_part.Tie as tie
 returns : tie.Need-returns
 returns c = none-left (c .before .before .args .r) (c .before .before .args .bytes .now) _ (c .if1 .taken)
 
-expand-requires : tie.Need-expand-requires
-expand-requires c κs = search needs
-
-open-in-place-requires : tie.Need-open-in-place-requires
-open-in-place-requires c κs = search needs
-
-verdict-of-requires : tie.Need-verdict-of-requires
-verdict-of-requires c κs = search needs
-
-same-length : tie.Need-same-length
-same-length c = search needs
-
 returns-2 : tie.Need-returns-2
 returns-2 c =
     let r = c .before .before .before .before .before .before .before .before .before .before .before .args .r in
@@ -35,8 +23,8 @@ open-part-spec =
     tie.close
     (tie.spec
     returns
-    expand-requires
-    open-in-place-requires
-    verdict-of-requires
-    same-length
+    (λ c κs. search needs)
+    (λ c κs. search needs)
+    (λ c κs. search needs)
+    (λ c. search needs)
     returns-2)

@@ -4,22 +4,10 @@ use borrow.Author.Needs.{needs}
 use Rattle.sealed_receiver.proofs.parts.refuse_frame.Statement.{statement}
 use Rattle.sealed_receiver.proofs.parts.refuse_frame.Tie as tie
 
-zero-needed-requires : tie.Need-zero-needed-requires
-zero-needed-requires c κs = search needs
-
-in-numbers-requires : tie.Need-in-numbers-requires
-in-numbers-requires c κs = search needs
-
-refuse-requires : tie.Need-refuse-requires
-refuse-requires c κs = search needs
-
-same-length : tie.Need-same-length
-same-length c = search needs
-
 returns : tie.Need-returns
 returns c = c .refuse .ensures (c .before .before .before .before .zero-needed .last .0) ∙ ap₂ step.refuse (c .before .in-numbers .ensures) (c .before .before .before .before .zero-needed .ensures)
 
 pub refuse-frame-spec : {M : Type 1} → statement M
 refuse-frame-spec =
     tie.close
-    (tie.spec zero-needed-requires in-numbers-requires refuse-requires same-length returns)
+    (tie.spec (λ c κs. search needs) (λ c κs. search needs) (λ c κs. search needs) (λ c. search needs) returns)

@@ -4,17 +4,8 @@ use borrow.Author.Needs.{needs}
 use Rattle.sealed_receiver.proofs.parts.verdict_of.Statement.{statement}
 use Rattle.sealed_receiver.proofs.parts.verdict_of.Tie as tie
 
-enum-told : tie.Need-enum-told
-enum-told c = search needs
-
-enum-known-o : tie.Need-enum-known-o
-enum-known-o c = search needs
-
-returns : tie.Need-returns
-returns c = search needs
-
 returns-2 : tie.Need-returns-2
 returns-2 c = sym (ap step.judgedAs (c .before .o .given .1))
 
 pub verdict-of-spec : {M : Type 1} → statement M
-verdict-of-spec = tie.close (tie.spec enum-told enum-known-o returns returns-2)
+verdict-of-spec = tie.close (tie.spec (λ c. search needs) (λ c. search needs) (λ c. search needs) returns-2)

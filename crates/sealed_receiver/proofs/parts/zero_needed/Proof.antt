@@ -3,17 +3,8 @@ use borrow.Author.Needs.{needs}
 use Rattle.sealed_receiver.proofs.parts.zero_needed.Statement.{statement}
 use Rattle.sealed_receiver.proofs.parts.zero_needed.Tie as tie
 
-needed-of-requires : tie.Need-needed-of-requires
-needed-of-requires c κs = search needs
-
-put-zeros-requires : tie.Need-put-zeros-requires
-put-zeros-requires c κs = search needs
-
-same-length : tie.Need-same-length
-same-length c = search needs
-
 returns : tie.Need-returns
 returns c = zeros-over (c .before .before .before .before .before .before .args .h) (c .before .before .before .before .before .before .args .store .now) (c .before .before .put-zeros .last .0) (c .before .before .before .needed-of .result) (c .before .before .before .needed-of .ensures .0) (c .before .before .before .before .before .before .pre) (c .before .before .put-zeros .ensures)
 
 pub zero-needed-spec : {M : Type 1} → statement M
-zero-needed-spec = tie.close (tie.spec needed-of-requires put-zeros-requires same-length returns)
+zero-needed-spec = tie.close (tie.spec (λ c κs. search needs) (λ c κs. search needs) (λ c. search needs) returns)

@@ -14,15 +14,6 @@ sub-put c = omega (arith, c .before .before .before .pre (c .if1 .taken))
 part-put-start : tie.Need-part-put-start
 part-put-start c = omega (arith, c .before .before .before .pre (c .if1 .taken))
 
-part-put-end : tie.Need-part-put-end
-part-put-end c = search needs
-
-put-requires : tie.Need-put-requires
-put-requires c κs = search needs
-
-same-length : tie.Need-same-length
-same-length c = search needs
-
 returns : tie.Need-returns
 returns c =
     let z = c .before .before .before .before .before .before .before in
@@ -41,4 +32,4 @@ returns-2 c = rw (c .if1 .left)
 pub fill-store-spec : {M : Type 1} → statement M
 fill-store-spec =
     tie.close
-    (tie.spec sub-put part-put-start part-put-end put-requires same-length returns returns-2)
+    (tie.spec sub-put part-put-start (λ c. search needs) (λ c κs. search needs) (λ c. search needs) returns returns-2)

@@ -78,32 +78,14 @@ store-is f =
     ∙ ap₂ (λ (n : ℕ) (xs : List ℕ). step.storeWith (inFrame (st .position .stage)) (n + st .position .got) s xs)
     (f .before .place-of .ensures .0) (bytes-are a)
 
-size-of-requires : tie.Need-size-of-requires
-size-of-requires c κs = search needs
-
 sub-min : tie.Need-sub-min
 sub-min c = omega (arith, c .size-of .ensures .0, inside-of (c .before .before .before .before .before .before .before .pre))
-
-min-requires : tie.Need-min-requires
-min-requires c κs = search needs
-
-part-requires : tie.Need-part-requires
-part-requires c κs = search needs
-
-is-first-requires : tie.Need-is-first-requires
-is-first-requires c κs = search needs
 
 fill-block-requires : tie.Need-fill-block-requires
 fill-block-requires c κs =
     let a = c .before in
     let st = start a .args .st in
     λ e. omega (arith, many-are a, block-room (st .position .stage) (st .known .header) (sym (c .is-first .ensures) ∙ e))
-
-in-frame-requires : tie.Need-in-frame-requires
-in-frame-requires c κs = search needs
-
-place-of-requires : tie.Need-place-of-requires
-place-of-requires c κs = search needs
 
 add-fill-store : tie.Need-add-fill-store
 add-fill-store c =
@@ -124,9 +106,6 @@ add-to c =
     let a = c .before .before .before .before .before .before .before .before in
     omega (arith, taken-is a, a .before .before .size-of .ensures .0, a .before .before .size-of .ensures .1, inside-of (start a .pre))
 
-same-length : tie.Need-same-length
-same-length c = search needs
-
 returns : tie.Need-returns
 returns c =
     let f = c .before .before .before in
@@ -144,9 +123,6 @@ end-part-requires : tie.Need-end-part-requires
 end-part-requires c κs =
     let pre = start (part-of (c .before .before .before .before)) .pre in
     record { fits = search needs; header = header-of pre; some = omega (arith, inside-of pre) }
-
-same-length-2 : tie.Need-same-length-2
-same-length-2 c = search needs
 
 returns-2 : tie.Need-returns-2
 returns-2 c =
@@ -166,19 +142,19 @@ pub step-spec : {M : Type 1} → statement M
 step-spec =
     tie.close
     (tie.spec
-    size-of-requires
+    (λ c κs. search needs)
     sub-min
-    min-requires
-    part-requires
-    is-first-requires
+    (λ c κs. search needs)
+    (λ c κs. search needs)
+    (λ c κs. search needs)
     fill-block-requires
-    in-frame-requires
-    place-of-requires
+    (λ c κs. search needs)
+    (λ c κs. search needs)
     add-fill-store
     fill-store-requires
     add-to
-    same-length
+    (λ c. search needs)
     returns
     end-part-requires
-    same-length-2
+    (λ c. search needs)
     returns-2)

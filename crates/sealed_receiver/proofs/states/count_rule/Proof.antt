@@ -3,17 +3,11 @@ use borrow.Author.Needs.{needs}
 use Rattle.sealed_receiver.proofs.states.count_rule.Statement.{statement}
 use Rattle.sealed_receiver.proofs.states.count_rule.Tie as tie
 
-is-refused-requires : tie.Need-is-refused-requires
-is-refused-requires c κs = search needs
-
 returns : tie.Need-returns
 returns c = rw (sym (c .before .is-refused .ensures) ∙ c .if1 .taken)
-
-size-of-requires : tie.Need-size-of-requires
-size-of-requires c κs = search needs
 
 returns-2 : tie.Need-returns-2
 returns-2 c = rw (sym (c .before .before .is-refused .ensures) ∙ c .before .if1 .left) (cc)
 
 pub count-rule-spec : {M : Type 1} → statement M
-count-rule-spec = tie.close (tie.spec is-refused-requires returns size-of-requires returns-2)
+count-rule-spec = tie.close (tie.spec (λ c κs. search needs) returns (λ c κs. search needs) returns-2)

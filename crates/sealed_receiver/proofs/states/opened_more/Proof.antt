@@ -10,12 +10,6 @@ use borrow.Author.Needs.{needs}
 use Rattle.sealed_receiver.proofs.states.opened_more.Statement.{statement}
 use Rattle.sealed_receiver.proofs.states.opened_more.Tie as tie
 
-wrapping-add-u64-requires : tie.Need-wrapping-add-u64-requires
-wrapping-add-u64-requires c κs = search needs
-
-next-nonce-requires : tie.Need-next-nonce-requires
-next-nonce-requires c κs = search needs
-
 returns : tie.Need-returns
 unfolding openedMore
 returns c =
@@ -25,4 +19,4 @@ returns c =
     ∙ ap (receivingState (r .key) (nextNonce (r .nonce)) ((r .opened + 1) % 2 ^ 64)) (came-round (r .opened) 1 (omega arith) (omega arith))
 
 pub opened-more-spec : {M : Type 1} → statement M
-opened-more-spec = tie.close (tie.spec wrapping-add-u64-requires next-nonce-requires returns)
+opened-more-spec = tie.close (tie.spec (λ c κs. search needs) (λ c κs. search needs) returns)

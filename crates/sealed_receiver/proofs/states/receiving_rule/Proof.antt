@@ -3,17 +3,8 @@ use borrow.Author.Needs.{needs}
 use Rattle.sealed_receiver.proofs.states.receiving_rule.Statement.{statement}
 use Rattle.sealed_receiver.proofs.states.receiving_rule.Tie as tie
 
-is-refused-requires : tie.Need-is-refused-requires
-is-refused-requires c κs = search needs
-
-is-no-receiving-requires : tie.Need-is-no-receiving-requires
-is-no-receiving-requires c κs = search needs
-
 returns : tie.Need-returns
 returns c = rw (sym (c .before .before .is-refused .ensures) ∙ c .before .if1 .taken) (c .is-no-receiving .ensures)
-
-either-requires : tie.Need-either-requires
-either-requires c κs = search needs
 
 returns-2 : tie.Need-returns-2
 returns-2 c = rw (sym (c .before .before .before .before .is-refused .ensures) ∙ c .before .before .before .if1 .left) (cc)
@@ -21,4 +12,4 @@ returns-2 c = rw (sym (c .before .before .before .before .is-refused .ensures) �
 pub receiving-rule-spec : {M : Type 1} → statement M
 receiving-rule-spec =
     tie.close
-    (tie.spec is-refused-requires is-no-receiving-requires returns either-requires returns-2)
+    (tie.spec (λ c κs. search needs) (λ c κs. search needs) returns (λ c κs. search needs) returns-2)

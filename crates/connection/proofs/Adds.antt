@@ -1,0 +1,309 @@
+-- Bytes add up, before a switch and behind it: what was unfinished and what is taken is what is reported and what is unfinished then.
+use Prim.Native.Nat.{ℕ, _+_, _-_}
+use mathlib.Core.List.{List, [], _∷_, _++_}
+use mathlib.Core.Path.{_≡_, refl, sym, ap, subst, _∙_}
+use mathlib.Core.Bool.{Bool, true, false, cond}
+use native.Mathlib.Omega.{arith}
+use native.Mathlib.Nat.{add-zero, zero-add, add-assoc}
+use lib.ListN.{length, take, drop}
+use lib.Dec.{eqb, ltb}
+use borrow.Author.Tests.{eqb-true, ltb-true, ltb-false}
+use Rattle.refusal.specs.declared.Numbers.{Numbers}
+use Rattle.refusal.specs.declared.Refusal.the-variants as refusal
+use Rattle.refusal.specs.Refusals.{Judged, fine, refused}
+use Rattle.refusal.proofs.Booleans.{wrong, both-left, both-right}
+use Rattle.refusal.proofs.Judgements.{passed}
+use Rattle.banner.specs.declared.Features.{Features}
+use Rattle.banner.specs.Banner.{judgeOwn}
+use Rattle.preamble.specs.declared.Header.{Header}
+use Rattle.preamble.specs.Judge.{headerOf}
+use Rattle.body.specs.End.{Ended, whole, dropped, turnedAway}
+use Rattle.stream.specs.declared.Event.the-variants as event
+use Rattle.receiver.specs.declared.Stage.{Stage}
+use Rattle.receiver.specs.declared.Stage.the-variants as crc-stage
+use Rattle.receiver.specs.declared.Known.{Known}
+use Rattle.receiver.specs.declared.State as crc-state
+use Rattle.receiver.specs.declared.Report.{Report}
+use Rattle.receiver.specs.declared.Report.the-variants as report
+use Rattle.receiver.specs.State.{rank, isMsgr21}
+use Rattle.receiver.specs.Step as crc
+use Rattle.receiver.specs.Every as crc-every
+use Rattle.receiver.proofs.Every as crc-calls
+use Rattle.receiver.proofs.Adds as crc-adds
+use Rattle.secure.specs.Layout.{noRest, noLast, inlineLength, lastLengths, firstLength, restPartLength, lastPartLength, sealedLength}
+use Rattle.secure.specs.Reading.{judgePadding, judgeFirst, unpadded, lastEnded, zeroed}
+use Rattle.sealed_receiver.specs.declared.Stage as sealed-stage
+use Rattle.sealed_receiver.specs.declared.Stage.the-variants as stage
+use Rattle.sealed_receiver.specs.declared.Receiving.{Receiving}
+use Rattle.sealed_receiver.specs.declared.Known as sealed-known
+use Rattle.sealed_receiver.specs.declared.State as sealed-state
+use Rattle.sealed_receiver.specs.State as sealed-states
+use Rattle.sealed_receiver.specs.Step as sealed
+use Rattle.sealed_receiver.proofs.Live as sealed-live
+use Rattle.sealed_receiver.proofs.Every as sealed-calls
+use Rattle.connection.specs.declared.Mode.{Mode}
+use Rattle.connection.specs.declared.Mode.the-variants as mode
+use Rattle.connection.specs.declared.State.{State}
+use Rattle.connection.specs.declared.Received.{Received}
+use Rattle.connection.specs.Step.{readyAfter, readyRule, agrees, begun, Answer, byCrc, bySecure, Answered, mayBeSwitched, judgeSwitch, switchedState, SwitchedWith}
+use Rattle.connection.specs.Calls.{Try}
+use Rattle.connection.specs.Every.{refusedInUse, neededInUse, Running, EveryCall, AnyCall, taking, switching, Handed, allTaken, lengthBy, allReported, cameBefore, unfinished, unfinishedAfter, leftBy}
+use Rattle.connection.proofs.Machines.{crc-answer, secure-answer}
+use Rattle.connection.proofs.Parted.{judged-27}
+use Rattle.connection.proofs.Every.{stateOf, rule-of, in-use-of, secure-unready, Gone, goneCrc, goneSecure, gone-of, lasts, short-so, well, sound, sound-switch, begun-agrees}
+
+-- n bytes of the stream since the last report, by the report and the state that it leaves
+abbrev Counts : Report → ℕ → State → Type 0
+Counts report.More n st = n ≡ unfinished st
+Counts (report.Event (event.Banner p r)) n st = n ≡ lengthBy (st .mode) (report.Event (event.Banner p r)) (st .crc .known) + unfinished st
+Counts (report.Event (event.First h)) n st = n ≡ lengthBy (st .mode) (report.Event (event.First h)) (st .crc .known) + unfinished st
+Counts (report.Event (event.Frame h)) n st = n ≡ lengthBy (st .mode) (report.Event (event.Frame h)) (st .crc .known) + unfinished st
+Counts (report.Event (event.Dropped h)) n st = n ≡ lengthBy (st .mode) (report.Event (event.Dropped h)) (st .crc .known) + unfinished st
+Counts (report.Event (event.Refused m)) n st = Unit {0}
+
+-- ---- crc frames
+
+module _ (c : crc-state.State) (s piece : List ℕ) (l : crc.Running c s) where
+  abbrev fed : crc.Answer
+  fed = crc.feed c s piece
+
+  crc-counts : (ready : Bool) (x : sealed-state.State) (p : Report) → fed .received .report ≡ p
+      → Counts p (crc-every.unfinished c + fed .received .taken) (stateOf mode.Crc ready (fed .received .state) x)
+  crc-counts ready x report.More q = rw q at (crc-adds.feed-counts c s piece l)
+  crc-counts ready x (report.Event (event.Banner p r)) q = rw q at (crc-adds.feed-counts c s piece l)
+  crc-counts ready x (report.Event (event.First h)) q = rw q at (crc-adds.feed-counts c s piece l)
+  crc-counts ready x (report.Event (event.Frame h)) q = rw q at (crc-adds.feed-counts c s piece l)
+  crc-counts ready x (report.Event (event.Dropped h)) q = rw q at (crc-adds.feed-counts c s piece l)
+  crc-counts ready x (report.Event (event.Refused n)) q = tt
+
+-- ---- sealed frames
+
+module _ (ready : Bool) (c : crc-state.State) where
+  abbrev within : sealed-state.State → State
+  within x = stateOf mode.Secure ready c x
+
+  abbrev CountsStep : ℕ → sealed.Stepped → Type 0
+  CountsStep n x = Counts (x .report) n (within (x .state))
+
+  judged-counts : (j : Judged) (s : List ℕ) (n : ℕ) (x : sealed.Stepped) → CountsStep n x → CountsStep n (sealed.unlessRefused j s x)
+  judged-counts fine s n x f = f
+  judged-counts (refused m) s n x f = tt
+
+  frame-counts : (e : Ended) (r : Receiving) (h : Header) (p s : List ℕ) (n : ℕ) → n ≡ sealedLength h → CountsStep n (sealed.endFrame e r h p s)
+  frame-counts whole r h p s n e = e ∙ sym (add-zero (sealedLength h))
+  frame-counts dropped r h p s n e = e ∙ sym (add-zero (sealedLength h))
+  frame-counts (turnedAway m) r h p s n e = tt
+
+  module _ (r : Receiving) (h : Header) (s : List ℕ) (n : ℕ) where
+    last-counts : n ≡ firstLength + restPartLength h → CountsStep n (sealed.beginLast r h s)
+    unfolding sealedLength
+    last-counts e = go (noLast h) refl
+      where
+        go : (b : Bool) → noLast h ≡ b
+            → CountsStep n (cond b (sealed.endFrame whole r h (take (h .s1 .len) s) s) (sealed.silent (sealed.at stage.Last (sealed.knowing r h)) s))
+        go true q =
+            let z : lastPartLength h ≡ 0 = rw q in
+            frame-counts whole r h (take (h .s1 .len) s) s n (omega (arith, e, z))
+        go false q = e ∙ sym (add-zero (firstLength + restPartLength h))
+
+    rest-counts : n ≡ firstLength → CountsStep n (sealed.beginRest r h s)
+    rest-counts e = go (noRest h) refl
+      where
+        go : (b : Bool) → noRest h ≡ b → CountsStep n (cond b (sealed.beginLast r h s) (sealed.silent (sealed.at stage.Rest (sealed.knowing r h)) s))
+        go true q =
+            let z : restPartLength h ≡ 0 = rw q in
+            last-counts (omega (arith, e, z))
+        go false q = e
+
+  finish-counts : (k : sealed-stage.Stage) (b : List ℕ) (v : sealed-known.Known) (s : List ℕ) → sealed-states.isRefused k ≡ false
+      → CountsStep (cameBefore k (v .header) + sealed-states.sizeOf k (v .header)) (sealed.finish k b v s)
+  unfolding sealed.finish sealed.behindFirst sealed.behindRest sealed.behindLast sealedLength
+  finish-counts stage.First b v s o =
+      judged-counts (sealed.judgePart (v .receiving) b) s 96 _
+      (let text = sealed.partText (v .receiving) b in judged-counts (judgeFirst text (length s)) s 96 _ (rest-counts (sealed-states.openedMore (v .receiving)) (headerOf text) _ 96 refl))
+  finish-counts stage.Rest b v s o =
+      let h = v .header in
+      let bytes = sealed.sealedIn stage.Rest h s in
+      let n = firstLength + restPartLength h in
+      let text = sealed.partText (v .receiving) bytes in
+      judged-counts (sealed.judgePart (v .receiving) bytes) (zeroed h s) n _
+      (judged-counts (judgePadding (drop (h .s1 .len - inlineLength) text)) (zeroed h s) n _ (last-counts (sealed-states.openedMore (v .receiving)) h _ n refl))
+  finish-counts stage.Last b v s o =
+      let h = v .header in
+      let bytes = sealed.sealedIn stage.Last h s in
+      let n = firstLength + restPartLength h + lastPartLength h in
+      let text = sealed.partText (v .receiving) bytes in
+      judged-counts (sealed.judgePart (v .receiving) bytes) (zeroed h s) n _
+      (frame-counts (lastEnded h text) (sealed-states.openedMore (v .receiving)) h (take (h .s1 .len) s ++ unpadded (lastLengths h) text) s n refl)
+  finish-counts stage.Refused b v s o = wrong (sym o)
+
+  byte-counts : (x : sealed-state.State) (s : List ℕ) (b : ℕ) → sealed.Running x s → CountsStep (unfinished (within x) + 1) (sealed.onByte x s b)
+  unfolding sealed.onByte
+  byte-counts x s b r = go (ltb (x .position .got + 1) (sealed.size x)) refl
+    where
+      go : (t : Bool) → ltb (x .position .got + 1) (sealed.size x) ≡ t
+          → CountsStep (unfinished (within x) + 1) (sealed.reached (sealed.absorbed x (b ∷ [])) (sealed.stored x s (b ∷ [])) t)
+      go true e = add-assoc (cameBefore (x .position .stage) (x .known .header)) (x .position .got) 1
+      go false e =
+          let f = ltb-false (x .position .got + 1) (sealed.size x) e in
+          let i = sealed-live.inside-of r in
+          let q : unfinished (within x) + 1 ≡ cameBefore (x .position .stage) (x .known .header) + sealed.size x = omega (arith, f, i) in
+          rw q (finish-counts (x .position .stage) _ (x .known) (sealed.stored x s (b ∷ [])) (r .live))
+
+  sealed-counts : (x : sealed-state.State) (s piece : List ℕ) → sealed.Running x s
+      → (let f = sealed.feed x s piece in Counts (f .received .report) (unfinished (within x) + f .received .taken) (within (f .received .state)))
+  unfolding sealed.feed
+  sealed-counts x s [] r = add-zero (unfinished (within x))
+  sealed-counts x s (b ∷ bs) r =
+      by-report (sealed.onByte x s b .report) (sealed.onByte x s b) (sealed-live.byte-leaves x s b r .after) (byte-counts x s b r)
+      (sealed-counts (sealed.onByte x s b .state) (sealed.onByte x s b .store) bs)
+    where
+      by-report : (p : Report) (y : sealed.Stepped) → sealed-live.After p (y .state) (y .store) → Counts p (unfinished (within x) + 1) (within (y .state))
+          → (sealed.Running (y .state) (y .store) → (let f = sealed.feed (y .state) (y .store) bs in Counts (f .received .report) (unfinished (within (y .state)) + f .received .taken) (within (f .received .state))))
+          → (let a = sealed.onward p 1 y (sealed.feed (y .state) (y .store) bs) in Counts (a .received .report) (unfinished (within x) + a .received .taken) (within (a .received .state)))
+      by-report report.More y a c ih =
+          let f = sealed.feed (y .state) (y .store) bs in
+          let q : unfinished (within x) + (1 + f .received .taken) ≡ unfinished (within (y .state)) + f .received .taken = omega (arith, c) in
+          rw q (ih a)
+      by-report (report.Event e) y a c ih = c
+
+-- ---- a call, by the mode
+
+fed-counts : (k : Mode) (ready : Bool) (c : crc-state.State) (x : sealed-state.State) (s piece : List ℕ) (r : Received) (s′ : List ℕ)
+    → (let st = stateOf k ready c x in Answered st s piece r s′ → Running st s → Counts (r .report) (unfinished st + r .taken) (r .state))
+fed-counts mode.Crc ready c x s piece r s′ a l =
+    let st = stateOf mode.Crc ready c x in
+    let run : crc.Running c s = record { agree = in-use-of st (l .agree); live = l .live; fits = l .fits } in
+    let f = crc.feed c s piece in
+    let e : r ≡ byCrc st f .received =
+    a .received ∙ ap (λ (y : Answer). y .received) (crc-answer st s piece refl (rule-of st (l .agree)) ∙ ap (byCrc st) (crc-calls.feeding c s piece run)) in
+    subst (λ (y : Received). Counts (y .report) (unfinished st + y .taken) (y .state)) (sym e)
+    (crc-counts c s piece run (readyAfter ready (f .received .taken) (f .received .report)) x (f .received .report) refl)
+fed-counts mode.Secure ready c x s piece r s′ a l =
+    let st = stateOf mode.Secure ready c x in
+    let run : sealed.Running x s = record { agree = in-use-of st (l .agree); live = l .live; fits = l .fits } in
+    let e : r ≡ bySecure st (sealed.feed x s piece) .received =
+    a .received
+    ∙ ap (λ (y : Answer). y .received) (secure-answer st s piece refl (secure-unready ready c x (rule-of st (l .agree))) ∙ ap (bySecure st) (sealed-calls.feeding x s piece run)) in
+    subst (λ (y : Received). Counts (y .report) (unfinished st + y .taken) (y .state)) (sym e) (sealed-counts ready c x s piece run)
+
+-- ---- over a list of calls
+
+-- what stands before a call: n bytes are unfinished, or the stream is refused
+record Counted (n : ℕ) (st : State) : Type 0 where
+  agree : agrees st ≡ true
+  counts : refusedInUse st ≡ false → n ≡ unfinished st
+
+-- and after it
+record Next (n : ℕ) (r : Received) : Type 0 where
+  adds : n + r .taken ≡ lengthBy (r .state .mode) (r .report) (r .state .crc .known) + unfinishedAfter (r .report) n r
+  counted : Counted (unfinishedAfter (r .report) n r) (r .state)
+
+more-length : (k : Mode) (v : Known) → lengthBy k report.More v ≡ 0
+more-length mode.Crc v = refl
+more-length mode.Secure v = refl
+
+refused-length : (k : Mode) (m : Numbers) (v : Known) → lengthBy k (report.Event (event.Refused m)) v ≡ 0
+refused-length mode.Crc m v = refl
+refused-length mode.Secure m v = refl
+
+next-at : (n t : ℕ) (st : State) (p : Report) → agrees st ≡ true → ((m : Numbers) → p ≡ report.Event (event.Refused m) → refusedInUse st ≡ true)
+    → Counts p (n + t) st → Next n (record { state = st; taken = t; report = p })
+next-at n t st report.More a g c =
+    record { adds = c ∙ sym (ap (λ (k : ℕ). k + unfinished st) (more-length (st .mode) (st .crc .known)) ∙ zero-add (unfinished st)); counted = record { agree = a; counts = λ _. refl } }
+next-at n t st (report.Event (event.Banner p r)) a g c = record { adds = c; counted = record { agree = a; counts = λ _. refl } }
+next-at n t st (report.Event (event.First h)) a g c = record { adds = c; counted = record { agree = a; counts = λ _. refl } }
+next-at n t st (report.Event (event.Frame h)) a g c = record { adds = c; counted = record { agree = a; counts = λ _. refl } }
+next-at n t st (report.Event (event.Dropped h)) a g c = record { adds = c; counted = record { agree = a; counts = λ _. refl } }
+next-at n t st (report.Event (event.Refused m)) a g c =
+    record {
+      adds = sym (ap (λ (k : ℕ). k + (n + t)) (refused-length (st .mode) m (st .crc .known)) ∙ zero-add (n + t));
+      counted = record { agree = a; counts = λ e. wrong (sym e ∙ g m refl) };
+    }
+
+gone-refused : {m : Numbers} {st : State} → Gone m st → refusedInUse st ≡ true
+gone-refused (goneCrc g) = rw (g .mode, g .gone .stage)
+gone-refused (goneSecure g) = rw (g .mode, g .gone .stage)
+
+call-next : (n : ℕ) (st : State) (s piece : List ℕ) (r : Received) (s′ : List ℕ) → Counted n st → Answered st s piece r s′ → Next n r
+call-next n st s piece r s′ w a =
+    let z = well st s piece r s′ a (w .agree) in
+    next-at n (r .taken) (r .state) (r .report) (z .agree) (λ m q. gone-refused (z .gone m q)) (go (refusedInUse st) refl (ltb (length s) (neededInUse st)) refl)
+  where
+    none : {m : Numbers} → r .report ≡ report.Event (event.Refused m) → Counts (r .report) (n + r .taken) (r .state)
+    none e = subst (λ (p : Report). Counts p (n + r .taken) (r .state)) (sym e) tt
+
+    go : (b : Bool) → refusedInUse st ≡ b → (t : Bool) → ltb (length s) (neededInUse st) ≡ t → Counts (r .report) (n + r .taken) (r .state)
+    go true q t u =
+        let g = gone-of (st .mode) (st .ready) (st .crc) (st .secure) (w .agree) q in
+        none (lasts (g .1) s piece r s′ a .report)
+    go false q true u = none (short-so st s piece r s′ a (w .agree) q (ltb-true (length s) (neededInUse st) u) .report)
+    go false q false u =
+        let l : Running st s = record { agree = w .agree; live = q; fits = ltb-false (length s) (neededInUse st) u } in
+        subst (λ (k : ℕ). Counts (r .report) (k + r .taken) (r .state)) (sym (w .counts q)) (fed-counts (st .mode) (st .ready) (st .crc) (st .secure) s piece r s′ a l)
+
+-- ---- a try to switch: it is made where nothing is unfinished
+
+none-came : (k : Stage) (v : Known) → rank k ≡ 4 → crc-every.cameBefore k v ≡ 0
+none-came crc-stage.Magic v e = refl
+none-came crc-stage.Length v e = absurd (omega (arith, e))
+none-came crc-stage.Payload v e = absurd (omega (arith, e))
+none-came crc-stage.Skip v e = absurd (omega (arith, e))
+none-came crc-stage.Preamble v e = refl
+none-came crc-stage.First v e = absurd (omega (arith, e))
+none-came crc-stage.FirstSum v e = absurd (omega (arith, e))
+none-came crc-stage.Rest v e = absurd (omega (arith, e))
+none-came crc-stage.Epilogue v e = absurd (omega (arith, e))
+none-came crc-stage.Refused v e = refl
+
+ready-none : (k : Mode) (ready : Bool) (c : crc-state.State) (x : sealed-state.State)
+    → (let st = stateOf k ready c x in readyRule st ≡ true → ready ≡ true → (refusedInUse st ≡ false) × (unfinished st ≡ 0))
+ready-none mode.Crc false c x e q = wrong q
+ready-none mode.Secure false c x e q = wrong q
+ready-none mode.Secure true c x e q = wrong e
+ready-none mode.Crc true c x e q =
+    let p : rank (c .position .stage) ≡ 4 = eqb-true (rank (c .position .stage)) 4 (both-left (eqb (rank (c .position .stage)) 4) (eqb (c .position .got) 0) e) in
+    let g : c .position .got ≡ 0 = eqb-true (c .position .got) 0 (both-right (eqb (rank (c .position .stage)) 4) (eqb (c .position .got) 0) e) in
+    (rw p, omega (arith, none-came (c .position .stage) (c .known) p, g))
+
+switched-counted : (n : ℕ) (st : State) (c : Try) → Counted n st → SwitchedWith st (c .key) (c .receiving) (c .sending) (c .switched) → Counted n (c .switched .state)
+unfolding sealed.switched
+switched-counted n st c w s = go (judgeSwitch st) refl
+  where
+    to : (j : Judged) → judgeSwitch st ≡ j → c .switched .state ≡ switchedState j st (c .key) (c .receiving)
+    to j e = s .state ∙ ap (λ (i : Judged). switchedState i st (c .key) (c .receiving)) e
+
+    go : (j : Judged) → judgeSwitch st ≡ j → Counted n (c .switched .state)
+    go (refused m) e = subst (Counted n) (sym (to (refused m) e)) w
+    go fine e =
+        let m : mayBeSwitched st ≡ true = passed (mayBeSwitched st) refusal.SwitchRefused (sym (judged-27 st (w .agree)) ∙ e) in
+        let z = ready-none (st .mode) (st .ready) (st .crc) (st .secure) (rule-of st (w .agree)) (both-left (st .ready) (isMsgr21 (st .crc .known .revision)) m) in
+        record {
+          agree = sound-switch st (c .key) (c .receiving) (c .sending) (c .switched) s .agreeing (w .agree);
+          counts = λ _. w .counts (z .0) ∙ z .1 ∙ sym (ap unfinished (to fine e));
+        }
+
+add-up : (n : ℕ) (st : State) (cs : List AnyCall) → Counted n st → Handed st cs → n + allTaken cs ≡ allReported cs + leftBy n cs
+add-up n st [] w h = omega arith
+add-up n st (taking c ∷ cs) w h =
+    let x = call-next n st (c .store) (c .piece) (c .received) (c .after) w (h .0) in
+    let ih = add-up (unfinishedAfter (c .received .report) n (c .received)) (c .received .state) cs (x .counted) (h .1) in
+    omega (arith, x .adds, ih)
+add-up n st (switching c ∷ cs) w h = add-up n (c .switched .state) cs (switched-counted n st c w (h .0)) (h .1)
+
+nothing-yet : (j : Judged) (own : Features) → _≡_ {A = ℕ} 0 (crc-every.unfinished (crc.startedBy j own))
+nothing-yet fine own = refl
+nothing-yet (refused n) own = refl
+
+from-start : (own : Features) → Counted 0 (begun own)
+unfolding begun crc.started
+from-start own = record { agree = begun-agrees own; counts = λ _. nothing-yet (judgeOwn (own .supported) (own .required)) own }
+
+pub every-call : EveryCall
+unfolding EveryCall
+every-call = (
+  λ own b h. record { state = h .state; verdict = h .verdict; agreeing = ap agrees (h .state) ∙ begun-agrees own },
+  λ st s piece r s′ a. sound st s piece r s′ a,
+  λ st key receiving sending r w. sound-switch st key receiving sending r w,
+  λ own cs h. let a = add-up 0 (begun own) cs (from-start own) h in omega (arith, a),
+)
