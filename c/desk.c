@@ -1,6 +1,8 @@
 /*
  * A desk's receiving side: it reads what the store sends on standard input, and
- * frees a take when, and only when, the session no longer holds its message.
+ * frees a take when an acknowledgement has the session no longer hold its
+ * message. What a full reset has it no longer hold was not acknowledged: that
+ * take is kept, to be sent as a new message.
  *
  * usage: desk [MESSAGES]    so many messages were sent before, 8 where not given
  */
@@ -36,6 +38,10 @@ static void listen_on(int link, mahuixen_session *session)
             if (mahuixen_deliver(&state, session, &report, &effect, bytes + at, (uint64_t)n - at, store,
                                  sizeof store) == MAHUIXEN_REFUSED) {
                 printf("refused: %s\n", mahuixen_refusal_text(report.refusal.number));
+                return;
+            }
+            if (effect.kind == MAHUIXEN_SESSION_REFUSED || effect.kind == MAHUIXEN_EFFECT_MALFORMED) {
+                printf("nothing was done: %s\n", mahuixen_refusal_text(effect.refusal.number));
                 return;
             }
             while (freed++ < session->released)

@@ -1,6 +1,6 @@
 -- Acknowledgements that are sealed with any key and nonce: what is opened is read, and nothing else is.
 use mathlib.Core.Path.{_≡_, refl, sym, ap, ap₂, subst, _∙_}
-use mathlib.Core.List.{List, [], _∷_, _++_, map, map-append, append-assoc, append-nil}
+use mathlib.Core.List.{List, [], _∷_, _++_, map}
 use mathlib.Core.Bool.{Bool, true, false, cond, _&&_, true≢false}
 use Prim.Native.Nat.{ℕ, zero, suc, _+_, _-_, _<_}
 use native.Mathlib.Omega.{arith}
@@ -27,26 +27,22 @@ use Rattle.gcm.proofs.There.{lists}
 use Rattle.secure.specs.Layout.{nextNonce, needed}
 use Rattle.secure.specs.Reading.{judgeFirst, byOpening, restTrace, frames, sealedTrace}
 use Rattle.secure.proofs.Opening.{read-first}
-use Rattle.connection.specs.Switched.{Switch, behind, spliced, traceWith}
-use Rattle.connection.specs.Calls.{takenBy, switchBy, SwitchedDemand3}
+use Rattle.connection.specs.Switched.{behind, spliced}
+use Rattle.connection.specs.Calls.{SwitchedDemand3}
 use Rattle.connection.proofs.Scans.{LastCloses}
 use Rattle.connection.proofs.Splices.{closings, spliced-there}
 use Rattle.fields.specs.Layout.{stepOf}
 use Rattle.bodies.specs.Table.{layoutIn}
 use Rattle.bodies.specs.Read.{settled, readBody}
-use Rattle.session.specs.declared.Session.{Session}
-use Rattle.session.specs.Laws as session
 use Rattle.session.specs.Laws.{ack}
 use Rattle.session.specs.Calls.{heldFrom, agrees, judgeState, judgeAccept, judgeAck, acceptOf, ackOf}
 use Rattle.delivery.specs.declared.Asked.the-variants.{Nothing, Ack}
-use Rattle.delivery.specs.declared.Delivery.{Delivery}
-use Rattle.delivery.specs.declared.Connected.{Connected}
-use Rattle.delivery.specs.Asked.{askedByFrame, ConnectedWith}
-use Rattle.delivery.specs.Calls.{Call, piece, tried, accepted, handed, Chained, sessionAfter, Connection, onConnection, switchOf, entriesUpTo, added, Cause, receives, causesFrom, callsDue, Each, toldIn}
-use Rattle.delivery.specs.Worked.{ours, store, message, asksOf, ownCalls, first, second, third, heldBy, ackText, masked, sealedAck, behindMessage, sealedEntries, SealedAck}
-use Rattle.delivery.proofs.Earlier.{upTo, behind-first, crc-first, trace-first}
-use Rattle.delivery.proofs.Claim.{on-connection, each, Plays, calls-play}
+use Rattle.delivery.specs.Asked.{askedByFrame}
+use Rattle.delivery.specs.Calls.{receives, callsDue}
+use Rattle.delivery.specs.Worked.{ours, store, message, asksOf, first, second, third, heldBy, ackText, masked, sealedAck, behindMessage, sealedEntries, SealedAck}
+use Rattle.delivery.proofs.Earlier.{upTo, behind-first, crc-first}
 use Rattle.delivery.proofs.Quiet.{Quiet, releases-nothing}
+use Rattle.delivery.proofs.Played.{all-played}
 
 -- ---- parts
 
@@ -127,20 +123,6 @@ sealed-entries key nonce bytes =
     ap₂ (λ (n : ℕ) (es : List Entry). spliced n next es (all .store) .entries) (sym one-frame) e
     ∙ ap (λ (y : Trace). y .entries) (spliced-there next later (all .store) (sofar .entries) 106 (sofar .store) last)
 
--- without calls of the caller's own, the causes are the entries of all bytes taken
-all-causes : (k : Connection) (s : Session) (t : ℕ) (cs : List Call) → ownCalls cs ≡ [] → Each k s t cs
-    → map receives (entriesUpTo k t) ++ causesFrom k t cs ≡ map receives (entriesUpTo k (takenBy t (onConnection cs)))
-all-causes k s t [] own e = append-nil (map receives (entriesUpTo k t))
-all-causes k s t (piece size r s′ ∷ cs) own e =
-    let t′ = t + r .taken in
-    sym (append-assoc (map receives (entriesUpTo k t)) (map receives (added k t t′)) (causesFrom k t′ cs))
-    ∙ ap (λ (l : List Cause). l ++ causesFrom k t′ cs) (sym (map-append receives (entriesUpTo k t) (added k t t′)))
-    ∙ ap (λ (es : List Entry). map receives es ++ causesFrom k t′ cs) (sym (e .0))
-    ∙ all-causes k (r .state .session) t′ cs own (e .2)
-all-causes k s t (tried key receiving sending r ∷ cs) own e = all-causes k (r .state .session) t cs own e
-all-causes k s t (accepted h r ∷ cs) own e = absurd (let z : _≡_ {A = ℕ} 1 0 = cc in omega arith)
-all-causes k s t (handed n r ∷ cs) own e = absurd (let z : _≡_ {A = ℕ} 1 0 = cc in omega arith)
-
 module _ (key nonce : List ℕ) where
   -- its entries, by what its first part opens to
   opened-entries : (bytes : List ℕ) (o : Opened) → length bytes ≡ 96 → openedBy (keyExpansion key) nonce bytes ≡ o
@@ -193,28 +175,6 @@ module _ (key nonce : List ℕ) where
   unfolding numberAt crcOf steps step missing lowestBit bitCount judgeFeatures shapeFault limitFault headerOf judgeFields judgePreamble ending stream.frames streamTrace traceOf
   none-before = refl
 
-  completed : SwitchedDemand3 → (s : Session) (k : Connected) (cs : List Call) → ConnectedWith s ours k → Chained (behindMessage (sealedAck key nonce)) (k .state) store 0 cs
-      → switchBy 0 (onConnection cs) ≡ behind 1 key nonce → ownCalls cs ≡ [] → takenBy 0 (onConnection cs) ≡ 202
-      → (sessionAfter s cs ≡ ackOf s 1 .session) × (toldIn cs ≡ ackOf s 1 .report ∷ [])
-  completed demand s k cs c ch made own all =
-      let x : Connection = record { own = ours; stream = behindMessage (sealedAck key nonce); store = store; connected = k; calls = cs } in
-      let e : k .state .session ≡ s = ap (λ (d : Delivery). d .session) (c .state) in
-      let each-call = each demand x (on-connection x s c ch) [] (k .state) store 0 cs refl refl ch in
-      let up : (n : ℕ) → entriesUpTo x n ≡ upTo n (sofar .entries ++ part key nonce 106 (sofar .store) (plain ackText) .entries) =
-      λ n. trace-first (switchOf x) ours (behindMessage (sealedAck key nonce)) store n
-      ∙ ap (λ (sw : Switch). upTo n (traceWith sw ours (behindMessage (sealedAck key nonce)) store .entries)) made
-      ∙ ap (upTo n) acked in
-      let due : callsDue (causesFrom x 0 cs) ≡ ack 1 ∷ [] =
-      ap (λ (es : List Entry). callsDue (map receives es ++ causesFrom x 0 cs)) (sym (up 0 ∙ none-before))
-      ∙ ap callsDue (all-causes x (k .state .session) 0 cs own each-call)
-      ∙ ap (λ (n : ℕ). callsDue (map receives (entriesUpTo x n))) all
-      ∙ ap (λ (es : List Entry). callsDue (map receives es)) (up 202)
-      ∙ asks-once in
-      let p : Plays s (ack 1 ∷ []) (sessionAfter s cs) (toldIn cs) =
-      subst (λ (y : Session). Plays y (ack 1 ∷ []) (sessionAfter y cs) (toldIn cs)) e
-      (subst (λ (l : List session.Call). Plays (k .state .session) l (sessionAfter (k .state .session) cs) (toldIn cs)) due (calls-play x (k .state) store 0 cs ch each-call)) in
-      (p .leads, p .gives)
-
   pub sealed-ack : SwitchedDemand3 → SealedAck key nonce
   sealed-ack demand = record {
     asks = ap (map asksOf) acked ∙ asks-ack;
@@ -226,5 +186,7 @@ module _ (key nonce : List ℕ) where
     splits = λ n h.
         releases-nothing demand (λ sw. sw ≡ behind 1 key nonce) (behindMessage (take n (sealedAck key nonce)))
         (λ sw e. rw e (quiet-part n h));
-    completes = completed demand;
+    completes =
+        all-played demand (behind 1 key nonce) (behindMessage (sealedAck key nonce)) 202 (ack 1) (sofar .entries ++ part key nonce 106 (sofar .store) (plain ackText) .entries)
+        acked none-before asks-once;
   }

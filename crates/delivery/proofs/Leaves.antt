@@ -64,23 +64,23 @@ module _ (every : EveryCall) where
       let o = every .each s c (g .sized) in
       record { agreeing = o .agreeing (g .agreeing); sized = o .sized }
 
-  call-keeps : (s : Session) (c : session.Call) (x : Message) → Good s → releases (x .number) c ≡ false → List·Memᴰ x (heldOf s) → List·Memᴰ x (heldOf (callOf s c .session))
+  pub call-keeps : (s : Session) (c : session.Call) (x : Message) → Good s → releases (x .number) c ≡ false → List·Memᴰ x (heldOf s) → List·Memᴰ x (heldOf (callOf s c .session))
   call-keeps s c x g e k =
       subst (λ (ms : List Message). List·Memᴰ x ms) (sym (every .each s c (g .sized) .table (g .agreeing))) (keeps c (callOf s c .report) (heldOf s) x e k)
 
   -- a cause that makes one call due
-  by-call : (s : Session) (c : session.Call) (w : Cause) → callsBy w ≡ c ∷ [] → Good s → Leaves s (callOf s c .session) (w ∷ [])
+  pub by-call : (s : Session) (c : session.Call) (w : Cause) → callsBy w ≡ c ∷ [] → Good s → Leaves s (callOf s c .session) (w ∷ [])
   by-call s c w q g x k = go (releases (x .number) c) refl
     where
       go : (b : Bool) → releases (x .number) c ≡ b → List·Memᴰ x (heldOf (callOf s c .session)) ⊎ Covered (x .number) (w ∷ [])
       go true e = inr (calls.here (reason (x .number) w (ap (oneReleases (x .number)) q ∙ rw e)))
       go false e = inl (call-keeps s c x g e k)
 
-  record Left (s s′ : Session) (causes : List Cause) : Type 0 where
-    leaves : Leaves s s′ causes
-    good : Good s′
+  pub record Left (s s′ : Session) (causes : List Cause) : Type 0 where
+    pub leaves : Leaves s s′ causes
+    pub good : Good s′
 
-  asked-left : (s : Session) (e : Entry) (a : Asked) → askedBy (e .event) (e .store) ≡ a → Good s → Left s (doneTo s a .session) (receives e ∷ [])
+  pub asked-left : (s : Session) (e : Entry) (a : Asked) → askedBy (e .event) (e .store) ≡ a → Good s → Left s (doneTo s a .session) (receives e ∷ [])
   asked-left s e asked.Nothing q g = record { leaves = λ x k. inl k; good = g }
   asked-left s e (asked.Ack n) q g = record { leaves = by-call s (session.ack n) (receives e) (ap callsAsked q) g; good = call-good s (session.ack n) g }
   asked-left s e (asked.Reconnect n) q g = record { leaves = by-call s (session.reconnect n) (receives e) (ap callsAsked q) g; good = call-good s (session.reconnect n) g }

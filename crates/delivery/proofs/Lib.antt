@@ -3,7 +3,9 @@ pub mod Earlier
 pub mod Entries
 pub mod Reasons
 pub mod Leaves
+pub mod Every
 pub mod Claim
 pub mod Quiet
 pub mod Uncovered
+pub mod Played
 pub mod Acks

@@ -5,7 +5,8 @@ use mathlib.Core.Bool.{Bool, cond, _||_}
 use Prim.Native.Nat.{ℕ}
 use lib.ListN.{take}
 use lib.Dec.{eqb}
-use Rattle.refusal.specs.Refusals.{row, judgedBy}
+use Rattle.refusal.specs.declared.Refusal.the-variants.{BodyMalformed}
+use Rattle.refusal.specs.Refusals.{numbersOf, judgedBy}
 use Rattle.banner.specs.declared.Features.{Features}
 use Rattle.banner.specs.Banner.{judgeOwn}
 use Rattle.preamble.specs.declared.Header.{Header}
@@ -46,7 +47,7 @@ asking tag n = cond (eqb tag 20) (asked.Ack n) (cond (eqb tag 15) (asked.Reconne
 
 -- the body is segment 1; bytes of further segments are left over, and malformed from the first of them on
 abbrev pub byNumber : Header → ℕ → Asked
-byNumber h n = cond (eqb (h .count) 1) (asking (h .tag) n) (asked.Malformed (row 20 (h .s1 .len) 0 0))
+byNumber h n = cond (eqb (h .count) 1) (asking (h .tag) n) (asked.Malformed (numbersOf (BodyMalformed (h .s1 .len))))
 
 abbrev pub byField : Header → Field → Asked
 byField h (number w n) = byNumber h n

@@ -98,7 +98,7 @@ onConnection (tried key receiving sending r ∷ cs) = switching (record { key = 
 onConnection (accepted h r ∷ cs) = onConnection cs
 onConnection (handed n r ∷ cs) = onConnection cs
 
--- the switch that was made on it, or none
+-- the switch that was made on it, or none: behind how many frames is counted by the calls' reports, of which `received` says that they are the definition's
 abbrev pub switchOf : Connection → Switch
 switchOf k = switchBy 0 (onConnection (k .calls))
 

@@ -13,24 +13,26 @@ use Rattle.stream.specs.Rows.{Row, _⇒_, Holds, features, segment, header}
 use Rattle.aes.specs.Aes.{keyExpansion}
 use Rattle.aes.specs.Counter.{gctr}
 use Rattle.gcm.specs.Gcm.{tagOf, sealed}
-use Rattle.connection.specs.Switched.{Switch, behind, traceWith}
+use Rattle.connection.specs.Switched.{Switch, none, behind, traceWith}
 use Rattle.connection.specs.Calls.{takenBy, switchBy}
 use Rattle.session.specs.declared.Session.{Session}
 use Rattle.session.specs.declared.Message.{Message}
-use Rattle.session.specs.declared.Report.the-variants.{Done, Resend, Refused}
+use Rattle.session.specs.declared.Report.{Report}
+use Rattle.session.specs.declared.Report.the-variants.{Accepted, Done, Resend, Refused}
 use Rattle.session.specs.declared.Held.{Held}
 use Rattle.session.specs.declared.Held.the-variants.{At}
-use Rattle.session.specs.Calls.{heldOf, freshSession, ackOf}
+use Rattle.session.specs.Calls.{heldOf, freshSession}
 use Rattle.session.specs.Laws as session
-use Rattle.session.specs.Laws.{resentBy}
+use Rattle.session.specs.Laws.{callOf, resentBy}
 use Rattle.session.specs.History.{sessionBy}
 use Rattle.delivery.specs.declared.Asked.{Asked}
 use Rattle.delivery.specs.declared.Asked.the-variants.{Nothing, Ack, Reconnect, Reset, Malformed}
 use Rattle.delivery.specs.declared.Effect.{Effect}
 use Rattle.delivery.specs.declared.Effect.the-variants as effect
+use Rattle.delivery.specs.declared.Settled.{Settled}
 use Rattle.delivery.specs.declared.Connected.{Connected}
-use Rattle.delivery.specs.Asked.{askedByFrame, askedBy, doneTo, ConnectedWith}
-use Rattle.delivery.specs.Calls.{Call, piece, tried, accepted, handed, Chained, sessionAfter, onConnection, sends, hands, receives, callsDue, played, historyOf, toldIn, Covered}
+use Rattle.delivery.specs.Asked.{askedByFrame, askedBy, settled, doneTo, ConnectedWith}
+use Rattle.delivery.specs.Calls.{Call, piece, tried, accepted, handed, Chained, sessionAfter, Connection, Connects, sessionAfterAll, onConnection, sends, hands, receives, callsDue, played, historyOf, toldIn, reportsIn, Covered}
 
 -- ---- what the rows are made of
 
@@ -121,6 +123,12 @@ ReleasesNothing Made stream =
 abbrev pub Any : Switch → Type 0
 Any sw = Unit {0}
 
+-- read under every cutting, with this switch, all n bytes of a stream make one call of the session, and the caller is told its answer, once
+abbrev pub Completes : Switch → List ℕ → ℕ → session.Call → Type 0
+Completes sw stream n call =
+    (s : Session) (k : Connected) (cs : List Call) → ConnectedWith s ours k → Chained stream (k .state) store 0 cs → switchBy 0 (onConnection cs) ≡ sw → ownCalls cs ≡ []
+    → takenBy 0 (onConnection cs) ≡ n → (sessionAfter s cs ≡ callOf s call .session) × (toldIn cs ≡ callOf s call .report ∷ [])
+
 -- ---- what is released
 
 -- three messages were sent
@@ -174,6 +182,7 @@ resultOf a = result (heldOf (doneTo sent a .session)) (doneTo sent a .effect) (a
 unfoldable pub resultRows : List (Row Result)
 resultRows =
     resultOf Nothing ⇒ result (first ∷ second ∷ third ∷ []) effect.Nothing []
+    ∷ resultOf (Ack 0) ⇒ result (first ∷ second ∷ third ∷ []) (effect.Answer Done) []
     ∷ resultOf (Ack 1) ⇒ result (second ∷ third ∷ []) (effect.Answer Done) []
     ∷ resultOf (Ack 3) ⇒ result [] (effect.Answer Done) []
     -- more than was sent
@@ -188,6 +197,40 @@ resultRows =
     -- a body that is malformed
     ∷ resultOf (Malformed (row 20 8 0 0)) ⇒ result (first ∷ second ∷ third ∷ []) (effect.Malformed (row 20 8 0 0)) []
     ∷ []
+
+-- a session that contradicts itself is left as it is, and says 26
+abbrev broken : Session
+broken = record { handles = replicate 64 0; released = 1; last = 0 }
+
+abbrev says26 : Asked → Row Settled
+says26 a = doneTo broken a ⇒ settled broken (effect.Answer (Refused (row 26 0 0 0)))
+
+unfoldable pub brokenRows : List (Row Settled)
+brokenRows = says26 (Reset true) ∷ says26 (Reset false) ∷ says26 (Ack 0) ∷ says26 (Reconnect 1) ∷ []
+
+-- what the caller's own calls are told
+unfoldable pub answerRows : List (Row (List Report))
+answerRows =
+    reportsIn (historyOf (sends 7 ∷ sends 8 ∷ hands 1 ∷ hands 3 ∷ [])) ⇒ (Accepted 1 ∷ Accepted 2 ∷ Done ∷ Refused (row 23 0 0 0) ∷ [])
+    ∷ []
+
+-- ---- a connection that ends in an acknowledgement, and the next one, which tells how far the peer came
+
+-- with our features and the store
+abbrev pub reading : List ℕ → Connected → List Call → Connection
+reading stream k cs = record { own = ours; stream = stream; store = store; connected = k; calls = cs }
+
+-- a reconnect_ok of 1
+abbrev pub resumed : List ℕ
+resumed = bannerBytes 1 0 ++ preamble 15 8 (0x61 ∷ 0x82 ∷ 0x7C ∷ 0xBF ∷ []) ++ seq 1 ++ (0x52 ∷ 0x30 ∷ 0xEB ∷ 0x3A ∷ [])
+
+-- read under every cutting: two messages are sent on the first, the second of them is still held after the other, and the caller is told to send it again
+abbrev pub Resumes : Type 0
+Resumes =
+    (k l : Connected) (cs ds : List Call) → Connects freshSession (reading split k cs ∷ reading resumed l ds ∷ [])
+    → ownCalls cs ≡ session.accept 7 ∷ session.accept 8 ∷ []
+    → switchBy 0 (onConnection ds) ≡ none → ownCalls ds ≡ [] → takenBy 0 (onConnection ds) ≡ length resumed
+    → (heldOf (sessionAfterAll freshSession (reading split k cs ∷ reading resumed l ds ∷ [])) ≡ second ∷ []) × (toldIn ds ≡ Resend 1 ∷ [])
 
 -- ---- other frames
 
@@ -205,18 +248,35 @@ acked20 late = take 40 ack1 ++ (late ∷ drop 40 ack1) ++ replicate 12 0
 abbrev twoSegments : List ℕ
 twoSegments = (0x14 ∷ 2 ∷ 8 ∷ 0 ∷ 0 ∷ 0 ∷ 8 ∷ 0 ∷ 1 ∷ 0 ∷ 0 ∷ 0 ∷ 8 ∷ 0 ∷ []) ++ replicate 14 0 ++ (0x09 ∷ 0x1B ∷ 0x59 ∷ 0x07 ∷ []) ++ drop 32 ack1
 
+-- its end: whole, and aborted
+abbrev pub twoWhole : List ℕ
+twoWhole = twoSegments ++ (0x2A ∷ 0x0E ∷ 0x48 ∷ 0x0A ∷ 0xDD ∷ 0xE6 ∷ []) ++ replicate 8 0
+
+abbrev pub twoAborted : List ℕ
+twoAborted = twoSegments ++ (0x00 ∷ 0x01 ∷ 0xAE ∷ 0xAC ∷ 0x82 ∷ 0xAD ∷ []) ++ replicate 8 0
+
+-- resets of 0 and 2, and a frame with another tag and the body of an acknowledgement
+abbrev pub reset0 : List ℕ
+reset0 = preamble 12 1 (0x4A ∷ 0xBB ∷ 0x98 ∷ 0x19 ∷ []) ++ (0 ∷ 0xAE ∷ 0xAC ∷ 0x82 ∷ 0xAD ∷ [])
+
+abbrev pub reset2 : List ℕ
+reset2 = preamble 12 1 (0x4A ∷ 0xBB ∷ 0x98 ∷ 0x19 ∷ []) ++ (2 ∷ 0x59 ∷ 0xDC ∷ 0xB9 ∷ 0x4C ∷ [])
+
+abbrev pub tag10 : List ℕ
+tag10 = preamble 10 8 (0x67 ∷ 0xC8 ∷ 0xE7 ∷ 0x9E ∷ []) ++ seq 1 ++ (0x52 ∷ 0x30 ∷ 0xEB ∷ 0x3A ∷ [])
+
 unfoldable pub frameRows : List (Row (List Asked))
 frameRows =
     -- a reconnect_ok
     behind21 (preamble 15 8 (0x61 ∷ 0x82 ∷ 0x7C ∷ 0xBF ∷ []) ++ seq 2 ++ (0x3B ∷ 0xB7 ∷ 0xAF ∷ 0xE1 ∷ [])) (Reconnect 2 ∷ [])
     -- resets: only 1 is full
     ∷ behind21 (preamble 12 1 (0x4A ∷ 0xBB ∷ 0x98 ∷ 0x19 ∷ []) ++ (1 ∷ 0xAD ∷ 0x2F ∷ 0xE9 ∷ 0x5F ∷ [])) (Reset true ∷ [])
-    ∷ behind21 (preamble 12 1 (0x4A ∷ 0xBB ∷ 0x98 ∷ 0x19 ∷ []) ++ (0 ∷ 0xAE ∷ 0xAC ∷ 0x82 ∷ 0xAD ∷ [])) (Reset false ∷ [])
-    ∷ behind21 (preamble 12 1 (0x4A ∷ 0xBB ∷ 0x98 ∷ 0x19 ∷ []) ++ (2 ∷ 0x59 ∷ 0xDC ∷ 0xB9 ∷ 0x4C ∷ [])) (Reset false ∷ [])
+    ∷ behind21 reset0 (Reset false ∷ [])
+    ∷ behind21 reset2 (Reset false ∷ [])
     -- a keepalive's ack is none
     ∷ behind21 (preamble 19 8 (0xEC ∷ 0x5E ∷ 0xE0 ∷ 0x3B ∷ []) ++ seq 1 ++ (0x52 ∷ 0x30 ∷ 0xEB ∷ 0x3A ∷ [])) (Nothing ∷ [])
     -- no body is read for another tag
-    ∷ behind21 (preamble 10 8 (0x67 ∷ 0xC8 ∷ 0xE7 ∷ 0x9E ∷ []) ++ seq 1 ++ (0x52 ∷ 0x30 ∷ 0xEB ∷ 0x3A ∷ [])) (Nothing ∷ [])
+    ∷ behind21 tag10 (Nothing ∷ [])
     -- a reset without a byte, one with two, a reconnect_ok of seven bytes
     ∷ behind21 (preamble 12 0 (0x45 ∷ 0x3F ∷ 0x36 ∷ 0x34 ∷ [])) (Malformed (row 20 0 0 0) ∷ [])
     ∷ behind21 (preamble 12 2 (0x5B ∷ 0x37 ∷ 0x6B ∷ 0x6F ∷ []) ++ (1 ∷ 0 ∷ 0x5A ∷ 0x10 ∷ 0x3C ∷ 0x1D ∷ [])) (Malformed (row 20 1 0 0) ∷ [])
@@ -225,8 +285,8 @@ frameRows =
     ∷ behind21 (preamble 20 7 (0xD7 ∷ 0xBE ∷ 0x6D ∷ 0xF3 ∷ []) ++ take 7 (seq 1) ++ (0x5A ∷ 0xB9 ∷ 0xC2 ∷ 0x2C ∷ [])) (Malformed (row 20 0 0 0) ∷ [])
     ∷ behind21 (preamble 20 9 (0x7C ∷ 0xF0 ∷ 0x12 ∷ 0x76 ∷ []) ++ seq 1 ++ (0 ∷ 0x14 ∷ 0x41 ∷ 0x24 ∷ 0xB0 ∷ [])) (Malformed (row 20 8 0 0) ∷ [])
     -- a second segment, which is left over; and the same frame aborted
-    ∷ behind21 (twoSegments ++ (0x2A ∷ 0x0E ∷ 0x48 ∷ 0x0A ∷ 0xDD ∷ 0xE6 ∷ []) ++ replicate 8 0) (Nothing ∷ Malformed (row 20 8 0 0) ∷ [])
-    ∷ behind21 (twoSegments ++ (0x00 ∷ 0x01 ∷ 0xAE ∷ 0xAC ∷ 0x82 ∷ 0xAD ∷ []) ++ replicate 8 0) (Nothing ∷ Nothing ∷ [])
+    ∷ behind21 twoWhole (Nothing ∷ Malformed (row 20 8 0 0) ∷ [])
+    ∷ behind21 twoAborted (Nothing ∷ Nothing ∷ [])
     -- msgr2.0, whole and aborted
     ∷ behind20 (acked20 0) (Ack 1 ∷ [])
     ∷ behind20 (acked20 1) (Nothing ∷ [])
@@ -254,23 +314,57 @@ tagRows =
     ∷ map one (16 ∷ 17 ∷ 18 ∷ 19 ∷ 20 ∷ []) ⇒ (Nothing ∷ Nothing ∷ Nothing ∷ Nothing ∷ Ack 1 ∷ [])
     ∷ []
 
+-- resets by their byte: only 1 is full
+abbrev resetBy : ℕ → Asked
+resetBy b = askedByFrame (header 12 1 (segment 1 8) (segment 0 0) (segment 0 0) (segment 0 0)) (b ∷ store)
+
+unfoldable pub resetRows : List (Row (List Asked))
+resetRows =
+    map resetBy (0 ∷ 1 ∷ 2 ∷ []) ⇒ (Reset false ∷ Reset true ∷ Reset false ∷ [])
+    ∷ map resetBy (3 ∷ 128 ∷ 255 ∷ []) ⇒ replicate 3 (Reset false)
+    ∷ []
+
+-- whole frames by their segments' lengths: what is left over is malformed, behind a body that reads well, and else the body's own fault is told
+abbrev segmented : ℕ → ℕ → ℕ → ℕ → ℕ → ℕ → Asked
+segmented tag count a b c d = askedByFrame (header tag count (segment a 8) (segment b 8) (segment c 8) (segment d 8)) (seq 1 ++ store)
+
+unfoldable pub segmentRows : List (Row Asked)
+segmentRows =
+    segmented 20 1 8 0 0 0 ⇒ Ack 1
+    ∷ segmented 20 2 8 1 0 0 ⇒ Malformed (row 20 8 0 0)
+    ∷ segmented 20 3 8 0 1 0 ⇒ Malformed (row 20 8 0 0)
+    ∷ segmented 20 4 8 0 0 1 ⇒ Malformed (row 20 8 0 0)
+    ∷ segmented 15 2 8 1 0 0 ⇒ Malformed (row 20 8 0 0)
+    ∷ segmented 12 2 1 1 0 0 ⇒ Malformed (row 20 1 0 0)
+    ∷ segmented 20 2 7 1 0 0 ⇒ Malformed (row 20 0 0 0)
+    ∷ segmented 20 2 9 1 0 0 ⇒ Malformed (row 20 8 0 0)
+    ∷ segmented 15 1 9 0 0 0 ⇒ Malformed (row 20 8 0 0)
+    ∷ []
+
 -- ---- what is no reason
 
 -- of these entries none is a reason why the message m is no longer held
 abbrev pub NoReason : ℕ → List Entry → Type 0
 NoReason m es = Covered m (map receives es) → ⊥
 
--- a reset that is not full
-abbrev pub reset0 : List ℕ
-reset0 = bannerBytes 1 0 ++ preamble 12 1 (0x4A ∷ 0xBB ∷ 0x98 ∷ 0x19 ∷ []) ++ (0 ∷ 0xAE ∷ 0xAC ∷ 0x82 ∷ 0xAD ∷ [])
+-- none of what a stream of msgr2.1 frames has is one, for any message
+abbrev pub NoneIn : List ℕ → Type 0
+NoneIn frames = (m : ℕ) → NoReason m (traceOf ours (bannerBytes 1 0 ++ frames) store .entries)
 
 pub record Reasons : Type 0 where
   -- the split stream has none for any message, with any switch
   pub unfinished : (sw : Switch) (m : ℕ) → NoReason m (traceWith sw ours split store .entries)
   -- an acknowledgement of 1 is none for message 2
   pub other : NoReason 2 (traceOf ours acked store .entries)
-  -- and a reset that is not full is none for any
-  pub notFull : (m : ℕ) → NoReason m (traceOf ours reset0 store .entries)
+  -- nor is a number that was handed in for a higher one
+  pub lower : Covered 3 (sends 9 ∷ hands 2 ∷ []) → ⊥
+  -- and for any message: a reset that is not full, a second segment, an aborted frame, another tag, a body whose checksum differs
+  pub notFull : NoneIn reset0
+  pub neitherFull : NoneIn reset2
+  pub segments : NoneIn twoWhole
+  pub aborted : NoneIn twoAborted
+  pub otherTag : NoneIn tag10
+  pub damaged : NoneIn (set ack1 32 3)
 
 -- ---- sealed acknowledgements, with any key and any nonce: behind the message the stream is switched
 
@@ -302,9 +396,7 @@ pub record SealedAck (key nonce : List ℕ) : Type 0 where
   -- split behind any byte but its last, read under every cutting, it releases nothing
   pub splits : (n : ℕ) → n < 96 → ReleasesNothing (λ sw. sw ≡ behind 1 key nonce) (behindMessage (take n (sealedAck key nonce)))
   -- and with its last byte, split over two calls or more or not at all, it acknowledges, and the caller is told so, once
-  pub completes : (s : Session) (k : Connected) (cs : List Call) → ConnectedWith s ours k → Chained (behindMessage (sealedAck key nonce)) (k .state) store 0 cs
-      → switchBy 0 (onConnection cs) ≡ behind 1 key nonce → ownCalls cs ≡ [] → takenBy 0 (onConnection cs) ≡ 202
-      → (sessionAfter s cs ≡ ackOf s 1 .session) × (toldIn cs ≡ ackOf s 1 .report ∷ [])
+  pub completes : Completes (behind 1 key nonce) (behindMessage (sealedAck key nonce)) 202 (session.ack 1)
 
 -- THE CLAIM
 unfoldable pub Worked : Type 0
@@ -312,9 +404,15 @@ Worked =
     (filledUp ≡ ack3)
     × Holds faultRows
     × ReleasesNothing Any split
+    × Completes none acked (length acked) (session.ack 1)
+    × Resumes
     × Holds heldRows
     × Holds resultRows
+    × Holds brokenRows
+    × Holds answerRows
     × Holds frameRows
     × Holds tagRows
+    × Holds resetRows
+    × Holds segmentRows
     × Reasons
     × ((key nonce : List ℕ) → SealedAck key nonce)

@@ -25,6 +25,7 @@ ghost use Rattle.bodies.specs.Read.{answerOf};
 ghost use Rattle.session.specs.Laws.{accept, ack};
 ghost use Rattle.delivery.specs.Asked.{forSession, asking, byNumber, byBody, askedByFrame, askedBy, askedByReport, settled, answeredBy, doneTo, sentBy, Delivers, Switches, Called, ConnectedWith};
 ghost use Rattle.delivery.specs.Calls.{EveryRelease};
+ghost use Rattle.delivery.specs.Every.{EveryCall};
 ghost use Rattle.delivery.specs.Worked.{Worked};
 
 // A connection's receiving side, and the session that outlives it.
@@ -273,6 +274,15 @@ pub fn every_release()
     connection::every_cutting();
     session::every_call();
     session::every_history();
+}
+
+// What holds of every single call, whatever it is given, as a promise: only a whole frame with tag 20, 15 or 12 does anything to the session. It follows from what
+// the connection and the session promise of every call.
+pub fn every_call()
+    ensures { λ _. ⌜ EveryCall ⌝ }
+{
+    connection::every_call();
+    session::every_call();
 }
 
 // The worked streams ask of the session what the rules say; and a preamble that is split, and filled up would pass for an acknowledgement, releases nothing.

@@ -5,27 +5,6 @@ use borrow.Author.Needs.{needs}
 use Rattle.delivery.proofs.asked_by_body.Statement.{statement}
 use Rattle.delivery.proofs.asked_by_body.Tie as tie
 
-enum-known-body : tie.Need-enum-known-body
-enum-known-body c = search needs
-
-asked-by-number-requires : tie.Need-asked-by-number-requires
-asked-by-number-requires c κs = search needs
-
-enum-known-body-2 : tie.Need-enum-known-body-2
-enum-known-body-2 c = search needs
-
-cast-asked-by-number : tie.Need-cast-asked-by-number
-cast-asked-by-number c = search needs
-
-asked-by-number-requires-2 : tie.Need-asked-by-number-requires-2
-asked-by-number-requires-2 c κs = search needs
-
-enum-known-body-3 : tie.Need-enum-known-body-3
-enum-known-body-3 c = search needs
-
-in-numbers-requires : tie.Need-in-numbers-requires
-in-numbers-requires c κs = search needs
-
 returns : tie.Need-returns
 returns c = λ s. rw (c .before .before .body .given .1) (c .asked-by-number .ensures)
 
@@ -42,13 +21,13 @@ pub asked-by-body-spec : {M : Type 1} → statement M
 asked-by-body-spec =
     tie.close
     (tie.spec
-    enum-known-body
-    asked-by-number-requires
-    enum-known-body-2
-    cast-asked-by-number
-    asked-by-number-requires-2
-    enum-known-body-3
-    in-numbers-requires
+    (λ c. search needs)
+    (λ c κs. search needs)
+    (λ c. search needs)
+    (λ c. search needs)
+    (λ c κs. search needs)
+    (λ c. search needs)
+    (λ c κs. search needs)
     returns
     returns-2
     returns-3

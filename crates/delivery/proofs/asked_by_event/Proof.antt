@@ -3,12 +3,6 @@ use borrow.Author.Needs.{needs}
 use Rattle.delivery.proofs.asked_by_event.Statement.{statement}
 use Rattle.delivery.proofs.asked_by_event.Tie as tie
 
-enum-known-event : tie.Need-enum-known-event
-enum-known-event c = search needs
-
-asked-by-frame-requires : tie.Need-asked-by-frame-requires
-asked-by-frame-requires c κs = search needs
-
 returns : tie.Need-returns
 returns c = rw (c .before .before .event .given .1) (c .asked-by-frame .ensures)
 
@@ -17,4 +11,4 @@ returns-2 c = no-frame (c .before .before .args .store .now) (c .before .before 
 
 pub asked-by-event-spec : {M : Type 1} → statement M
 asked-by-event-spec =
-    tie.close (tie.spec enum-known-event asked-by-frame-requires returns returns-2)
+    tie.close (tie.spec (λ c. search needs) (λ c κs. search needs) returns returns-2)

@@ -13,27 +13,12 @@ use borrow.Author.Needs.{needs}
 use Rattle.delivery.proofs.asked_by_frame.Statement.{statement}
 use Rattle.delivery.proofs.asked_by_frame.Tie as tie
 
-for-session-requires : tie.Need-for-session-requires
-for-session-requires c κs = search needs
-
 returns : tie.Need-returns
 unfolding askedByFrame
 returns c = rw (sym (c .before .for-session .ensures) ∙ not-true _ (c .if1 .taken))
 
-cast-min : tie.Need-cast-min
-cast-min c = search needs
-
-min-requires : tie.Need-min-requires
-min-requires c κs = search needs
-
 slice-aggregate-read : tie.Need-slice-aggregate-read
 slice-aggregate-read c = simp length-take (omega (arith, c .before .min .ensures))
-
-read-requires : tie.Need-read-requires
-read-requires c κs = search needs
-
-asked-by-body-requires : tie.Need-asked-by-body-requires
-asked-by-body-requires c κs = search needs
 
 returns-2 : tie.Need-returns-2
 unfolding askedByFrame
@@ -49,11 +34,11 @@ pub asked-by-frame-spec : {M : Type 1} → statement M
 asked-by-frame-spec =
     tie.close
     (tie.spec
-    for-session-requires
+    (λ c κs. search needs)
     returns
-    cast-min
-    min-requires
+    (λ c. search needs)
+    (λ c κs. search needs)
     slice-aggregate-read
-    read-requires
-    asked-by-body-requires
+    (λ c κs. search needs)
+    (λ c κs. search needs)
     returns-2)

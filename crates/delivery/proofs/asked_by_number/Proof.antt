@@ -5,21 +5,12 @@ use borrow.Author.Needs.{needs}
 use Rattle.delivery.proofs.asked_by_number.Statement.{statement}
 use Rattle.delivery.proofs.asked_by_number.Tie as tie
 
-asking-requires : tie.Need-asking-requires
-asking-requires c κs = search needs
-
 returns : tie.Need-returns
 returns c = rw (eq-eqb _ _ (c .before .if1 .taken)) (c .asking .ensures)
-
-cast-t6 : tie.Need-cast-t6
-cast-t6 c = search needs
-
-in-numbers-requires : tie.Need-in-numbers-requires
-in-numbers-requires c κs = search needs
 
 returns-2 : tie.Need-returns-2
 returns-2 c = rw (ne-eqb _ _ (c .before .before .before .if1 .left)) (ap asked.Malformed (c .in-numbers .ensures))
 
 pub asked-by-number-spec : {M : Type 1} → statement M
 asked-by-number-spec =
-    tie.close (tie.spec asking-requires returns cast-t6 in-numbers-requires returns-2)
+    tie.close (tie.spec (λ c κs. search needs) returns (λ c. search needs) (λ c κs. search needs) returns-2)

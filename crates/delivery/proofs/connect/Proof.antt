@@ -5,11 +5,8 @@ use borrow.Author.Needs.{needs}
 use Rattle.delivery.proofs.connect.Statement.{statement}
 use Rattle.delivery.proofs.connect.Tie as tie
 
-begin-requires : tie.Need-begin-requires
-begin-requires c κs = search needs
-
 returns : tie.Need-returns
 returns c = record { state = ap (λ (t : State). delivery t (c .before .before .args .s)) (c .before .begin .ensures .state); verdict = c .before .begin .ensures .verdict }
 
 pub connect-spec : {M : Type 1} → statement M
-connect-spec = tie.close (tie.spec begin-requires returns)
+connect-spec = tie.close (tie.spec (λ c κs. search needs) returns)

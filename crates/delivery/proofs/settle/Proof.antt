@@ -7,42 +7,6 @@ use Rattle.delivery.proofs.settle.Tie as tie
 enum-told : tie.Need-enum-told
 enum-told c = search needs
 
-done-requires : tie.Need-done-requires
-done-requires c κs = search needs
-
-enum-known-asked : tie.Need-enum-known-asked
-enum-known-asked c = search needs
-
-ack-requires : tie.Need-ack-requires
-ack-requires c κs = search needs
-
-answered-requires : tie.Need-answered-requires
-answered-requires c κs = search needs
-
-enum-known-asked-2 : tie.Need-enum-known-asked-2
-enum-known-asked-2 c = search needs
-
-reconnect-requires : tie.Need-reconnect-requires
-reconnect-requires c κs = search needs
-
-answered-requires-2 : tie.Need-answered-requires-2
-answered-requires-2 c κs = search needs
-
-enum-known-asked-3 : tie.Need-enum-known-asked-3
-enum-known-asked-3 c = search needs
-
-reset-requires : tie.Need-reset-requires
-reset-requires c κs = search needs
-
-answered-requires-3 : tie.Need-answered-requires-3
-answered-requires-3 c κs = search needs
-
-enum-known-asked-4 : tie.Need-enum-known-asked-4
-enum-known-asked-4 c = search needs
-
-done-requires-2 : tie.Need-done-requires-2
-done-requires-2 c κs = search needs
-
 returns : tie.Need-returns
 returns c = rw (c .before .enum-told .given .1) (c .done .ensures)
 
@@ -63,18 +27,18 @@ settle-spec =
     tie.close
     (tie.spec
     enum-told
-    done-requires
-    enum-known-asked
-    ack-requires
-    answered-requires
-    enum-known-asked-2
-    reconnect-requires
-    answered-requires-2
-    enum-known-asked-3
-    reset-requires
-    answered-requires-3
-    enum-known-asked-4
-    done-requires-2
+    (λ c κs. search needs)
+    (λ c. search needs)
+    (λ c κs. search needs)
+    (λ c κs. search needs)
+    (λ c. search needs)
+    (λ c κs. search needs)
+    (λ c κs. search needs)
+    (λ c. search needs)
+    (λ c κs. search needs)
+    (λ c κs. search needs)
+    (λ c. search needs)
+    (λ c κs. search needs)
     returns
     returns-2
     returns-3

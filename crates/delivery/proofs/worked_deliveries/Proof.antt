@@ -1,13 +1,13 @@
-use mathlib.Core.Path.{refl, sym, ap}
-use mathlib.Core.List.{List, map}
+use mathlib.Core.Path.{_≡_, refl, sym, ap, _∙_}
+use mathlib.Core.List.{List, [], _∷_, _++_, map}
 use mathlib.Core.Bool.{true≢false}
 use Prim.Native.Nat.{ℕ}
 use native.Mathlib.Omega.{arith}
-use lib.ListN.{take, drop}
+use lib.ListN.{length, take, drop, set}
 use Rattle.buffer.specs.Le.{numberAt}
 use Rattle.crc32c.specs.Crc.{crcOf, steps, step}
 use Rattle.banner.specs.Bits.{missing, lowestBit, bitCount}
-use Rattle.banner.specs.Banner.{judgeFeatures}
+use Rattle.banner.specs.Banner.{bannerBytes, judgeFeatures}
 use Rattle.preamble.specs.Judge.{shapeFault, limitFault, headerOf, judgeFields, judgePreamble}
 use Rattle.body.specs.End.{ending}
 use Rattle.fields.specs.Layout.{stepOf}
@@ -18,11 +18,18 @@ use Rattle.stream.specs.Rows.{Holds}
 use Rattle.secure.specs.Reading.{sealedTrace}
 use Rattle.connection.specs.Switched.{Switch, none, behind, traceWith}
 use Rattle.connection.specs.Calls.{SwitchedDemand3}
-use Rattle.session.specs.Calls.{heldFrom, agrees, judgeState, judgeAccept, judgeAck, acceptOf, ackOf, reconnectOf, resetOf, found, heldAt}
-use Rattle.session.specs.Laws.{answersOf}
-use Rattle.delivery.specs.Asked.{askedByFrame}
-use Rattle.delivery.specs.Calls.{receives}
-use Rattle.delivery.specs.Worked.{ours, store, ack1, split, Any, faultRows, heldRows, resultRows, frameRows, tagRows, acked, reset0, Reasons, Worked}
+use Rattle.session.specs.declared.Session.{Session}
+use Rattle.session.specs.declared.Report.{Report}
+use Rattle.session.specs.declared.Report.the-variants.{Resend}
+use Rattle.session.specs.Calls.{heldFrom, heldOf, freshSession, agrees, judgeState, judgeAccept, judgeAck, acceptOf, ackOf, reconnectOf, resetOf, found, heldAt}
+use Rattle.session.specs.Laws as session
+use Rattle.session.specs.Laws.{callOf, answersOf}
+use Rattle.delivery.specs.Asked.{askedByFrame, ConnectedWith}
+use Rattle.delivery.specs.Calls.{Chained, sessionAfter, Connection, Connects, Cause, sends, hands, receives, callsDue}
+use Rattle.delivery.specs.Worked.{ours, store, ack1, split, acked, Any, faultRows, second, heldRows, resultRows, brokenRows, answerRows, reading, resumed, Resumes, frameRows, tagRows, resetRows, segmentRows, reset0, reset2, twoWhole, twoAborted, tag10, Reasons, Worked}
+use Rattle.delivery.proofs.Earlier.{upTo}
+use Rattle.delivery.proofs.Reasons.{afterCalls}
+use Rattle.delivery.proofs.Played.{all-played}
 use Rattle.delivery.proofs.Uncovered.{Holding, uncovered, quiet-holds}
 use Rattle.delivery.proofs.Quiet.{Quiet, QuietBehind, quiet-spliced, releases-nothing}
 use Rattle.delivery.proofs.Acks.{short, sealed-ack}
@@ -67,19 +74,120 @@ result-rows-hold : Holds resultRows
 unfolding resultRows agrees judgeState judgeAccept judgeAck acceptOf ackOf reconnectOf resetOf heldFrom found heldAt answersOf
 result-rows-hold = refl
 
+broken-rows-hold : Holds brokenRows
+unfolding brokenRows agrees judgeState judgeAck ackOf reconnectOf resetOf
+broken-rows-hold = refl
+
+answer-rows-hold : Holds answerRows
+unfolding answerRows agrees judgeState judgeAccept judgeAck acceptOf ackOf heldFrom
+answer-rows-hold = refl
+
+reset-rows-hold : Holds resetRows
+unfolding resetRows numberAt stepOf layoutIn settled readBody askedByFrame
+reset-rows-hold = refl
+
+segment-rows-hold : Holds segmentRows
+unfolding segmentRows numberAt stepOf layoutIn settled readBody askedByFrame
+segment-rows-hold = refl
+
+-- ---- the whole acknowledgement, and a connection that is resumed
+
+acked-once : callsDue (map receives (upTo (length acked) (traceOf ours acked store .entries))) ≡ session.ack 1 ∷ []
+unfolding numberAt crcOf steps step missing lowestBit bitCount judgeFeatures shapeFault limitFault headerOf judgeFields judgePreamble ending frames streamTrace traceOf stepOf layoutIn settled readBody askedByFrame
+acked-once = refl
+
+acked-none : upTo 0 (traceOf ours acked store .entries) ≡ []
+unfolding numberAt crcOf steps step missing lowestBit bitCount judgeFeatures shapeFault limitFault headerOf judgeFields judgePreamble ending frames streamTrace traceOf stepOf layoutIn settled readBody askedByFrame
+acked-none = refl
+
+resumed-once : callsDue (map receives (upTo (length resumed) (traceOf ours resumed store .entries))) ≡ session.reconnect 1 ∷ []
+unfolding numberAt crcOf steps step missing lowestBit bitCount judgeFeatures shapeFault limitFault headerOf judgeFields judgePreamble ending frames streamTrace traceOf stepOf layoutIn settled readBody askedByFrame
+resumed-once = refl
+
+resumed-none : upTo 0 (traceOf ours resumed store .entries) ≡ []
+unfolding numberAt crcOf steps step missing lowestBit bitCount judgeFeatures shapeFault limitFault headerOf judgeFields judgePreamble ending frames streamTrace traceOf stepOf layoutIn settled readBody askedByFrame
+resumed-none = refl
+
+-- two messages were sent
+abbrev two : Session
+two = afterCalls freshSession (session.accept 7 ∷ session.accept 8 ∷ [])
+
+held-two : heldOf (callOf two (session.reconnect 1) .session) ≡ second ∷ []
+unfolding agrees judgeState judgeAccept judgeAck acceptOf reconnectOf heldFrom
+held-two = refl
+
+told-two : callOf two (session.reconnect 1) .report ≡ Resend 1
+unfolding agrees judgeState judgeAccept judgeAck acceptOf reconnectOf heldFrom
+told-two = refl
+
+connected : (s : Session) (k : Connection) (ks : List Connection) → Connects s (k ∷ ks) → ConnectedWith s (k .own) (k .connected)
+connected s k ks c = c .0
+
+chained : (s : Session) (k : Connection) (ks : List Connection) → Connects s (k ∷ ks) → Chained (k .stream) (k .connected .state) (k .store) 0 (k .calls)
+chained s k ks c = c .1
+
+others : (s : Session) (k : Connection) (ks : List Connection) → Connects s (k ∷ ks) → Connects (sessionAfter s (k .calls)) ks
+others s k ks c = c .2
+
+resumes : SwitchedDemand3 → Resumes
+resumes demand k l cs ds c sent switch own all =
+    let a = reading split k cs in
+    let b = reading resumed l ds in
+    let s : Session = sessionAfter freshSession cs in
+    let later : Connects s (b ∷ []) = others freshSession a (b ∷ []) c in
+    let q : s ≡ two =
+    releases-nothing demand Any split split-any freshSession k cs (connected freshSession a (b ∷ []) c) (chained freshSession a (b ∷ []) c) tt
+    ∙ ap (afterCalls freshSession) sent in
+    let r =
+    all-played demand none resumed (length resumed) (session.reconnect 1) (traceOf ours resumed store .entries) refl resumed-none resumed-once s l ds (connected s b [] later) (chained s b [] later) switch own all in (
+      ap heldOf (r .0 ∙ ap (λ (x : Session). callOf x (session.reconnect 1) .session) q) ∙ held-two,
+      r .1 ∙ ap (λ (x : Session). callOf x (session.reconnect 1) .report ∷ []) q ∙ ap (λ (x : Report). x ∷ []) told-two,
+    )
+
+-- ---- what is no reason
+
+abbrev entriesBehind : List ℕ → List Cause
+entriesBehind frames = map receives (traceOf ours (bannerBytes 1 0 ++ frames) store .entries)
+
 acked-holds : Holding 2 (map receives (traceOf ours acked store .entries))
 unfolding numberAt crcOf steps step missing lowestBit bitCount judgeFeatures shapeFault limitFault headerOf judgeFields judgePreamble ending frames streamTrace traceOf stepOf layoutIn settled readBody askedByFrame
 acked-holds = (refl, (refl, (refl, tt)))
 
-reset-holds : (m : ℕ) → Holding m (map receives (traceOf ours reset0 store .entries))
+reset0-holds : (m : ℕ) → Holding m (entriesBehind reset0)
 unfolding numberAt crcOf steps step missing lowestBit bitCount judgeFeatures shapeFault limitFault headerOf judgeFields judgePreamble ending frames streamTrace traceOf stepOf layoutIn settled readBody askedByFrame
-reset-holds m = (refl, (refl, tt))
+reset0-holds m = (refl, (refl, tt))
+
+reset2-holds : (m : ℕ) → Holding m (entriesBehind reset2)
+unfolding numberAt crcOf steps step missing lowestBit bitCount judgeFeatures shapeFault limitFault headerOf judgeFields judgePreamble ending frames streamTrace traceOf stepOf layoutIn settled readBody askedByFrame
+reset2-holds m = (refl, (refl, tt))
+
+whole-holds : (m : ℕ) → Holding m (entriesBehind twoWhole)
+unfolding numberAt crcOf steps step missing lowestBit bitCount judgeFeatures shapeFault limitFault headerOf judgeFields judgePreamble ending frames streamTrace traceOf stepOf layoutIn settled readBody askedByFrame
+whole-holds m = (refl, (refl, (refl, tt)))
+
+aborted-holds : (m : ℕ) → Holding m (entriesBehind twoAborted)
+unfolding numberAt crcOf steps step missing lowestBit bitCount judgeFeatures shapeFault limitFault headerOf judgeFields judgePreamble ending frames streamTrace traceOf stepOf layoutIn settled readBody askedByFrame
+aborted-holds m = (refl, (refl, (refl, tt)))
+
+tag-holds : (m : ℕ) → Holding m (entriesBehind tag10)
+unfolding numberAt crcOf steps step missing lowestBit bitCount judgeFeatures shapeFault limitFault headerOf judgeFields judgePreamble ending frames streamTrace traceOf stepOf layoutIn settled readBody askedByFrame
+tag-holds m = (refl, (refl, tt))
+
+damaged-holds : (m : ℕ) → Holding m (entriesBehind (set ack1 32 3))
+unfolding numberAt crcOf steps step missing lowestBit bitCount judgeFeatures shapeFault limitFault headerOf judgeFields judgePreamble ending frames streamTrace traceOf stepOf layoutIn settled readBody askedByFrame
+damaged-holds m = (refl, (refl, tt))
 
 reasons : Reasons
 reasons = record {
   unfinished = λ sw m. uncovered m (map receives (traceWith sw ours split store .entries)) (quiet-holds m (traceWith sw ours split store .entries) (split-any sw tt));
   other = uncovered 2 (map receives (traceOf ours acked store .entries)) acked-holds;
-  notFull = λ m. uncovered m (map receives (traceOf ours reset0 store .entries)) (reset-holds m);
+  lower = uncovered 3 (sends 9 ∷ hands 2 ∷ []) (refl, (refl, tt));
+  notFull = λ m. uncovered m (entriesBehind reset0) (reset0-holds m);
+  neitherFull = λ m. uncovered m (entriesBehind reset2) (reset2-holds m);
+  segments = λ m. uncovered m (entriesBehind twoWhole) (whole-holds m);
+  aborted = λ m. uncovered m (entriesBehind twoAborted) (aborted-holds m);
+  otherTag = λ m. uncovered m (entriesBehind tag10) (tag-holds m);
+  damaged = λ m. uncovered m (entriesBehind (set ack1 32 3)) (damaged-holds m);
 }
 
 table : SwitchedDemand3 → Worked
@@ -88,19 +196,22 @@ table demand = (
   refl,
   fault-rows-hold,
   releases-nothing demand Any split split-any,
+  all-played demand none acked (length acked) (session.ack 1) (traceOf ours acked store .entries) refl acked-none acked-once,
+  resumes demand,
   held-rows-hold,
   result-rows-hold,
+  broken-rows-hold,
+  answer-rows-hold,
   frame-rows-hold,
   tag-rows-hold,
+  reset-rows-hold,
+  segment-rows-hold,
   reasons,
   (λ key nonce. sealed-ack key nonce demand),
 )
-
-every-cutting-requires : tie.Need-every-cutting-requires
-every-cutting-requires c κs = search needs
 
 returns : tie.Need-returns
 returns c = table (c .every-cutting .ensures)
 
 pub worked-deliveries-spec : {M : Type 1} → statement M
-worked-deliveries-spec = tie.close (tie.spec every-cutting-requires returns)
+worked-deliveries-spec = tie.close (tie.spec (λ c κs. search needs) returns)

@@ -8,21 +8,6 @@ use Rattle.plain_delivery.proofs.settle_words.Tie as tie
 enum-told : tie.Need-enum-told
 enum-told c = search needs
 
-no-effect-requires : tie.Need-no-effect-requires
-no-effect-requires c κs = search needs
-
-session-of-requires : tie.Need-session-of-requires
-session-of-requires c κs = search needs
-
-settle-requires : tie.Need-settle-requires
-settle-requires c κs = search needs
-
-session-numbers-requires : tie.Need-session-numbers-requires
-session-numbers-requires c κs = search needs
-
-effect-words-requires : tie.Need-effect-words-requires
-effect-words-requires c κs = search needs
-
 returns : tie.Need-returns
 returns c =
     let z = c .before .before .before .args in
@@ -39,10 +24,10 @@ settle-words-spec =
     tie.close
     (tie.spec
     enum-told
-    no-effect-requires
-    session-of-requires
-    settle-requires
-    session-numbers-requires
-    effect-words-requires
+    (λ c κs. search needs)
+    (λ c κs. search needs)
+    (λ c κs. search needs)
+    (λ c κs. search needs)
+    (λ c κs. search needs)
     returns
     returns-2)
