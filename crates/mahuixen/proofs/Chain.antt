@@ -23,7 +23,7 @@ use Rattle.connection.specs.Calls.{Call, Chained, SwitchedDemand3}
 use Rattle.connection.proofs.Laws.{contradicted, mode-is}
 use Rattle.plain_receiver.specs.Words.{numberOf}
 use Rattle.plain_receiver.specs.Words as crc
-use Rattle.plain_connection.specs.Words.{PlainConnection, connectionOf, plainOf, fits, StandsFor, PlainOf, next, PlainReceived, handed, takenIn, PlainAnswer, PlainAnswered, PlainSwitched, switchedWords, switchedBy, plainSwitch, PlainSwitchedWith}
+use Rattle.plain_connection.specs.Words.{PlainConnection, connectionOf, plainOf, fits, StandsFor, PlainOf, next, PlainReceived, handed, kindIn, takenIn, PlainAnswer, PlainAnswered, PlainSwitched, switchedWords, switchedBy, plainSwitch, PlainSwitchedWith}
 use Rattle.plain_connection.proofs.Calls.{taken-word, answer-by, answered-by, judged-within, all-three}
 use Rattle.mahuixen.specs.Calls.{PlainPiece, PlainTry, PlainCall, taking, switching, PlainChained, plainReceived, plainSwitched, plainCalls, PlainDemand3}
 
@@ -140,8 +140,9 @@ pub record AsCalls (stream : List ℕ) (st : State) (s : List ℕ) (t : ℕ) (ps
   pub plain : ps ≡ plainCalls calls
   pub chained : Chained stream st s t calls
 
-same-piece : {c : PlainPiece} {r : PlainReceived} {s : List ℕ} → c .received ≡ r → c .store ≡ s → c ≡ record { size = c .size; received = r; store = s }
-same-piece e f = rw (← e, ← f)
+same-piece : {c : PlainPiece} {r : PlainReceived} {s : List ℕ} → c .number ≡ kindIn (c .received) → c .received ≡ r → c .store ≡ s
+    → c ≡ record { size = c .size; number = kindIn r; received = r; store = s }
+same-piece k e f = rw (← e, ← f, ← k)
 
 same-try : {c : PlainTry} {r : PlainSwitched} → c .switched ≡ r → c ≡ record { key = c .key; receiving = c .receiving; sending = c .sending; switched = r }
 same-try e = rw (← e)
@@ -150,12 +151,12 @@ pub as-calls : (stream : List ℕ) (st : State) (p : PlainConnection) (s : List 
 as-calls stream st p s t [] w h = record { calls = []; plain = refl; chained = tt }
 as-calls stream st p s t (taking c ∷ ps) w h =
     let a = answer st s (pieceAt stream t (c .size)) in
-    let o = plain-form st p s (pieceAt stream t (c .size)) (c .received) (c .store) w (h .0) in
+    let o = plain-form st p s (pieceAt stream t (c .size)) (c .received) (c .store) w (h .0 .answered) in
     let n : takenIn (c .received) ≡ a .received .taken = ap takenIn (o .received) ∙ taken-word (a .received .taken) (a .received .report) in
     let on = as-calls stream (a .received .state) (c .received .state) (a .store) (t + a .received .taken) ps (o .next) (rw (n, o .store) at (h .1)) in
     record {
       calls = connection.taking (record { size = c .size; received = a .received; store = a .store }) ∷ on .calls;
-      plain = ap₂ _∷_ (ap taking (same-piece (o .received) (o .store))) (on .plain);
+      plain = ap₂ _∷_ (ap taking (same-piece (h .0 .kind) (o .received) (o .store))) (on .plain);
       chained = (record { received = refl; store = refl }, on .chained);
     }
 as-calls stream st p s t (switching c ∷ ps) w h =

@@ -26,7 +26,7 @@ use Rattle.connection.specs.Calls.{Piece}
 use Rattle.connection.proofs.Laws.{mode-is}
 use Rattle.connection.proofs.Machines.{before, crcSide}
 use Rattle.connection.proofs.Parted.{Stands, runs, refuses, next-stands}
-use Rattle.plain_connection.specs.Words.{PlainConnection, PlainOf, PlainReceived, takenIn}
+use Rattle.plain_connection.specs.Words.{PlainConnection, PlainOf, PlainReceived, kindIn, takenIn}
 use Rattle.plain_connection.proofs.Calls.{taken-word}
 use Rattle.mahuixen.specs.Calls.{PlainPiece, PlainChained, plainReceived}
 use Rattle.mahuixen.specs.Demands.{OfCrc, PlainAnyCall, PlainHanded, AnyOfCrc, pieces, PiecesOfCrc}
@@ -94,17 +94,17 @@ module _ (st : State) (s piece : List ℕ) (m : st .mode ≡ mode.Crc) (q : read
   rule-kept = inner-by (crc-states.agrees (st .crc)) (isRefused (st .crc .position .stage)) (ltb (length s) (crc.neededBy (st .crc))) refl refl refl
 
   -- ---- what a call on the words of such a state is
-  pub record CrcForm (o : PlainReceived) (s′ : List ℕ) : Type 0 where
-    pub same : OfCrc o (inner .received)
+  pub record CrcForm (n : ℕ) (o : PlainReceived) (s′ : List ℕ) : Type 0 where
+    pub same : OfCrc n o (inner .received)
     pub store : s′ ≡ inner .store
     pub taken : takenIn o ≡ inner .received .taken
     pub next : PlainOf (byCrc st inner .received .state) (o .state)
 
-  pub crc-form : (o : PlainReceived) (s′ : List ℕ) → PlainForm st s piece o s′ → CrcForm o s′
-  crc-form o s′ f =
+  pub crc-form : (n : ℕ) (o : PlainReceived) (s′ : List ℕ) → n ≡ kindIn o → PlainForm st s piece o s′ → CrcForm n o s′
+  crc-form n o s′ k f =
       let e : o ≡ plainReceived (byCrc st inner .received) = f .received ∙ ap (λ (a : Answer). plainReceived (a .received)) by-crc in
       record {
-        same = record { state = ap (λ (x : PlainReceived). x .state .crc) e; report = ap (λ (x : PlainReceived). x .report) e };
+        same = record { number = k; state = ap (λ (x : PlainReceived). x .state .crc) e; report = ap (λ (x : PlainReceived). x .report) e };
         store = f .store ∙ ap (λ (a : Answer). a .store) by-crc;
         taken = ap takenIn e ∙ taken-word (inner .received .taken) (inner .received .report);
         next = subst (λ (a : Answer). PlainOf (a .received .state) (o .state)) by-crc (f .next);
@@ -123,7 +123,7 @@ crc-pieces stream st p s t [] w m q h = record { calls = []; plain = tt; chained
 crc-pieces stream st p s t (c ∷ ps) w m q h =
     let piece = pieceAt stream t (c .size) in
     let a = crc.answer (st .crc) s piece in
-    let o = crc-form st s piece m q (c .received) (c .store) (plain-form st p s piece (c .received) (c .store) w (h .0)) in
+    let o = crc-form st s piece m q (c .number) (c .received) (c .store) (h .0 .kind) (plain-form st p s piece (c .received) (c .store) w (h .0 .answered)) in
     let on =
     crc-pieces stream (byCrc st a .received .state) (c .received .state) (a .store) (t + a .received .taken) ps (o .next) m (rule-kept st s piece m q)
     (rw (o .taken, o .store) at (h .1)) in
@@ -142,7 +142,7 @@ pub crc-calls : (st : State) (p : PlainConnection) (ps : List PlainAnyCall) → 
 crc-calls st p [] w m q h = record { calls = []; plain = tt; handed = tt }
 crc-calls st p (c ∷ ps) w m q h =
     let a = crc.answer (st .crc) (c .lent) (c .piece) in
-    let o = crc-form st (c .lent) (c .piece) m q (c .received) (c .store) (plain-form st p (c .lent) (c .piece) (c .received) (c .store) w (h .0)) in
+    let o = crc-form st (c .lent) (c .piece) m q (c .number) (c .received) (c .store) (h .0 .kind) (plain-form st p (c .lent) (c .piece) (c .received) (c .store) w (h .0 .answered)) in
     let on = crc-calls (byCrc st a .received .state) (c .received .state) ps (o .next) m (rule-kept st (c .lent) (c .piece) m q) (h .1) in
     record {
       calls = record { lent = c .lent; piece = c .piece; received = a .received; store = a .store } ∷ on .calls;

@@ -1,13 +1,13 @@
 -- Demands 1 and 2 of calls by C, from those of the calls that they are.
 use mathlib.Core.Path.{_≡_, refl, sym, ap, ap₂, subst, _∙_}
 use mathlib.Core.List.{List, [], _∷_, _++_}
-use mathlib.Core.Bool.{Bool, true, false, cond, _&&_, and-true}
+use mathlib.Core.Bool.{Bool, true, false, _&&_}
 use Prim.Native.Nat.{ℕ, _+_, _<_}
 use native.Mathlib.Omega.{arith}
 use Rattle.refusal.specs.declared.Numbers.{Numbers}
 use Rattle.refusal.specs.declared.Refusal.the-variants.{StateContradicts}
 use Rattle.refusal.specs.Refusals.{numbersOf}
-use Rattle.refusal.proofs.Booleans.{both-left, both-right}
+use Rattle.refusal.proofs.Booleans.{both-left}
 use Rattle.banner.specs.declared.Features.{Features}
 use Rattle.builder.specs.declared.Built.the-variants as built
 use Rattle.builder.specs.Build as build
@@ -15,33 +15,31 @@ use Rattle.banner.specs.declared.Revision.{Revision}
 use Rattle.builder.specs.Build.{frameDone, bannerDone}
 use Rattle.stream.specs.declared.Event.the-variants as event
 use Rattle.receiver.specs.declared.State as crc-state
-use Rattle.receiver.specs.declared.Received as crc-received
 use Rattle.receiver.specs.declared.Report.{Report}
 use Rattle.receiver.specs.declared.Report.the-variants as report
-use Rattle.receiver.specs.State as crc-states
-use Rattle.receiver.specs.Step as crc
 use Rattle.receiver.specs.Step.{contradiction, started}
-use Rattle.receiver.specs.Every.{Sound, EveryCall}
-use Rattle.sealed_receiver.specs.State as sealed-states
+use Rattle.receiver.specs.Every as receiver
 use Rattle.connection.specs.declared.Mode.{Mode}
 use Rattle.connection.specs.declared.Mode.the-variants as mode
 use Rattle.connection.specs.declared.State.{State}
-use Rattle.connection.specs.Step.{isSecure, begun, readyAfter, readyRule, agrees, Answer, byCrc, answer}
+use Rattle.connection.specs.declared.Received.{Received}
+use Rattle.connection.specs.Step.{begun, readyRule, agreesInUse, agrees, Answer, answer, Answered}
+use Rattle.connection.specs.Every as connection
+use Rattle.connection.specs.Every.{Sound}
 use Rattle.ends.specs.Handed.{HandedOver}
 use Rattle.ends.specs.Trip.{Build, Accepts, bytesOf, RoundTrip}
 use Rattle.ends.specs.Ends.{Queued, Link, Linked, sentBy, TwoEnds}
 use Rattle.plain.specs.declared.Written.{Written}
-use Rattle.plain.specs.Words.{within, markNumber, revisionOf, plainRefused, PlainDone, plainDone, headerAt, headerLimits}
+use Rattle.plain.specs.Words.{within, revisionOf, plainRefused, PlainDone, plainDone, headerAt, headerLimits}
 use Rattle.plain.proofs.Headers.{header-fits}
-use Rattle.plain_receiver.specs.Words as crc-words
 use Rattle.plain_receiver.specs.Words.{reportWords}
 use Rattle.plain_receiver.proofs.Back.{refused-back}
-use Rattle.plain_connection.specs.Words.{PlainConnection, connected, connectionOf, fits, StandsFor, PlainOf, following, PlainReceived, handed, PlainAnswer, plainly, contradicts, plainAnswer, PlainAnswered}
-use Rattle.plain_connection.proofs.Calls.{answer-by, answered-by, crc-of}
+use Rattle.plain_connection.specs.Words.{PlainConnection, connectionOf, fits, PlainOf, following, next, PlainReceived, handed, kindIn, PlainAnswer, plainly, contradicts, ReceivedBy}
+use Rattle.plain_connection.proofs.Calls.{answer-by, answered-by}
 use Rattle.plain_builder.specs.Words.{plainBuilt, inPlain, plainFrame}
 use Rattle.mahuixen.specs.Calls.{PlainPiece, PlainChained}
-use Rattle.mahuixen.specs.Demands.{OfCrc, InnerCall, PlainRefuses, PlainDemand1, pieces, PlainAccepts, PlainQueued, PlainLinked, PlainDemand2}
-use Rattle.mahuixen.proofs.Crc.{by-crc, rule-kept, CrcPieces, crc-pieces, CrcCalls, crc-calls}
+use Rattle.mahuixen.specs.Demands.{InnerCall, PlainRefuses, PlainDemand1, pieces, PlainAccepts, PlainQueued, PlainLinked, PlainDemand2}
+use Rattle.mahuixen.proofs.Crc.{CrcPieces, crc-pieces, CrcCalls, crc-calls}
 
 -- ---- demand 1
 
@@ -50,114 +48,89 @@ started-crc : (own : Features) → (begun own .mode ≡ mode.Crc) × ((readyRule
 unfolding begun
 started-crc own = (refl, (refl, refl))
 
-crc-mode : (p : PlainConnection) → p .mode ≡ 0 → connectionOf p .mode ≡ mode.Crc
-unfolding connectionOf
-crc-mode p e = rw e
-
-crc-agrees : (st : State) → st .mode ≡ mode.Crc → agrees st ≡ true → (readyRule st ≡ true) × (crc-states.agrees (st .crc) ≡ true)
+ready-of : (st : State) → agrees st ≡ true → readyRule st ≡ true
 unfolding agrees
-crc-agrees st m e =
-    let f : (readyRule st && crc-states.agrees (st .crc)) ≡ true = ap (λ (x : Mode). readyRule st && cond (isSecure x) (sealed-states.agrees (st .secure)) (crc-states.agrees (st .crc))) (sym m) ∙ e in
-    (both-left (readyRule st) (crc-states.agrees (st .crc)) f, both-right (readyRule st) (crc-states.agrees (st .crc)) f)
+ready-of st e = both-left (readyRule st) (agreesInUse st) e
 
-as-one : {r : crc-received.Received} {st : crc-state.State} {n : ℕ} {e : Report} → r .state ≡ st → r .taken ≡ n → r .report ≡ e → r ≡ record { state = st; taken = n; report = e }
+as-one : {r : Received} {st : State} {n : ℕ} {e : Report} → r .state ≡ st → r .taken ≡ n → r .report ≡ e → r ≡ record { state = st; taken = n; report = e }
 as-one p q u = rw (← p, ← q, ← u)
 
--- the words that follow from these where the receiver answers so
-abbrev answeredBy : PlainConnection → Bool → crc-received.Received → PlainReceived
-answeredBy p ready r = handed (connected 0 (markNumber (readyAfter ready (r .taken) (r .report))) (crc-words.plainOf (r .state)) (p .secure)) (reportWords (r .taken) (r .report))
+-- the words of a state that follow from others follow from themselves
+next-again : (p : PlainConnection) (st : State) → next (next p st) st ≡ next p st
+next-again p st = go (st .mode)
+  where
+    go : (m : Mode) → following m (following m p st) st ≡ following m p st
+    go mode.Crc = refl
+    go mode.Secure = refl
 
 and-false : (b : Bool) → (b && false) ≡ false
 and-false true = refl
 and-false false = refl
 
-module _ (every : EveryCall) where
-  sound-of : (st : crc-state.State) (s piece : List ℕ) (s′ : List ℕ) → s′ ≡ crc.answer st s piece .store → Sound st s piece (crc.answer st s piece .received) s′
-  unfolding EveryCall
-  sound-of st s piece s′ e = every .1 st s piece (crc.answer st s piece .received) s′ (record { received = refl; store = e })
+module _ (every : connection.EveryCall) where
+  sound-of : (st : State) (s piece : List ℕ) (r : Received) (s′ : List ℕ) → Answered st s piece r s′ → Sound st s piece r s′
+  unfolding connection.EveryCall
+  sound-of st s piece r s′ h = every .1 st s piece r s′ h
 
-  module _ (p : PlainConnection) (s piece : List ℕ) (r : PlainReceived) (s′ : List ℕ) (h : PlainAnswered p s piece r s′) where
-    away : (fits p && readyRule (connectionOf p)) ≡ false → PlainRefuses p contradiction s r s′
+  module _ (p : PlainConnection) (s piece : List ℕ) (n : ℕ) (r : PlainReceived) (s′ : List ℕ) (h : ReceivedBy p s piece n r s′) where
+    abbrev a : Answer
+    a = answer (connectionOf p) s piece
+
+    away : (fits p && readyRule (connectionOf p)) ≡ false → PlainRefuses p contradiction s n r s′
     away e =
-        let a = answer-by p s piece false e in
-        let u : r ≡ contradicts p = h .received ∙ ap (λ (x : PlainAnswer). x .received) a in
-        record { state = ap (λ (x : PlainReceived). x .state) u; report = ap (λ (x : PlainReceived). x .report) u; store = h .store ∙ ap (λ (x : PlainAnswer). x .store) a }
+        let x = answer-by p s piece false e in
+        let u : r ≡ contradicts p = h .answered .received ∙ ap (λ (y : PlainAnswer). y .received) x in
+        record {
+          number = h .kind ∙ ap kindIn u;
+          state = ap (λ (y : PlainReceived). y .state) u;
+          report = ap (λ (y : PlainReceived). y .report) u;
+          store = h .answered .store ∙ ap (λ (y : PlainAnswer). y .store) x;
+        }
 
     module _ (k : fits p ≡ true) (q : readyRule (connectionOf p) ≡ true) where
-      plain-is : plainAnswer p s piece ≡ plainly p (answer (connectionOf p) s piece)
-      plain-is = answered-by p s piece (connectionOf p) refl k q
+      received-is : r ≡ plainly p a .received
+      received-is = h .answered .received ∙ ap (λ (y : PlainAnswer). y .received) (answered-by p s piece (connectionOf p) refl k q)
 
-      received-is : r ≡ plainly p (answer (connectionOf p) s piece) .received
-      received-is = h .received ∙ ap (λ (x : PlainAnswer). x .received) plain-is
+      store-is : s′ ≡ a .store
+      store-is = h .answered .store ∙ ap (λ (y : PlainAnswer). y .store) (answered-by p s piece (connectionOf p) refl k q)
 
-      store-is : s′ ≡ answer (connectionOf p) s piece .store
-      store-is = h .store ∙ ap (λ (x : PlainAnswer). x .store) plain-is
+      inner : InnerCall p s piece n r s′
+      inner =
+          let d : Answered (connectionOf p) s piece (a .received) s′ = record { received = refl; store = store-is } in
+          record { received = a .received; number = h .kind; plain = received-is; answered = d; sound = sound-of (connectionOf p) s piece (a .received) s′ d }
 
-      abbrev a : crc.Answer
-      a = crc.answer (connectionOf p .crc) s piece
-
-      module _ (m : connectionOf p .mode ≡ mode.Crc) where
-        crc-is : r ≡ plainly p (byCrc (connectionOf p) a) .received
-        crc-is = received-is ∙ ap (λ (x : Answer). plainly p x .received) (by-crc (connectionOf p) s piece m q)
-
-        words-are : r ≡ answeredBy p (connectionOf p .ready) (a .received)
-        words-are = crc-is ∙ ap (λ (x : Mode). handed (following x p (byCrc (connectionOf p) a .received .state)) (reportWords (a .received .taken) (a .received .report))) m
-
-        of-crc : OfCrc r (a .received)
-        of-crc = record { state = ap (λ (x : PlainReceived). x .state .crc) words-are; report = ap (λ (x : PlainReceived). x .report) words-are }
-
-        crc-store : s′ ≡ a .store
-        crc-store = store-is ∙ ap (λ (x : Answer). x .store) (by-crc (connectionOf p) s piece m q)
-
-    inner : fits p ≡ true → readyRule (connectionOf p) ≡ true → InnerCall p s piece r s′
-    inner k q = record {
-      received = answer (connectionOf p) s piece .received;
-      plain = received-is k q;
-      answered = record { received = refl; store = store-is k q };
-      sound = λ e. (let m = crc-mode p e in
-          (a k q .received, (of-crc k q m, subst (λ (x : crc-state.State). Sound x s piece (a k q .received) s′) (sym (crc-of p)) (sound-of (connectionOf p .crc) s piece s′ (crc-store k q m)))));
-    }
-
-  stays : (p : PlainConnection) (s piece : List ℕ) (r : PlainReceived) (s′ : List ℕ) → PlainAnswered p s piece r s′
-      → (n : Numbers) → fits p ≡ true → p .mode ≡ 0 → agrees (connectionOf p) ≡ true → (t : ℕ) → r .report ≡ reportWords t (report.Event (event.Refused n))
-      → (s₂ piece₂ : List ℕ) (r₂ : PlainReceived) (s₃ : List ℕ) → PlainAnswered (r .state) s₂ piece₂ r₂ s₃ → PlainRefuses (r .state) n s₂ r₂ s₃
-  stays p s piece r s′ h n k e₀ g t e s₂ piece₂ r₂ s₃ h₂ =
-      let m = crc-mode p e₀ in
-      let both = crc-agrees (connectionOf p) m g in
-      let q = both .0 in
-      let x = a p s piece r s′ h k q in
-      let w = words-are p s piece r s′ h k q m in
-      let next : State = byCrc (connectionOf p) x .received .state in
-      let told : x .received .report ≡ report.Event (event.Refused n) =
-      refused-back (x .received .taken) t (x .received .report) n (sym (of-crc p s piece r s′ h k q m .report) ∙ e) in
-      let b = subst (λ (y : Answer). StandsFor (y .received .state) (r .state)) (by-crc (connectionOf p) s piece m q) (h .back k) in
-      let k₂ = b .fit in
-      let q₂ : readyRule (connectionOf (r .state)) ≡ true = ap readyRule (b .state) ∙ rule-kept (connectionOf p) s piece m q in
-      let m₂ : connectionOf (r .state) .mode ≡ mode.Crc = ap (λ (y : State). y .mode) (b .state) ∙ m in
-      let z : crc.Answer = crc.answer (x .received .state) s₂ piece₂ in
-      let y = sound-of (connectionOf p .crc) s piece (x .store) refl .stays n (both .1) told s₂ piece₂ (z .received) (z .store) (record { received = refl; store = refl }) in
-      let again : r₂ ≡ answeredBy (r .state) (next .ready) (record { state = x .received .state; taken = 0; report = report.Event (event.Refused n) }) =
-      words-are (r .state) s₂ piece₂ r₂ s₃ h₂ k₂ q₂ m₂
-      ∙ ap (λ (v : State). answeredBy (r .state) (v .ready) (crc.answer (v .crc) s₂ piece₂ .received)) (b .state)
-      ∙ ap (answeredBy (r .state) (next .ready)) (as-one (y .state) (y .taken) (y .report)) in
+  stays : (p : PlainConnection) (s piece : List ℕ) (i : ℕ) (r : PlainReceived) (s′ : List ℕ) → ReceivedBy p s piece i r s′
+      → (n : Numbers) → fits p ≡ true → agrees (connectionOf p) ≡ true → (t : ℕ) → r .report ≡ reportWords t (report.Event (event.Refused n))
+      → (s₂ piece₂ : List ℕ) (i₂ : ℕ) (r₂ : PlainReceived) (s₃ : List ℕ) → ReceivedBy (r .state) s₂ piece₂ i₂ r₂ s₃ → PlainRefuses (r .state) n s₂ i₂ r₂ s₃
+  stays p s piece i r s′ h n k g t e s₂ piece₂ i₂ r₂ s₃ h₂ =
+      let first : r ≡ plainly p (answer (connectionOf p) s piece) .received = received-is p s piece i r s′ h k (ready-of (connectionOf p) g) in
+      let x : Received = answer (connectionOf p) s piece .received in
+      let v = sound-of (connectionOf p) s piece x (answer (connectionOf p) s piece .store) (record { received = refl; store = refl }) in
+      let told : x .report ≡ report.Event (event.Refused n) = refused-back (x .taken) t (x .report) n (sym (ap (λ (y : PlainReceived). y .report) first) ∙ e) in
+      let b = h .answered .back k in
+      let q : readyRule (connectionOf (r .state)) ≡ true = ap readyRule (b .state) ∙ ready-of (x .state) (v .agreeing g) in
+      let z : Answer = answer (x .state) s₂ piece₂ in
+      let y = v .stays n g told s₂ piece₂ (z .received) (z .store) (record { received = refl; store = refl }) in
+      let again : r₂ ≡ handed (next (r .state) (x .state)) (reportWords 0 (report.Event (event.Refused n))) =
+      received-is (r .state) s₂ piece₂ i₂ r₂ s₃ h₂ (b .fit) q
+      ∙ ap (λ (c : State). plainly (r .state) (answer c s₂ piece₂) .received) (b .state)
+      ∙ ap (λ (c : Received). handed (next (r .state) (c .state)) (reportWords (c .taken) (c .report))) (as-one (y .state) (y .taken) (y .report)) in
+      let words : r .state ≡ next p (x .state) = ap (λ (c : PlainReceived). c .state) first in
       record {
-        state =
-            ap (λ (v : PlainReceived). v .state) again
-            ∙ ap (λ (v : Bool). connected 0 (markNumber v) (crc-words.plainOf (x .received .state)) (r .state .secure)) (and-true (next .ready))
-            ∙ ap (connected 0 (markNumber (next .ready)) (crc-words.plainOf (x .received .state))) (ap (λ (v : PlainReceived). v .state .secure) w)
-            ∙ sym (ap (λ (v : PlainReceived). v .state) w);
-        report = ap (λ (v : PlainReceived). v .report) again;
-        store = crc-store (r .state) s₂ piece₂ r₂ s₃ h₂ k₂ q₂ m₂ ∙ ap (λ (v : State). crc.answer (v .crc) s₂ piece₂ .store) (b .state) ∙ y .store;
+        number = h₂ .kind ∙ ap kindIn again;
+        state = ap (λ (c : PlainReceived). c .state) again ∙ ap (λ (c : PlainConnection). next c (x .state)) words ∙ next-again p (x .state) ∙ sym words;
+        report = ap (λ (c : PlainReceived). c .report) again;
+        store = store-is (r .state) s₂ piece₂ i₂ r₂ s₃ h₂ (b .fit) q ∙ ap (λ (c : State). answer c s₂ piece₂ .store) (b .state) ∙ y .store;
       }
 
-pub demand1-in-c : EveryCall → PlainDemand1
-unfolding EveryCall
-demand1-in-c every = record {
-  sound = λ p s piece r s′ h. record {
-    beyond = λ e. away every p s piece r s′ h (rw e);
-    unready = λ e. away every p s piece r s′ h (rw e (and-false (fits p)));
-    inner = inner every p s piece r s′ h;
-    stays = stays every p s piece r s′ h;
+pub demand1-in-c : receiver.EveryCall → connection.EveryCall → PlainDemand1
+unfolding receiver.EveryCall
+demand1-in-c every calls = record {
+  sound = λ p s piece n r s′ h. record {
+    beyond = λ e. away calls p s piece n r s′ h (rw e);
+    unready = λ e. away calls p s piece n r s′ h (rw e (and-false (fits p)));
+    inner = inner calls p s piece n r s′ h;
+    stays = stays calls p s piece n r s′ h;
   };
   adds = λ own n p b ps h.
       (let z = started-crc own in
@@ -209,7 +182,7 @@ queued-in : (revision : ℕ) (buf : List ℕ) (queued : ℕ) (bs : List Build) �
 queued-in revision buf queued [] q = tt
 queued-in revision buf queued (b ∷ bs) q = (accepts revision buf queued b (q .0), queued-in revision (b .buffer) (queued + b .written) bs (q .1))
 
-linked : (revision : ℕ) (l : Link) → PlainLinked revision l → Linked (revisionOf revision) l
+pub linked : (revision : ℕ) (l : Link) → PlainLinked revision l → Linked (revisionOf revision) l
 linked revision l a = record {
   banner = record { promise = accepted-is (bannerDone (l .features .supported) (l .features .required) (l .space) (l .queued)) (a .banner) (l .buffer) (a .promised .promise) (a .accepted) (l .written) (a .written) };
   builds = queued-in revision (l .buffer) (l .queued + l .written) (l .builds) (a .builds);

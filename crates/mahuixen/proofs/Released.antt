@@ -30,12 +30,12 @@ use Rattle.delivery.specs.Asked.{askedByReport, doneTo, sentBy}
 use Rattle.delivery.specs.Calls as delivery
 use Rattle.delivery.specs.Calls.{Connection, Chained, Connects, sessionAfter, EveryRelease}
 use Rattle.plain_receiver.specs.Words.{numberOf}
-use Rattle.plain_connection.specs.Words.{PlainConnection, connectionOf, PlainOf, PlainReceived, takenIn, reportBy}
+use Rattle.plain_connection.specs.Words.{PlainConnection, connectionOf, PlainOf, PlainReceived, kindIn, takenIn, reportBy}
 use Rattle.plain_connection.proofs.Calls.{taken-word}
 use Rattle.plain_session.specs.Words as words
 use Rattle.plain_session.specs.Words.{PlainSession, sessionOf, PlainOutcome, plainOutcome, PlainCalled}
 use Rattle.plain_delivery.specs.Words.{PlainSettled, plainSettled}
-use Rattle.mahuixen.specs.Releases.{PlainCall, piece, tried, accepted, handed, PlainChained, plainAfter, PlainLink, PlainConnects, plainCalls, plainLinks, PlainEveryRelease}
+use Rattle.mahuixen.specs.Releases.{PlainCall, piece, tried, accepted, handed, PlainChained, plainAfter, PlainLink, PlainConnects, answerKind, plainCalls, plainLinks, PlainEveryRelease}
 use Rattle.mahuixen.proofs.Chain.{plain-form, verdictOf, judged, answered, switch-form}
 
 -- ---- a call for a piece
@@ -89,13 +89,19 @@ record AsCalls (stream : List ℕ) (st : State) (x : Session) (q : PlainSession)
   chained : Chained stream (promises.delivery st x) s t calls
   left : plainAfter q ps ≡ words.plainOf (sessionAfter x calls)
 
-same-piece : (size : ℕ) {o o′ : PlainReceived} {d d′ : PlainSettled} {s s′ : List ℕ} → o ≡ o′ → d ≡ d′ → s ≡ s′ → piece size o d s ≡ piece size o′ d′ s′
-same-piece size e f g = rw (e, f, g)
+same-piece : (size n : ℕ) {o o′ : PlainReceived} {d d′ : PlainSettled} {s s′ : List ℕ} → n ≡ kindIn o → o ≡ o′ → d ≡ d′ → s ≡ s′ → piece size n o d s ≡ piece size (kindIn o′) o′ d′ s′
+same-piece size n c e f g = rw (c, e, f, g)
+
+same-accepted : (h n : ℕ) {o o′ : PlainOutcome} → n ≡ answerKind o → o ≡ o′ → accepted h n o ≡ accepted h (answerKind o′) o′
+same-accepted h n c e = rw (c, e)
+
+same-handed : (i n : ℕ) {o o′ : PlainOutcome} → n ≡ answerKind o → o ≡ o′ → handed i n o ≡ handed i (answerKind o′) o′
+same-handed i n c e = rw (c, e)
 
 as-calls : (stream : List ℕ) (st : State) (p : PlainConnection) (x : Session) (q : PlainSession) (s : List ℕ) (t : ℕ) (ps : List PlainCall)
     → PlainOf st p → q ≡ words.plainOf x → PlainChained stream p q s t ps → AsCalls stream st x q s t ps
 as-calls stream st p x q s t [] w e h = record { calls = []; plain = refl; chained = tt; left = e }
-as-calls stream st p x q s t (piece size o d s′ ∷ ps) w e h =
+as-calls stream st p x q s t (piece size k o d s′ ∷ ps) w e h =
     let a = answer st s (pieceAt stream t size) in
     let r = delivered st x s (pieceAt stream t size) in
     let f = plain-form st p s (pieceAt stream t size) o s′ w (h .0 .received .answered) in
@@ -106,7 +112,7 @@ as-calls stream st p x q s t (piece size o d s′ ∷ ps) w e h =
     (ap (λ (y : PlainSettled). y .session) g) (rw (n, f .store) at (h .1)) in
     record {
       calls = delivery.piece size r (a .store) ∷ on .calls;
-      plain = ap₂ _∷_ (same-piece size (f .received) g (f .store)) (on .plain);
+      plain = ap₂ _∷_ (same-piece size k (h .0 .received .kind) (f .received) g (f .store)) (on .plain);
       chained = (record { received = record { received = refl; store = refl }; done = refl }, on .chained);
       left = on .left;
     }
@@ -120,23 +126,23 @@ as-calls stream st p x q s t (tried key receiving sending o ∷ ps) w e h =
       chained = (record { switched = record { verdict = judged st; state = refl; sends = refl }; session = refl }, on .chained);
       left = on .left;
     }
-as-calls stream st p x q s t (accepted n o ∷ ps) w e h =
+as-calls stream st p x q s t (accepted n k o ∷ ps) w e h =
     let c = callOf x (session.accept n) in
-    let f = called-form x q (session.accept n) _ o e (h .0) in
+    let f = called-form x q (session.accept n) k o e (h .0) in
     let on = as-calls stream st p (c .session) (o .session) s t ps w (ap (λ (y : PlainOutcome). y .session) f) (h .1) in
     record {
       calls = delivery.accepted n (sentBy (promises.delivery st x) c) ∷ on .calls;
-      plain = ap₂ _∷_ (ap (accepted n) f) (on .plain);
+      plain = ap₂ _∷_ (same-accepted n k (h .0 .kind) f) (on .plain);
       chained = (record { state = refl; report = refl }, on .chained);
       left = on .left;
     }
-as-calls stream st p x q s t (handed n o ∷ ps) w e h =
+as-calls stream st p x q s t (handed n k o ∷ ps) w e h =
     let c = callOf x (session.ack n) in
-    let f = called-form x q (session.ack n) _ o e (h .0) in
+    let f = called-form x q (session.ack n) k o e (h .0) in
     let on = as-calls stream st p (c .session) (o .session) s t ps w (ap (λ (y : PlainOutcome). y .session) f) (h .1) in
     record {
       calls = delivery.handed n (sentBy (promises.delivery st x) c) ∷ on .calls;
-      plain = ap₂ _∷_ (ap (handed n) f) (on .plain);
+      plain = ap₂ _∷_ (same-handed n k (h .0 .kind) f) (on .plain);
       chained = (record { state = refl; report = refl }, on .chained);
       left = on .left;
     }

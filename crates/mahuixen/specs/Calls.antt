@@ -11,11 +11,12 @@ use Rattle.connection.specs.Step.{begun}
 use Rattle.connection.specs.Calls as connection
 use Rattle.connection.specs.Calls.{Piece, Try, Call, Chained, switchBy, AsSwitched}
 use Rattle.plain_receiver.specs.Words.{reportWords, numberOf}
-use Rattle.plain_connection.specs.Words.{PlainConnection, plainOf, PlainReceived, handed, takenIn, PlainAnswered, PlainBegun, PlainSwitched, switched, sendingWords, PlainSwitchedWith}
+use Rattle.plain_connection.specs.Words.{PlainConnection, plainOf, PlainReceived, handed, kindIn, takenIn, ReceivedBy, PlainBegun, PlainSwitched, switched, sendingWords, PlainSwitchedWith}
 
--- a call by C: the size of the piece that it lent, what it was handed back, and the store then
+-- a call by C: the size of the piece that it lent, the number that was answered, what it was handed back, and the store then
 pub record PlainPiece : Type 0 where
   pub size : ℕ
+  pub number : ℕ
   pub received : PlainReceived
   pub store : List ℕ
 
@@ -34,12 +35,12 @@ pub data PlainCall : Type 0 where
 abbrev pub PlainChained : List ℕ → PlainConnection → List ℕ → ℕ → List PlainCall → Type 0
 PlainChained stream p s t [] = Unit {0}
 PlainChained stream p s t (taking c ∷ cs) =
-    PlainAnswered p s (pieceAt stream t (c .size)) (c .received) (c .store)
+    ReceivedBy p s (pieceAt stream t (c .size)) (c .number) (c .received) (c .store)
     × PlainChained stream (c .received .state) (c .store) (t + takenIn (c .received)) cs
 PlainChained stream p s t (switching c ∷ cs) =
     PlainSwitchedWith p (c .key) (c .receiving) (c .sending) (c .switched) × PlainChained stream (c .switched .state) s t cs
 
--- the plain form of a call of the connection: the same piece and store, and the words of its state and its report
+-- the plain form of a call of the connection: the same piece and store, the words of its state and its report, and the report's kind as the number that is answered
 abbrev pub plainReceived : Received → PlainReceived
 plainReceived r = handed (plainOf (r .state)) (reportWords (r .taken) (r .report))
 
@@ -47,7 +48,7 @@ abbrev pub plainSwitched : Switched → PlainSwitched
 plainSwitched r = switched (numberOf (judgedBy (r .verdict))) (plainOf (r .state)) (sendingWords (r .sending))
 
 abbrev pub plainPiece : Piece → PlainPiece
-plainPiece c = record { size = c .size; received = plainReceived (c .received); store = c .store }
+plainPiece c = record { size = c .size; number = kindIn (plainReceived (c .received)); received = plainReceived (c .received); store = c .store }
 
 abbrev pub plainTry : Try → PlainTry
 plainTry c = record { key = c .key; receiving = c .receiving; sending = c .sending; switched = plainSwitched (c .switched) }

@@ -18,69 +18,71 @@ use Rattle.receiver.specs.declared.Received as crc
 use Rattle.receiver.specs.declared.Report.the-variants as report
 use Rattle.receiver.specs.Step.{contradiction, started}
 use Rattle.receiver.specs.Calls.{Call, Chained, takenBy, listOf}
-use Rattle.receiver.specs.Every.{Sound, AnyCall, Handed, allTaken, allReported, unfinishedBy}
+use Rattle.receiver.specs.Every.{AnyCall, Handed, allTaken, allReported, unfinishedBy}
 use Rattle.connection.specs.declared.Received.{Received}
 use Rattle.connection.specs.Step.{readyRule, agrees, Answered}
+use Rattle.connection.specs.Every.{Sound}
 use Rattle.ends.specs.Handed.{UpTo, ExactlyBehind, Through}
 use Rattle.ends.specs.Trip.{Build, bytesOf, entriesOf, storeAfter, following}
 use Rattle.ends.specs.Ends.{Link, Fitting, sentBy, allEntries, storeAfterAll}
 use Rattle.plain.specs.declared.Written.{Written}
 use Rattle.plain.specs.Words.{revisionOf, headerAt}
-use Rattle.plain_receiver.specs.Words.{stateOf, plainOf, reportWords}
-use Rattle.plain_connection.specs.Words.{PlainConnection, connectionOf, fits, next, PlainBegun, PlainReceived, handed, PlainAnswered}
+use Rattle.plain_receiver.specs.Words.{plainOf, reportWords}
+use Rattle.plain_connection.specs.Words.{PlainConnection, connectionOf, fits, next, PlainBegun, PlainReceived, handed, kindIn, ReceivedBy}
 use Rattle.plain_builder.specs.Words.{PlainBuiltBanner, PlainBuiltFrame}
 use Rattle.mahuixen.specs.Calls.{PlainPiece, PlainCall, taking, PlainChained}
 
--- ---- what holds of the calls on a crc link, which are calls of the receiver
-
--- the words that a call was handed back are those of what the receiver answered: its state, and its report
-pub record OfCrc (r : PlainReceived) (c : crc.Received) : Type 0 where
-  pub state : r .state .crc ≡ plainOf (c .state)
-  pub report : r .report ≡ reportWords (c .taken) (c .report)
-
 -- ---- demand 1: one call
 
--- the call of the connection that it is; on a crc link the receiver's, of which `Sound` holds: 26 and nothing else for fields that contradict each other, a store that
--- became short, progress
-pub record InnerCall (p : PlainConnection) (s piece : List ℕ) (r : PlainReceived) (s′ : List ℕ) : Type 0 where
+-- the call of the connection that it is, of which `Sound` holds: 26 and nothing else for fields that contradict each other, a store that became short, progress
+pub record InnerCall (p : PlainConnection) (s piece : List ℕ) (n : ℕ) (r : PlainReceived) (s′ : List ℕ) : Type 0 where
   pub received : Received
+  pub number : n ≡ kindIn r
   pub plain : r ≡ handed (next p (received .state)) (reportWords (received .taken) (received .report))
   pub answered : Answered (connectionOf p) s piece received s′
-  pub sound : p .mode ≡ 0 → (c : crc.Received) × (OfCrc r c × Sound (stateOf (p .crc)) s piece c s′)
+  pub sound : Sound (connectionOf p) s piece received s′
 
--- it takes nothing, keeps the store, hands the state back and gives the refusal
-pub record PlainRefuses (p : PlainConnection) (n : Numbers) (s : List ℕ) (r : PlainReceived) (s′ : List ℕ) : Type 0 where
+-- it takes nothing, keeps the store, hands the state back, gives the refusal and answers its kind, 4
+pub record PlainRefuses (p : PlainConnection) (why : Numbers) (s : List ℕ) (n : ℕ) (r : PlainReceived) (s′ : List ℕ) : Type 0 where
+  pub number : n ≡ 4
   pub state : r .state ≡ p
-  pub report : r .report ≡ reportWords 0 (report.Event (event.Refused n))
+  pub report : r .report ≡ reportWords 0 (report.Event (event.Refused why))
   pub store : s′ ≡ s
 
-pub record PlainSound (p : PlainConnection) (s piece : List ℕ) (r : PlainReceived) (s′ : List ℕ) : Type 0 where
+pub record PlainSound (p : PlainConnection) (s piece : List ℕ) (n : ℕ) (r : PlainReceived) (s′ : List ℕ) : Type 0 where
   -- a number beyond its field, or a mark that does not keep its rule: 26, and nothing is taken or changed
-  pub beyond : fits p ≡ false → PlainRefuses p contradiction s r s′
-  pub unready : readyRule (connectionOf p) ≡ false → PlainRefuses p contradiction s r s′
-  pub inner : fits p ≡ true → readyRule (connectionOf p) ≡ true → InnerCall p s piece r s′
-  -- a refused crc stream stays refused: every later call, with any store and any piece
-  pub stays : (n : Numbers) → fits p ≡ true → p .mode ≡ 0 → agrees (connectionOf p) ≡ true → (t : ℕ) → r .report ≡ reportWords t (report.Event (event.Refused n))
-      → (s₂ piece₂ : List ℕ) (r₂ : PlainReceived) (s₃ : List ℕ) → PlainAnswered (r .state) s₂ piece₂ r₂ s₃ → PlainRefuses (r .state) n s₂ r₂ s₃
+  pub beyond : fits p ≡ false → PlainRefuses p contradiction s n r s′
+  pub unready : readyRule (connectionOf p) ≡ false → PlainRefuses p contradiction s n r s′
+  pub inner : fits p ≡ true → readyRule (connectionOf p) ≡ true → InnerCall p s piece n r s′
+  -- a refused stream stays refused: every later call, with any store and any piece
+  pub stays : (why : Numbers) → fits p ≡ true → agrees (connectionOf p) ≡ true → (t : ℕ) → r .report ≡ reportWords t (report.Event (event.Refused why))
+      → (s₂ piece₂ : List ℕ) (n₂ : ℕ) (r₂ : PlainReceived) (s₃ : List ℕ) → ReceivedBy (r .state) s₂ piece₂ n₂ r₂ s₃ → PlainRefuses (r .state) why s₂ n₂ r₂ s₃
 
--- ---- demand 1: bytes add up, over any calls from a start, each given the state that the last one handed back
+-- ---- demand 1: bytes add up, over any calls from a start, each given the state that the last one handed back; with no switch, they are calls of the receiver
+
+-- the words that a call was handed back are those of what the receiver answered, its state and its report, and the number that was answered is the report's kind
+pub record OfCrc (n : ℕ) (r : PlainReceived) (c : crc.Received) : Type 0 where
+  pub number : n ≡ kindIn r
+  pub state : r .state .crc ≡ plainOf (c .state)
+  pub report : r .report ≡ reportWords (c .taken) (c .report)
 
 pub record PlainAnyCall : Type 0 where
   pub lent : List ℕ
   pub piece : List ℕ
+  pub number : ℕ
   pub received : PlainReceived
   pub store : List ℕ
 
 abbrev pub PlainHanded : PlainConnection → List PlainAnyCall → Type 0
 PlainHanded p [] = Unit {0}
-PlainHanded p (c ∷ cs) = PlainAnswered p (c .lent) (c .piece) (c .received) (c .store) × PlainHanded (c .received .state) cs
+PlainHanded p (c ∷ cs) = ReceivedBy p (c .lent) (c .piece) (c .number) (c .received) (c .store) × PlainHanded (c .received .state) cs
 
 -- call by call, with the same stores and pieces
 abbrev pub AnyOfCrc : List PlainAnyCall → List AnyCall → Type 0
 AnyOfCrc [] [] = Unit {0}
 AnyOfCrc [] (c ∷ cs) = ⊥
 AnyOfCrc (p ∷ ps) [] = ⊥
-AnyOfCrc (p ∷ ps) (c ∷ cs) = (p .lent ≡ c .lent) × (p .piece ≡ c .piece) × OfCrc (p .received) (c .received) × (p .store ≡ c .store) × AnyOfCrc ps cs
+AnyOfCrc (p ∷ ps) (c ∷ cs) = (p .lent ≡ c .lent) × (p .piece ≡ c .piece) × OfCrc (p .number) (p .received) (c .received) × (p .store ≡ c .store) × AnyOfCrc ps cs
 
 pub record PlainAdds (own : Features) (ps : List PlainAnyCall) : Type 0 where
   pub calls : List AnyCall
@@ -89,7 +91,7 @@ pub record PlainAdds (own : Features) (ps : List PlainAnyCall) : Type 0 where
   pub adds : allTaken calls ≡ allReported calls + unfinishedBy 0 calls
 
 pub record PlainDemand1 : Type 0 where
-  pub sound : (p : PlainConnection) (s piece : List ℕ) (r : PlainReceived) (s′ : List ℕ) → PlainAnswered p s piece r s′ → PlainSound p s piece r s′
+  pub sound : (p : PlainConnection) (s piece : List ℕ) (n : ℕ) (r : PlainReceived) (s′ : List ℕ) → ReceivedBy p s piece n r s′ → PlainSound p s piece n r s′
   pub adds : (own : Features) (n : ℕ) (p : PlainConnection) → PlainBegun own n p → (ps : List PlainAnyCall) → PlainHanded p ps → PlainAdds own ps
 
 -- ---- demand 2
@@ -104,7 +106,7 @@ abbrev pub PiecesOfCrc : List PlainPiece → List Call → Type 0
 PiecesOfCrc [] [] = Unit {0}
 PiecesOfCrc [] (c ∷ cs) = ⊥
 PiecesOfCrc (p ∷ ps) [] = ⊥
-PiecesOfCrc (p ∷ ps) (c ∷ cs) = (p .size ≡ c .size) × OfCrc (p .received) (c .received) × (p .store ≡ c .store) × PiecesOfCrc ps cs
+PiecesOfCrc (p ∷ ps) (c ∷ cs) = (p .size ≡ c .size) × OfCrc (p .number) (p .received) (c .received) × (p .store ≡ c .store) × PiecesOfCrc ps cs
 
 -- the calls of the receiver that they are, and what holds of the list of their reports
 pub record AsCallsOf (own : Features) (stream store : List ℕ) (ps : List PlainPiece) (Holds : List Call → Type 0) : Type 0 where

@@ -23,30 +23,30 @@ use Rattle.mahuixen.specs.Calls.{plainReceived, plainSwitched}
 -- ---- connections by C, and the calls on them
 
 pub data PlainCall : Type 0 where
-  -- a piece of so many bytes was lent: what was handed back, what was done to the session, and the store then
-  piece : ℕ → PlainReceived → PlainSettled → List ℕ → PlainCall
+  -- a piece of so many bytes was lent: the number that was answered, what was handed back, what was done to the session, and the store then
+  piece : (size number : ℕ) → PlainReceived → PlainSettled → List ℕ → PlainCall
   -- a try to switch, with a key and the nonce of each direction
   tried : (key receiving sending : List ℕ) → PlainSwitched → PlainCall
-  -- a message with this handle was sent
-  accepted : ℕ → PlainOutcome → PlainCall
+  -- a message with this handle was sent: the number that was answered, and what was handed back
+  accepted : (handle number : ℕ) → PlainOutcome → PlainCall
   -- a message's header had this number
-  handed : ℕ → PlainOutcome → PlainCall
+  handed : (seq number : ℕ) → PlainOutcome → PlainCall
 
 -- each call meets the promise of its exported function, from the state, the session and the store that the last one left
 abbrev pub PlainChained : List ℕ → PlainConnection → PlainSession → List ℕ → ℕ → List PlainCall → Type 0
 PlainChained stream p q s t [] = Unit {0}
-PlainChained stream p q s t (piece size o d s′ ∷ cs) =
-    PlainDelivers p q s (pieceAt stream t size) (kindIn o) o d s′ × PlainChained stream (o .state) (d .session) s′ (t + takenIn o) cs
+PlainChained stream p q s t (piece size n o d s′ ∷ cs) =
+    PlainDelivers p q s (pieceAt stream t size) n o d s′ × PlainChained stream (o .state) (d .session) s′ (t + takenIn o) cs
 PlainChained stream p q s t (tried key receiving sending r ∷ cs) = PlainSwitchedWith p key receiving sending r × PlainChained stream (r .state) q s t cs
-PlainChained stream p q s t (accepted h o ∷ cs) = PlainCalled q (session.accept h) (getD (o .answer) 0 0) o × PlainChained stream p (o .session) s t cs
-PlainChained stream p q s t (handed n o ∷ cs) = PlainCalled q (session.ack n) (getD (o .answer) 0 0) o × PlainChained stream p (o .session) s t cs
+PlainChained stream p q s t (accepted h n o ∷ cs) = PlainCalled q (session.accept h) n o × PlainChained stream p (o .session) s t cs
+PlainChained stream p q s t (handed i n o ∷ cs) = PlainCalled q (session.ack i) n o × PlainChained stream p (o .session) s t cs
 
 abbrev pub plainAfter : PlainSession → List PlainCall → PlainSession
 plainAfter q [] = q
-plainAfter q (piece size o d s′ ∷ cs) = plainAfter (d .session) cs
+plainAfter q (piece size n o d s′ ∷ cs) = plainAfter (d .session) cs
 plainAfter q (tried key receiving sending r ∷ cs) = plainAfter q cs
-plainAfter q (accepted h o ∷ cs) = plainAfter (o .session) cs
-plainAfter q (handed n o ∷ cs) = plainAfter (o .session) cs
+plainAfter q (accepted h n o ∷ cs) = plainAfter (o .session) cs
+plainAfter q (handed i n o ∷ cs) = plainAfter (o .session) cs
 
 -- our own features, all that the peer sends, the store, what the start answered and its state, and the calls
 pub record PlainLink : Type 0 where
@@ -65,17 +65,22 @@ PlainConnects q (k ∷ ks) =
     × PlainChained (k .stream) (k .state) q (k .store) 0 (k .calls)
     × PlainConnects (plainAfter q (k .calls)) ks
 
--- ---- the plain form of a connection: the same pieces and stores, and the words of states, reports and effects
+-- ---- the plain form of a connection: the same pieces and stores, the words of states, reports and effects, and for the number that is answered the first word of a report or an answer
 
 abbrev pub plainSent : Sent → PlainOutcome
 plainSent r = plainOutcome (outcome (r .state .session) (r .report))
 
+-- the kind of an answer, its first word
+abbrev pub answerKind : PlainOutcome → ℕ
+answerKind o = getD (o .answer) 0 0
+
 abbrev pub plainCalls : List delivery.Call → List PlainCall
 plainCalls [] = []
-plainCalls (delivery.piece size r s′ ∷ cs) = piece size (plainReceived (receivedBy r)) (plainSettled (settled (r .state .session) (r .effect))) s′ ∷ plainCalls cs
+plainCalls (delivery.piece size r s′ ∷ cs) =
+    piece size (kindIn (plainReceived (receivedBy r))) (plainReceived (receivedBy r)) (plainSettled (settled (r .state .session) (r .effect))) s′ ∷ plainCalls cs
 plainCalls (delivery.tried key receiving sending r ∷ cs) = tried key receiving sending (plainSwitched (switchedBy r)) ∷ plainCalls cs
-plainCalls (delivery.accepted h r ∷ cs) = accepted h (plainSent r) ∷ plainCalls cs
-plainCalls (delivery.handed n r ∷ cs) = handed n (plainSent r) ∷ plainCalls cs
+plainCalls (delivery.accepted h r ∷ cs) = accepted h (answerKind (plainSent r)) (plainSent r) ∷ plainCalls cs
+plainCalls (delivery.handed n r ∷ cs) = handed n (answerKind (plainSent r)) (plainSent r) ∷ plainCalls cs
 
 abbrev pub plainLink : Connection → PlainLink
 plainLink k = record {

@@ -1,6 +1,7 @@
 // What C and Rust call, over pointers and 64-bit numbers alone: one header serves every processor. A state in memory is handed in part by part, its numbers, its bytes; the header's
 // and the Rust crate's functions see to that. Each function is the call of its family's crate, `plain_connection` and the others, and promises what that one promises, for every number
 // that can be handed in.
+pub mod claims;
 pub mod deliveries;
 pub mod handshakes;
 pub mod sealing;
@@ -182,11 +183,12 @@ pub fn every_cutting()
     connection::every_cutting();
 }
 
-// DEMAND 1 of calls by C: it follows from what holds of every call of the receiver.
+// DEMAND 1 of calls by C, on crc and sealed streams: it follows from what holds of every call of the connection, and of the receiver's bytes.
 pub fn every_call()
     ensures { λ _. ⌜ PlainDemand1 ⌝ }
 {
     receiver::every_call();
+    connection::every_call();
 }
 
 // DEMAND 2 of calls by C: it follows from what holds of the two ends.

@@ -225,7 +225,7 @@ fn is_contradiction(report: [u64; 19]) -> bool
     (report[0] == 4) & ((report[15] == 26) & details)
 }
 
-// The part for crc frames agrees with itself: a call with no bytes says so. The receiver's own test is called in one place, its `receive`, and so inlined there.
+// The part for crc frames agrees with itself: a call with no bytes says so. The receiver's own test is called in one place of the library, `receive_in`, and so inlined there.
 fn crc_agrees(numbers: [u64; 23], block: [u8; 32]) -> bool
     ensures { λ r. ⌜ r ≡ (crc.fits numbers && crc-states.agrees (crc.stateOf (crc.plainState numbers block))) ⌝ }
 {

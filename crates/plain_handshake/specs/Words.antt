@@ -9,15 +9,13 @@ use Rattle.refusal.specs.declared.Refusal.the-variants.{StateContradicts}
 use Rattle.refusal.specs.Refusals.{row, numbersOf}
 use Rattle.handshake.specs.declared.State.{State}
 use Rattle.handshake.specs.declared.State.the-variants as state
-use Rattle.handshake.specs.declared.AuthVerdict.{AuthVerdict}
-use Rattle.handshake.specs.declared.AuthVerdict.the-variants as auth
 use Rattle.handshake.specs.declared.Verdict.{Verdict}
 use Rattle.handshake.specs.declared.Report.{Report}
 use Rattle.handshake.specs.declared.Report.the-variants as report
 use Rattle.handshake.specs.declared.Step.{Step}
 use Rattle.handshake.specs.declared.Picked.{Picked}
 use Rattle.handshake.specs.declared.Picked.the-variants as picked
-use Rattle.handshake.specs.Table.{Row, clientRows, serverRows, stateNumber, find}
+use Rattle.handshake.specs.Table.{Row, authOf, clientRows, serverRows, stateNumber, find}
 use Rattle.handshake.specs.Steps.{stepBy}
 use Rattle.plain.specs.Words.{within, maxU8, markOf, refusalWords}
 
@@ -34,9 +32,6 @@ stateOf n =
     (cond (eqb n 5) state.Ready
     (cond (eqb n 6) state.Standby
     (cond (eqb n 7) state.Wait state.Closed)))))))
-
-abbrev pub authOf : ℕ → AuthVerdict
-authOf n = cond (eqb n 0) auth.Stay (cond (eqb n 1) auth.More (cond (eqb n 2) auth.Signature auth.Standby))
 
 -- 0 auth, 1 signature, 2 features, 3 reconnect
 abbrev pub verdictOf : List ℕ → Verdict

@@ -14,7 +14,8 @@ use refusal::in_numbers;
 ghost use mathlib.Core.Path.{_≡_};
 ghost use Rattle.handshake.specs.Table.{stateNumber};
 ghost use Rattle.handshake.specs.Pick.{pickOf};
-ghost use Rattle.plain_handshake.specs.Words.{stateOf, authOf, verdictOf, fits, stepWith, reportWords, plainStep, rowsBy, PlainStepped, modeNumber};
+ghost use Rattle.handshake.specs.Table.{authOf};
+ghost use Rattle.plain_handshake.specs.Words.{stateOf, verdictOf, fits, stepWith, reportWords, plainStep, rowsBy, PlainStepped, modeNumber};
 
 // The next state and a refusal, or zeros.
 struct Words {

@@ -3,11 +3,8 @@ use borrow.Author.Needs.{needs}
 use Rattle.mahuixen.proofs.every_call.Statement.{statement}
 use Rattle.mahuixen.proofs.every_call.Tie as tie
 
-every-call-requires : tie.Need-every-call-requires
-every-call-requires c κs = search needs
-
 returns : tie.Need-returns
-returns c = demand1-in-c (c .every-call .ensures)
+returns c = demand1-in-c (c .before .every-call .ensures) (c .every-call2 .ensures)
 
 pub every-call-spec : {M : Type 1} → statement M
-every-call-spec = tie.close (tie.spec every-call-requires returns)
+every-call-spec = tie.close (tie.spec (λ c κs. search needs) (λ c κs. search needs) returns)

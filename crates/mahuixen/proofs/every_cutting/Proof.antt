@@ -3,11 +3,8 @@ use borrow.Author.Needs.{needs}
 use Rattle.mahuixen.proofs.every_cutting.Statement.{statement}
 use Rattle.mahuixen.proofs.every_cutting.Tie as tie
 
-every-cutting-requires : tie.Need-every-cutting-requires
-every-cutting-requires c κs = search needs
-
 returns : tie.Need-returns
 returns c = demand3-in-c (c .every-cutting .ensures)
 
 pub every-cutting-spec : {M : Type 1} → statement M
-every-cutting-spec = tie.close (tie.spec every-cutting-requires returns)
+every-cutting-spec = tie.close (tie.spec (λ c κs. search needs) returns)

@@ -3,11 +3,8 @@ use borrow.Author.Needs.{needs}
 use Rattle.mahuixen.proofs.every_release.Statement.{statement}
 use Rattle.mahuixen.proofs.every_release.Tie as tie
 
-every-release-requires : tie.Need-every-release-requires
-every-release-requires c κs = search needs
-
 returns : tie.Need-returns
 returns c = releases-in-c (c .every-release .ensures)
 
 pub every-release-spec : {M : Type 1} → statement M
-every-release-spec = tie.close (tie.spec every-release-requires returns)
+every-release-spec = tie.close (tie.spec (λ c κs. search needs) returns)

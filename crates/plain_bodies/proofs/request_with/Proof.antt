@@ -6,30 +6,6 @@ use borrow.Author.Needs.{needs}
 use Rattle.plain_bodies.proofs.request_with.Statement.{statement}
 use Rattle.plain_bodies.proofs.request_with.Tie as tie
 
-low-u8-requires : tie.Need-low-u8-requires
-low-u8-requires c κs = search needs
-
-low-u32-requires : tie.Need-low-u32-requires
-low-u32-requires c κs = search needs
-
-low-u32-requires-2 : tie.Need-low-u32-requires-2
-low-u32-requires-2 c κs = search needs
-
-low-u32-requires-3 : tie.Need-low-u32-requires-3
-low-u32-requires-3 c κs = search needs
-
-low-u32-requires-4 : tie.Need-low-u32-requires-4
-low-u32-requires-4 c κs = search needs
-
-low-u32-requires-5 : tie.Need-low-u32-requires-5
-low-u32-requires-5 c κs = search needs
-
-low-u32-requires-6 : tie.Need-low-u32-requires-6
-low-u32-requires-6 c κs = search needs
-
-low-u8-requires-2 : tie.Need-low-u8-requires-2
-low-u8-requires-2 c κs = search needs
-
 returns : tie.Need-returns
 unfolding requestWith
 returns c = let e : c .before .before .args .kind ≡ 1 = omega arith in rw (e, c .low-u8 .ensures)
@@ -74,14 +50,14 @@ pub request-with-spec : {M : Type 1} → statement M
 request-with-spec =
     tie.close
     (tie.spec
-    low-u8-requires
-    low-u32-requires
-    low-u32-requires-2
-    low-u32-requires-3
-    low-u32-requires-4
-    low-u32-requires-5
-    low-u32-requires-6
-    low-u8-requires-2
+    (λ c κs. search needs)
+    (λ c κs. search needs)
+    (λ c κs. search needs)
+    (λ c κs. search needs)
+    (λ c κs. search needs)
+    (λ c κs. search needs)
+    (λ c κs. search needs)
+    (λ c κs. search needs)
     returns
     returns-2
     returns-3

@@ -5,31 +5,10 @@ use borrow.Author.Needs.{needs}
 use Rattle.plain_builder.proofs.frame_written.Statement.{statement}
 use Rattle.plain_builder.proofs.frame_written.Tie as tie
 
-header-fits-requires : tie.Need-header-fits-requires
-header-fits-requires c κs = search needs
-
-turned-away-requires : tie.Need-turned-away-requires
-turned-away-requires c κs = search needs
-
 returns : tie.Need-returns
 returns c =
     let f = c .before .before .header-fits in
     frame-beyond _ _ _ _ _ _ _ (sym (f .ensures) ∙ not-true (f .result) (c .before .if1 .taken)) (c .turned-away .ensures)
-
-revision-of-requires : tie.Need-revision-of-requires
-revision-of-requires c κs = search needs
-
-header-of-requires : tie.Need-header-of-requires
-header-of-requires c κs = search needs
-
-build-frame-requires : tie.Need-build-frame-requires
-build-frame-requires c κs = search needs
-
-written-of-requires : tie.Need-written-of-requires
-written-of-requires c κs = search needs
-
-same-length : tie.Need-same-length
-same-length c = search needs
 
 returns-2 : tie.Need-returns-2
 returns-2 c =
@@ -42,12 +21,12 @@ pub frame-written-spec : {M : Type 1} → statement M
 frame-written-spec =
     tie.close
     (tie.spec
-    header-fits-requires
-    turned-away-requires
+    (λ c κs. search needs)
+    (λ c κs. search needs)
     returns
-    revision-of-requires
-    header-of-requires
-    build-frame-requires
-    written-of-requires
-    same-length
+    (λ c κs. search needs)
+    (λ c κs. search needs)
+    (λ c κs. search needs)
+    (λ c κs. search needs)
+    (λ c. search needs)
     returns-2)

@@ -3,18 +3,9 @@ use borrow.Author.Needs.{needs}
 use Rattle.plain_builder.proofs.plain_banner.Statement.{statement}
 use Rattle.plain_builder.proofs.plain_banner.Tie as tie
 
-build-banner-requires : tie.Need-build-banner-requires
-build-banner-requires c κs = search needs
-
-written-of-requires : tie.Need-written-of-requires
-written-of-requires c κs = search needs
-
-same-length : tie.Need-same-length
-same-length c = search needs
-
 returns : tie.Need-returns
 returns c = banner-written (c .before .before .before .before .build-banner .ensures) (c .before .written-of .ensures)
 
 pub plain-banner-spec : {M : Type 1} → statement M
 plain-banner-spec =
-    tie.close (tie.spec build-banner-requires written-of-requires same-length returns)
+    tie.close (tie.spec (λ c κs. search needs) (λ c κs. search needs) (λ c. search needs) returns)

@@ -6,21 +6,6 @@ use borrow.Author.Needs.{needs}
 use Rattle.plain_connection.proofs.crc_agrees.Statement.{statement}
 use Rattle.plain_connection.proofs.crc_agrees.Tie as tie
 
-array-share-prefix-block : tie.Need-array-share-prefix-block
-array-share-prefix-block c = search needs
-
-slice-aggregate-plain-receive : tie.Need-slice-aggregate-plain-receive
-slice-aggregate-plain-receive c = search needs
-
-slice-aggregate-plain-receive-2 : tie.Need-slice-aggregate-plain-receive-2
-slice-aggregate-plain-receive-2 c = search needs
-
-plain-receive-requires : tie.Need-plain-receive-requires
-plain-receive-requires c κs = search needs
-
-is-contradiction-requires : tie.Need-is-contradiction-requires
-is-contradiction-requires c κs = search needs
-
 returns : tie.Need-returns
 returns c =
     let z = c .before .before .before .before .before .before .before .before .args in
@@ -30,9 +15,9 @@ pub crc-agrees-spec : {M : Type 1} → statement M
 crc-agrees-spec =
     tie.close
     (tie.spec
-    array-share-prefix-block
-    slice-aggregate-plain-receive
-    slice-aggregate-plain-receive-2
-    plain-receive-requires
-    is-contradiction-requires
+    (λ c. search needs)
+    (λ c. search needs)
+    (λ c. search needs)
+    (λ c κs. search needs)
+    (λ c κs. search needs)
     returns)

@@ -4,24 +4,6 @@ use borrow.Author.Needs.{needs}
 use Rattle.plain_connection.proofs.judge_words.Statement.{statement}
 use Rattle.plain_connection.proofs.judge_words.Tie as tie
 
-agrees-requires : tie.Need-agrees-requires
-agrees-requires c κs = search needs
-
-unless-ok-requires : tie.Need-unless-ok-requires
-unless-ok-requires c κs = search needs
-
-array-read-may : tie.Need-array-read-may
-array-read-may c = search needs
-
-array-read-may-2 : tie.Need-array-read-may-2
-array-read-may-2 c = search needs
-
-unless-ok-requires-2 : tie.Need-unless-ok-requires-2
-unless-ok-requires-2 c κs = search needs
-
-or-else-requires : tie.Need-or-else-requires
-or-else-requires c κs = search needs
-
 returns : tie.Need-returns
 returns c =
     let z = c .before .before .before .before .args in
@@ -31,10 +13,10 @@ pub judge-words-spec : {M : Type 1} → statement M
 judge-words-spec =
     tie.close
     (tie.spec
-    agrees-requires
-    unless-ok-requires
-    array-read-may
-    array-read-may-2
-    unless-ok-requires-2
-    or-else-requires
+    (λ c κs. search needs)
+    (λ c κs. search needs)
+    (λ c. search needs)
+    (λ c. search needs)
+    (λ c κs. search needs)
+    (λ c κs. search needs)
     returns)

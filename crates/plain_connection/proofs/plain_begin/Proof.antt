@@ -5,18 +5,6 @@ use borrow.Author.Needs.{needs}
 use Rattle.plain_connection.proofs.plain_begin.Statement.{statement}
 use Rattle.plain_connection.proofs.plain_begin.Tie as tie
 
-begin-requires : tie.Need-begin-requires
-begin-requires c κs = search needs
-
-state-numbers-requires : tie.Need-state-numbers-requires
-state-numbers-requires c κs = search needs
-
-secure-words-requires : tie.Need-secure-words-requires
-secure-words-requires c κs = search needs
-
-number-of-requires : tie.Need-number-of-requires
-number-of-requires c κs = search needs
-
 returns : tie.Need-returns
 returns c =
     let o = c .before .before .before .before .before .before .before .before .before .before .before .before .before .begin in
@@ -29,8 +17,8 @@ pub plain-begin-spec : {M : Type 1} → statement M
 plain-begin-spec =
     tie.close
     (tie.spec
-    begin-requires
-    state-numbers-requires
-    secure-words-requires
-    number-of-requires
+    (λ c κs. search needs)
+    (λ c κs. search needs)
+    (λ c κs. search needs)
+    (λ c κs. search needs)
     returns)

@@ -12,24 +12,6 @@ use borrow.Author.Needs.{needs}
 use Rattle.plain_connection.proofs.plain_receive.Statement.{statement}
 use Rattle.plain_connection.proofs.plain_receive.Tie as tie
 
-element-copy-out-mode : tie.Need-element-copy-out-mode
-element-copy-out-mode c = search needs
-
-element-copy-out-ready : tie.Need-element-copy-out-ready
-element-copy-out-ready c = search needs
-
-element-copy-out-is-usable : tie.Need-element-copy-out-is-usable
-element-copy-out-is-usable c = search needs
-
-element-copy-out-is-usable-2 : tie.Need-element-copy-out-is-usable-2
-element-copy-out-is-usable-2 c = search needs
-
-is-usable-requires : tie.Need-is-usable-requires
-is-usable-requires c κs = search needs
-
-contradicts-requires : tie.Need-contradicts-requires
-contradicts-requires c κs = search needs
-
 returns : tie.Need-returns
 returns c =
     let z = c .before .before .before .before .before .before .before .before .before .args in
@@ -39,18 +21,6 @@ returns c =
       kind = sym (ap (λ (l : List ℕ). getD l 0 0) (c .contradicts .ensures));
       answered = unusable p (now (z .store)) (now (z .piece)) _ (sym (u .ensures) ∙ not-true (u .result) (c .before .if1 .taken)) (c .contradicts .ensures);
     }
-
-plain-receive-requires : tie.Need-plain-receive-requires
-plain-receive-requires c κs = search needs
-
-element-copy-out-ready-after : tie.Need-element-copy-out-ready-after
-element-copy-out-ready-after c = search needs
-
-ready-after-requires : tie.Need-ready-after-requires
-ready-after-requires c κs = search needs
-
-same-length : tie.Need-same-length
-same-length c = search needs
 
 returns-2 : tie.Need-returns-2
 returns-2 c =
@@ -63,12 +33,6 @@ returns-2 c =
     let p = connected (getD (now (z .link)) 0 0) (getD (now (z .link)) 1 0) y x in
     let h = is-usable p (sym (u .ensures) ∙ not-false (u .result) (c .before .before .before .before .before .before .before .before .before .before .before .if1 .left)) in
     crc-given (now (z .link)) y x (now (z .store)) (now (z .piece)) _ _ _ _ e h (o .ensures) (c .before .ready-after .ensures)
-
-secure-receive-requires : tie.Need-secure-receive-requires
-secure-receive-requires c κs = search needs
-
-same-length-2 : tie.Need-same-length-2
-same-length-2 c = search needs
 
 returns-3 : tie.Need-returns-3
 returns-3 c =
@@ -85,18 +49,18 @@ pub plain-receive-spec : {M : Type 1} → statement M
 plain-receive-spec =
     tie.close
     (tie.spec
-    element-copy-out-mode
-    element-copy-out-ready
-    element-copy-out-is-usable
-    element-copy-out-is-usable-2
-    is-usable-requires
-    contradicts-requires
+    (λ c. search needs)
+    (λ c. search needs)
+    (λ c. search needs)
+    (λ c. search needs)
+    (λ c κs. search needs)
+    (λ c κs. search needs)
     returns
-    plain-receive-requires
-    element-copy-out-ready-after
-    ready-after-requires
-    same-length
+    (λ c κs. search needs)
+    (λ c. search needs)
+    (λ c κs. search needs)
+    (λ c. search needs)
     returns-2
-    secure-receive-requires
-    same-length-2
+    (λ c κs. search needs)
+    (λ c. search needs)
     returns-3)

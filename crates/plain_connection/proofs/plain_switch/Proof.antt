@@ -10,21 +10,6 @@ use borrow.Author.Needs.{needs}
 use Rattle.plain_connection.proofs.plain_switch.Statement.{statement}
 use Rattle.plain_connection.proofs.plain_switch.Tie as tie
 
-judge-words-requires : tie.Need-judge-words-requires
-judge-words-requires c κs = search needs
-
-sending-by-requires : tie.Need-sending-by-requires
-sending-by-requires c κs = search needs
-
-sending-numbers-requires : tie.Need-sending-numbers-requires
-sending-numbers-requires c κs = search needs
-
-number-of-requires : tie.Need-number-of-requires
-number-of-requires c κs = search needs
-
-is-fine-requires : tie.Need-is-fine-requires
-is-fine-requires c κs = search needs
-
 returns : tie.Need-returns
 returns c =
     let z = c .before .before .before .before .before .before .before .before .before .before .before .before .before .before .before .before .before .args in
@@ -35,12 +20,6 @@ returns c =
     switch-refused p (now (z .with)) (now (z .receiving)) (now (z .sending)) _ (s .result) _ (c .before .before .before .sending-numbers .ensures)
     (sym (f .ensures ∙ ap isFine (v .ensures)) ∙ not-true (f .result) (c .if1 .taken)) (c .before .before .number-of .ensures ∙ ap numberOf (v .ensures))
     (s .ensures ∙ ap (λ (j : Judged). switchedSending j (now (z .with)) (now (z .sending))) (v .ensures))
-
-switch-on-requires : tie.Need-switch-on-requires
-switch-on-requires c κs = search needs
-
-secure-words-requires : tie.Need-secure-words-requires
-secure-words-requires c κs = search needs
 
 returns-2 : tie.Need-returns-2
 returns-2 c =
@@ -58,12 +37,12 @@ pub plain-switch-spec : {M : Type 1} → statement M
 plain-switch-spec =
     tie.close
     (tie.spec
-    judge-words-requires
-    sending-by-requires
-    sending-numbers-requires
-    number-of-requires
-    is-fine-requires
+    (λ c κs. search needs)
+    (λ c κs. search needs)
+    (λ c κs. search needs)
+    (λ c κs. search needs)
+    (λ c κs. search needs)
     returns
-    switch-on-requires
-    secure-words-requires
+    (λ c κs. search needs)
+    (λ c κs. search needs)
     returns-2)

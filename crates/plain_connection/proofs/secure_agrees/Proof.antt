@@ -5,22 +5,10 @@ use borrow.Author.Needs.{needs}
 use Rattle.plain_connection.proofs.secure_agrees.Statement.{statement}
 use Rattle.plain_connection.proofs.secure_agrees.Tie as tie
 
-fits-requires : tie.Need-fits-requires
-fits-requires c κs = search needs
-
-state-of-requires : tie.Need-state-of-requires
-state-of-requires c κs = search needs
-
-agrees-with-itself-requires : tie.Need-agrees-with-itself-requires
-agrees-with-itself-requires c κs = search needs
-
-both-requires : tie.Need-both-requires
-both-requires c κs = search needs
-
 returns : tie.Need-returns
 returns c = c .both .ensures ∙ ap₂ _&&_ (c .before .before .before .fits2 .ensures) (c .before .agrees-with-itself .ensures ∙ ap agrees (c .before .before .state-of .ensures))
 
 pub secure-agrees-spec : {M : Type 1} → statement M
 secure-agrees-spec =
     tie.close
-    (tie.spec fits-requires state-of-requires agrees-with-itself-requires both-requires returns)
+    (tie.spec (λ c κs. search needs) (λ c κs. search needs) (λ c κs. search needs) (λ c κs. search needs) returns)

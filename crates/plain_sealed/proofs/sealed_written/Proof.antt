@@ -5,37 +5,10 @@ use borrow.Author.Needs.{needs}
 use Rattle.plain_sealed.proofs.sealed_written.Statement.{statement}
 use Rattle.plain_sealed.proofs.sealed_written.Tie as tie
 
-sending-fits-requires : tie.Need-sending-fits-requires
-sending-fits-requires c κs = search needs
-
-header-fits-requires : tie.Need-header-fits-requires
-header-fits-requires c κs = search needs
-
-both-requires : tie.Need-both-requires
-both-requires c κs = search needs
-
-turned-away-requires : tie.Need-turned-away-requires
-turned-away-requires c κs = search needs
-
 returns : tie.Need-returns
 returns c =
     let f = c .before .before in
     sealed-beyond _ _ _ _ _ _ _ _ _ (both-as (f .both .ensures) (f .before .before .sending-fits .ensures) (f .before .header-fits .ensures) ∙ not-true (f .both .result) (c .before .if1 .taken)) (c .turned-away .ensures)
-
-sending-of-requires : tie.Need-sending-of-requires
-sending-of-requires c κs = search needs
-
-header-of-requires : tie.Need-header-of-requires
-header-of-requires c κs = search needs
-
-build-sealed-requires : tie.Need-build-sealed-requires
-build-sealed-requires c κs = search needs
-
-sealed-words-requires : tie.Need-sealed-words-requires
-sealed-words-requires c κs = search needs
-
-same-length : tie.Need-same-length
-same-length c = search needs
 
 returns-2 : tie.Need-returns-2
 returns-2 c =
@@ -48,14 +21,14 @@ pub sealed-written-spec : {M : Type 1} → statement M
 sealed-written-spec =
     tie.close
     (tie.spec
-    sending-fits-requires
-    header-fits-requires
-    both-requires
-    turned-away-requires
+    (λ c κs. search needs)
+    (λ c κs. search needs)
+    (λ c κs. search needs)
+    (λ c κs. search needs)
     returns
-    sending-of-requires
-    header-of-requires
-    build-sealed-requires
-    sealed-words-requires
-    same-length
+    (λ c κs. search needs)
+    (λ c κs. search needs)
+    (λ c κs. search needs)
+    (λ c κs. search needs)
+    (λ c. search needs)
     returns-2)

@@ -5,27 +5,6 @@ use Rattle.plain_session.proofs.answer_words.Tie as tie
 enum-told : tie.Need-enum-told
 enum-told c = search needs
 
-told-number-requires : tie.Need-told-number-requires
-told-number-requires c κs = search needs
-
-enum-known-report : tie.Need-enum-known-report
-enum-known-report c = search needs
-
-told-number-requires-2 : tie.Need-told-number-requires-2
-told-number-requires-2 c κs = search needs
-
-enum-known-report-2 : tie.Need-enum-known-report-2
-enum-known-report-2 c = search needs
-
-told-number-requires-3 : tie.Need-told-number-requires-3
-told-number-requires-3 c κs = search needs
-
-enum-known-report-3 : tie.Need-enum-known-report-3
-enum-known-report-3 c = search needs
-
-answering-requires : tie.Need-answering-requires
-answering-requires c κs = search needs
-
 returns : tie.Need-returns
 returns c = rw (c .before .enum-told .given .1) (c .told-number .ensures)
 
@@ -43,13 +22,13 @@ answer-words-spec =
     tie.close
     (tie.spec
     enum-told
-    told-number-requires
-    enum-known-report
-    told-number-requires-2
-    enum-known-report-2
-    told-number-requires-3
-    enum-known-report-3
-    answering-requires
+    (λ c κs. search needs)
+    (λ c. search needs)
+    (λ c κs. search needs)
+    (λ c. search needs)
+    (λ c κs. search needs)
+    (λ c. search needs)
+    (λ c κs. search needs)
     returns
     returns-2
     returns-3

@@ -3,26 +3,14 @@ use borrow.Author.Needs.{needs}
 use Rattle.plain_session.proofs.called.Statement.{statement}
 use Rattle.plain_session.proofs.called.Tie as tie
 
-accept-requires : tie.Need-accept-requires
-accept-requires c κs = search needs
-
 returns : tie.Need-returns
 returns c = rw (eq-eqb _ _ (c .before .if1 .taken)) (c .accept .ensures)
-
-ack-requires : tie.Need-ack-requires
-ack-requires c κs = search needs
 
 returns-2 : tie.Need-returns-2
 returns-2 c = rw (ne-eqb _ _ (c .before .before .if1 .left), eq-eqb _ _ (c .before .if2 .taken)) (c .ack .ensures)
 
-reconnect-requires : tie.Need-reconnect-requires
-reconnect-requires c κs = search needs
-
 returns-3 : tie.Need-returns-3
 returns-3 c = rw (ne-eqb _ _ (c .before .before .before .if1 .left), ne-eqb _ _ (c .before .before .if2 .left), eq-eqb _ _ (c .before .if3 .taken)) (c .reconnect .ensures)
-
-reset-requires : tie.Need-reset-requires
-reset-requires c κs = search needs
 
 returns-4 : tie.Need-returns-4
 returns-4 c = rw (ne-eqb _ _ (c .before .before .before .if1 .left), ne-eqb _ _ (c .before .before .if2 .left), ne-eqb _ _ (c .before .if3 .left)) (c .reset .ensures)
@@ -31,11 +19,11 @@ pub called-spec : {M : Type 1} → statement M
 called-spec =
     tie.close
     (tie.spec
-    accept-requires
+    (λ c κs. search needs)
     returns
-    ack-requires
+    (λ c κs. search needs)
     returns-2
-    reconnect-requires
+    (λ c κs. search needs)
     returns-3
-    reset-requires
+    (λ c κs. search needs)
     returns-4)

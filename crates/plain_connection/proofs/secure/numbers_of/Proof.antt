@@ -5,18 +5,6 @@ use borrow.Author.Needs.{needs}
 use Rattle.plain_connection.proofs.secure.numbers_of.Statement.{statement}
 use Rattle.plain_connection.proofs.secure.numbers_of.Tie as tie
 
-typed-state-requires : tie.Need-typed-state-requires
-typed-state-requires c κs = search needs
-
-stage-number-requires : tie.Need-stage-number-requires
-stage-number-requires c κs = search needs
-
-mark-number-requires : tie.Need-mark-number-requires
-mark-number-requires c κs = search needs
-
-numbers-with-requires : tie.Need-numbers-with-requires
-numbers-with-requires c κs = search needs
-
 returns : tie.Need-returns
 unfolding secure.secureNumbers
 returns c =
@@ -27,8 +15,8 @@ pub numbers-of-spec : {M : Type 1} → statement M
 numbers-of-spec =
     tie.close
     (tie.spec
-    typed-state-requires
-    stage-number-requires
-    mark-number-requires
-    numbers-with-requires
+    (λ c κs. search needs)
+    (λ c κs. search needs)
+    (λ c κs. search needs)
+    (λ c κs. search needs)
     returns)

@@ -1,0 +1,231 @@
+-- Sealed builds by C, from those of the builder.
+use mathlib.Core.Path.{_≡_, refl, sym, ap, ap₂, subst, _∙_}
+use mathlib.Core.Logic.{_↔_}
+use mathlib.Core.List.{List, [], _∷_, _++_}
+use mathlib.Core.Bool.{Bool, true, false, cond}
+use Prim.Native.Nat.{ℕ, _+_, _<_}
+use native.Mathlib.Omega.{arith}
+use lib.Dec.{eqb}
+use lib.ListN.{length, getD}
+use borrow.Author.Tests.{eqb-true, eqb-false, ne-eqb, lt-leb}
+use Rattle.refusal.specs.declared.Refusal.the-variants.{StateContradicts, SwitchRefused, NoncesSpent}
+use Rattle.refusal.specs.declared.Numbers.{Numbers}
+use Rattle.refusal.specs.Refusals.{Judged, fine, refused, row, numbersOf, unless, firstOf}
+use Rattle.preamble.specs.declared.Header.{Header}
+use Rattle.aes.specs.Aes.{keyExpansion}
+use Rattle.builder.specs.declared.Built.the-variants as built
+use Rattle.builder.specs.Build.{wrote}
+use Rattle.secure.specs.Layout.{allNonces, noncesOf, sealedParts, partCount, sealedLength}
+use Rattle.sealed_builder.specs.declared.Sending.{Sending}
+use Rattle.sealed_builder.specs.Build as sealed
+use Rattle.sealed_builder.specs.Build.{spentOf, freshSending, refusedSending, sentMore, judgeEarlier, judgeSealed, Done, done, outcome, sealedDone}
+use Rattle.sealed_builder.specs.Nonces as builder
+use Rattle.sealed_builder.specs.Nonces.{Build, Meets, Chained, AllDifferent, NoNonceTwice}
+use Rattle.connection.specs.Step.{agrees, mayBeSwitched, judgeSwitch, switchedSending}
+use Rattle.connection.specs.Every.{contradiction}
+use Rattle.plain.specs.declared.Written.{Written}
+use Rattle.plain.specs.Words.{within, plainRefused, headerAt, headerLimits}
+use Rattle.plain_receiver.specs.Words.{numberOf}
+use Rattle.plain_receiver.proofs.Back.{mark-back}
+use Rattle.plain_connection.specs.Words.{PlainConnection, connectionOf, fits, PlainSending, sendingWords, PlainSwitched, judgeWords, PlainSwitchedWith}
+use Rattle.plain_sealed.specs.Words.{sendingOf, sendingNumbers, PlainSealed, sealedWith, inPlain, plainSealed}
+use Rattle.mahuixen.specs.Nonces.{PlainBuild, writtenBy, PlainMeets, sendingBehind, PlainBuilds, sendingAfter, sendingIn, buildOf, partsOf, usedBy, used, inFields, TooFew, PlainNoNonceTwice}
+use Rattle.mahuixen.proofs.Switches.{by-words}
+
+-- ---- a build
+
+sending-back : (s : Sending) → sendingOf (sendingNumbers s) (s .key) (s .nonce) ≡ s
+sending-back s = ap₂ (sealed.sendingState (s .key) (s .nonce) (s .spent)) (mark-back (s .exhausted)) (mark-back (s .refused))
+
+positive : (h : Header) → 0 < sealedLength h
+unfolding sealedLength
+positive h = omega arith
+
+same-numbers : {m n : Numbers} → plainRefused m ≡ plainRefused n → m ≡ n
+same-numbers e = ap (λ (w : Written). row (getD (w .refusal) 0 0) (getD (w .refusal) 1 0) (getD (w .refusal) 2 0) (getD (w .refusal) 3 0)) e
+
+module _ (x : PlainSending) (b : PlainBuild) (h : PlainMeets x b) where
+  abbrev fields : Header
+  fields = headerAt 0 (b .header)
+
+  abbrev judgement : Judged
+  judgement = judgeSealed (sendingIn x) fields (b .abort) (length (b .source)) (length (b .buffer)) (b .queued)
+
+  abbrev outcomeBy : Judged → Done
+  outcomeBy j = outcome j (sendingIn x) fields (b .buffer) (b .queued) (sealedParts (keyExpansion (x .key)) (partsOf x b))
+
+  answered-so : (t : Bool) (j : Judged) → inFields x b ≡ t → judgement ≡ j
+      → b .sealed ≡ cond t (inPlain (outcomeBy j)) (sealedWith (plainRefused (numbersOf StateContradicts)) (x .numbers) (x .nonce) (b .buffer))
+  unfolding plainSealed sealedDone
+  answered-so t j e f =
+      h .promise
+      ∙ ap₂ (λ (u : Bool) (i : Judged). cond u (inPlain (outcomeBy i)) (sealedWith (plainRefused (numbersOf StateContradicts)) (x .numbers) (x .nonce) (b .buffer))) e f
+
+  more-back : sendingOf (sendingNumbers (sentMore (sendingIn x) (partCount fields))) (x .key) (sentMore (sendingIn x) (partCount fields) .nonce) ≡ sentMore (sendingIn x) (partCount fields)
+  unfolding sentMore
+  more-back = sending-back (sentMore (sendingIn x) (partCount fields))
+
+  abbrev doneBy : PlainSealed → Done
+  doneBy r = done (wrote (r .answer .written)) (sendingOf (r .numbers) (x .key) (r .nonce)) (r .buffer)
+
+  fine-done : judgement ≡ fine → outcomeBy fine ≡ sealedDone (sendingIn x) fields (b .abort) (b .source) (b .buffer) (b .queued)
+  unfolding sealedDone
+  fine-done f = ap outcomeBy (sym f)
+
+  sent-by : (t : Bool) (j : Judged) → inFields x b ≡ t → judgement ≡ j → 0 < writtenBy b → Meets (sendingIn x) (buildOf (x .key) b)
+  sent-by true fine e f z = record {
+    promise = ap doneBy (answered-so true fine e f) ∙ ap (λ (s : Sending). done (wrote (sealedLength fields)) s (outcomeBy fine .buffer)) more-back ∙ fine-done f;
+  }
+  sent-by true (refused n) e f z = absurd (let m : writtenBy b ≡ 0 = ap (λ (r : PlainSealed). r .answer .written) (answered-so true (refused n) e f) in omega arith)
+  sent-by false j e f z = absurd (let m : writtenBy b ≡ 0 = ap (λ (r : PlainSealed). r .answer .written) (answered-so false j e f) in omega arith)
+
+  pub sent : 0 < writtenBy b → Meets (sendingIn x) (buildOf (x .key) b)
+  sent z = sent-by (inFields x b) judgement refl refl z
+
+  unspent-by : (t : Bool) (j : Judged) → inFields x b ≡ t → judgement ≡ j → writtenBy b ≡ 0 → (sendingIn (sendingBehind x b) ≡ sendingIn x) × (b .sealed .buffer ≡ b .buffer)
+  unspent-by true fine e f z =
+      absurd (let m : writtenBy b ≡ sealedLength fields = ap (λ (r : PlainSealed). r .answer .written) (answered-so true fine e f) in let l = positive fields in omega arith)
+  unspent-by true (refused n) e f z =
+      let q = answered-so true (refused n) e f in
+      (ap (λ (r : PlainSealed). sendingOf (r .numbers) (x .key) (r .nonce)) q ∙ sending-back (sendingIn x), ap (λ (r : PlainSealed). r .buffer) q)
+  unspent-by false j e f z =
+      let q = answered-so false j e f in
+      (ap (λ (r : PlainSealed). sendingOf (r .numbers) (x .key) (r .nonce)) q, ap (λ (r : PlainSealed). r .buffer) q)
+
+  pub unspent : writtenBy b ≡ 0 → (sendingIn (sendingBehind x b) ≡ sendingIn x) × (b .sealed .buffer ≡ b .buffer)
+  unspent z = unspent-by (inFields x b) judgement refl refl z
+
+  -- 18: it is the build that was refused so
+  abbrev spentBuild : Build
+  spentBuild = record {
+    header = fields;
+    abort = b .abort;
+    source = b .source;
+    buffer = b .buffer;
+    queued = b .queued;
+    answer = record { built = built.Refused NoncesSpent; sending = sendingIn x };
+    after = b .buffer;
+  }
+
+  spent-done : (n : Numbers) → judgement ≡ refused n → n ≡ numbersOf NoncesSpent → Meets (sendingIn x) spentBuild
+  unfolding sealedDone
+  spent-done n f e = record { promise = ap (λ (i : Numbers). outcomeBy (refused i)) (sym e) ∙ ap outcomeBy (sym f) }
+
+  given-by : NoNonceTwice → (t : Bool) (j : Judged) → inFields x b ≡ t → judgement ≡ j → b .sealed .answer ≡ plainRefused (numbersOf NoncesSpent) → TooFew x b
+  given-by nonces true fine e f z =
+      absurd (let m : sealedLength fields ≡ 0 = sym (ap (λ (r : PlainSealed). r .answer .written) (answered-so true fine e f)) ∙ ap (λ (w : Written). w .written) z in let l = positive fields in omega arith)
+  given-by nonces true (refused n) e f z =
+      let q : plainRefused n ≡ plainRefused (numbersOf NoncesSpent) = sym (ap (λ (r : PlainSealed). r .answer) (answered-so true (refused n) e f)) ∙ z in
+      let g = nonces .eighteen (sendingIn x) spentBuild (spent-done n f (same-numbers q)) .given refl in
+      record { words = e; earlier = g .0; few = g .1 }
+  given-by nonces false j e f z =
+      absurd (let m : 26 ≡ 18 = sym (ap (λ (r : PlainSealed). getD (r .answer .refusal) 0 0) (answered-so false j e f)) ∙ ap (λ (w : Written). getD (w .refusal) 0 0) z in omega arith)
+
+  judged-spent : TooFew x b → judgement ≡ refused (numbersOf NoncesSpent)
+  unfolding judgeSealed
+  judged-spent k =
+      let few = k .few in
+      rw (k .earlier, lt-leb (spentOf (sendingIn x) + partCount fields) allNonces (omega arith))
+
+  pub eighteen : NoNonceTwice → (b .sealed .answer ≡ plainRefused (numbersOf NoncesSpent)) ↔ TooFew x b
+  eighteen nonces =
+      (given-by nonces (inFields x b) judgement refl refl, (λ k. ap (λ (r : PlainSealed). r .answer) (answered-so true (refused (numbersOf NoncesSpent)) (k .words) (judged-spent k))))
+
+-- ---- lists: the builds that wrote something are a list of builds, since the others spend nothing
+
+record Kept (x : PlainSending) (bs : List PlainBuild) : Type 0 where
+  builds : List Build
+  chained : Chained (sendingIn x) builds
+  uses : builder.used (sendingIn x) builds ≡ used x bs
+  after : builder.sendingAfter (sendingIn x) builds ≡ sendingIn (sendingAfter x bs)
+
+kept-one : (x : PlainSending) (b : PlainBuild) (bs : List PlainBuild) → PlainMeets x b → Kept (sendingBehind x b) bs → (t : Bool) → eqb (writtenBy b) 0 ≡ t → Kept x (b ∷ bs)
+kept-one x b bs h on true e =
+    let k = unspent x b h (eqb-true (writtenBy b) 0 e) .0 in
+    record {
+      builds = on .builds;
+      chained = subst (λ (s : Sending). Chained s (on .builds)) k (on .chained);
+      uses = rw e (ap (λ (s : Sending). builder.used s (on .builds)) (sym k) ∙ on .uses);
+      after = ap (λ (s : Sending). builder.sendingAfter s (on .builds)) (sym k) ∙ on .after;
+    }
+kept-one x b bs h on false e =
+    let z : 0 < writtenBy b = omega (arith, eqb-false (writtenBy b) 0 e) in
+    record {
+      builds = buildOf (x .key) b ∷ on .builds;
+      chained = (sent x b h z, on .chained);
+      uses = rw e (ap (λ (l : List (List ℕ)). noncesOf (partsOf x b) ++ l) (on .uses));
+      after = on .after;
+    }
+
+kept : (x : PlainSending) (bs : List PlainBuild) → PlainBuilds x bs → Kept x bs
+kept x [] h = record { builds = []; chained = tt; uses = refl; after = refl }
+kept x (b ∷ bs) h = kept-one x b bs (h .0) (kept (sendingBehind x b) bs (h .1)) (eqb (writtenBy b) 0) refl
+
+-- ---- what a switch hands out
+
+judged-zero : (f a m : Bool) (j : Judged) → j ≡ cond f (firstOf (unless a StateContradicts ∷ unless m SwitchRefused ∷ [])) (refused contradiction) → numberOf j ≡ 0 → j ≡ fine
+judged-zero true true true j e z = e
+judged-zero true true false j e z = absurd (let k : 27 ≡ 0 = ap numberOf (sym e) ∙ z in omega arith)
+judged-zero true false m j e z = absurd (let k : 26 ≡ 0 = ap numberOf (sym e) ∙ z in omega arith)
+judged-zero false a m j e z = absurd (let k : 26 ≡ 0 = ap numberOf (sym e) ∙ z in omega arith)
+
+module _ (p : PlainConnection) (key receiving sending : List ℕ) (r : PlainSwitched) (h : PlainSwitchedWith p key receiving sending r) where
+  pub made-fine : r .number ≡ 0 → judgeWords p ≡ fine
+  unfolding judgeWords judgeSwitch
+  made-fine z = judged-zero (fits p) (agrees (connectionOf p)) (mayBeSwitched (connectionOf p)) (judgeWords p) refl (sym (ap (λ (y : PlainSwitched). y .number) (by-words h)) ∙ z)
+
+  pub made-sends : r .number ≡ 0 → r .sending ≡ sendingWords (freshSending key sending)
+  made-sends z = ap (λ (y : PlainSwitched). y .sending) (by-words h) ∙ ap (λ (j : Judged). sendingWords (switchedSending j key sending)) (made-fine z)
+
+  refused-sends : (j : Judged) → judgeWords p ≡ j → (r .number ≡ 0 → ⊥) → r .sending ≡ sendingWords refusedSending
+  refused-sends fine e no-zero = absurd (no-zero (ap (λ (y : PlainSwitched). y .number) (by-words h) ∙ ap numberOf e))
+  refused-sends (refused n) e no-zero = ap (λ (y : PlainSwitched). y .sending) (by-words h) ∙ ap (λ (j : Judged). sendingWords (switchedSending j key sending)) e
+
+-- nothing is built with what a refused try hands back
+refused-judged : (h : Header) (abort : Bool) (source space queued : ℕ) → judgeSealed refusedSending h abort source space queued ≡ refused (numbersOf SwitchRefused)
+unfolding judgeSealed judgeEarlier sealed.agrees refusedSending
+refused-judged h abort source space queued = refl
+
+none-built : (b : PlainBuild) (t : Bool) → within headerLimits 0 (b .header) ≡ t → PlainMeets (sendingWords refusedSending) b
+    → b .sealed .answer ≡ plainRefused (numbersOf (cond t SwitchRefused StateContradicts))
+unfolding refusedSending
+none-built b true e h =
+    ap (λ (r : PlainSealed). r .answer)
+    (answered-so (sendingWords refusedSending) b h true (refused (numbersOf SwitchRefused)) e (refused-judged (headerAt 0 (b .header)) (b .abort) (length (b .source)) (length (b .buffer)) (b .queued)))
+none-built b false e h = ap (λ (r : PlainSealed). r .answer) (answered-so (sendingWords refusedSending) b h false _ e refl)
+
+-- ---- the claim
+
+used-one : (x : PlainSending) (b : PlainBuild) → 0 < writtenBy b → usedBy x b ≡ builder.usedBy (sendingIn x) (buildOf (x .key) b)
+used-one x b z =
+    let e : eqb (writtenBy b) 0 ≡ false = ne-eqb (writtenBy b) 0 (λ (q : writtenBy b ≡ 0). omega (arith, q, z)) in
+    rw e
+
+module _ (nonces : NoNonceTwice) (key nonce : List ℕ) (bs : List PlainBuild) (h : PlainBuilds (sendingWords (freshSending key nonce)) bs) where
+  fresh-different : AllDifferent (used (sendingWords (freshSending key nonce)) bs)
+  unfolding freshSending
+  fresh-different = let k = kept (sendingWords (freshSending key nonce)) bs h in subst AllDifferent (k .uses) (nonces .different key nonce (k .builds) (k .chained))
+
+  fresh-counted : spentOf (sendingIn (sendingAfter (sendingWords (freshSending key nonce)) bs)) ≡ length (used (sendingWords (freshSending key nonce)) bs)
+  unfolding freshSending
+  fresh-counted =
+      let k = kept (sendingWords (freshSending key nonce)) bs h in
+      ap spentOf (sym (k .after)) ∙ nonces .counted key nonce (k .builds) (k .chained) ∙ ap length (k .uses)
+
+pub nonces-in-c : NoNonceTwice → PlainNoNonceTwice
+nonces-in-c nonces = record {
+  different = λ key nonce r m bs h.
+      (subst (λ (y : PlainSending). PlainBuilds y bs → AllDifferent (used y bs)) (sym (made-sends (m .state) key (m .receiving) nonce r (m .promised) (m .number)))
+      (fresh-different nonces key nonce bs) h);
+  counted = λ key nonce r m bs h.
+      (subst (λ (y : PlainSending). PlainBuilds y bs → spentOf (sendingIn (sendingAfter y bs)) ≡ length (used y bs))
+      (sym (made-sends (m .state) key (m .receiving) nonce r (m .promised) (m .number))) (fresh-counted nonces key nonce bs) h);
+  wrote = λ x b h z.
+      (let w = nonces .wrote (sendingIn x) (buildOf (x .key) b) (writtenBy b) (sent x b h z) refl in
+      record { parts = w .parts; bytes = w .bytes; nonces = used-one x b z ∙ w .nonces });
+  eighteen = λ x b h. eighteen x b h nonces;
+  unspent = λ x b h z. unspent x b h z;
+  none = λ p key receiving sending r h no-zero b.
+      (subst (λ (y : PlainSending). PlainMeets y b → b .sealed .answer ≡ plainRefused (numbersOf (cond (within headerLimits 0 (b .header)) SwitchRefused StateContradicts)))
+      (sym (refused-sends p key receiving sending r h (judgeWords p) refl no-zero)) (none-built b (within headerLimits 0 (b .header)) refl));
+}

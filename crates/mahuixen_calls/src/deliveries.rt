@@ -1,0 +1,39 @@
+// The joined call.
+use mahuixen::deliveries::mahuixen_deliver_in;
+ghost use Rattle.plain_connection.specs.Words.{laidOut, handed};
+ghost use Rattle.plain_session.specs.Words.{plainSession};
+ghost use Rattle.plain_delivery.specs.Words.{settledWith, PlainDelivers};
+
+pub fn deliver(
+    link: &mut [u64; 2],
+    numbers: &mut [u64; 23],
+    block: &mut [u8; 32],
+    sealed: &mut [u64; 18],
+    first: &mut [u8; 96],
+    key: &mut [u8; 16],
+    nonce: &mut [u8; 12],
+    session: &mut [u64; 2],
+    handles: &[u64; 64],
+    report: &mut [u64; 19],
+    effect: &mut [u64; 6],
+    piece: &[u8],
+    store: &mut [u8],
+) -> u64
+    ensures { λ r. ⌜ PlainDelivers (laidOut (now (link .entry)) (now (numbers .entry)) (now (block .entry)) (now (sealed .entry)) (now (first .entry)) (now (key .entry)) (now (nonce .entry))) (plainSession (now (session .entry)) (now (handles .entry))) (now (store .entry)) (now (piece .entry)) r (handed (laidOut (now (link .exit)) (now (numbers .exit)) (now (block .exit)) (now (sealed .exit)) (now (first .exit)) (now (key .exit)) (now (nonce .exit))) (now (report .exit))) (settledWith (now (session .exit)) (now (handles .entry)) (now (effect .exit))) (now (store .exit)) ⌝ }
+{
+    mahuixen_deliver_in(
+        link,
+        numbers,
+        block,
+        sealed,
+        first,
+        key,
+        nonce,
+        session,
+        handles,
+        report,
+        effect,
+        piece,
+        store,
+    )
+}
