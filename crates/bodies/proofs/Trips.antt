@@ -2,24 +2,23 @@
 use mathlib.Core.Path.{_≡_, refl, sym, ap, ap₂, subst, _∙_}
 use mathlib.Core.Bool.{Bool, true, false, cond}
 use mathlib.Core.List.{List, [], _∷_, _++_}
-use Prim.Native.Nat.{ℕ, zero, suc, _+_, _-_, _*_, _/_, _≤_}
+use Prim.Native.Nat.{ℕ, _+_, _≤_}
 use native.Mathlib.Omega.{arith}
-use lib.Dec.{leb, ltb, eqb}
+use lib.Dec.{leb, eqb}
 use borrow.Author.Tests.{le-leb, leb-true, leb-false, eqb-true}
-use lib.ListN.{length, take, drop, length-drop, take-append-drop}
-use lib.Seq.{take-at, take-add, drop-drop, drop-length, length-take-le}
-use Rattle.buffer.specs.Le.{le, leOf, numberAt, Bytes}
-use Rattle.buffer.proofs.Numbers.{bytes-take, bytes-drop, le-leOf, number-again}
+use lib.ListN.{length, take, drop, take-append-drop}
+use lib.Seq.{take-at, drop-drop, drop-length}
+use Rattle.buffer.specs.Le.{Bytes}
 use Rattle.buffer.specs.Splice.{replaceFront}
 use Rattle.preamble.specs.Judge.{segmentLimit}
 use Rattle.refusal.specs.declared.Numbers.{Numbers}
 use Rattle.refusal.specs.Refusals.{row}
 use Rattle.refusal.proofs.Booleans.{wrong}
 use Rattle.fields.specs.declared.Cursor.{Cursor}
-use Rattle.fields.specs.Layout.{Kind, num, neg, list, size, rest, plain, good, fault, past, stepOf}
-use Rattle.fields.specs.Field.{Field, kindOf, words, wordsOf, fieldBytes, fieldAt}
+use Rattle.fields.specs.Layout.{Kind, good, stepOf}
+use Rattle.fields.specs.Field.{Field, fieldBytes, fieldAt}
 use Rattle.fields.specs.Reading.{spanIn, numbersIn}
-use Rattle.fields.proofs.Skips.{length-words}
+use Rattle.fields.proofs.Again.{over-field, same-kind}
 use Rattle.bodies.specs.declared.Body.{Body}
 use Rattle.bodies.specs.declared.Body.the-variants as body
 use Rattle.bodies.specs.declared.Request.{Request}
@@ -92,110 +91,6 @@ back tag n r ms ns bs out l b w q =
 
 -- ---- bytes of what was read
 
-words-again : (n : ℕ) (t : List ℕ) → Bytes t → 4 * n ≤ length t → words (wordsOf n t) ≡ take (4 * n) t
-unfolding words wordsOf
-words-again zero t h k = refl
-words-again (suc n) t h k =
-    let e : 4 * suc n ≡ 4 + 4 * n = omega arith in
-    let d : length (drop 4 t) ≡ length t - 4 = length-drop 4 t in
-    let a : length (take 4 t) ≡ 4 = length-take-le 4 t (omega arith) in
-    let b : le 4 (leOf (take 4 t)) ≡ take 4 t = subst (λ (m : ℕ). le m (leOf (take 4 t)) ≡ take 4 t) a (le-leOf (take 4 t) (bytes-take 4 h)) in
-    rw (e, take-add 4 (4 * n) t) (ap₂ (λ (x y : List ℕ). x ++ y) b (words-again n (drop 4 t) (bytes-drop 4 h) (omega arith)))
-
--- a step that did not fail: it went over m bytes, which are the field's
-record Over (k : Kind) (s : List ℕ) (at : ℕ) : Type 0 where
-  m : ℕ
-  next : stepOf k s (good at) ≡ good (at + m)
-  bytes : fieldBytes (fieldAt k s at) ≡ take m (drop at s)
-  within : at + m ≤ length s
-
-module _ (s : List ℕ) (at : ℕ) (h : Bytes s) (in-s : at ≤ length s) where
-  past-over : (w : ℕ) → past w s at .failed ≡ false → (past w s at ≡ good (at + w)) × (w ≤ length s - at)
-  past-over w f = go (leb w (length s - at)) refl f
-    where
-      go : (b : Bool) → leb w (length s - at) ≡ b → cond b (good (at + w)) (fault at) .failed ≡ false → (past w s at ≡ good (at + w)) × (w ≤ length s - at)
-      go true t f = (rw t, leb-true w (length s - at) t)
-      go false t f = wrong (sym f)
-
-  -- a count, and what it counts
-  counted-again : (n : ℕ) (xs : List ℕ) → n ≡ numberAt 4 at s → 4 ≤ length s - at → (m : ℕ) → xs ≡ take m (drop (at + 4) s) → le 4 n ++ xs ≡ take (4 + m) (drop at s)
-  counted-again n xs e k m x =
-      rw (take-add 4 m (drop at s), drop-drop 4 at s)
-      (ap₂ (λ (a b : List ℕ). a ++ b) (ap (le 4) e ∙ number-again 4 at s h k) x)
-
-  over-number : (w : ℕ) → stepOf (num w) s (good at) .failed ≡ false → Over (num w) s at
-  unfolding stepOf
-  over-number w f =
-      let p = past-over w f in
-      record { m = w; next = p .0; bytes = number-again w at s h (p .1); within = let k = p .1 in omega arith }
-
-  over-negative : stepOf neg s (good at) .failed ≡ false → Over neg s at
-  unfolding stepOf
-  over-negative = go (ltb (numberAt 4 at s) 2147483648) refl
-    where
-      go : (b : Bool) → ltb (numberAt 4 at s) 2147483648 ≡ b → cond b (fault at) (past 4 s at) .failed ≡ false → Over neg s at
-      go true t f = wrong (sym f)
-      go false t f =
-          let p = past-over 4 f in
-          record { m = 4; next = rw t (p .0); bytes = number-again 4 at s h (p .1); within = let k = p .1 in omega arith }
-
-  over-list : stepOf list s (good at) .failed ≡ false → Over list s at
-  unfolding stepOf
-  over-list = go (ltb 32 (numberAt 4 at s)) (leb (4 + 4 * numberAt 4 at s) (length s - at)) refl refl
-    where
-      go : (a b : Bool) → ltb 32 (numberAt 4 at s) ≡ a → leb (4 + 4 * numberAt 4 at s) (length s - at) ≡ b → cond a (fault at) (cond b (good (at + (4 + 4 * numberAt 4 at s))) (fault (at + (length s - at) / 4 * 4))) .failed ≡ false → Over list s at
-      go true b t u f = wrong (sym f)
-      go false false t u f = wrong (sym f)
-      go false true t u f =
-          let k = leb-true (4 + 4 * numberAt 4 at s) (length s - at) u in
-          let d : length (drop (at + 4) s) ≡ length s - (at + 4) = length-drop (at + 4) s in
-          let w = words-again (numberAt 4 at s) (drop (at + 4) s) (bytes-drop (at + 4) h) (omega arith) in
-          record {
-            m = 4 + 4 * numberAt 4 at s;
-            next = rw (t, u);
-            bytes = counted-again (length (wordsOf (numberAt 4 at s) (drop (at + 4) s))) (words (wordsOf (numberAt 4 at s) (drop (at + 4) s))) (length-words (numberAt 4 at s) (drop (at + 4) s)) (omega arith) (4 * numberAt 4 at s) w;
-            within = omega arith;
-          }
-
-  over-sized : stepOf size s (good at) .failed ≡ false → Over size s at
-  unfolding stepOf
-  over-sized f =
-      let p = past-over (4 + numberAt 4 at s) f in
-      let k = p .1 in
-      let d : length (drop (at + 4) s) ≡ length s - (at + 4) = length-drop (at + 4) s in
-      let e : length (take (numberAt 4 at s) (drop (at + 4) s)) ≡ numberAt 4 at s = length-take-le (numberAt 4 at s) (drop (at + 4) s) (omega arith) in
-      record {
-        m = 4 + numberAt 4 at s;
-        next = p .0;
-        bytes = counted-again (length (take (numberAt 4 at s) (drop (at + 4) s))) (take (numberAt 4 at s) (drop (at + 4) s)) e (omega arith) (numberAt 4 at s) refl;
-        within = omega arith;
-      }
-
-  over-rest : (k : ℕ) → stepOf (rest k) s (good at) .failed ≡ false → Over (rest k) s at
-  unfolding stepOf
-  over-rest k = go (leb k (length s - at)) refl
-    where
-      go : (b : Bool) → leb k (length s - at) ≡ b → cond b (good (length s - k)) (fault 0) .failed ≡ false → Over (rest k) s at
-      go false t f = wrong (sym f)
-      go true t f =
-          let j = leb-true k (length s - at) t in
-          let e : length s - k ≡ at + (length s - k - at) = omega arith in
-          record { m = length s - k - at; next = rw (t, ← e); bytes = refl; within = omega arith }
-
-  over-plain : (w : ℕ) → stepOf (plain w) s (good at) .failed ≡ false → Over (plain w) s at
-  unfolding stepOf
-  over-plain w f =
-      let p = past-over w f in
-      record { m = w; next = p .0; bytes = refl; within = let k = p .1 in omega arith }
-
-  over-field : (k : Kind) → stepOf k s (good at) .failed ≡ false → Over k s at
-  over-field (num w) = over-number w
-  over-field neg = over-negative
-  over-field list = over-list
-  over-field size = over-sized
-  over-field (rest k) = over-rest k
-  over-field (plain w) = over-plain w
-
 fields-again : (ks : List Kind) (s : List ℕ) (at : ℕ) → Bytes s → at ≤ length s → run ks s (good at) .failed ≡ false → run ks s (good at) .at ≡ length s → bytesOf (fieldsOf ks s (good at)) ≡ drop at s
 unfolding bytesOf
 fields-again [] s at h l f e = sym (ap (λ (n : ℕ). drop n s) e ∙ drop-length s)
@@ -213,15 +108,7 @@ fields-again (k ∷ ks) s at h l f e = go (stepOf k s (good at) .failed) refl (�
 kinds-again : (ks : List Kind) (s : List ℕ) (c : Cursor) → kindsOf (fieldsOf ks s c) ≡ ks
 unfolding kindsOf
 kinds-again [] s c = refl
-kinds-again (k ∷ ks) s c = ap₂ (λ (x : Kind) (xs : List Kind). x ∷ xs) (same k) (kinds-again ks s (stepOf k s c))
-  where
-    same : (k : Kind) → kindOf (fieldAt k s (c .at)) ≡ k
-    same (num w) = refl
-    same neg = refl
-    same list = refl
-    same size = refl
-    same (rest k) = refl
-    same (plain w) = refl
+kinds-again (k ∷ ks) s c = ap₂ (λ (x : Kind) (xs : List Kind). x ∷ xs) (same-kind k s (c .at)) (kinds-again ks s (stepOf k s c))
 
 record Read-well (ks : List Kind) (s : List ℕ) (fs : List Field) : Type 0 where
   fine : run ks s (good 0) .failed ≡ false

@@ -7,7 +7,8 @@ use lib.Dec.{leb, eqb}
 use lib.ListN.{length}
 use Rattle.preamble.specs.Judge.{segmentLimit}
 use Rattle.refusal.specs.declared.Numbers.{Numbers}
-use Rattle.refusal.specs.Refusals.{row, numbersOf}
+use Rattle.refusal.specs.declared.Refusal.the-variants.{BodyMalformed}
+use Rattle.refusal.specs.Refusals.{numbersOf}
 use Rattle.fields.specs.declared.Cursor.{Cursor}
 use Rattle.fields.specs.Layout.{Kind, good, stepOf}
 use Rattle.fields.specs.Field.{Field, fieldAt}
@@ -31,7 +32,7 @@ pub data Answer : Type 0 where
   refused : Numbers → Answer
 
 abbrev pub malformed : ℕ → Answer
-malformed at = refused (row 20 at 0 0)
+malformed at = refused (numbersOf (BodyMalformed at))
 
 -- the answer, unless a field failed or a byte is left over
 unfoldable pub settled : List ℕ → Cursor → Answer → Answer

@@ -8,7 +8,7 @@ use Rattle.buffer.specs.Splice.{replaceFront}
 use Rattle.preamble.specs.Judge.{segmentLimit}
 use Rattle.refusal.specs.declared.Numbers.{Numbers}
 use Rattle.refusal.specs.declared.Refusal.the-variants.{BodyMalformed, NoRoom}
-use Rattle.refusal.specs.Refusals.{row, numbersOf}
+use Rattle.refusal.specs.Refusals.{numbersOf}
 use Rattle.fields.specs.declared.Draft.{Draft}
 use Rattle.fields.specs.Layout.{Kind}
 use Rattle.fields.specs.Field.{Field, kindOf, fieldBytes}
@@ -43,7 +43,7 @@ done o l = record { outcome = o; buffer = l }
 unfoldable pub writeAs : Answer → List ℕ → List ℕ → Done
 writeAs (refused n) bs out = done (turnedAway n) out
 writeAs (whole fs) bs out =
-    cond (leb (length bs) (length out)) (done (wrote (length bs)) (replaceFront bs out)) (done (turnedAway (row 14 (length bs) 0 0)) out)
+    cond (leb (length bs) (length out)) (done (wrote (length bs)) (replaceFront bs out)) (done (turnedAway (numbersOf (NoRoom (length bs)))) out)
 
 -- A BODY WRITTEN at the buffer's front. Fields that are not the tag's are malformed at 0, as an unlisted tag is
 unfoldable pub writeBody : ℕ → List Field → List ℕ → Done

@@ -1,4 +1,5 @@
 pub mod Skips
+pub mod Again
 pub mod Steps
 pub mod Puts
 pub mod Drafts

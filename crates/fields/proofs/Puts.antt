@@ -19,13 +19,6 @@ put-none at [] = refl
 put-none zero (y ∷ l) = refl
 put-none (suc at) (y ∷ l) = ap (λ (t : List ℕ). y ∷ t) (put-none at l)
 
-pub length-putAt : (at : ℕ) (xs l : List ℕ) → length (putAt at xs l) ≡ length l
-unfolding putAt
-length-putAt at xs [] = refl
-length-putAt zero [] (y ∷ l) = refl
-length-putAt zero (x ∷ xs) (y ∷ l) = ap suc (length-putAt zero xs l)
-length-putAt (suc at) xs (y ∷ l) = ap suc (length-putAt at xs l)
-
 -- a second writer behind a first
 pub put-next : (at b : ℕ) (xs ys l : List ℕ) → b ≡ at + length xs → putAt b ys (putAt at xs l) ≡ putAt at (xs ++ ys) l
 unfolding putAt

@@ -2,7 +2,8 @@
 use mathlib.Core.Path.{_≡_}
 use mathlib.Core.List.{List}
 use Prim.Native.Nat.{ℕ}
-use Rattle.refusal.specs.Refusals.{row}
+use Rattle.refusal.specs.declared.Refusal.the-variants.{UnexpectedTag}
+use Rattle.refusal.specs.Refusals.{numbersOf}
 use Rattle.handshake.specs.declared.State.{State}
 use Rattle.handshake.specs.declared.State.the-variants.{Closed}
 use Rattle.handshake.specs.declared.Verdict.{Verdict}
@@ -16,7 +17,7 @@ abbrev pub taken : State → Step
 taken to = record { state = to; report = Taken }
 
 abbrev pub refusedAt : ℕ → Step
-refusedAt tag = record { state = Closed; report = Refused (row 21 tag 0 0) }
+refusedAt tag = record { state = Closed; report = Refused (numbersOf (UnexpectedTag tag)) }
 
 abbrev pub stepBy : Next → ℕ → Step
 stepBy (To s) tag = taken s

@@ -21,6 +21,10 @@ pub data Asked : Type 0 where
   reconnectAccepted : Asked
   reconnectTurnedDown : Asked
 
+-- an auth verdict by its number
+abbrev pub authOf : ℕ → AuthVerdict
+authOf n = cond (eqb n 0) verdict.Stay (cond (eqb n 1) verdict.More (cond (eqb n 2) verdict.Signature verdict.Standby))
+
 pub record Row : Type 0 where
   pub from : State
   pub tag : ℕ

@@ -96,27 +96,27 @@ AllRight (x ∷ xs) = Right (x .side) Hello (x .steps) × AllRight xs
 
 -- ---- each state with every tag that a byte can be: what it takes and where that leads. All else is refused
 
-pub record Way : Type 0 where
+pub record Transition : Type 0 where
   pub tag : ℕ
   pub to : State
 
 infix 20 _⇒_
-abbrev _⇒_ : ℕ → State → Way
+abbrev _⇒_ : ℕ → State → Transition
 _⇒_ tag to = record { tag = tag; to = to }
 
-abbrev way : Next → ℕ → List Way → List Way
-way (To s) tag ws = (tag ⇒ s) ∷ ws
-way Unexpected tag ws = ws
+abbrev added : Next → ℕ → List Transition → List Transition
+added (To s) tag ws = (tag ⇒ s) ∷ ws
+added Unexpected tag ws = ws
 
--- the ways from a state, of n tags from one on
-unfoldable pub waysFrom : ℕ → ℕ → Side → State → Verdict → List Way
-waysFrom zero tag side s v = []
-waysFrom (suc n) tag side s v = way (find (rowsOf side) s tag v) tag (waysFrom n (tag + 1) side s v)
+-- the transitions from a state, of n tags from one on
+unfoldable pub transitionsFrom : ℕ → ℕ → Side → State → Verdict → List Transition
+transitionsFrom zero tag side s v = []
+transitionsFrom (suc n) tag side s v = added (find (rowsOf side) s tag v) tag (transitionsFrom n (tag + 1) side s v)
 
-abbrev takes : Side → State → Verdict → List Way
-takes side s v = waysFrom 256 0 side s v
+abbrev takes : Side → State → Verdict → List Transition
+takes side s v = transitionsFrom 256 0 side s v
 
-abbrev none : List Way
+abbrev none : List Transition
 none = []
 
 -- whatever the verdict, where the state asks for none
@@ -164,8 +164,8 @@ Entered a g =
     × (takes server Session (record { auth = a; signature = g; features = false; reconnect = true }) ≡ (8 ⇒ Closed) ∷ (11 ⇒ Ready) ∷ [])
     × (takes server Session (record { auth = a; signature = g; features = false; reconnect = false }) ≡ (8 ⇒ Closed) ∷ (11 ⇒ Session) ∷ [])
 
-unfoldable pub Ways : Type 0
-Ways =
+unfoldable pub Transitions : Type 0
+Transitions =
     ((v : Verdict) → Unasked v)
     × ((a : AuthVerdict) (f k : Bool) → Signed a f k)
     × ((g f k : Bool) → Led g f k)
@@ -199,4 +199,4 @@ AllChosen [] = Unit {0}
 AllChosen (x ∷ xs) = (pickOf (x .preferred) (x .allowed) ≡ x .mode) × AllChosen xs
 
 unfoldable pub Worked : Type 0
-Worked = AllRight examples × Ways × AllChosen choices
+Worked = AllRight examples × Transitions × AllChosen choices

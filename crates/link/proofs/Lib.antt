@@ -4,5 +4,4 @@ mod Moves
 mod Chains
 pub mod Outcomes
 mod Widths
-mod Lists
 mod Whole

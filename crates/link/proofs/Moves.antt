@@ -1,6 +1,6 @@
 -- One call of the receiver: what it takes, and what a walk makes of its report.
 use mathlib.Core.Path.{_≡_, refl}
-use mathlib.Core.Bool.{Bool, true, false}
+use mathlib.Core.Bool.{Bool, true, false, cond}
 use mathlib.Core.List.{List}
 use Prim.Native.Nat.{ℕ, _+_, _≤_, _<_, zero-le}
 use native.Mathlib.Omega.{arith}
@@ -14,6 +14,7 @@ use Rattle.banner.specs.declared.Revision.{Revision}
 use Rattle.preamble.specs.declared.Header.{Header}
 use Rattle.stream.specs.declared.Event.{Event}
 use Rattle.stream.specs.declared.Event.the-variants as event
+use Rattle.stream.specs.Events.{closes}
 use Rattle.receiver.specs.declared.State.{State}
 use Rattle.receiver.specs.declared.Report.{Report}
 use Rattle.receiver.specs.declared.Report.the-variants as report
@@ -38,11 +39,11 @@ pub record Moves (piece : List ℕ) (o : Received) : Type 0 where
   pub frames-within : (at k : ℕ) (s : List ℕ) → framesOf k (reported (o .report) at s) ≤ k + o .taken
 
 numbered-few : (k : ℕ) (e : Event) → numbered k e ≤ k + 1
-numbered-few k (event.Banner p r) = omega arith
-numbered-few k (event.First h) = omega arith
-numbered-few k (event.Frame h) = omega arith
-numbered-few k (event.Dropped h) = omega arith
-numbered-few k (event.Refused n) = omega arith
+numbered-few k e = go (closes e)
+  where
+    go : (b : Bool) → cond b (k + 1) k ≤ k + 1
+    go true = omega arith
+    go false = omega arith
 
 reported-few : (r : Report) (at k : ℕ) (s : List ℕ) → framesOf k (reported r at s) ≤ k + 1
 unfolding framesOf

@@ -19,7 +19,7 @@ use Rattle.link.specs.declared.Outcome.the-variants.{Goes, Ends}
 use Rattle.link.specs.declared.Outcome.{Outcome}
 use Rattle.link.specs.declared.Link.{Link}
 use Rattle.link.specs.File.{sumOf}
-use Rattle.link.specs.Reads.{wantedBy, wantedOf, linkAfter, remainingBy, remaining, countOutcome, tableOutcome, bodiesOutcome, filledTo, linkAt, ready, WalkRead, ReadBy, ReadOn}
+use Rattle.link.specs.Reads.{wantedBy, wantedOf, linkAfter, countOutcome, tableOutcome, bodiesOutcome, filledTo, linkAt, ready, WalkRead, ReadBy, ReadOn}
 use Rattle.link.specs.Walks.{Fits}
 
 module _ (b : List ℕ) where
@@ -100,6 +100,16 @@ pub read-nothing : (left : ℕ) (w : Walk) (s bytes text : List ℕ) → ready w
 read-nothing left w s bytes text e = walk-read left w s bytes text (linkAt Ended 0 w) s text false e (record { link = refl; store = refl; kept = refl })
 
 -- ---- reading ends
+
+-- a number that falls with each read, so that reading ends
+abbrev pub remainingBy : Part → ℕ → ℕ
+remainingBy Count left = 18446744073709551617
+remainingBy Table left = 18446744073709551616
+remainingBy Bodies left = left
+remainingBy Ended left = 0
+
+abbrev pub remaining : Link → ℕ
+remaining l = remainingBy (l .part) (l .left)
 
 after-falls : (m : ℕ) (o : Outcome) (w : Walk) (r : Link) → r .left < 18446744073709551616 → r ≡ linkAfter o w
     → ((p : Part) (left : ℕ) → o ≡ Goes p left → left < 18446744073709551616 → remainingBy p left < m) → 0 < m → remaining r < m

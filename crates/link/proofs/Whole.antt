@@ -21,6 +21,7 @@ use Rattle.stream.specs.Adds.{AddsUp}
 use Rattle.receiver.specs.declared.State.{State}
 use Rattle.receiver.specs.Step.{started}
 use Rattle.receiver.specs.Calls.{Call, Chained, takenBy, stateBy, storeBy, reportedBy, refusedIn, listOf, AsDefined, Demand3}
+use Rattle.receiver.proofs.Appended.{refused-append, taken-append, state-append, store-append, chained-append, reported-append}
 use Rattle.text.specs.Line.{Piece, textOf}
 use Rattle.text.specs.Page.{page, puts}
 use Rattle.text.specs.Law.{EveryLine}
@@ -36,9 +37,8 @@ use Rattle.link.specs.File.{countOf, sumOf, tableOf, lengthOf, behindTab
 use Rattle.link.specs.Walks.{lastOf, framesOf, endAt}
 use Rattle.link.specs.Reads.{newWalk, begun, wantedBy, wantedOf, countOutcome, tableOutcome, bodiesOutcome, filledTo, linkAfter, lastPieces, Settled, ready, BodiesRead, TableRead, WalkRead, ReadBy, ReadOn}
 use Rattle.link.specs.Links.{Read, Reading, linkBy, writtenBy, askedBy, Checked, EveryLink}
-use Rattle.link.proofs.Counts.{last-append, frames-append, lines-append, refused-append, end-append}
+use Rattle.link.proofs.Counts.{last-append, frames-append, lines-append, end-append}
 use Rattle.link.proofs.Ends.{at-refused, at-bad, at-open}
-use Rattle.link.proofs.Lists.{taken-append, state-append, store-append, chained-append, reported-append}
 use Rattle.link.proofs.Widths.{text-append, text-of, roomy, roomy-last}
 
 own-fine : judgeOwn 1 0 ≡ fine

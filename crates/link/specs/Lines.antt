@@ -1,25 +1,21 @@
 -- The lines of the link checker (02, K12): one for each banner, frame and drop of demand 3's list, and one for the end.
-use mathlib.Core.Bool.{Bool, cond}
+use mathlib.Core.Bool.{Bool, cond, _||_}
 use mathlib.Core.List.{List, [], _∷_, _++_}
 use Prim.Native.Nat.{ℕ, _+_, _-_}
 use lib.Dec.{leb}
 use Rattle.banner.specs.declared.Features.{Features}
 use Rattle.banner.specs.declared.Revision.{Revision}
-use Rattle.banner.specs.declared.Revision.the-variants.{Msgr20, Msgr21}
+use Rattle.banner.specs.Banner.{revisionNumber}
 use Rattle.preamble.specs.declared.Header.{Header}
 use Rattle.preamble.specs.Layout.{total}
 use Rattle.stream.specs.declared.Event.{Event}
 use Rattle.stream.specs.declared.Event.the-variants as event
+use Rattle.stream.specs.Events.{isBanner, closes}
 use Rattle.stream.specs.Stream.{Entry}
 use Rattle.receiver.specs.Calls.{passing}
 use Rattle.text.specs.Line.{Piece, raw, number, codes, word, newline, field}
 
 -- ---- lines
-
--- revision 1 is msgr2.1, 0 msgr2.0
-abbrev pub revisionNumber : Revision → ℕ
-revisionNumber Msgr20 = 0
-revisionNumber Msgr21 = 1
 
 abbrev pub bannerLine : Features → Revision → List Piece
 bannerLine p r = field "banner supported" (p .supported) ++ field " required" (p .required) ++ field " revision" (revisionNumber r) ++ (newline ∷ [])
@@ -37,11 +33,7 @@ lineOf k (event.Dropped h) = frameLine (codes "drop") (k + 1) h
 lineOf k (event.Refused n) = []
 
 abbrev pub numbered : ℕ → Event → ℕ
-numbered k (event.Banner p r) = k
-numbered k (event.First h) = k
-numbered k (event.Frame h) = k + 1
-numbered k (event.Dropped h) = k + 1
-numbered k (event.Refused n) = k
+numbered k e = cond (closes e) (k + 1) k
 
 unfoldable pub linesOf : ℕ → List Entry → List Piece
 linesOf k [] = []
@@ -65,14 +57,10 @@ endLine badFile = word "end bad file\n" ∷ []
 abbrev pub openEnd : Bool → ℕ → ℕ → End
 openEnd bad n p = cond bad badFile (cond (leb n p) (ok n) (cut (n - p)))
 
--- by the next entry: where the unfinished part then begins, or the end
-abbrev pub endBy : Event → ℕ → ℕ → (ℕ → End) → End
-endBy (event.Banner p r) at from later = later at
-endBy (event.First h) at from later = later from
-endBy (event.Frame h) at from later = later at
-endBy (event.Dropped h) at from later = later at
-endBy (event.Refused n) at from later = refusedAt (n .number) at
+-- the byte of the last banner, frame or drop, where it was at p before: there the unfinished part begins
+abbrev pub entryEndBy : ℕ → Event → ℕ → ℕ
+entryEndBy p e at = cond (isBanner e || closes e) at p
 
 unfoldable pub endOf : Bool → ℕ → ℕ → List Entry → End
 endOf bad n p [] = openEnd bad n p
-endOf bad n p (e ∷ es) = endBy (e .event) (e .at) p (λ q. endOf bad n q es)
+endOf bad n p (e ∷ es) = passing (e .event) (endOf bad n (entryEndBy p (e .event) (e .at)) es) (λ r. refusedAt (r .number) (e .at))

@@ -109,13 +109,3 @@ ReadBy Ended left w s bytes text r s′ text′ = NothingRead w s text r s′ te
 -- THE PROMISE: of bytes no more than are wanted are read, and the text starts at the front
 unfoldable pub ReadOn : Link → List ℕ → List ℕ → List ℕ → Link → List ℕ → List ℕ → Type 0
 ReadOn l s bytes text r s′ text′ = ReadBy (l .part) (l .left) (filledTo (l .walk) 0) s (take (wantedOf l) bytes) text r s′ text′
-
--- a number that falls with each read, so that reading ends
-abbrev pub remainingBy : Part → ℕ → ℕ
-remainingBy Count left = 18446744073709551617
-remainingBy Table left = 18446744073709551616
-remainingBy Bodies left = left
-remainingBy Ended left = 0
-
-abbrev pub remaining : Link → ℕ
-remaining l = remainingBy (l .part) (l .left)

@@ -5,7 +5,6 @@ use mathlib.Core.Bool.{Bool, true, false, cond}
 use Prim.Native.Nat.{ℕ, _+_, _≤_, _<_}
 use lib.ListN.{length, take, drop}
 use Rattle.stream.specs.declared.Event.{Event}
-use Rattle.stream.specs.declared.Event.the-variants as event
 use Rattle.stream.specs.Stream.{Entry, entry}
 use Rattle.receiver.specs.declared.Report.{Report}
 use Rattle.receiver.specs.declared.Report.the-variants as report
@@ -15,18 +14,11 @@ use Rattle.receiver.specs.Calls.{Call, Chained, takenBy, stateBy, storeBy, repo
 use Rattle.text.specs.Page.{page, puts}
 use Rattle.link.specs.declared.Segments.{Segments}
 use Rattle.link.specs.declared.Walk.{Walk}
-use Rattle.link.specs.Lines.{numbered, linesOf, End, refusedAt, openEnd, endOf}
+use Rattle.link.specs.Lines.{numbered, linesOf, entryEndBy, End, refusedAt, openEnd, endOf}
 
 -- ---- counts, by the entries
 
--- the byte of the last banner, frame or drop, where it was at p before
-abbrev pub entryEndBy : ℕ → Event → ℕ → ℕ
-entryEndBy p (event.Banner f r) at = at
-entryEndBy p (event.First h) at = p
-entryEndBy p (event.Frame h) at = at
-entryEndBy p (event.Dropped h) at = at
-entryEndBy p (event.Refused n) at = p
-
+-- the byte of the last banner, frame or drop
 unfoldable pub lastOf : ℕ → List Entry → ℕ
 lastOf p [] = p
 lastOf p (e ∷ es) = lastOf (entryEndBy p (e .event) (e .at)) es

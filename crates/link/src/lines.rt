@@ -9,8 +9,9 @@ use text::put_field;
 use text::put_word;
 ghost use mathlib.Core.Path.{_≡_};
 ghost use mathlib.Core.Bool.{false};
+ghost use Rattle.banner.specs.Banner.{revisionNumber};
 ghost use Rattle.text.specs.Page.{page, puts};
-ghost use Rattle.link.specs.Lines.{revisionNumber, bannerLine, frameLine, refusedAt, badFile, openEnd, endLine};
+ghost use Rattle.link.specs.Lines.{bannerLine, frameLine, refusedAt, badFile, openEnd, endLine};
 ghost use Rattle.link.specs.Walks.{endAt};
 
 fn revision_number(revision: Revision) -> u64

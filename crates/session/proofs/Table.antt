@@ -126,10 +126,6 @@ unfolding agrees
 agrees-by s order room = rw (le-leb (s .released) (s .last) order, le-leb (s .last - s .released) places room)
 
 -- where a session is not turned away
-pub fine-state : (s : Session) → judgeState s ≡ fine → Agreeing s
-unfolding judgeState
-fine-state s e = agreeing s (passed (agrees s) why.StateContradicts e)
-
 pub fine-accept : (s : Session) → judgeAccept s ≡ fine → s .last < finalNumber
 unfolding judgeAccept
 fine-accept s e =

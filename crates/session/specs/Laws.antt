@@ -6,7 +6,8 @@ use Prim.Native.Nat.{ℕ, zero, suc, _+_, _≤_, _<_}
 use lib.ListN.{length}
 use lib.Dec.{ltb}
 use Rattle.refusal.specs.declared.Numbers.{Numbers}
-use Rattle.refusal.specs.Refusals.{row}
+use Rattle.refusal.specs.declared.Refusal.the-variants.{StateContradicts, AckAhead}
+use Rattle.refusal.specs.Refusals.{numbersOf}
 use Rattle.session.specs.declared.Session.{Session}
 use Rattle.session.specs.declared.Message.{Message}
 use Rattle.session.specs.declared.Report.{Report}
@@ -87,8 +88,8 @@ resent o = resentBy (o .report) (o .session)
 
 pub record Sound (s : Session) (c : Call) : Type 0 where
   -- 26 exactly where the fields contradict each other, and such a session is handed back by no other call
-  pub contradicts : agrees s ≡ false → callOf s c ≡ refusing s (row 26 0 0 0)
-  pub never26 : agrees s ≡ true → callOf s c .report ≡ report.Refused (row 26 0 0 0) → ⊥
+  pub contradicts : agrees s ≡ false → callOf s c ≡ refusing s (numbersOf StateContradicts)
+  pub never26 : agrees s ≡ true → callOf s c .report ≡ report.Refused (numbersOf StateContradicts) → ⊥
   pub agreeing : agrees s ≡ true → agrees (callOf s c .session) ≡ true
   pub sized : length (callOf s c .session .handles) ≡ places
   -- a refusal changes nothing
@@ -104,4 +105,4 @@ pub record EveryCall : Type 0 where
       → (ackOf s n ≡ outcome s report.Done) × (reconnectOf s n ≡ outcome s (report.Resend (length (heldOf s))))
   -- after a reconnect the messages then held are sent again, in order, and none on 23
   pub resends : (s : Session) (n : ℕ) → agrees s ≡ true → n ≤ s .last → resent (reconnectOf s n) ≡ map held.At (above n (heldOf s))
-  pub none : (s : Session) (n : ℕ) → agrees s ≡ true → s .last < n → (reconnectOf s n ≡ refusing s (row 23 0 0 0)) × (resent (reconnectOf s n) ≡ [])
+  pub none : (s : Session) (n : ℕ) → agrees s ≡ true → s .last < n → (reconnectOf s n ≡ refusing s (numbersOf AckAhead)) × (resent (reconnectOf s n) ≡ [])

@@ -6,15 +6,6 @@ use borrow.Author.Needs.{needs}
 use Rattle.bodies.proofs.field_rest.Statement.{statement}
 use Rattle.bodies.proofs.field_rest.Tie as tie
 
-read-rest-requires : tie.Need-read-rest-requires
-read-rest-requires c κs = search needs
-
-enum-known-value : tie.Need-enum-known-value
-enum-known-value c = search needs
-
-enum-known-next : tie.Need-enum-known-next
-enum-known-next c = search needs
-
 returns : tie.Need-returns
 returns c = took-read (ap (inSpan (opaque (c .before .before .before .before .before .args .closing)) (c .before .before .before .before .before .args .s .now)) (sym (c .before .value .given .1)) ∙ c .before .before .before .read-rest .ensures)
 
@@ -22,4 +13,4 @@ returns-2 : tie.Need-returns-2
 returns-2 c = took-failed (ap (inSpan (opaque (c .before .before .before .before .before .args .closing)) (c .before .before .before .before .before .args .s .now)) (sym (c .before .next .given .1)) ∙ c .before .before .before .read-rest .ensures)
 
 pub field-rest-spec : {M : Type 1} → statement M
-field-rest-spec = tie.close (tie.spec read-rest-requires enum-known-value enum-known-next returns returns-2)
+field-rest-spec = tie.close (tie.spec (λ c κs. search needs) (λ c. search needs) (λ c. search needs) returns returns-2)

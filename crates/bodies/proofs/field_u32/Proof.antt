@@ -6,15 +6,6 @@ use borrow.Author.Needs.{needs}
 use Rattle.bodies.proofs.field_u32.Statement.{statement}
 use Rattle.bodies.proofs.field_u32.Tie as tie
 
-read-u32-requires : tie.Need-read-u32-requires
-read-u32-requires c κs = search needs
-
-enum-known-value : tie.Need-enum-known-value
-enum-known-value c = search needs
-
-enum-known-next : tie.Need-enum-known-next
-enum-known-next c = search needs
-
 returns : tie.Need-returns
 returns c = took-read (ap (inU32 (number 4)) (sym (c .before .value .given .1)) ∙ c .before .before .before .read-u32 .ensures)
 
@@ -22,4 +13,4 @@ returns-2 : tie.Need-returns-2
 returns-2 c = took-failed (ap (inU32 (number 4)) (sym (c .before .next .given .1)) ∙ c .before .before .before .read-u32 .ensures)
 
 pub field-u32-spec : {M : Type 1} → statement M
-field-u32-spec = tie.close (tie.spec read-u32-requires enum-known-value enum-known-next returns returns-2)
+field-u32-spec = tie.close (tie.spec (λ c κs. search needs) (λ c. search needs) (λ c. search needs) returns returns-2)

@@ -5,15 +5,6 @@ use borrow.Author.Needs.{needs}
 use Rattle.bodies.proofs.field_u64.Statement.{statement}
 use Rattle.bodies.proofs.field_u64.Tie as tie
 
-read-u64-requires : tie.Need-read-u64-requires
-read-u64-requires c κs = search needs
-
-enum-known-value : tie.Need-enum-known-value
-enum-known-value c = search needs
-
-enum-known-next : tie.Need-enum-known-next
-enum-known-next c = search needs
-
 returns : tie.Need-returns
 returns c = took-read (ap inU64 (sym (c .before .value .given .1)) ∙ c .before .before .before .read-u64 .ensures)
 
@@ -21,4 +12,4 @@ returns-2 : tie.Need-returns-2
 returns-2 c = took-failed (ap inU64 (sym (c .before .next .given .1)) ∙ c .before .before .before .read-u64 .ensures)
 
 pub field-u64-spec : {M : Type 1} → statement M
-field-u64-spec = tie.close (tie.spec read-u64-requires enum-known-value enum-known-next returns returns-2)
+field-u64-spec = tie.close (tie.spec (λ c κs. search needs) (λ c. search needs) (λ c. search needs) returns returns-2)

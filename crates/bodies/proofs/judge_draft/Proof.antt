@@ -3,9 +3,6 @@ use borrow.Author.Needs.{needs}
 use Rattle.bodies.proofs.judge_draft.Statement.{statement}
 use Rattle.bodies.proofs.judge_draft.Tie as tie
 
-limit-requires : tie.Need-limit-requires
-limit-requires c κs = search needs
-
 returns : tie.Need-returns
 returns c = too-long _ _ _ (c .before .limit .ensures) (c .if1 .taken)
 
@@ -19,4 +16,4 @@ returns-4 : tie.Need-returns-4
 returns-4 c = no-room _ _ _ (c .before .before .before .limit .ensures) (c .before .before .if1 .left) (c .before .if2 .left) (c .if3 .left)
 
 pub judge-draft-spec : {M : Type 1} → statement M
-judge-draft-spec = tie.close (tie.spec limit-requires returns returns-2 returns-3 returns-4)
+judge-draft-spec = tie.close (tie.spec (λ c κs. search needs) returns returns-2 returns-3 returns-4)

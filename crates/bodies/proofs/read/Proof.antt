@@ -3,20 +3,11 @@ use borrow.Author.Needs.{needs}
 use Rattle.bodies.proofs.read.Statement.{statement}
 use Rattle.bodies.proofs.read.Tie as tie
 
-limit-requires : tie.Need-limit-requires
-limit-requires c κs = search needs
-
 returns : tie.Need-returns
 returns c = record { answer = above-limit _ _ (rw (c .before .limit .ensures) at (c .if1 .taken)) }
 
-read-auth-requires : tie.Need-read-auth-requires
-read-auth-requires c κs = search needs
-
 returns-2 : tie.Need-returns-2
 returns-2 c = record { answer = within-limit _ _ (rw (c .before .before .before .limit .ensures) at (c .before .before .if1 .left)) (c .read-auth .ensures (c .before .if2 .taken)) }
-
-read-session-requires : tie.Need-read-session-requires
-read-session-requires c κs = search needs
 
 returns-3 : tie.Need-returns-3
 returns-3 c = record { answer = within-limit _ _ (rw (c .before .before .before .limit .ensures) at (c .before .before .if1 .left)) (c .read-session .ensures (c .before .if2 .left)) }
@@ -25,9 +16,9 @@ pub read-spec : {M : Type 1} → statement M
 read-spec =
     tie.close
     (tie.spec
-    limit-requires
+    (λ c κs. search needs)
     returns
-    read-auth-requires
+    (λ c κs. search needs)
     returns-2
-    read-session-requires
+    (λ c κs. search needs)
     returns-3)

@@ -5,43 +5,25 @@ use borrow.Author.Needs.{needs}
 use Rattle.bodies.proofs.read_auth.Statement.{statement}
 use Rattle.bodies.proofs.read_auth.Tie as tie
 
-read-hello-requires : tie.Need-read-hello-requires
-read-hello-requires c κs = search needs
-
 returns : tie.Need-returns
 unfolding layoutIn
 returns c = λ h. by-tag _ 1 (c .before .if1 .taken) (c .read-hello .ensures)
-
-read-auth-request-requires : tie.Need-read-auth-request-requires
-read-auth-request-requires c κs = search needs
 
 returns-2 : tie.Need-returns-2
 unfolding layoutIn
 returns-2 c = λ h. by-tag _ 2 (c .before .if2 .taken) (c .read-auth-request .ensures)
 
-read-bad-method-requires : tie.Need-read-bad-method-requires
-read-bad-method-requires c κs = search needs
-
 returns-3 : tie.Need-returns-3
 unfolding layoutIn
 returns-3 c = λ h. by-tag _ 3 (c .before .if3 .taken) (c .read-bad-method .ensures)
-
-read-more-requires : tie.Need-read-more-requires
-read-more-requires c κs = search needs
 
 returns-4 : tie.Need-returns-4
 unfolding layoutIn
 returns-4 c = λ h. by-tag _ 4 (c .before .if4 .taken) (c .read-more .ensures)
 
-read-more-requires-2 : tie.Need-read-more-requires-2
-read-more-requires-2 c κs = search needs
-
 returns-5 : tie.Need-returns-5
 unfolding layoutIn
 returns-5 c = λ h. by-tag _ 5 (c .before .if5 .taken) (c .read-more2 .ensures)
-
-read-auth-done-requires : tie.Need-read-auth-done-requires
-read-auth-done-requires c κs = search needs
 
 returns-6 : tie.Need-returns-6
 unfolding layoutIn
@@ -54,16 +36,16 @@ pub read-auth-spec : {M : Type 1} → statement M
 read-auth-spec =
     tie.close
     (tie.spec
-    read-hello-requires
+    (λ c κs. search needs)
     returns
-    read-auth-request-requires
+    (λ c κs. search needs)
     returns-2
-    read-bad-method-requires
+    (λ c κs. search needs)
     returns-3
-    read-more-requires
+    (λ c κs. search needs)
     returns-4
-    read-more-requires-2
+    (λ c κs. search needs)
     returns-5
-    read-auth-done-requires
+    (λ c κs. search needs)
     returns-6
     returns-7)

@@ -3,21 +3,6 @@ use borrow.Author.Needs.{needs}
 use Rattle.bodies.proofs.read_auth_done.Statement.{statement}
 use Rattle.bodies.proofs.read_auth_done.Tie as tie
 
-start-requires : tie.Need-start-requires
-start-requires c κs = search needs
-
-field-u64-requires : tie.Need-field-u64-requires
-field-u64-requires c κs = search needs
-
-field-u32-requires : tie.Need-field-u32-requires
-field-u32-requires c κs = search needs
-
-field-rest-requires : tie.Need-field-rest-requires
-field-rest-requires c κs = search needs
-
-settle-requires : tie.Need-settle-requires
-settle-requires c κs = search needs
-
 returns : tie.Need-returns
 returns c =
     row-read (c .before .before .before .before .before .start .ensures)
@@ -28,9 +13,9 @@ pub read-auth-done-spec : {M : Type 1} → statement M
 read-auth-done-spec =
     tie.close
     (tie.spec
-    start-requires
-    field-u64-requires
-    field-u32-requires
-    field-rest-requires
-    settle-requires
+    (λ c κs. search needs)
+    (λ c κs. search needs)
+    (λ c κs. search needs)
+    (λ c κs. search needs)
+    (λ c κs. search needs)
     returns)

@@ -3,21 +3,6 @@ use borrow.Author.Needs.{needs}
 use Rattle.bodies.proofs.read_auth_request.Statement.{statement}
 use Rattle.bodies.proofs.read_auth_request.Tie as tie
 
-start-requires : tie.Need-start-requires
-start-requires c κs = search needs
-
-field-u32-requires : tie.Need-field-u32-requires
-field-u32-requires c κs = search needs
-
-field-list-requires : tie.Need-field-list-requires
-field-list-requires c κs = search needs
-
-field-rest-requires : tie.Need-field-rest-requires
-field-rest-requires c κs = search needs
-
-settle-requires : tie.Need-settle-requires
-settle-requires c κs = search needs
-
 returns : tie.Need-returns
 returns c = row-read (c .before .before .before .before .before .before .start .ensures) (step (c .before .before .before .before .before .field-u32 .ensures) (step (c .before .before .before .before .field-list .ensures) (step (c .before .before .before .field-rest .ensures) end))) (c .settle .ensures)
 
@@ -25,9 +10,9 @@ pub read-auth-request-spec : {M : Type 1} → statement M
 read-auth-request-spec =
     tie.close
     (tie.spec
-    start-requires
-    field-u32-requires
-    field-list-requires
-    field-rest-requires
-    settle-requires
+    (λ c κs. search needs)
+    (λ c κs. search needs)
+    (λ c κs. search needs)
+    (λ c κs. search needs)
+    (λ c κs. search needs)
     returns)

@@ -3,15 +3,6 @@ use borrow.Author.Needs.{needs}
 use Rattle.bodies.proofs.read_one_number.Statement.{statement}
 use Rattle.bodies.proofs.read_one_number.Tie as tie
 
-start-requires : tie.Need-start-requires
-start-requires c κs = search needs
-
-field-u64-requires : tie.Need-field-u64-requires
-field-u64-requires c κs = search needs
-
-settle-requires : tie.Need-settle-requires
-settle-requires c κs = search needs
-
 returns : tie.Need-returns
 returns c = row-read (c .before .before .start .ensures)
     (step (c .before .field-u64 .ensures) end)
@@ -19,4 +10,4 @@ returns c = row-read (c .before .before .start .ensures)
 
 pub read-one-number-spec : {M : Type 1} → statement M
 read-one-number-spec =
-    tie.close (tie.spec start-requires field-u64-requires settle-requires returns)
+    tie.close (tie.spec (λ c κs. search needs) (λ c κs. search needs) (λ c κs. search needs) returns)

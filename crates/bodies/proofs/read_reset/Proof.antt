@@ -3,15 +3,6 @@ use borrow.Author.Needs.{needs}
 use Rattle.bodies.proofs.read_reset.Statement.{statement}
 use Rattle.bodies.proofs.read_reset.Tie as tie
 
-start-requires : tie.Need-start-requires
-start-requires c κs = search needs
-
-field-u8-requires : tie.Need-field-u8-requires
-field-u8-requires c κs = search needs
-
-settle-requires : tie.Need-settle-requires
-settle-requires c κs = search needs
-
 returns : tie.Need-returns
 returns c =
     row-read (c .before .before .start .ensures)
@@ -19,4 +10,4 @@ returns c =
     (c .settle .ensures)
 
 pub read-reset-spec : {M : Type 1} → statement M
-read-reset-spec = tie.close (tie.spec start-requires field-u8-requires settle-requires returns)
+read-reset-spec = tie.close (tie.spec (λ c κs. search needs) (λ c κs. search needs) (λ c κs. search needs) returns)

@@ -5,64 +5,37 @@ use borrow.Author.Needs.{needs}
 use Rattle.bodies.proofs.read_session.Statement.{statement}
 use Rattle.bodies.proofs.read_session.Tie as tie
 
-read-ident-requires : tie.Need-read-ident-requires
-read-ident-requires c κs = search needs
-
 returns : tie.Need-returns
 unfolding layoutIn
 returns c = λ h. by-tag _ 8 (c .before .if1 .taken) (c .read-ident .ensures)
-
-read-ident-requires-2 : tie.Need-read-ident-requires-2
-read-ident-requires-2 c κs = search needs
 
 returns-2 : tie.Need-returns-2
 unfolding layoutIn
 returns-2 c = λ h. by-tag _ 9 (c .before .if2 .taken) (c .read-ident2 .ensures)
 
-read-one-number-requires : tie.Need-read-one-number-requires
-read-one-number-requires c κs = search needs
-
 returns-3 : tie.Need-returns-3
 unfolding layoutIn
 returns-3 c = λ h. by-tag _ 10 (c .before .if3 .taken) (c .read-one-number .ensures)
-
-read-reconnect-requires : tie.Need-read-reconnect-requires
-read-reconnect-requires c κs = search needs
 
 returns-4 : tie.Need-returns-4
 unfolding layoutIn
 returns-4 c = λ h. by-tag _ 11 (c .before .if4 .taken) (c .read-reconnect .ensures)
 
-read-reset-requires : tie.Need-read-reset-requires
-read-reset-requires c κs = search needs
-
 returns-5 : tie.Need-returns-5
 unfolding layoutIn
 returns-5 c = λ h. by-tag _ 12 (c .before .if5 .taken) (c .read-reset .ensures)
-
-read-one-number-requires-2 : tie.Need-read-one-number-requires-2
-read-one-number-requires-2 c κs = search needs
 
 returns-6 : tie.Need-returns-6
 unfolding layoutIn
 returns-6 c = λ h. by-tag _ 15 (c .before .if6 .taken) (c .read-one-number2 .ensures)
 
-read-stamp-requires : tie.Need-read-stamp-requires
-read-stamp-requires c κs = search needs
-
 returns-7 : tie.Need-returns-7
 unfolding layoutIn
 returns-7 c = λ h. by-tag _ 18 (c .before .if7 .taken) (c .read-stamp .ensures)
 
-read-stamp-requires-2 : tie.Need-read-stamp-requires-2
-read-stamp-requires-2 c κs = search needs
-
 returns-8 : tie.Need-returns-8
 unfolding layoutIn
 returns-8 c = λ h. by-tag _ 19 (c .before .if8 .taken) (c .read-stamp2 .ensures)
-
-read-one-number-requires-3 : tie.Need-read-one-number-requires-3
-read-one-number-requires-3 c κs = search needs
 
 returns-9 : tie.Need-returns-9
 unfolding layoutIn
@@ -75,22 +48,22 @@ pub read-session-spec : {M : Type 1} → statement M
 read-session-spec =
     tie.close
     (tie.spec
-    read-ident-requires
+    (λ c κs. search needs)
     returns
-    read-ident-requires-2
+    (λ c κs. search needs)
     returns-2
-    read-one-number-requires
+    (λ c κs. search needs)
     returns-3
-    read-reconnect-requires
+    (λ c κs. search needs)
     returns-4
-    read-reset-requires
+    (λ c κs. search needs)
     returns-5
-    read-one-number-requires-2
+    (λ c κs. search needs)
     returns-6
-    read-stamp-requires
+    (λ c κs. search needs)
     returns-7
-    read-stamp-requires-2
+    (λ c κs. search needs)
     returns-8
-    read-one-number-requires-3
+    (λ c κs. search needs)
     returns-9
     returns-10)

@@ -3,15 +3,6 @@ use borrow.Author.Needs.{needs}
 use Rattle.bodies.proofs.read_stamp.Statement.{statement}
 use Rattle.bodies.proofs.read_stamp.Tie as tie
 
-start-requires : tie.Need-start-requires
-start-requires c κs = search needs
-
-field-bytes-requires : tie.Need-field-bytes-requires
-field-bytes-requires c κs = search needs
-
-settle-requires : tie.Need-settle-requires
-settle-requires c κs = search needs
-
 returns : tie.Need-returns
 returns c =
     row-read (c .before .before .before .start .ensures)
@@ -19,4 +10,4 @@ returns c =
     (c .settle .ensures)
 
 pub read-stamp-spec : {M : Type 1} → statement M
-read-stamp-spec = tie.close (tie.spec start-requires field-bytes-requires settle-requires returns)
+read-stamp-spec = tie.close (tie.spec (λ c κs. search needs) (λ c κs. search needs) (λ c κs. search needs) returns)

@@ -4,18 +4,6 @@ use borrow.Author.Needs.{needs}
 use Rattle.bodies.proofs.row_hello.Statement.{statement}
 use Rattle.bodies.proofs.row_hello.Tie as tie
 
-start-draft-requires : tie.Need-start-draft-requires
-start-draft-requires c κs = search needs
-
-append-u8-requires : tie.Need-append-u8-requires
-append-u8-requires c κs = search needs
-
-append-rest-requires : tie.Need-append-rest-requires
-append-rest-requires c κs = search needs
-
-same-length : tie.Need-same-length
-same-length c = search needs
-
 returns : tie.Need-returns
 returns c =
     from-empty (c .before .before .before .before .before .before .before .start-draft .ensures)
@@ -24,4 +12,4 @@ returns c =
 pub row-hello-spec : {M : Type 1} → statement M
 row-hello-spec =
     tie.close
-    (tie.spec start-draft-requires append-u8-requires append-rest-requires same-length returns)
+    (tie.spec (λ c κs. search needs) (λ c κs. search needs) (λ c κs. search needs) (λ c. search needs) returns)

@@ -5,30 +5,6 @@ use borrow.Author.Needs.{needs}
 use Rattle.bodies.proofs.row_reconnect.Statement.{statement}
 use Rattle.bodies.proofs.row_reconnect.Tie as tie
 
-start-draft-requires : tie.Need-start-draft-requires
-start-draft-requires c κs = search needs
-
-append-u32-requires : tie.Need-append-u32-requires
-append-u32-requires c κs = search needs
-
-append-rest-requires : tie.Need-append-rest-requires
-append-rest-requires c κs = search needs
-
-append-u64-requires : tie.Need-append-u64-requires
-append-u64-requires c κs = search needs
-
-append-u64-requires-2 : tie.Need-append-u64-requires-2
-append-u64-requires-2 c κs = search needs
-
-append-u64-requires-3 : tie.Need-append-u64-requires-3
-append-u64-requires-3 c κs = search needs
-
-append-u64-requires-4 : tie.Need-append-u64-requires-4
-append-u64-requires-4 c κs = search needs
-
-append-u64-requires-5 : tie.Need-append-u64-requires-5
-append-u64-requires-5 c κs = search needs
-
 same-length : tie.Need-same-length
 same-length c =
     c .before .out7 .given ∙ c .before .before .before .before .before .out6 .given ∙ c .before .before .before .before .before .before .before .before .before .out5 .given ∙ c .before .before .before .before .before .before .before .before .before .before .before .before .before .out4 .given ∙ c .before .before .before .before .before .before .before .before .before .before .before .before .before .before .before .before .before .out3 .given ∙ c .before .before .before .before .before .before .before .before .before .before .before .before .before .before .before .before .before .before .before .before .before .out2 .given ∙ c .before .before .before .before .before .before .before .before .before .before .before .before .before .before .before .before .before .before .before .before .before .before .before .before .before .out .given
@@ -42,13 +18,13 @@ pub row-reconnect-spec : {M : Type 1} → statement M
 row-reconnect-spec =
     tie.close
     (tie.spec
-    start-draft-requires
-    append-u32-requires
-    append-rest-requires
-    append-u64-requires
-    append-u64-requires-2
-    append-u64-requires-3
-    append-u64-requires-4
-    append-u64-requires-5
+    (λ c κs. search needs)
+    (λ c κs. search needs)
+    (λ c κs. search needs)
+    (λ c κs. search needs)
+    (λ c κs. search needs)
+    (λ c κs. search needs)
+    (λ c κs. search needs)
+    (λ c κs. search needs)
     same-length
     returns)

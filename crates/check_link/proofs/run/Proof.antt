@@ -3,8 +3,8 @@ use native.Mathlib.Omega.{arith}
 use borrow.Author.Needs.{needs}
 use lib.ListN.{length}
 use lib.Seq.{length-take-le}
-use Rattle.link.specs.Reads.{wantedOf, remaining}
-use Rattle.link.proofs.Outcomes.{falls, wanted-few}
+use Rattle.link.specs.Reads.{wantedOf}
+use Rattle.link.proofs.Outcomes.{remaining, falls, wanted-few}
 use Rattle.check_link.proofs.run.Statement.{statement}
 use Rattle.check_link.proofs.run.Tie as tie
 

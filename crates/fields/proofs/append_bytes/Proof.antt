@@ -5,17 +5,8 @@ use borrow.Author.Needs.{needs}
 use Rattle.fields.proofs.append_bytes.Statement.{statement}
 use Rattle.fields.proofs.append_bytes.Tie as tie
 
-beyond-requires : tie.Need-beyond-requires
-beyond-requires c κs = search needs
-
-put-requires : tie.Need-put-requires
-put-requires c κs = search needs
-
-same-length : tie.Need-same-length
-same-length c = search needs
-
 returns : tie.Need-returns
 returns c = appended (fixed _ _) (fits-fixed _ _) refl (rw (c .before .before .before .beyond .ensures) at (c .before .before .put .ensures))
 
 pub append-bytes-spec : {M : Type 1} → statement M
-append-bytes-spec = tie.close (tie.spec beyond-requires put-requires same-length returns)
+append-bytes-spec = tie.close (tie.spec (λ c κs. search needs) (λ c κs. search needs) (λ c. search needs) returns)

@@ -4,22 +4,10 @@ use borrow.Author.Needs.{needs}
 use Rattle.fields.proofs.append_u64.Statement.{statement}
 use Rattle.fields.proofs.append_u64.Tie as tie
 
-long-bytes-requires : tie.Need-long-bytes-requires
-long-bytes-requires c κs = search needs
-
-slice-aggregate-put : tie.Need-slice-aggregate-put
-slice-aggregate-put c = search needs
-
-put-requires : tie.Need-put-requires
-put-requires c κs = search needs
-
-same-length : tie.Need-same-length
-same-length c = search needs
-
 returns : tie.Need-returns
 returns c = let g = c .before .before .before .before .before .before .before .fits in
     appended (number 8 _) (fits-number 8 _ (g .n .fits)) (c .before .before .before .before .before .long-bytes .ensures) (c .before .before .put .ensures)
 
 pub append-u64-spec : {M : Type 1} → statement M
 append-u64-spec =
-    tie.close (tie.spec long-bytes-requires slice-aggregate-put put-requires same-length returns)
+    tie.close (tie.spec (λ c κs. search needs) (λ c. search needs) (λ c κs. search needs) (λ c. search needs) returns)

@@ -4,15 +4,6 @@ use borrow.Author.Needs.{needs}
 use Rattle.fields.proofs.error_of.Statement.{statement}
 use Rattle.fields.proofs.error_of.Tie as tie
 
-cast-result : tie.Need-cast-result
-cast-result c = search needs
-
-sub-result : tie.Need-sub-result
-sub-result c = search needs
-
-cast-result-2 : tie.Need-cast-result-2
-cast-result-2 c = search needs
-
 sub-result-2 : tie.Need-sub-result-2
 sub-result-2 c = high-fits (c .before .args .bits) (omega arith) (omega arith)
 
@@ -24,4 +15,4 @@ returns-2 c = high-bits (c .before .args .bits) (omega arith) (omega arith)
 
 pub error-of-spec : {M : Type 1} → statement M
 error-of-spec =
-    tie.close (tie.spec cast-result sub-result cast-result-2 sub-result-2 returns returns-2)
+    tie.close (tie.spec (λ c. search needs) (λ c. search needs) (λ c. search needs) sub-result-2 returns returns-2)

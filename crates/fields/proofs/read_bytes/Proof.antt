@@ -6,9 +6,6 @@ use borrow.Author.Needs.{needs}
 use Rattle.fields.proofs.read_bytes.Statement.{statement}
 use Rattle.fields.proofs.read_bytes.Tie as tie
 
-skip-requires : tie.Need-skip-requires
-skip-requires c κs = search needs
-
 returns : tie.Need-returns
 returns c = stopped (plain _) _ _ _ (c .before .skip .ensures ∙ plain-passed _ _ _) (c .if1 .taken)
 
@@ -16,4 +13,4 @@ returns-2 : tie.Need-returns-2
 returns-2 c = went (plain _) _ _ _ _ (c .before .skip .ensures ∙ plain-passed _ _ _) (c .if1 .left) refl
 
 pub read-bytes-spec : {M : Type 1} → statement M
-read-bytes-spec = tie.close (tie.spec skip-requires returns returns-2)
+read-bytes-spec = tie.close (tie.spec (λ c κs. search needs) returns returns-2)

@@ -5,23 +5,8 @@ use borrow.Author.Needs.{needs}
 use Rattle.fields.proofs.read_rest.Statement.{statement}
 use Rattle.fields.proofs.read_rest.Tie as tie
 
-skip-rest-requires : tie.Need-skip-rest-requires
-skip-rest-requires c κs = search needs
-
 returns : tie.Need-returns
 returns c = stopped (rest _) _ _ _ (c .before .skip-rest .ensures) (c .if1 .taken)
-
-min-requires : tie.Need-min-requires
-min-requires c κs = search needs
-
-sub-end : tie.Need-sub-end
-sub-end c = search needs
-
-min-requires-2 : tie.Need-min-requires-2
-min-requires-2 c κs = search needs
-
-sub-len : tie.Need-sub-len
-sub-len c = search needs
 
 returns-2 : tie.Need-returns-2
 returns-2 c =
@@ -29,4 +14,4 @@ returns-2 c =
     went (rest (g .closing)) _ _ _ _ (c .before .before .before .skip-rest .ensures) (c .before .before .if1 .left) (up-to (g .s .now) (g .c .at) (g .closing) _ _ (c .before .min .ensures) (c .min2 .ensures))
 
 pub read-rest-spec : {M : Type 1} → statement M
-read-rest-spec = tie.close (tie.spec skip-rest-requires returns min-requires sub-end min-requires-2 sub-len returns-2)
+read-rest-spec = tie.close (tie.spec (λ c κs. search needs) returns (λ c κs. search needs) (λ c. search needs) (λ c κs. search needs) (λ c. search needs) returns-2)

@@ -6,17 +6,11 @@ use borrow.Author.Needs.{needs}
 use Rattle.fields.proofs.read_u32.Statement.{statement}
 use Rattle.fields.proofs.read_u32.Tie as tie
 
-skip-requires : tie.Need-skip-requires
-skip-requires c κs = search needs
-
 returns : tie.Need-returns
 returns c = stopped (num 4) _ _ _ (c .before .skip .ensures) (c .if1 .taken)
-
-u32-at-requires : tie.Need-u32-at-requires
-u32-at-requires c κs = search needs
 
 returns-2 : tie.Need-returns-2
 returns-2 c = went (num 4) _ _ _ _ (c .before .before .skip .ensures) (c .before .if1 .left) (ap (number 4) (c .u32-at .ensures))
 
 pub read-u32-spec : {M : Type 1} → statement M
-read-u32-spec = tie.close (tie.spec skip-requires returns u32-at-requires returns-2)
+read-u32-spec = tie.close (tie.spec (λ c κs. search needs) returns (λ c κs. search needs) returns-2)

@@ -6,17 +6,11 @@ use borrow.Author.Needs.{needs}
 use Rattle.fields.proofs.read_u64.Statement.{statement}
 use Rattle.fields.proofs.read_u64.Tie as tie
 
-skip-requires : tie.Need-skip-requires
-skip-requires c κs = search needs
-
 returns : tie.Need-returns
 returns c = stopped (num 8) _ _ _ (c .before .skip .ensures) (c .if1 .taken)
-
-u64-at-requires : tie.Need-u64-at-requires
-u64-at-requires c κs = search needs
 
 returns-2 : tie.Need-returns-2
 returns-2 c = went (num 8) _ _ _ _ (c .before .before .skip .ensures) (c .before .if1 .left) (ap (number 8) (c .u64-at .ensures))
 
 pub read-u64-spec : {M : Type 1} → statement M
-read-u64-spec = tie.close (tie.spec skip-requires returns u64-at-requires returns-2)
+read-u64-spec = tie.close (tie.spec (λ c κs. search needs) returns (λ c κs. search needs) returns-2)

@@ -7,17 +7,11 @@ use borrow.Author.Needs.{needs}
 use Rattle.fields.proofs.read_u8.Statement.{statement}
 use Rattle.fields.proofs.read_u8.Tie as tie
 
-skip-requires : tie.Need-skip-requires
-skip-requires c κs = search needs
-
 returns : tie.Need-returns
 returns c = stopped (num 1) _ _ _ (c .before .skip .ensures) (c .if1 .taken)
-
-byte-at-requires : tie.Need-byte-at-requires
-byte-at-requires c κs = search needs
 
 returns-2 : tie.Need-returns-2
 returns-2 c = went (num 1) _ _ _ _ (c .before .before .skip .ensures) (c .before .if1 .left) (ap (number 1) (c .byte-at .ensures ∙ byte-there _ _))
 
 pub read-u8-spec : {M : Type 1} → statement M
-read-u8-spec = tie.close (tie.spec skip-requires returns byte-at-requires returns-2)
+read-u8-spec = tie.close (tie.spec (λ c κs. search needs) returns (λ c κs. search needs) returns-2)

@@ -8,12 +8,6 @@ use Rattle.fields.proofs.skip_negative.Tie as tie
 returns : tie.Need-returns
 returns c = stays _ _ _ (c .if1 .taken)
 
-u32-at-requires : tie.Need-u32-at-requires
-u32-at-requires c κs = search needs
-
-skip-requires : tie.Need-skip-requires
-skip-requires c κs = search needs
-
 returns-2 : tie.Need-returns-2
 returns-2 c = not-negative _ _ (c .before .before .if1 .left) (omega arith)
 
@@ -22,4 +16,4 @@ returns-3 c = c .skip .ensures ∙ is-negative _ _ (c .before .before .before .i
 
 pub skip-negative-spec : {M : Type 1} → statement M
 skip-negative-spec =
-    tie.close (tie.spec returns u32-at-requires skip-requires returns-2 returns-3)
+    tie.close (tie.spec returns (λ c κs. search needs) (λ c κs. search needs) returns-2 returns-3)

@@ -7,12 +7,6 @@ use Rattle.fields.proofs.skip_rest.Tie as tie
 returns : tie.Need-returns
 returns c = stays _ _ _ (c .if1 .taken)
 
-remaining-requires : tie.Need-remaining-requires
-remaining-requires c κs = search needs
-
-sub-t9 : tie.Need-sub-t9
-sub-t9 c = search needs
-
 returns-2 : tie.Need-returns-2
 returns-2 c = closed _ _ (c .before .before .if1 .left) _ (omega arith)
 
@@ -20,4 +14,4 @@ returns-3 : tie.Need-returns-3
 returns-3 c = too-short _ _ (c .before .before .if1 .left) _ (omega arith)
 
 pub skip-rest-spec : {M : Type 1} → statement M
-skip-rest-spec = tie.close (tie.spec returns remaining-requires sub-t9 returns-2 returns-3)
+skip-rest-spec = tie.close (tie.spec returns (λ c κs. search needs) (λ c. search needs) returns-2 returns-3)

@@ -4,14 +4,8 @@ use borrow.Author.Needs.{needs}
 use Rattle.handshake.proofs.advance.Statement.{statement}
 use Rattle.handshake.proofs.advance.Tie as tie
 
-enum-known-n : tie.Need-enum-known-n
-enum-known-n c = search needs
-
 enum-told : tie.Need-enum-told
 enum-told c = search needs
-
-in-numbers-requires : tie.Need-in-numbers-requires
-in-numbers-requires c κs = search needs
 
 returns : tie.Need-returns
 returns c = by-next _ (c .before .n .given .1) refl
@@ -20,4 +14,4 @@ returns-2 : tie.Need-returns-2
 returns-2 c = by-next _ (c .before .enum-told .given .1) (rw (c .in-numbers .ensures))
 
 pub advance-spec : {M : Type 1} → statement M
-advance-spec = tie.close (tie.spec enum-known-n enum-told in-numbers-requires returns returns-2)
+advance-spec = tie.close (tie.spec (λ c. search needs) enum-told (λ c κs. search needs) returns returns-2)

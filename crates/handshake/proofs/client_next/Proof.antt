@@ -8,45 +8,6 @@ use Rattle.handshake.proofs.client_next.Tie as tie
 enum-told : tie.Need-enum-told
 enum-told c = search needs
 
-from-hello-requires : tie.Need-from-hello-requires
-from-hello-requires c κs = search needs
-
-enum-told-2 : tie.Need-enum-told-2
-enum-told-2 c = search needs
-
-client-auth-requires : tie.Need-client-auth-requires
-client-auth-requires c κs = search needs
-
-enum-told-3 : tie.Need-enum-told-3
-enum-told-3 c = search needs
-
-enum-told-4 : tie.Need-enum-told-4
-enum-told-4 c = search needs
-
-from-signature-requires : tie.Need-from-signature-requires
-from-signature-requires c κs = search needs
-
-enum-told-5 : tie.Need-enum-told-5
-enum-told-5 c = search needs
-
-client-session-requires : tie.Need-client-session-requires
-client-session-requires c κs = search needs
-
-enum-told-6 : tie.Need-enum-told-6
-enum-told-6 c = search needs
-
-from-ready-requires : tie.Need-from-ready-requires
-from-ready-requires c κs = search needs
-
-enum-told-7 : tie.Need-enum-told-7
-enum-told-7 c = search needs
-
-enum-told-8 : tie.Need-enum-told-8
-enum-told-8 c = search needs
-
-enum-told-9 : tie.Need-enum-told-9
-enum-told-9 c = search needs
-
 returns : tie.Need-returns
 unfolding find
 returns c =
@@ -106,19 +67,19 @@ client-next-spec =
     tie.close
     (tie.spec
     enum-told
-    from-hello-requires
-    enum-told-2
-    client-auth-requires
-    enum-told-3
-    enum-told-4
-    from-signature-requires
-    enum-told-5
-    client-session-requires
-    enum-told-6
-    from-ready-requires
-    enum-told-7
-    enum-told-8
-    enum-told-9
+    (λ c κs. search needs)
+    (λ c. search needs)
+    (λ c κs. search needs)
+    (λ c. search needs)
+    (λ c. search needs)
+    (λ c κs. search needs)
+    (λ c. search needs)
+    (λ c κs. search needs)
+    (λ c. search needs)
+    (λ c κs. search needs)
+    (λ c. search needs)
+    (λ c. search needs)
+    (λ c. search needs)
     returns
     returns-2
     returns-3

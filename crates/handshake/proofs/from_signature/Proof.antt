@@ -4,15 +4,9 @@ use borrow.Author.Needs.{needs}
 use Rattle.handshake.proofs.from_signature.Statement.{statement}
 use Rattle.handshake.proofs.from_signature.Tie as tie
 
-both-requires : tie.Need-both-requires
-both-requires c κs = search needs
-
-when-requires : tie.Need-when-requires
-when-requires c κs = search needs
-
 returns : tie.Need-returns
 unfolding find
 returns c = c .when .ensures ∙ rw (c .before .both .ensures)
 
 pub from-signature-spec : {M : Type 1} → statement M
-from-signature-spec = tie.close (tie.spec both-requires when-requires returns)
+from-signature-spec = tie.close (tie.spec (λ c κs. search needs) (λ c κs. search needs) returns)

@@ -7,12 +7,6 @@ use borrow.Author.Needs.{needs}
 use Rattle.handshake.proofs.server_auth.Statement.{statement}
 use Rattle.handshake.proofs.server_auth.Tie as tie
 
-led-requires : tie.Need-led-requires
-led-requires c κs = search needs
-
-when-requires : tie.Need-when-requires
-when-requires c κs = search needs
-
 returns : tie.Need-returns
 unfolding find
 returns c =
@@ -20,4 +14,4 @@ returns c =
     c .when .ensures ∙ rw (c .before .led .ensures) (auth-rows (g .v .auth) (eqb (g .tag) 2) Auth)
 
 pub server-auth-spec : {M : Type 1} → statement M
-server-auth-spec = tie.close (tie.spec led-requires when-requires returns)
+server-auth-spec = tie.close (tie.spec (λ c κs. search needs) (λ c κs. search needs) returns)

@@ -7,12 +7,6 @@ use borrow.Author.Needs.{needs}
 use Rattle.handshake.proofs.server_more.Statement.{statement}
 use Rattle.handshake.proofs.server_more.Tie as tie
 
-led-requires : tie.Need-led-requires
-led-requires c κs = search needs
-
-when-requires : tie.Need-when-requires
-when-requires c κs = search needs
-
 returns : tie.Need-returns
 unfolding find
 returns c =
@@ -20,4 +14,4 @@ returns c =
     c .when .ensures ∙ rw (c .before .led .ensures) (auth-rows (g .v .auth) (eqb (g .tag) 5) More)
 
 pub server-more-spec : {M : Type 1} → statement M
-server-more-spec = tie.close (tie.spec led-requires when-requires returns)
+server-more-spec = tie.close (tie.spec (λ c κs. search needs) (λ c κs. search needs) returns)

@@ -4,17 +4,8 @@ use borrow.Author.Needs.{needs}
 use Rattle.held.proofs.take_payload.Statement.{statement}
 use Rattle.held.proofs.take_payload.Tie as tie
 
-at-place-requires : tie.Need-at-place-requires
-at-place-requires c κs = search needs
-
-read-payload-requires : tie.Need-read-payload-requires
-read-payload-requires c κs = search needs
-
-span-taken-requires : tie.Need-span-taken-requires
-span-taken-requires c κs = search needs
-
 returns : tie.Need-returns
 returns c = taken _ _ _ (c .before .before .at-place .ensures) (c .before .read-payload .ensures) (c .span-taken .ensures _ _ (λ bs. refl))
 
 pub take-payload-spec : {M : Type 1} → statement M
-take-payload-spec = tie.close (tie.spec at-place-requires read-payload-requires span-taken-requires returns)
+take-payload-spec = tie.close (tie.spec (λ c κs. search needs) (λ c κs. search needs) (λ c κs. search needs) returns)

@@ -2,15 +2,6 @@ use borrow.Author.Needs.{needs}
 use Rattle.held.proofs.u8_taken.Statement.{statement}
 use Rattle.held.proofs.u8_taken.Tie as tie
 
-enum-known-a : tie.Need-enum-known-a
-enum-known-a c = search needs
-
-cast-value : tie.Need-cast-value
-cast-value c = search needs
-
-enum-known-a-2 : tie.Need-enum-known-a-2
-enum-known-a-2 c = search needs
-
 returns : tie.Need-returns
 returns c = λ s. rw (c .before .a .given .1)
 
@@ -18,4 +9,4 @@ returns-2 : tie.Need-returns-2
 returns-2 c = λ s. rw (c .before .a2 .given .1)
 
 pub u8-taken-spec : {M : Type 1} → statement M
-u8-taken-spec = tie.close (tie.spec enum-known-a cast-value enum-known-a-2 returns returns-2)
+u8-taken-spec = tie.close (tie.spec (λ c. search needs) (λ c. search needs) (λ c. search needs) returns returns-2)

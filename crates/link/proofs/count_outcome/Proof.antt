@@ -8,10 +8,6 @@ use Rattle.link.proofs.count_outcome.Tie as tie
 returns : tie.Need-returns
 returns c = count-short (c .before .before .args .bytes .now) (c .if1 .taken)
 
--- src/lib.rt:112:9
-u16-at-requires : tie.Need-u16-at-requires
-u16-at-requires c κs = search needs
-
 -- src/lib.rt:114:9
 returns-2 : tie.Need-returns-2
 returns-2 c = count-many (c .before .before .before .before .args .bytes .now) (omega arith) (c .before .u16-at .result) (c .before .u16-at .ensures) (c .if2 .taken)
@@ -20,14 +16,10 @@ returns-2 c = count-many (c .before .before .before .before .args .bytes .now) (
 returns-3 : tie.Need-returns-3
 returns-3 c = count-none (c .before .before .before .before .before .args .bytes .now) (omega arith) (c .before .before .u16-at .result) (c .before .before .u16-at .ensures) (omega arith) (c .if3 .taken)
 
--- src/lib.rt:119:32
-cast-t6 : tie.Need-cast-t6
-cast-t6 c = search needs
-
 -- src/lib.rt:106:1
 returns-4 : tie.Need-returns-4
 returns-4 c = count-some (c .before .before .before .before .before .args .bytes .now) (omega arith) (c .before .before .u16-at .result) (c .before .before .u16-at .ensures) (omega arith) (c .if3 .left)
 
 pub count-outcome-spec : {M : Type 1} → statement M
 count-outcome-spec =
-    tie.close (tie.spec returns u16-at-requires returns-2 returns-3 cast-t6 returns-4)
+    tie.close (tie.spec returns (λ c κs. search needs) returns-2 returns-3 (λ c. search needs) returns-4)

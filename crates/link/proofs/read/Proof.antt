@@ -7,81 +7,21 @@ use borrow.Author.Needs.{needs}
 use Rattle.link.proofs.read.Statement.{statement}
 use Rattle.link.proofs.read.Tie as tie
 
--- src/lib.rt:220:31
-wanted-requires : tie.Need-wanted-requires
-wanted-requires c κs = search needs
-
--- src/lib.rt:220:9
-part-requires : tie.Need-part-requires
-part-requires c κs = search needs
-
 -- src/lib.rt:226:31
 enum-told : tie.Need-enum-told
 enum-told c = search needs
-
--- src/lib.rt:226:31
-count-outcome-requires : tie.Need-count-outcome-requires
-count-outcome-requires c κs = search needs
-
--- src/lib.rt:226:24
-settle-requires : tie.Need-settle-requires
-settle-requires c κs = search needs
-
--- src/lib.rt:228:31
-enum-told-2 : tie.Need-enum-told-2
-enum-told-2 c = search needs
-
--- src/lib.rt:228:27
-min-requires : tie.Need-min-requires
-min-requires c κs = search needs
-
--- src/lib.rt:228:13
-table-outcome-requires : tie.Need-table-outcome-requires
-table-outcome-requires c κs = search needs
-
--- src/lib.rt:227:24
-settle-requires-2 : tie.Need-settle-requires-2
-settle-requires-2 c κs = search needs
-
--- src/lib.rt:233:16
-enum-told-3 : tie.Need-enum-told-3
-enum-told-3 c = search needs
-
--- src/lib.rt:233:16
-is-ready-requires : tie.Need-is-ready-requires
-is-ready-requires c κs = search needs
 
 -- src/lib.rt:234:17
 read-bodies-requires : tie.Need-read-bodies-requires
 read-bodies-requires c κs = (sym (c .before .before .before .is-ready .ensures) ∙ c .before .before .if1 .taken, bodies-few (c .before .before .before .before .before .before .before .before .before .before .before .before .args .link) Bodies (c .before .before .before .before .before .before .before .before .before .before .before .before .args .bytes .now) _ (c .before .before .before .before .before .before .before .before .wanted .result) (c .before .before .before .before .enum-told3 .given .1) (c .before .before .before .before .before .before .before .before .wanted .ensures) (c .before .before .before .before .before .before .before .part .ensures) refl)
 
 -- src/lib.rt:234:17
-same-length : tie.Need-same-length
-same-length c = search needs
-
--- src/lib.rt:234:17
-same-length-2 : tie.Need-same-length-2
-same-length-2 c = search needs
-
--- src/lib.rt:234:17
 returns : tie.Need-returns
 returns c = read-by (c .before .before .before .before .before .before .before .before .before .before .before .before .before .before .before .before .before .args .link) Bodies (c .before .before .before .before .before .before .before .before .before .before .before .before .before .before .before .before .before .args .bytes .now) _ (c .before .before .before .before .before .before .before .before .before .before .before .before .before .wanted .result) (c .before .before .before .before .before .before .before .before .before .enum-told3 .given .1) (c .before .before .before .before .before .before .before .before .before .before .before .before .before .wanted .ensures) (c .before .before .before .before .before .before .before .before .before .before .before .before .part .ensures) _ _ _ _ _ (walk-read _ _ _ _ _ _ _ _ true (sym (c .before .before .before .before .before .before .before .before .is-ready .ensures) ∙ c .before .before .before .before .before .before .before .if1 .taken) (c .before .before .before .before .read-bodies .ensures))
-
--- src/lib.rt:243:19
-enum-told-4 : tie.Need-enum-told-4
-enum-told-4 c = search needs
-
--- src/lib.rt:217:1
-same-length-3 : tie.Need-same-length-3
-same-length-3 c = search needs
 
 -- src/lib.rt:217:1
 returns-2 : tie.Need-returns-2
 returns-2 c = read-by (c .before .before .before .before .before .before .before .before .before .before .before .before .before .args .link) Count (c .before .before .before .before .before .before .before .before .before .before .before .before .before .args .bytes .now) _ (c .before .before .before .before .before .before .before .before .before .wanted .result) (c .before .before .before .before .before .enum-told .given .1) (c .before .before .before .before .before .before .before .before .before .wanted .ensures) (c .before .before .before .before .before .before .before .before .part .ensures) _ _ _ _ _ (record { store = refl; settled = rw (c .before .before .before .before .count-outcome .ensures) at (c .before .before .settle .ensures) })
-
--- src/lib.rt:217:1
-same-length-4 : tie.Need-same-length-4
-same-length-4 c = search needs
 
 -- src/lib.rt:217:1
 returns-3 : tie.Need-returns-3
@@ -99,25 +39,25 @@ pub read-spec : {M : Type 1} → statement M
 read-spec =
     tie.close
     (tie.spec
-    wanted-requires
-    part-requires
+    (λ c κs. search needs)
+    (λ c κs. search needs)
     enum-told
-    count-outcome-requires
-    settle-requires
-    enum-told-2
-    min-requires
-    table-outcome-requires
-    settle-requires-2
-    enum-told-3
-    is-ready-requires
+    (λ c κs. search needs)
+    (λ c κs. search needs)
+    (λ c. search needs)
+    (λ c κs. search needs)
+    (λ c κs. search needs)
+    (λ c κs. search needs)
+    (λ c. search needs)
+    (λ c κs. search needs)
     read-bodies-requires
-    same-length
-    same-length-2
+    (λ c. search needs)
+    (λ c. search needs)
     returns
-    enum-told-4
-    same-length-3
+    (λ c. search needs)
+    (λ c. search needs)
     returns-2
-    same-length-4
+    (λ c. search needs)
     returns-3
     returns-4
     returns-5)

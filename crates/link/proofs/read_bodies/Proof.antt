@@ -7,22 +7,6 @@ use Rattle.link.proofs.read_bodies.Tie as tie
 walk-bytes-requires : tie.Need-walk-bytes-requires
 walk-bytes-requires c κs = ready-fits (c .before .before .before .before .before .args .w) _ (c .before .before .before .before .before .pre .0) (c .before .before .before .before .before .pre .1)
 
--- src/lib.rt:211:9
-bodies-outcome-requires : tie.Need-bodies-outcome-requires
-bodies-outcome-requires c κs = search needs
-
--- src/lib.rt:212:5
-settle-requires : tie.Need-settle-requires
-settle-requires c κs = search needs
-
--- src/lib.rt:206:1
-same-length : tie.Need-same-length
-same-length c = search needs
-
--- src/lib.rt:206:1
-same-length-2 : tie.Need-same-length-2
-same-length-2 c = search needs
-
 -- src/lib.rt:206:1
 returns : tie.Need-returns
 returns c = record { walk = c .before .before .before .before .before .before .before .before .before .walk-bytes .result; text₁ = _; walked = c .before .before .before .before .before .before .before .before .before .walk-bytes .ensures; settled = rw (c .before .before .before .before .bodies-outcome .ensures) at (c .before .before .settle .ensures) }
@@ -32,8 +16,8 @@ read-bodies-spec =
     tie.close
     (tie.spec
     walk-bytes-requires
-    bodies-outcome-requires
-    settle-requires
-    same-length
-    same-length-2
+    (λ c κs. search needs)
+    (λ c κs. search needs)
+    (λ c. search needs)
+    (λ c. search needs)
     returns)

@@ -4,17 +4,9 @@ use borrow.Author.Needs.{needs}
 use Rattle.link.proofs.table_outcome.Statement.{statement}
 use Rattle.link.proofs.table_outcome.Tie as tie
 
--- src/lib.rt:146:22
-mul-if1 : tie.Need-mul-if1
-mul-if1 c = search needs
-
 -- src/lib.rt:147:9
 returns : tie.Need-returns
 returns c = table-short (c .before .before .args .bytes .now) (c .before .before .args .n) (c .if1 .taken)
-
--- src/lib.rt:149:9
-sum-of-requires : tie.Need-sum-of-requires
-sum-of-requires c κs = search needs
 
 -- src/lib.rt:151:9
 returns-2 : tie.Need-returns-2
@@ -25,4 +17,4 @@ returns-3 : tie.Need-returns-3
 returns-3 c = table-some (c .before .before .before .before .args .bytes .now) (c .before .before .before .before .args .n) (omega arith) (c .before .sum-of .result) (c .before .sum-of .ensures) (c .if2 .left)
 
 pub table-outcome-spec : {M : Type 1} → statement M
-table-outcome-spec = tie.close (tie.spec mul-if1 returns sum-of-requires returns-2 returns-3)
+table-outcome-spec = tie.close (tie.spec (λ c. search needs) returns (λ c κs. search needs) returns-2 returns-3)

@@ -7,30 +7,6 @@ use Rattle.link.proofs.wanted.Tie as tie
 enum-told : tie.Need-enum-told
 enum-told c = search needs
 
--- src/lib.rt:100:32
-enum-told-2 : tie.Need-enum-told-2
-enum-told-2 c = search needs
-
--- src/lib.rt:100:28
-min-requires : tie.Need-min-requires
-min-requires c κs = search needs
-
--- src/lib.rt:100:24
-mul-result : tie.Need-mul-result
-mul-result c = search needs
-
--- src/lib.rt:101:29
-enum-told-3 : tie.Need-enum-told-3
-enum-told-3 c = search needs
-
--- src/lib.rt:101:25
-min-requires-2 : tie.Need-min-requires-2
-min-requires-2 c κs = search needs
-
--- src/lib.rt:102:24
-enum-told-4 : tie.Need-enum-told-4
-enum-told-4 c = search needs
-
 -- src/lib.rt:94:1
 returns : tie.Need-returns
 returns c = rw (c .enum-told .given .1)
@@ -52,12 +28,12 @@ wanted-spec =
     tie.close
     (tie.spec
     enum-told
-    enum-told-2
-    min-requires
-    mul-result
-    enum-told-3
-    min-requires-2
-    enum-told-4
+    (λ c. search needs)
+    (λ c κs. search needs)
+    (λ c. search needs)
+    (λ c. search needs)
+    (λ c κs. search needs)
+    (λ c. search needs)
     returns
     returns-2
     returns-3

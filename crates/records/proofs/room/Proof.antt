@@ -11,20 +11,11 @@ use Rattle.text.specs.Page.{page}
 use Rattle.records.proofs.room.Statement.{statement}
 use Rattle.records.proofs.room.Tie as tie
 
-left-from-requires : tie.Need-left-from-requires
-left-from-requires c κs = search needs
-
 returns : tie.Need-returns
 unfolding roomed page
 returns c =
     let e : leb 32768 (length (c .before .before .before .args .text .now) - c .before .before .before .args .at) ≡ true = le-leb 32768 (length (c .before .before .before .args .text .now) - c .before .before .before .args .at) (omega arith) in
     rw e
-
-part-requires : tie.Need-part-requires
-part-requires c κs = search needs
-
-write-all-requires : tie.Need-write-all-requires
-write-all-requires c κs = search needs
 
 returns-2 : tie.Need-returns-2
 unfolding roomed page
@@ -33,4 +24,4 @@ returns-2 c =
     rw e
 
 pub room-spec : {M : Type 1} → statement M
-room-spec = tie.close (tie.spec left-from-requires returns part-requires write-all-requires returns-2)
+room-spec = tie.close (tie.spec (λ c κs. search needs) returns (λ c κs. search needs) (λ c κs. search needs) returns-2)

@@ -10,23 +10,11 @@ use borrow.Author.Needs.{needs}
 use Rattle.session.proofs.accept.Statement.{statement}
 use Rattle.session.proofs.accept.Tie as tie
 
-judge-accept-requires : tie.Need-judge-accept-requires
-judge-accept-requires c κs = search needs
-
 enum-told : tie.Need-enum-told
 enum-told c = search needs
 
 add-number : tie.Need-add-number
 add-number c = omega (arith, fine-accept (c .before .before .before .before .args .s) (sym (c .before .before .before .judge-accept .ensures) ∙ ap judgedBy (c .before .enum-told .given .1)))
-
-add-requires : tie.Need-add-requires
-add-requires c κs = search needs
-
-enum-known-v : tie.Need-enum-known-v
-enum-known-v c = search needs
-
-refuse-requires : tie.Need-refuse-requires
-refuse-requires c κs = search needs
 
 returns : tie.Need-returns
 unfolding acceptOf
@@ -40,11 +28,11 @@ pub accept-spec : {M : Type 1} → statement M
 accept-spec =
     tie.close
     (tie.spec
-    judge-accept-requires
+    (λ c κs. search needs)
     enum-told
     add-number
-    add-requires
-    enum-known-v
-    refuse-requires
+    (λ c κs. search needs)
+    (λ c. search needs)
+    (λ c κs. search needs)
     returns
     returns-2)

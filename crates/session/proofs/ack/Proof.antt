@@ -7,20 +7,8 @@ use borrow.Author.Needs.{needs}
 use Rattle.session.proofs.ack.Statement.{statement}
 use Rattle.session.proofs.ack.Tie as tie
 
-judge-ack-requires : tie.Need-judge-ack-requires
-judge-ack-requires c κs = search needs
-
 enum-told : tie.Need-enum-told
 enum-told c = search needs
-
-acked-requires : tie.Need-acked-requires
-acked-requires c κs = search needs
-
-enum-known-v : tie.Need-enum-known-v
-enum-known-v c = search needs
-
-refuse-requires : tie.Need-refuse-requires
-refuse-requires c κs = search needs
 
 returns : tie.Need-returns
 unfolding ackOf
@@ -34,10 +22,10 @@ pub ack-spec : {M : Type 1} → statement M
 ack-spec =
     tie.close
     (tie.spec
-    judge-ack-requires
+    (λ c κs. search needs)
     enum-told
-    acked-requires
-    enum-known-v
-    refuse-requires
+    (λ c κs. search needs)
+    (λ c. search needs)
+    (λ c κs. search needs)
     returns
     returns-2)

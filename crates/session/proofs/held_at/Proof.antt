@@ -7,14 +7,8 @@ use borrow.Author.Needs.{needs}
 use Rattle.session.proofs.held_at.Statement.{statement}
 use Rattle.session.proofs.held_at.Tie as tie
 
-judge-state-requires : tie.Need-judge-state-requires
-judge-state-requires c κs = search needs
-
 enum-told : tie.Need-enum-told
 enum-told c = search needs
-
-held-count-requires : tie.Need-held-count-requires
-held-count-requires c κs = search needs
 
 returns : tie.Need-returns
 unfolding heldAt
@@ -22,24 +16,6 @@ returns c =
     let s = c .before .before .before .before .before .args .s in
     when-fine _ _ _ _ _ (c .before .before .before .before .judge-state .ensures) (c .before .before .enum-told .given .1)
     (sym (found-beyond (s .handles) (s .released) (s .last - s .released) (c .before .before .before .before .before .args .i) (rw (c .before .held-count .ensures) at (c .if1 .taken))))
-
-add-number : tie.Need-add-number
-add-number c = search needs
-
-add-number-2 : tie.Need-add-number-2
-add-number-2 c = search needs
-
-mul-t11 : tie.Need-mul-t11
-mul-t11 c = search needs
-
-array-read-t9 : tie.Need-array-read-t9
-array-read-t9 c = search needs
-
-enum-known-v : tie.Need-enum-known-v
-enum-known-v c = search needs
-
-in-numbers-requires : tie.Need-in-numbers-requires
-in-numbers-requires c κs = search needs
 
 returns-2 : tie.Need-returns-2
 unfolding heldAt
@@ -56,15 +32,15 @@ pub held-at-spec : {M : Type 1} → statement M
 held-at-spec =
     tie.close
     (tie.spec
-    judge-state-requires
+    (λ c κs. search needs)
     enum-told
-    held-count-requires
+    (λ c κs. search needs)
     returns
-    add-number
-    add-number-2
-    mul-t11
-    array-read-t9
-    enum-known-v
-    in-numbers-requires
+    (λ c. search needs)
+    (λ c. search needs)
+    (λ c. search needs)
+    (λ c. search needs)
+    (λ c. search needs)
+    (λ c κs. search needs)
     returns-2
     returns-3)

@@ -5,19 +5,10 @@ use borrow.Author.Needs.{needs}
 use Rattle.session.proofs.judge_ack.Statement.{statement}
 use Rattle.session.proofs.judge_ack.Tie as tie
 
-judge-state-requires : tie.Need-judge-state-requires
-judge-state-requires c κs = search needs
-
-unless-ok-requires : tie.Need-unless-ok-requires
-unless-ok-requires c κs = search needs
-
-or-else-requires : tie.Need-or-else-requires
-or-else-requires c κs = search needs
-
 returns : tie.Need-returns
 unfolding judgeAck
 returns c = cc (or-else-last (judgedBy (c .before .unless-ok .result)))
 
 pub judge-ack-spec : {M : Type 1} → statement M
 judge-ack-spec =
-    tie.close (tie.spec judge-state-requires unless-ok-requires or-else-requires returns)
+    tie.close (tie.spec (λ c κs. search needs) (λ c κs. search needs) (λ c κs. search needs) returns)

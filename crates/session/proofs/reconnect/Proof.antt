@@ -4,23 +4,8 @@ use borrow.Author.Needs.{needs}
 use Rattle.session.proofs.reconnect.Statement.{statement}
 use Rattle.session.proofs.reconnect.Tie as tie
 
-judge-ack-requires : tie.Need-judge-ack-requires
-judge-ack-requires c κs = search needs
-
 enum-told : tie.Need-enum-told
 enum-told c = search needs
-
-acked-requires : tie.Need-acked-requires
-acked-requires c κs = search needs
-
-held-count-requires : tie.Need-held-count-requires
-held-count-requires c κs = search needs
-
-enum-known-v : tie.Need-enum-known-v
-enum-known-v c = search needs
-
-refuse-requires : tie.Need-refuse-requires
-refuse-requires c κs = search needs
 
 returns : tie.Need-returns
 unfolding reconnectOf
@@ -34,11 +19,11 @@ pub reconnect-spec : {M : Type 1} → statement M
 reconnect-spec =
     tie.close
     (tie.spec
-    judge-ack-requires
+    (λ c κs. search needs)
     enum-told
-    acked-requires
-    held-count-requires
-    enum-known-v
-    refuse-requires
+    (λ c κs. search needs)
+    (λ c κs. search needs)
+    (λ c. search needs)
+    (λ c κs. search needs)
     returns
     returns-2)

@@ -2,11 +2,8 @@ use borrow.Author.Needs.{needs}
 use Rattle.session.proofs.refuse.Statement.{statement}
 use Rattle.session.proofs.refuse.Tie as tie
 
-in-numbers-requires : tie.Need-in-numbers-requires
-in-numbers-requires c κs = search needs
-
 returns : tie.Need-returns
 returns c = cc
 
 pub refuse-spec : {M : Type 1} → statement M
-refuse-spec = tie.close (tie.spec in-numbers-requires returns)
+refuse-spec = tie.close (tie.spec (λ c κs. search needs) returns)

@@ -7,20 +7,8 @@ use borrow.Author.Needs.{needs}
 use Rattle.session.proofs.reset.Statement.{statement}
 use Rattle.session.proofs.reset.Tie as tie
 
-judge-state-requires : tie.Need-judge-state-requires
-judge-state-requires c κs = search needs
-
 enum-told : tie.Need-enum-told
 enum-told c = search needs
-
-cleared-requires : tie.Need-cleared-requires
-cleared-requires c κs = search needs
-
-enum-known-v : tie.Need-enum-known-v
-enum-known-v c = search needs
-
-refuse-requires : tie.Need-refuse-requires
-refuse-requires c κs = search needs
 
 returns : tie.Need-returns
 unfolding resetOf
@@ -34,10 +22,10 @@ pub reset-spec : {M : Type 1} → statement M
 reset-spec =
     tie.close
     (tie.spec
-    judge-state-requires
+    (λ c κs. search needs)
     enum-told
-    cleared-requires
-    enum-known-v
-    refuse-requires
+    (λ c κs. search needs)
+    (λ c. search needs)
+    (λ c κs. search needs)
     returns
     returns-2)

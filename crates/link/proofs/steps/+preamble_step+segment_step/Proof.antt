@@ -51,8 +51,9 @@ segment-step-below t =
     (falls 3 segment-step-kinds.ps _<_ μ-segment-step t)
     segment-step.Pre
 
--- src/steps.rt:192:9
-preamble-step-kept-requires : (t : ℕ) → preamble-step-lts.Need-kept-requires (
+-- what each callee asks and ensures
+abbrev preamble-claims : ℕ → preamble-step-lts.Claims
+preamble-claims t = (
   kept-reads.Asked,
   kept-reads.Learnt,
   preamble-bytes-reads.Asked,
@@ -63,788 +64,187 @@ preamble-step-kept-requires : (t : ℕ) → preamble-step-lts.Need-kept-requires
   all-segments-reads.Learnt,
   segment-step-below t,
   segment-step.Post,
-) (preamble-step-at t) preamble-step.Post
+)
+
+abbrev segment-claims : ℕ → segment-step-lts.Claims
+segment-claims t = (
+  preamble-step-below t,
+  preamble-step.Post,
+  kept-reads.Asked,
+  kept-reads.Learnt,
+  segments-behind-reads.Asked,
+  segments-behind-reads.Learnt,
+  segment-step-below t,
+  segment-step.Post,
+  min-reads.Asked,
+  min-reads.Learnt,
+  advance-reads.Asked,
+  advance-reads.Learnt,
+)
+
+preamble-step-kept-requires : (t : ℕ) → preamble-step-lts.Need-kept-requires (preamble-claims t) (preamble-step-at t) preamble-step.Post
 preamble-step-kept-requires t c κs = search needs
 
--- src/steps.rt:192:9
-preamble-step-returns : (t : ℕ) → preamble-step-lts.Need-returns (
-  kept-reads.Asked,
-  kept-reads.Learnt,
-  preamble-bytes-reads.Asked,
-  preamble-bytes-reads.Learnt,
-  advance-reads.Asked,
-  advance-reads.Learnt,
-  all-segments-reads.Asked,
-  all-segments-reads.Learnt,
-  segment-step-below t,
-  segment-step.Post,
-) (preamble-step-at t) preamble-step.Post
+preamble-step-returns : (t : ℕ) → preamble-step-lts.Need-returns (preamble-claims t) (preamble-step-at t) preamble-step.Post
 preamble-step-returns t c =
     step-none (c .before .before .before .before .before .args .w) _ (c .before .before .before .before .before .args .bytes .now) _ (c .before .before .before .before .before .args .at) _ _ (c .before .if1 .taken) (c .before .before .before .before .before .pre .1 .1 .live) (c .kept .ensures)
 
--- src/steps.rt:194:40
-preamble-step-sub-preamble-bytes : (t : ℕ) → preamble-step-lts.Need-sub-preamble-bytes (
-  kept-reads.Asked,
-  kept-reads.Learnt,
-  preamble-bytes-reads.Asked,
-  preamble-bytes-reads.Learnt,
-  advance-reads.Asked,
-  advance-reads.Learnt,
-  all-segments-reads.Asked,
-  all-segments-reads.Learnt,
-  segment-step-below t,
-  segment-step.Post,
-) (preamble-step-at t) preamble-step.Post
+preamble-step-sub-preamble-bytes : (t : ℕ) → preamble-step-lts.Need-sub-preamble-bytes (preamble-claims t) (preamble-step-at t) preamble-step.Post
 preamble-step-sub-preamble-bytes t c = search needs
 
--- src/steps.rt:194:9
-preamble-step-preamble-bytes-requires : (t : ℕ) → preamble-step-lts.Need-preamble-bytes-requires (
-  kept-reads.Asked,
-  kept-reads.Learnt,
-  preamble-bytes-reads.Asked,
-  preamble-bytes-reads.Learnt,
-  advance-reads.Asked,
-  advance-reads.Learnt,
-  all-segments-reads.Asked,
-  all-segments-reads.Learnt,
-  segment-step-below t,
-  segment-step.Post,
-) (preamble-step-at t) preamble-step.Post
+preamble-step-preamble-bytes-requires : (t : ℕ) → preamble-step-lts.Need-preamble-bytes-requires (preamble-claims t) (preamble-step-at t) preamble-step.Post
 preamble-step-preamble-bytes-requires t c κs = search needs
 
--- src/steps.rt:195:15
-preamble-step-add-end : (t : ℕ) → preamble-step-lts.Need-add-end (
-  kept-reads.Asked,
-  kept-reads.Learnt,
-  preamble-bytes-reads.Asked,
-  preamble-bytes-reads.Learnt,
-  advance-reads.Asked,
-  advance-reads.Learnt,
-  all-segments-reads.Asked,
-  all-segments-reads.Learnt,
-  segment-step-below t,
-  segment-step.Post,
-) (preamble-step-at t) preamble-step.Post
+preamble-step-add-end : (t : ℕ) → preamble-step-lts.Need-add-end (preamble-claims t) (preamble-step-at t) preamble-step.Post
 preamble-step-add-end t c = search needs
 
--- src/steps.rt:196:27
-preamble-step-sub-advance : (t : ℕ) → preamble-step-lts.Need-sub-advance (
-  kept-reads.Asked,
-  kept-reads.Learnt,
-  preamble-bytes-reads.Asked,
-  preamble-bytes-reads.Learnt,
-  advance-reads.Asked,
-  advance-reads.Learnt,
-  all-segments-reads.Asked,
-  all-segments-reads.Learnt,
-  segment-step-below t,
-  segment-step.Post,
-) (preamble-step-at t) preamble-step.Post
+preamble-step-sub-advance : (t : ℕ) → preamble-step-lts.Need-sub-advance (preamble-claims t) (preamble-step-at t) preamble-step.Post
 preamble-step-sub-advance t c = search needs
 
--- src/steps.rt:196:27
-preamble-step-part-advance-start : (t : ℕ) → preamble-step-lts.Need-part-advance-start (
-  kept-reads.Asked,
-  kept-reads.Learnt,
-  preamble-bytes-reads.Asked,
-  preamble-bytes-reads.Learnt,
-  advance-reads.Asked,
-  advance-reads.Learnt,
-  all-segments-reads.Asked,
-  all-segments-reads.Learnt,
-  segment-step-below t,
-  segment-step.Post,
-) (preamble-step-at t) preamble-step.Post
+preamble-step-part-advance-start : (t : ℕ) → preamble-step-lts.Need-part-advance-start (preamble-claims t) (preamble-step-at t) preamble-step.Post
 preamble-step-part-advance-start t c = search needs
 
--- src/steps.rt:196:27
-preamble-step-part-advance-end : (t : ℕ) → preamble-step-lts.Need-part-advance-end (
-  kept-reads.Asked,
-  kept-reads.Learnt,
-  preamble-bytes-reads.Asked,
-  preamble-bytes-reads.Learnt,
-  advance-reads.Asked,
-  advance-reads.Learnt,
-  all-segments-reads.Asked,
-  all-segments-reads.Learnt,
-  segment-step-below t,
-  segment-step.Post,
-) (preamble-step-at t) preamble-step.Post
+preamble-step-part-advance-end : (t : ℕ) → preamble-step-lts.Need-part-advance-end (preamble-claims t) (preamble-step-at t) preamble-step.Post
 preamble-step-part-advance-end t c = search needs
 
--- src/steps.rt:196:9
-preamble-step-advance-requires : (t : ℕ) → preamble-step-lts.Need-advance-requires (
-  kept-reads.Asked,
-  kept-reads.Learnt,
-  preamble-bytes-reads.Asked,
-  preamble-bytes-reads.Learnt,
-  advance-reads.Asked,
-  advance-reads.Learnt,
-  all-segments-reads.Asked,
-  all-segments-reads.Learnt,
-  segment-step-below t,
-  segment-step.Post,
-) (preamble-step-at t) preamble-step.Post
+preamble-step-advance-requires : (t : ℕ) → preamble-step-lts.Need-advance-requires (preamble-claims t) (preamble-step-at t) preamble-step.Post
 preamble-step-advance-requires t c κs = search needs
 
--- src/steps.rt:198:9
-preamble-step-same-length : (t : ℕ) → preamble-step-lts.Need-same-length (
-  kept-reads.Asked,
-  kept-reads.Learnt,
-  preamble-bytes-reads.Asked,
-  preamble-bytes-reads.Learnt,
-  advance-reads.Asked,
-  advance-reads.Learnt,
-  all-segments-reads.Asked,
-  all-segments-reads.Learnt,
-  segment-step-below t,
-  segment-step.Post,
-) (preamble-step-at t) preamble-step.Post
+preamble-step-same-length : (t : ℕ) → preamble-step-lts.Need-same-length (preamble-claims t) (preamble-step-at t) preamble-step.Post
 preamble-step-same-length t c = search needs
 
--- src/steps.rt:198:9
-preamble-step-same-length-2 : (t : ℕ) → preamble-step-lts.Need-same-length-2 (
-  kept-reads.Asked,
-  kept-reads.Learnt,
-  preamble-bytes-reads.Asked,
-  preamble-bytes-reads.Learnt,
-  advance-reads.Asked,
-  advance-reads.Learnt,
-  all-segments-reads.Asked,
-  all-segments-reads.Learnt,
-  segment-step-below t,
-  segment-step.Post,
-) (preamble-step-at t) preamble-step.Post
+preamble-step-same-length-2 : (t : ℕ) → preamble-step-lts.Need-same-length-2 (preamble-claims t) (preamble-step-at t) preamble-step.Post
 preamble-step-same-length-2 t c = search needs
 
--- src/steps.rt:198:9
-preamble-step-returns-2 : (t : ℕ) → preamble-step-lts.Need-returns-2 (
-  kept-reads.Asked,
-  kept-reads.Learnt,
-  preamble-bytes-reads.Asked,
-  preamble-bytes-reads.Learnt,
-  advance-reads.Asked,
-  advance-reads.Learnt,
-  all-segments-reads.Asked,
-  all-segments-reads.Learnt,
-  segment-step-below t,
-  segment-step.Post,
-) (preamble-step-at t) preamble-step.Post
+preamble-step-returns-2 : (t : ℕ) → preamble-step-lts.Need-returns-2 (preamble-claims t) (preamble-step-at t) preamble-step.Post
 preamble-step-returns-2 t c =
     step-refused (c .before .before .before .before .before .before .before .before .before .before .before .before .before .before .args .w) _ (c .before .before .before .before .before .before .before .before .before .before .before .before .before .before .args .bytes .now) _ (c .before .before .before .before .before .before .before .before .before .before .before .before .before .before .args .at) (c .before .before .before .before .before .before .before .before .before .preamble-bytes .result) (omega (arith, c .before .before .before .before .before .before .before .before .before .preamble-bytes .ensures, c .before .before .before .before .before .before .before .before .before .before .before .before .before .before .pre .1 .0)) (c .before .before .before .before .before .advance .result) _ _ (c .before .before .before .before .before .advance .ensures) (c .if2 .taken)
 
--- src/steps.rt:200:14
-preamble-step-sub-k : (t : ℕ) → preamble-step-lts.Need-sub-k (
-  kept-reads.Asked,
-  kept-reads.Learnt,
-  preamble-bytes-reads.Asked,
-  preamble-bytes-reads.Learnt,
-  advance-reads.Asked,
-  advance-reads.Learnt,
-  all-segments-reads.Asked,
-  all-segments-reads.Learnt,
-  segment-step-below t,
-  segment-step.Post,
-) (preamble-step-at t) preamble-step.Post
+preamble-step-sub-k : (t : ℕ) → preamble-step-lts.Need-sub-k (preamble-claims t) (preamble-step-at t) preamble-step.Post
 preamble-step-sub-k t c = search needs
 
--- src/steps.rt:201:9
-preamble-step-all-segments-requires : (t : ℕ) → preamble-step-lts.Need-all-segments-requires (
-  kept-reads.Asked,
-  kept-reads.Learnt,
-  preamble-bytes-reads.Asked,
-  preamble-bytes-reads.Learnt,
-  advance-reads.Asked,
-  advance-reads.Learnt,
-  all-segments-reads.Asked,
-  all-segments-reads.Learnt,
-  segment-step-below t,
-  segment-step.Post,
-) (preamble-step-at t) preamble-step.Post
+preamble-step-all-segments-requires : (t : ℕ) → preamble-step-lts.Need-all-segments-requires (preamble-claims t) (preamble-step-at t) preamble-step.Post
 preamble-step-all-segments-requires t c κs = search needs
 
--- src/steps.rt:202:41
-preamble-step-add-segment-step : (t : ℕ) → preamble-step-lts.Need-add-segment-step (
-  kept-reads.Asked,
-  kept-reads.Learnt,
-  preamble-bytes-reads.Asked,
-  preamble-bytes-reads.Learnt,
-  advance-reads.Asked,
-  advance-reads.Learnt,
-  all-segments-reads.Asked,
-  all-segments-reads.Learnt,
-  segment-step-below t,
-  segment-step.Post,
-) (preamble-step-at t) preamble-step.Post
+preamble-step-add-segment-step : (t : ℕ) → preamble-step-lts.Need-add-segment-step (preamble-claims t) (preamble-step-at t) preamble-step.Post
 preamble-step-add-segment-step t c =
     omega (arith, step-few (c .before .before .before .before .before .before .before .before .before .before .before .before .before .before .before .before .before .args .w) _ (c .before .before .before .before .before .before .before .before .before .before .before .before .before .before .before .before .before .args .bytes .now) _ (c .before .before .before .before .before .before .before .before .before .before .before .before .before .before .before .before .before .args .at) (c .before .before .before .before .before .before .before .before .before .before .before .before .preamble-bytes .result) (omega (arith, c .before .before .before .before .before .before .before .before .before .before .before .before .preamble-bytes .ensures, c .before .before .before .before .before .before .before .before .before .before .before .before .before .before .before .before .before .pre .1 .0)) (c .before .before .before .before .before .before .before .before .advance .result) _ _ (c .before .before .before .before .before .before .before .before .advance .ensures), c .before .before .before .before .before .before .before .before .before .before .before .before .before .before .before .before .before .good .1 .0 .0)
 
--- src/steps.rt:202:5
-preamble-step-segment-step-requires : (t : ℕ) → preamble-step-lts.Need-segment-step-requires (
-  kept-reads.Asked,
-  kept-reads.Learnt,
-  preamble-bytes-reads.Asked,
-  preamble-bytes-reads.Learnt,
-  advance-reads.Asked,
-  advance-reads.Learnt,
-  all-segments-reads.Asked,
-  all-segments-reads.Learnt,
-  segment-step-below t,
-  segment-step.Post,
-) (preamble-step-at t) preamble-step.Post
+preamble-step-segment-step-requires : (t : ℕ) → preamble-step-lts.Need-segment-step-requires (preamble-claims t) (preamble-step-at t) preamble-step.Post
 preamble-step-segment-step-requires t c κs =
     let few = step-few (c .before .before .before .before .before .before .before .before .before .before .before .before .before .before .before .before .before .before .before .args .w) _ (c .before .before .before .before .before .before .before .before .before .before .before .before .before .before .before .before .before .before .before .args .bytes .now) _ (c .before .before .before .before .before .before .before .before .before .before .before .before .before .before .before .before .before .before .before .args .at) (c .before .before .before .before .before .before .before .before .before .before .before .before .before .before .preamble-bytes .result) (omega (arith, c .before .before .before .before .before .before .before .before .before .before .before .before .before .before .preamble-bytes .ensures, c .before .before .before .before .before .before .before .before .before .before .before .before .before .before .before .before .before .before .before .pre .1 .0)) (c .before .before .before .before .before .before .before .before .before .before .advance .result) _ _ (c .before .before .before .before .before .before .before .before .before .before .advance .ensures) in
     let goes = step-goes (c .before .before .before .before .before .before .before .before .before .before .before .before .before .before .before .before .before .before .before .args .w) _ (c .before .before .before .before .before .before .before .before .before .before .before .before .before .before .before .before .before .before .before .args .bytes .now) _ (c .before .before .before .before .before .before .before .before .before .before .before .before .before .before .before .before .before .before .before .args .at) (c .before .before .before .before .before .before .before .before .before .before .before .before .before .before .preamble-bytes .result) (omega (arith, c .before .before .before .before .before .before .before .before .before .before .before .before .before .before .preamble-bytes .ensures, c .before .before .before .before .before .before .before .before .before .before .before .before .before .before .before .before .before .before .before .pre .1 .0)) (c .before .before .before .before .before .before .before .before .before .before .advance .result) _ _ (c .before .before .before .before .before .before .before .before .before .before .advance .ensures) (c .before .before .before .before .before .if2 .left) (c .before .before .before .before .before .before .before .before .before .before .before .before .before .before .preamble-bytes .ensures .1 (omega (arith, c .before .before .before .before .before .before .before .before .before .before .before .before .before .before .before .if1 .left))) in
     (omega (arith, c .before .before .all-segments .ensures, c .before .before .before .before .before .before .before .before .before .before .before .before .before .before .before .before .before .before .before .pre .0), (few, c .before .before .all-segments .ensures, step-fits (c .before .before .before .before .before .before .before .before .before .before .before .before .before .before .before .before .before .before .before .args .w) _ (c .before .before .before .before .before .before .before .before .before .before .before .before .before .before .before .before .before .before .before .args .bytes .now) _ (c .before .before .before .before .before .before .before .before .before .before .before .before .before .before .before .before .before .before .before .args .at) (c .before .before .before .before .before .before .before .before .before .before .before .before .before .before .preamble-bytes .result) (omega (arith, c .before .before .before .before .before .before .before .before .before .before .before .before .before .before .preamble-bytes .ensures, c .before .before .before .before .before .before .before .before .before .before .before .before .before .before .before .before .before .before .before .pre .1 .0)) (c .before .before .before .before .before .before .before .before .before .before .advance .result) _ _ (c .before .before .before .before .before .before .before .before .before .before .advance .ensures) (c .before .before .before .before .before .before .before .before .before .before .before .before .before .before .before .before .before .before .before .pre .1 .1) (c .before .before .before .before .before .if2 .left)))
 
--- src/steps.rt:187:1
-preamble-step-same-length-3 : (t : ℕ) → preamble-step-lts.Need-same-length-3 (
-  kept-reads.Asked,
-  kept-reads.Learnt,
-  preamble-bytes-reads.Asked,
-  preamble-bytes-reads.Learnt,
-  advance-reads.Asked,
-  advance-reads.Learnt,
-  all-segments-reads.Asked,
-  all-segments-reads.Learnt,
-  segment-step-below t,
-  segment-step.Post,
-) (preamble-step-at t) preamble-step.Post
+preamble-step-same-length-3 : (t : ℕ) → preamble-step-lts.Need-same-length-3 (preamble-claims t) (preamble-step-at t) preamble-step.Post
 preamble-step-same-length-3 t c =
     c .before .before .before .before .segment-step .kept .1 .1 .1 .1 .0 ∙ c .before .before .before .before .before .before .before .before .before .before .before .before .before .before .before .advance .kept .1 .1 .0
 
--- src/steps.rt:187:1
-preamble-step-same-length-4 : (t : ℕ) → preamble-step-lts.Need-same-length-4 (
-  kept-reads.Asked,
-  kept-reads.Learnt,
-  preamble-bytes-reads.Asked,
-  preamble-bytes-reads.Learnt,
-  advance-reads.Asked,
-  advance-reads.Learnt,
-  all-segments-reads.Asked,
-  all-segments-reads.Learnt,
-  segment-step-below t,
-  segment-step.Post,
-) (preamble-step-at t) preamble-step.Post
+preamble-step-same-length-4 : (t : ℕ) → preamble-step-lts.Need-same-length-4 (preamble-claims t) (preamble-step-at t) preamble-step.Post
 preamble-step-same-length-4 t c = search needs
 
--- src/steps.rt:187:1
-preamble-step-returns-3 : (t : ℕ) → preamble-step-lts.Need-returns-3 (
-  kept-reads.Asked,
-  kept-reads.Learnt,
-  preamble-bytes-reads.Asked,
-  preamble-bytes-reads.Learnt,
-  advance-reads.Asked,
-  advance-reads.Learnt,
-  all-segments-reads.Asked,
-  all-segments-reads.Learnt,
-  segment-step-below t,
-  segment-step.Post,
-) (preamble-step-at t) preamble-step.Post
+preamble-step-returns-3 : (t : ℕ) → preamble-step-lts.Need-returns-3 (preamble-claims t) (preamble-step-at t) preamble-step.Post
 preamble-step-returns-3 t c =
     step-next (c .before .before .before .before .before .before .before .before .before .before .before .before .before .before .before .before .before .before .before .before .before .before .before .before .args .w) _ (c .before .before .before .before .before .before .before .before .before .before .before .before .before .before .before .before .before .before .before .before .before .before .before .before .args .bytes .now) _ (c .before .before .before .before .before .before .before .before .before .before .before .before .before .before .before .before .before .before .before .before .before .before .before .before .args .at) (c .before .before .before .before .before .before .before .before .before .before .before .before .before .before .before .before .before .before .before .preamble-bytes .result) (omega (arith, c .before .before .before .before .before .before .before .before .before .before .before .before .before .before .before .before .before .before .before .preamble-bytes .ensures, c .before .before .before .before .before .before .before .before .before .before .before .before .before .before .before .before .before .before .before .before .before .before .before .before .pre .1 .0)) (c .before .before .before .before .before .before .before .before .before .before .before .before .before .before .before .advance .result) _ _ (c .before .before .before .before .before .before .before .before .before .before .before .before .before .before .before .advance .ensures) _ _ _ (c .before .before .before .before .before .before .before .before .before .before .if2 .left) (c .before .before .before .before .segment-step .ensures)
 
--- src/steps.rt:218:9
-segment-step-preamble-step-requires : (t : ℕ) → segment-step-lts.Need-preamble-step-requires (
-  preamble-step-below t,
-  preamble-step.Post,
-  kept-reads.Asked,
-  kept-reads.Learnt,
-  segments-behind-reads.Asked,
-  segments-behind-reads.Learnt,
-  segment-step-below t,
-  segment-step.Post,
-  min-reads.Asked,
-  min-reads.Learnt,
-  advance-reads.Asked,
-  advance-reads.Learnt,
-) (segment-step-at t) segment-step.Post
+segment-step-preamble-step-requires : (t : ℕ) → segment-step-lts.Need-preamble-step-requires (segment-claims t) (segment-step-at t) segment-step.Post
 segment-step-preamble-step-requires t c κs = search needs
 
--- src/steps.rt:218:9
-segment-step-same-length : (t : ℕ) → segment-step-lts.Need-same-length (
-  preamble-step-below t,
-  preamble-step.Post,
-  kept-reads.Asked,
-  kept-reads.Learnt,
-  segments-behind-reads.Asked,
-  segments-behind-reads.Learnt,
-  segment-step-below t,
-  segment-step.Post,
-  min-reads.Asked,
-  min-reads.Learnt,
-  advance-reads.Asked,
-  advance-reads.Learnt,
-) (segment-step-at t) segment-step.Post
+segment-step-same-length : (t : ℕ) → segment-step-lts.Need-same-length (segment-claims t) (segment-step-at t) segment-step.Post
 segment-step-same-length t c = search needs
 
--- src/steps.rt:218:9
-segment-step-same-length-2 : (t : ℕ) → segment-step-lts.Need-same-length-2 (
-  preamble-step-below t,
-  preamble-step.Post,
-  kept-reads.Asked,
-  kept-reads.Learnt,
-  segments-behind-reads.Asked,
-  segments-behind-reads.Learnt,
-  segment-step-below t,
-  segment-step.Post,
-  min-reads.Asked,
-  min-reads.Learnt,
-  advance-reads.Asked,
-  advance-reads.Learnt,
-) (segment-step-at t) segment-step.Post
+segment-step-same-length-2 : (t : ℕ) → segment-step-lts.Need-same-length-2 (segment-claims t) (segment-step-at t) segment-step.Post
 segment-step-same-length-2 t c = search needs
 
--- src/steps.rt:218:9
-segment-step-returns : (t : ℕ) → segment-step-lts.Need-returns (
-  preamble-step-below t,
-  preamble-step.Post,
-  kept-reads.Asked,
-  kept-reads.Learnt,
-  segments-behind-reads.Asked,
-  segments-behind-reads.Learnt,
-  segment-step-below t,
-  segment-step.Post,
-  min-reads.Asked,
-  min-reads.Learnt,
-  advance-reads.Asked,
-  advance-reads.Learnt,
-) (segment-step-at t) segment-step.Post
+segment-step-returns : (t : ℕ) → segment-step-lts.Need-returns (segment-claims t) (segment-step-at t) segment-step.Post
 segment-step-returns t c = search needs
 
--- src/steps.rt:221:9
-segment-step-kept-requires : (t : ℕ) → segment-step-lts.Need-kept-requires (
-  preamble-step-below t,
-  preamble-step.Post,
-  kept-reads.Asked,
-  kept-reads.Learnt,
-  segments-behind-reads.Asked,
-  segments-behind-reads.Learnt,
-  segment-step-below t,
-  segment-step.Post,
-  min-reads.Asked,
-  min-reads.Learnt,
-  advance-reads.Asked,
-  advance-reads.Learnt,
-) (segment-step-at t) segment-step.Post
+segment-step-kept-requires : (t : ℕ) → segment-step-lts.Need-kept-requires (segment-claims t) (segment-step-at t) segment-step.Post
 segment-step-kept-requires t c κs = search needs
 
--- src/steps.rt:221:9
-segment-step-returns-2 : (t : ℕ) → segment-step-lts.Need-returns-2 (
-  preamble-step-below t,
-  preamble-step.Post,
-  kept-reads.Asked,
-  kept-reads.Learnt,
-  segments-behind-reads.Asked,
-  segments-behind-reads.Learnt,
-  segment-step-below t,
-  segment-step.Post,
-  min-reads.Asked,
-  min-reads.Learnt,
-  advance-reads.Asked,
-  advance-reads.Learnt,
-) (segment-step-at t) segment-step.Post
+segment-step-returns-2 : (t : ℕ) → segment-step-lts.Need-returns-2 (segment-claims t) (segment-step-at t) segment-step.Post
 segment-step-returns-2 t c =
     step-none (c .before .before .before .before .before .before .before .args .w) _ (c .before .before .before .before .before .before .before .args .bytes .now) _ (c .before .before .before .before .before .before .before .args .at) _ _ (c .before .if2 .taken) (c .before .before .before .before .before .before .before .pre .1 .2 .live) (c .kept .ensures)
 
--- src/steps.rt:224:13
-segment-step-segments-behind-requires : (t : ℕ) → segment-step-lts.Need-segments-behind-requires (
-  preamble-step-below t,
-  preamble-step.Post,
-  kept-reads.Asked,
-  kept-reads.Learnt,
-  segments-behind-reads.Asked,
-  segments-behind-reads.Learnt,
-  segment-step-below t,
-  segment-step.Post,
-  min-reads.Asked,
-  min-reads.Learnt,
-  advance-reads.Asked,
-  advance-reads.Learnt,
-) (segment-step-at t) segment-step.Post
+segment-step-segments-behind-requires : (t : ℕ) → segment-step-lts.Need-segments-behind-requires (segment-claims t) (segment-step-at t) segment-step.Post
 segment-step-segments-behind-requires t c κs = search needs
 
--- src/steps.rt:225:9
-segment-step-segment-step-requires : (t : ℕ) → segment-step-lts.Need-segment-step-requires (
-  preamble-step-below t,
-  preamble-step.Post,
-  kept-reads.Asked,
-  kept-reads.Learnt,
-  segments-behind-reads.Asked,
-  segments-behind-reads.Learnt,
-  segment-step-below t,
-  segment-step.Post,
-  min-reads.Asked,
-  min-reads.Learnt,
-  advance-reads.Asked,
-  advance-reads.Learnt,
-) (segment-step-at t) segment-step.Post
+segment-step-segment-step-requires : (t : ℕ) → segment-step-lts.Need-segment-step-requires (segment-claims t) (segment-step-at t) segment-step.Post
 segment-step-segment-step-requires t c κs =
     (omega (arith, c .before .before .segments-behind .ensures .1 (omega (arith, c .before .before .before .if3 .taken)), c .before .before .before .before .before .before .before .before .before .before .before .pre .0), (c .before .before .before .before .before .before .before .before .before .before .before .pre .1 .0, omega (arith, c .before .before .segments-behind .ensures .0, c .before .before .before .before .before .before .before .before .before .before .before .pre .1 .1), c .before .before .before .before .before .before .before .before .before .before .before .pre .1 .2))
 
--- src/steps.rt:225:9
-segment-step-same-length-3 : (t : ℕ) → segment-step-lts.Need-same-length-3 (
-  preamble-step-below t,
-  preamble-step.Post,
-  kept-reads.Asked,
-  kept-reads.Learnt,
-  segments-behind-reads.Asked,
-  segments-behind-reads.Learnt,
-  segment-step-below t,
-  segment-step.Post,
-  min-reads.Asked,
-  min-reads.Learnt,
-  advance-reads.Asked,
-  advance-reads.Learnt,
-) (segment-step-at t) segment-step.Post
+segment-step-same-length-3 : (t : ℕ) → segment-step-lts.Need-same-length-3 (segment-claims t) (segment-step-at t) segment-step.Post
 segment-step-same-length-3 t c = search needs
 
--- src/steps.rt:225:9
-segment-step-same-length-4 : (t : ℕ) → segment-step-lts.Need-same-length-4 (
-  preamble-step-below t,
-  preamble-step.Post,
-  kept-reads.Asked,
-  kept-reads.Learnt,
-  segments-behind-reads.Asked,
-  segments-behind-reads.Learnt,
-  segment-step-below t,
-  segment-step.Post,
-  min-reads.Asked,
-  min-reads.Learnt,
-  advance-reads.Asked,
-  advance-reads.Learnt,
-) (segment-step-at t) segment-step.Post
+segment-step-same-length-4 : (t : ℕ) → segment-step-lts.Need-same-length-4 (segment-claims t) (segment-step-at t) segment-step.Post
 segment-step-same-length-4 t c = search needs
 
--- src/steps.rt:225:9
-segment-step-returns-3 : (t : ℕ) → segment-step-lts.Need-returns-3 (
-  preamble-step-below t,
-  preamble-step.Post,
-  kept-reads.Asked,
-  kept-reads.Learnt,
-  segments-behind-reads.Asked,
-  segments-behind-reads.Learnt,
-  segment-step-below t,
-  segment-step.Post,
-  min-reads.Asked,
-  min-reads.Learnt,
-  advance-reads.Asked,
-  advance-reads.Learnt,
-) (segment-step-at t) segment-step.Post
+segment-step-returns-3 : (t : ℕ) → segment-step-lts.Need-returns-3 (segment-claims t) (segment-step-at t) segment-step.Post
 segment-step-returns-3 t c = search needs
 
--- src/steps.rt:227:33
-segment-step-sub-min : (t : ℕ) → segment-step-lts.Need-sub-min (
-  preamble-step-below t,
-  preamble-step.Post,
-  kept-reads.Asked,
-  kept-reads.Learnt,
-  segments-behind-reads.Asked,
-  segments-behind-reads.Learnt,
-  segment-step-below t,
-  segment-step.Post,
-  min-reads.Asked,
-  min-reads.Learnt,
-  advance-reads.Asked,
-  advance-reads.Learnt,
-) (segment-step-at t) segment-step.Post
+segment-step-sub-min : (t : ℕ) → segment-step-lts.Need-sub-min (segment-claims t) (segment-step-at t) segment-step.Post
 segment-step-sub-min t c = search needs
 
--- src/steps.rt:227:9
-segment-step-min-requires : (t : ℕ) → segment-step-lts.Need-min-requires (
-  preamble-step-below t,
-  preamble-step.Post,
-  kept-reads.Asked,
-  kept-reads.Learnt,
-  segments-behind-reads.Asked,
-  segments-behind-reads.Learnt,
-  segment-step-below t,
-  segment-step.Post,
-  min-reads.Asked,
-  min-reads.Learnt,
-  advance-reads.Asked,
-  advance-reads.Learnt,
-) (segment-step-at t) segment-step.Post
+segment-step-min-requires : (t : ℕ) → segment-step-lts.Need-min-requires (segment-claims t) (segment-step-at t) segment-step.Post
 segment-step-min-requires t c κs = search needs
 
--- src/steps.rt:228:15
-segment-step-add-end : (t : ℕ) → segment-step-lts.Need-add-end (
-  preamble-step-below t,
-  preamble-step.Post,
-  kept-reads.Asked,
-  kept-reads.Learnt,
-  segments-behind-reads.Asked,
-  segments-behind-reads.Learnt,
-  segment-step-below t,
-  segment-step.Post,
-  min-reads.Asked,
-  min-reads.Learnt,
-  advance-reads.Asked,
-  advance-reads.Learnt,
-) (segment-step-at t) segment-step.Post
+segment-step-add-end : (t : ℕ) → segment-step-lts.Need-add-end (segment-claims t) (segment-step-at t) segment-step.Post
 segment-step-add-end t c = search needs
 
--- src/steps.rt:229:27
-segment-step-sub-advance : (t : ℕ) → segment-step-lts.Need-sub-advance (
-  preamble-step-below t,
-  preamble-step.Post,
-  kept-reads.Asked,
-  kept-reads.Learnt,
-  segments-behind-reads.Asked,
-  segments-behind-reads.Learnt,
-  segment-step-below t,
-  segment-step.Post,
-  min-reads.Asked,
-  min-reads.Learnt,
-  advance-reads.Asked,
-  advance-reads.Learnt,
-) (segment-step-at t) segment-step.Post
+segment-step-sub-advance : (t : ℕ) → segment-step-lts.Need-sub-advance (segment-claims t) (segment-step-at t) segment-step.Post
 segment-step-sub-advance t c = search needs
 
--- src/steps.rt:229:27
-segment-step-part-advance-start : (t : ℕ) → segment-step-lts.Need-part-advance-start (
-  preamble-step-below t,
-  preamble-step.Post,
-  kept-reads.Asked,
-  kept-reads.Learnt,
-  segments-behind-reads.Asked,
-  segments-behind-reads.Learnt,
-  segment-step-below t,
-  segment-step.Post,
-  min-reads.Asked,
-  min-reads.Learnt,
-  advance-reads.Asked,
-  advance-reads.Learnt,
-) (segment-step-at t) segment-step.Post
+segment-step-part-advance-start : (t : ℕ) → segment-step-lts.Need-part-advance-start (segment-claims t) (segment-step-at t) segment-step.Post
 segment-step-part-advance-start t c = search needs
 
--- src/steps.rt:229:27
-segment-step-part-advance-end : (t : ℕ) → segment-step-lts.Need-part-advance-end (
-  preamble-step-below t,
-  preamble-step.Post,
-  kept-reads.Asked,
-  kept-reads.Learnt,
-  segments-behind-reads.Asked,
-  segments-behind-reads.Learnt,
-  segment-step-below t,
-  segment-step.Post,
-  min-reads.Asked,
-  min-reads.Learnt,
-  advance-reads.Asked,
-  advance-reads.Learnt,
-) (segment-step-at t) segment-step.Post
+segment-step-part-advance-end : (t : ℕ) → segment-step-lts.Need-part-advance-end (segment-claims t) (segment-step-at t) segment-step.Post
 segment-step-part-advance-end t c = search needs
 
--- src/steps.rt:229:9
-segment-step-advance-requires : (t : ℕ) → segment-step-lts.Need-advance-requires (
-  preamble-step-below t,
-  preamble-step.Post,
-  kept-reads.Asked,
-  kept-reads.Learnt,
-  segments-behind-reads.Asked,
-  segments-behind-reads.Learnt,
-  segment-step-below t,
-  segment-step.Post,
-  min-reads.Asked,
-  min-reads.Learnt,
-  advance-reads.Asked,
-  advance-reads.Learnt,
-) (segment-step-at t) segment-step.Post
+segment-step-advance-requires : (t : ℕ) → segment-step-lts.Need-advance-requires (segment-claims t) (segment-step-at t) segment-step.Post
 segment-step-advance-requires t c κs = search needs
 
--- src/steps.rt:231:9
-segment-step-same-length-5 : (t : ℕ) → segment-step-lts.Need-same-length-5 (
-  preamble-step-below t,
-  preamble-step.Post,
-  kept-reads.Asked,
-  kept-reads.Learnt,
-  segments-behind-reads.Asked,
-  segments-behind-reads.Learnt,
-  segment-step-below t,
-  segment-step.Post,
-  min-reads.Asked,
-  min-reads.Learnt,
-  advance-reads.Asked,
-  advance-reads.Learnt,
-) (segment-step-at t) segment-step.Post
+segment-step-same-length-5 : (t : ℕ) → segment-step-lts.Need-same-length-5 (segment-claims t) (segment-step-at t) segment-step.Post
 segment-step-same-length-5 t c = search needs
 
--- src/steps.rt:231:9
-segment-step-same-length-6 : (t : ℕ) → segment-step-lts.Need-same-length-6 (
-  preamble-step-below t,
-  preamble-step.Post,
-  kept-reads.Asked,
-  kept-reads.Learnt,
-  segments-behind-reads.Asked,
-  segments-behind-reads.Learnt,
-  segment-step-below t,
-  segment-step.Post,
-  min-reads.Asked,
-  min-reads.Learnt,
-  advance-reads.Asked,
-  advance-reads.Learnt,
-) (segment-step-at t) segment-step.Post
+segment-step-same-length-6 : (t : ℕ) → segment-step-lts.Need-same-length-6 (segment-claims t) (segment-step-at t) segment-step.Post
 segment-step-same-length-6 t c = search needs
 
--- src/steps.rt:231:9
-segment-step-returns-4 : (t : ℕ) → segment-step-lts.Need-returns-4 (
-  preamble-step-below t,
-  preamble-step.Post,
-  kept-reads.Asked,
-  kept-reads.Learnt,
-  segments-behind-reads.Asked,
-  segments-behind-reads.Learnt,
-  segment-step-below t,
-  segment-step.Post,
-  min-reads.Asked,
-  min-reads.Learnt,
-  advance-reads.Asked,
-  advance-reads.Learnt,
-) (segment-step-at t) segment-step.Post
+segment-step-returns-4 : (t : ℕ) → segment-step-lts.Need-returns-4 (segment-claims t) (segment-step-at t) segment-step.Post
 segment-step-returns-4 t c =
     step-refused (c .before .before .before .before .before .before .before .before .before .before .before .before .before .before .before .before .before .before .args .w) _ (c .before .before .before .before .before .before .before .before .before .before .before .before .before .before .before .before .before .before .args .bytes .now) _ (c .before .before .before .before .before .before .before .before .before .before .before .before .before .before .before .before .before .before .args .at) (c .before .before .before .before .before .before .before .before .before .min .result) (omega (arith, c .before .before .before .before .before .before .before .before .before .min .ensures, c .before .before .before .before .before .before .before .before .before .before .before .before .before .before .before .before .before .before .pre .1 .0)) (c .before .before .before .before .before .advance .result) _ _ (c .before .before .before .before .before .advance .ensures) (c .if4 .taken)
 
--- src/steps.rt:233:14
-segment-step-sub-k : (t : ℕ) → segment-step-lts.Need-sub-k (
-  preamble-step-below t,
-  preamble-step.Post,
-  kept-reads.Asked,
-  kept-reads.Learnt,
-  segments-behind-reads.Asked,
-  segments-behind-reads.Learnt,
-  segment-step-below t,
-  segment-step.Post,
-  min-reads.Asked,
-  min-reads.Learnt,
-  advance-reads.Asked,
-  advance-reads.Learnt,
-) (segment-step-at t) segment-step.Post
+segment-step-sub-k : (t : ℕ) → segment-step-lts.Need-sub-k (segment-claims t) (segment-step-at t) segment-step.Post
 segment-step-sub-k t c = search needs
 
--- src/steps.rt:234:9
 segment-step-segments-behind-requires-2 :
-    (t : ℕ) → segment-step-lts.Need-segments-behind-requires-2 (
-      preamble-step-below t,
-      preamble-step.Post,
-      kept-reads.Asked,
-      kept-reads.Learnt,
-      segments-behind-reads.Asked,
-      segments-behind-reads.Learnt,
-      segment-step-below t,
-      segment-step.Post,
-      min-reads.Asked,
-      min-reads.Learnt,
-      advance-reads.Asked,
-      advance-reads.Learnt,
-    ) (segment-step-at t) segment-step.Post
+    (t : ℕ) → segment-step-lts.Need-segments-behind-requires-2 (segment-claims t) (segment-step-at t) segment-step.Post
 segment-step-segments-behind-requires-2 t c κs =
     omega (arith, c .before .before .before .before .before .before .before .before .before .before .before .before .before .before .before .if1 .left)
 
--- src/steps.rt:235:37
-segment-step-add-segment-step : (t : ℕ) → segment-step-lts.Need-add-segment-step (
-  preamble-step-below t,
-  preamble-step.Post,
-  kept-reads.Asked,
-  kept-reads.Learnt,
-  segments-behind-reads.Asked,
-  segments-behind-reads.Learnt,
-  segment-step-below t,
-  segment-step.Post,
-  min-reads.Asked,
-  min-reads.Learnt,
-  advance-reads.Asked,
-  advance-reads.Learnt,
-) (segment-step-at t) segment-step.Post
+segment-step-add-segment-step : (t : ℕ) → segment-step-lts.Need-add-segment-step (segment-claims t) (segment-step-at t) segment-step.Post
 segment-step-add-segment-step t c =
     omega (arith, step-few (c .before .before .before .before .before .before .before .before .before .before .before .before .before .before .before .before .before .before .before .before .before .args .w) _ (c .before .before .before .before .before .before .before .before .before .before .before .before .before .before .before .before .before .before .before .before .before .args .bytes .now) _ (c .before .before .before .before .before .before .before .before .before .before .before .before .before .before .before .before .before .before .before .before .before .args .at) (c .before .before .before .before .before .before .before .before .before .before .before .before .min .result) (omega (arith, c .before .before .before .before .before .before .before .before .before .before .before .before .min .ensures, c .before .before .before .before .before .before .before .before .before .before .before .before .before .before .before .before .before .before .before .before .before .pre .1 .0)) (c .before .before .before .before .before .before .before .before .advance .result) _ _ (c .before .before .before .before .before .before .before .before .advance .ensures), c .before .before .before .before .before .before .before .before .before .before .before .before .before .before .before .before .before .before .before .before .before .good .1 .1 .0 .0)
 
--- src/steps.rt:235:5
-segment-step-segment-step-requires-2 : (t : ℕ) → segment-step-lts.Need-segment-step-requires-2 (
-  preamble-step-below t,
-  preamble-step.Post,
-  kept-reads.Asked,
-  kept-reads.Learnt,
-  segments-behind-reads.Asked,
-  segments-behind-reads.Learnt,
-  segment-step-below t,
-  segment-step.Post,
-  min-reads.Asked,
-  min-reads.Learnt,
-  advance-reads.Asked,
-  advance-reads.Learnt,
-) (segment-step-at t) segment-step.Post
+segment-step-segment-step-requires-2 : (t : ℕ) → segment-step-lts.Need-segment-step-requires-2 (segment-claims t) (segment-step-at t) segment-step.Post
 segment-step-segment-step-requires-2 t c κs =
     let few = step-few (c .before .before .before .before .before .before .before .before .before .before .before .before .before .before .before .before .before .before .before .before .before .before .before .args .w) _ (c .before .before .before .before .before .before .before .before .before .before .before .before .before .before .before .before .before .before .before .before .before .before .before .args .bytes .now) _ (c .before .before .before .before .before .before .before .before .before .before .before .before .before .before .before .before .before .before .before .before .before .before .before .args .at) (c .before .before .before .before .before .before .before .before .before .before .before .before .before .before .min .result) (omega (arith, c .before .before .before .before .before .before .before .before .before .before .before .before .before .before .min .ensures, c .before .before .before .before .before .before .before .before .before .before .before .before .before .before .before .before .before .before .before .before .before .before .before .pre .1 .0)) (c .before .before .before .before .before .before .before .before .before .before .advance .result) _ _ (c .before .before .before .before .before .before .before .before .before .before .advance .ensures) in
     let goes = step-goes (c .before .before .before .before .before .before .before .before .before .before .before .before .before .before .before .before .before .before .before .before .before .before .before .args .w) _ (c .before .before .before .before .before .before .before .before .before .before .before .before .before .before .before .before .before .before .before .before .before .before .before .args .bytes .now) _ (c .before .before .before .before .before .before .before .before .before .before .before .before .before .before .before .before .before .before .before .before .before .before .before .args .at) (c .before .before .before .before .before .before .before .before .before .before .before .before .before .before .min .result) (omega (arith, c .before .before .before .before .before .before .before .before .before .before .before .before .before .before .min .ensures, c .before .before .before .before .before .before .before .before .before .before .before .before .before .before .before .before .before .before .before .before .before .before .before .pre .1 .0)) (c .before .before .before .before .before .before .before .before .before .before .advance .result) _ _ (c .before .before .before .before .before .before .before .before .before .before .advance .ensures) (c .before .before .before .before .before .if4 .left) (omega (arith, c .before .before .before .before .before .before .before .before .before .before .before .before .before .before .min .ensures, c .before .before .before .before .before .before .before .before .before .before .before .before .before .before .before .if3 .left, c .before .before .before .before .before .before .before .before .before .before .before .before .before .before .before .before .before .if2 .left)) in
     (omega (arith, c .before .before .segments-behind2 .ensures .0, c .before .before .before .before .before .before .before .before .before .before .before .before .before .before .before .before .before .before .before .before .before .before .before .pre .0), (few, omega (arith, c .before .before .segments-behind2 .ensures .0, c .before .before .before .before .before .before .before .before .before .before .before .before .before .before .before .before .before .before .before .before .before .before .before .pre .1 .1), step-fits (c .before .before .before .before .before .before .before .before .before .before .before .before .before .before .before .before .before .before .before .before .before .before .before .args .w) _ (c .before .before .before .before .before .before .before .before .before .before .before .before .before .before .before .before .before .before .before .before .before .before .before .args .bytes .now) _ (c .before .before .before .before .before .before .before .before .before .before .before .before .before .before .before .before .before .before .before .before .before .before .before .args .at) (c .before .before .before .before .before .before .before .before .before .before .before .before .before .before .min .result) (omega (arith, c .before .before .before .before .before .before .before .before .before .before .before .before .before .before .min .ensures, c .before .before .before .before .before .before .before .before .before .before .before .before .before .before .before .before .before .before .before .before .before .before .before .pre .1 .0)) (c .before .before .before .before .before .before .before .before .before .before .advance .result) _ _ (c .before .before .before .before .before .before .before .before .before .before .advance .ensures) (c .before .before .before .before .before .before .before .before .before .before .before .before .before .before .before .before .before .before .before .before .before .before .before .pre .1 .2) (c .before .before .before .before .before .if4 .left)))
 
--- src/steps.rt:206:1
-segment-step-same-length-7 : (t : ℕ) → segment-step-lts.Need-same-length-7 (
-  preamble-step-below t,
-  preamble-step.Post,
-  kept-reads.Asked,
-  kept-reads.Learnt,
-  segments-behind-reads.Asked,
-  segments-behind-reads.Learnt,
-  segment-step-below t,
-  segment-step.Post,
-  min-reads.Asked,
-  min-reads.Learnt,
-  advance-reads.Asked,
-  advance-reads.Learnt,
-) (segment-step-at t) segment-step.Post
+segment-step-same-length-7 : (t : ℕ) → segment-step-lts.Need-same-length-7 (segment-claims t) (segment-step-at t) segment-step.Post
 segment-step-same-length-7 t c =
     c .before .before .before .before .segment-step2 .kept .1 .1 .1 .1 .0 ∙ c .before .before .before .before .before .before .before .before .before .before .before .before .before .before .before .advance .kept .1 .1 .0
 
--- src/steps.rt:206:1
-segment-step-same-length-8 : (t : ℕ) → segment-step-lts.Need-same-length-8 (
-  preamble-step-below t,
-  preamble-step.Post,
-  kept-reads.Asked,
-  kept-reads.Learnt,
-  segments-behind-reads.Asked,
-  segments-behind-reads.Learnt,
-  segment-step-below t,
-  segment-step.Post,
-  min-reads.Asked,
-  min-reads.Learnt,
-  advance-reads.Asked,
-  advance-reads.Learnt,
-) (segment-step-at t) segment-step.Post
+segment-step-same-length-8 : (t : ℕ) → segment-step-lts.Need-same-length-8 (segment-claims t) (segment-step-at t) segment-step.Post
 segment-step-same-length-8 t c = search needs
 
--- src/steps.rt:206:1
-segment-step-returns-5 : (t : ℕ) → segment-step-lts.Need-returns-5 (
-  preamble-step-below t,
-  preamble-step.Post,
-  kept-reads.Asked,
-  kept-reads.Learnt,
-  segments-behind-reads.Asked,
-  segments-behind-reads.Learnt,
-  segment-step-below t,
-  segment-step.Post,
-  min-reads.Asked,
-  min-reads.Learnt,
-  advance-reads.Asked,
-  advance-reads.Learnt,
-) (segment-step-at t) segment-step.Post
+segment-step-returns-5 : (t : ℕ) → segment-step-lts.Need-returns-5 (segment-claims t) (segment-step-at t) segment-step.Post
 segment-step-returns-5 t c =
     step-next (c .before .before .before .before .before .before .before .before .before .before .before .before .before .before .before .before .before .before .before .before .before .before .before .before .before .before .before .before .args .w) _ (c .before .before .before .before .before .before .before .before .before .before .before .before .before .before .before .before .before .before .before .before .before .before .before .before .before .before .before .before .args .bytes .now) _ (c .before .before .before .before .before .before .before .before .before .before .before .before .before .before .before .before .before .before .before .before .before .before .before .before .before .before .before .before .args .at) (c .before .before .before .before .before .before .before .before .before .before .before .before .before .before .before .before .before .before .before .min .result) (omega (arith, c .before .before .before .before .before .before .before .before .before .before .before .before .before .before .before .before .before .before .before .min .ensures, c .before .before .before .before .before .before .before .before .before .before .before .before .before .before .before .before .before .before .before .before .before .before .before .before .before .before .before .before .pre .1 .0)) (c .before .before .before .before .before .before .before .before .before .before .before .before .before .before .before .advance .result) _ _ (c .before .before .before .before .before .before .before .before .before .before .before .before .before .before .before .advance .ensures) _ _ _ (c .before .before .before .before .before .before .before .before .before .before .if4 .left) (c .before .before .before .before .segment-step2 .ensures)
 
 pub +preamble-step+segment-step-spec : {M : Type 1} → statement M
 +preamble-step+segment-step-spec =
-    close μ-preamble-step μ-segment-step (λ t. preamble-step-lts.spec (
-      kept-reads.Asked,
-      kept-reads.Learnt,
-      preamble-bytes-reads.Asked,
-      preamble-bytes-reads.Learnt,
-      advance-reads.Asked,
-      advance-reads.Learnt,
-      all-segments-reads.Asked,
-      all-segments-reads.Learnt,
-      segment-step-below t,
-      segment-step.Post,
-    )
+    close μ-preamble-step μ-segment-step (λ t. preamble-step-lts.spec (preamble-claims t)
     (preamble-step-at t)
     preamble-step.Post
     (preamble-step-kept-requires t)
@@ -866,20 +266,7 @@ pub +preamble-step+segment-step-spec : {M : Type 1} → statement M
     (preamble-step-same-length-3 t)
     (preamble-step-same-length-4 t)
     (preamble-step-returns-3 t))
-    λ t. segment-step-lts.spec (
-      preamble-step-below t,
-      preamble-step.Post,
-      kept-reads.Asked,
-      kept-reads.Learnt,
-      segments-behind-reads.Asked,
-      segments-behind-reads.Learnt,
-      segment-step-below t,
-      segment-step.Post,
-      min-reads.Asked,
-      min-reads.Learnt,
-      advance-reads.Asked,
-      advance-reads.Learnt,
-    )
+    λ t. segment-step-lts.spec (segment-claims t)
     (segment-step-at t)
     segment-step.Post
     (segment-step-preamble-step-requires t)

@@ -5,10 +5,6 @@ use borrow.Author.Needs.{needs}
 use Rattle.link.proofs.steps.advance.Statement.{statement}
 use Rattle.link.proofs.steps.advance.Tie as tie
 
--- src/steps.rt:68:9
-receive-requires : tie.Need-receive-requires
-receive-requires c κs = search needs
-
 -- src/steps.rt:73:18
 add-next : tie.Need-add-next
 add-next c = omega (arith, c .before .before .before .before .before .before .before .before .before .pre .taken, moves (c .before .before .before .before .before .before .before .before .before .args .w .receiver) (c .before .before .before .before .before .before .before .before .before .args .store .now) (c .before .before .before .before .before .before .before .before .before .args .piece .now) (c .before .before .before .before .receive .result) _ (c .before .before .before .before .receive .ensures) .within)
@@ -17,29 +13,9 @@ add-next c = omega (arith, c .before .before .before .before .before .before .be
 enum-told : tie.Need-enum-told
 enum-told c = search needs
 
--- src/steps.rt:76:23
-enum-known-report : tie.Need-enum-known-report
-enum-known-report c = search needs
-
--- src/steps.rt:76:29
-note-requires : tie.Need-note-requires
-note-requires c κs = search needs
-
--- src/steps.rt:64:1
-same-length : tie.Need-same-length
-same-length c = search needs
-
 -- src/steps.rt:64:1
 returns : tie.Need-returns
 returns c = advance-more (c .before .before .before .before .before .before .before .before .before .before .before .args .w) _ _ _ (c .before .before .before .before .before .before .receive .result) _ (c .before .before .before .before .before .before .receive .ensures) (c .before .before .before .before .before .before .before .before .before .before .before .pre .live) (c .enum-told .given .1)
-
--- src/steps.rt:64:1
-same-length-2 : tie.Need-same-length-2
-same-length-2 c = search needs
-
--- src/steps.rt:64:1
-same-length-3 : tie.Need-same-length-3
-same-length-3 c = search needs
 
 -- src/steps.rt:64:1
 returns-2 : tie.Need-returns-2
@@ -49,13 +25,13 @@ pub advance-spec : {M : Type 1} → statement M
 advance-spec =
     tie.close
     (tie.spec
-    receive-requires
+    (λ c κs. search needs)
     add-next
     enum-told
-    enum-known-report
-    note-requires
-    same-length
+    (λ c. search needs)
+    (λ c κs. search needs)
+    (λ c. search needs)
     returns
-    same-length-2
-    same-length-3
+    (λ c. search needs)
+    (λ c. search needs)
     returns-2)
