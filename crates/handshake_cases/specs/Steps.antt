@@ -8,13 +8,11 @@ use lib.ListN.{length, getD}
 use Rattle.buffer.specs.Le.{numberAt}
 use Rattle.handshake.specs.declared.State.{State}
 use Rattle.handshake.specs.declared.State.the-variants.{Hello, Auth, More, Signature, Session, Ready, Standby, Wait, Closed}
-use Rattle.handshake.specs.declared.AuthVerdict.{AuthVerdict}
-use Rattle.handshake.specs.declared.AuthVerdict.the-variants as auth
 use Rattle.handshake.specs.declared.Verdict.{Verdict}
 use Rattle.handshake.specs.declared.Report.{Report}
 use Rattle.handshake.specs.declared.Report.the-variants.{Taken, Refused}
 use Rattle.handshake.specs.declared.Step.{Step}
-use Rattle.handshake.specs.Table.{find}
+use Rattle.handshake.specs.Table.{authOf, find}
 use Rattle.handshake.specs.Steps.{stepBy}
 use Rattle.handshake.specs.Runs.{Side, client, server, rowsOf}
 use Rattle.text.specs.Line.{Piece, word, newline}
@@ -45,9 +43,6 @@ stepLine t = reportPieces (t .report) ++ (word "state " ∷ word (stateName (t .
 -- ---- steps
 
 -- a verdict byte: bits 0 and 1 a server's auth step, bit 2 the signature is good, bit 3 no feature is missing, bit 4 the reconnect is accepted
-abbrev pub authOf : ℕ → AuthVerdict
-authOf n = cond (eqb n 0) auth.Stay (cond (eqb n 1) auth.More (cond (eqb n 2) auth.Signature auth.Standby))
-
 unfoldable pub verdictOf : ℕ → Verdict
 verdictOf b =
     record {

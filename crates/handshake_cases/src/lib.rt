@@ -28,7 +28,8 @@ ghost use Rattle.handshake.specs.declared.Picked.the-variants.{Mode, NoMode};
 ghost use Rattle.text.specs.Line.{word};
 ghost use Rattle.text.specs.Page.{page, put, puts};
 ghost use Rattle.records.specs.Records.{Did, print};
-ghost use Rattle.handshake_cases.specs.Steps.{stateName, reportPieces, stepLine, authOf, verdictOf, sideOf, stepOf, stepGood, stepsFrom, stepsRecord};
+ghost use Rattle.handshake.specs.Table.{authOf};
+ghost use Rattle.handshake_cases.specs.Steps.{stateName, reportPieces, stepLine, verdictOf, sideOf, stepOf, stepGood, stepsFrom, stepsRecord};
 ghost use Rattle.handshake_cases.specs.Modes.{modeLine, ownAt, modeSize, modeRecord};
 
 // The most steps of a record.

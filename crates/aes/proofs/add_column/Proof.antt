@@ -4,15 +4,6 @@ use Rattle.aes.proofs.Packing.{add-packed}
 use Rattle.aes.proofs.add_column.Statement.{statement}
 use Rattle.aes.proofs.add_column.Tie as tie
 
-pack-requires : tie.Need-pack-requires
-pack-requires c κs = search needs
-
-pack-requires-2 : tie.Need-pack-requires-2
-pack-requires-2 c κs = search needs
-
-u32-bytes-requires : tie.Need-u32-bytes-requires
-u32-bytes-requires c κs = search needs
-
 returns : tie.Need-returns
 returns c =
     let a = c .before .before .before .args in
@@ -20,4 +11,4 @@ returns c =
     ∙ add-packed (a .a) (a .b) (c .before .before .pack .result) (c .before .pack2 .result) (c .before .before .pack .ensures) (c .before .pack2 .ensures)
 
 pub add-column-spec : {M : Type 1} → statement M
-add-column-spec = tie.close (tie.spec pack-requires pack-requires-2 u32-bytes-requires returns)
+add-column-spec = tie.close (tie.spec (λ c κs. search needs) (λ c κs. search needs) (λ c κs. search needs) returns)

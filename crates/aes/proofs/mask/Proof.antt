@@ -7,18 +7,6 @@ use borrow.Author.Needs.{needs}
 use Rattle.aes.proofs.mask.Statement.{statement}
 use Rattle.aes.proofs.mask.Tie as tie
 
-min-requires : tie.Need-min-requires
-min-requires c κs = search needs
-
-sbox-table-requires : tie.Need-sbox-table-requires
-sbox-table-requires c κs = search needs
-
-mask-blocks-requires : tie.Need-mask-blocks-requires
-mask-blocks-requires c κs = search needs
-
-same-length : tie.Need-same-length
-same-length c = search needs
-
 returns : tie.Need-returns
 returns c =
     let b = c .before .before .before in
@@ -27,21 +15,6 @@ returns c =
     let i : ℕ = b .mask-blocks .result in
     let e : i ≡ min (a .n) (length (a .buf .now)) = (let h : i ≡ less .min .result = omega (arith, b .mask-blocks .ensures .0) in h ∙ less .min .ensures) in
     b .mask-blocks .ensures .3 ∙ masked-front (a .w .now) (a .nonce) (a .buf .now) (a .n) i e
-
-add-stream : tie.Need-add-stream
-add-stream c = search needs
-
-stream-requires : tie.Need-stream-requires
-stream-requires c κs = search needs
-
-sub-mask-block : tie.Need-sub-mask-block
-sub-mask-block c = search needs
-
-mask-block-requires : tie.Need-mask-block-requires
-mask-block-requires c κs = search needs
-
-same-length-2 : tie.Need-same-length-2
-same-length-2 c = search needs
 
 returns-2 : tie.Need-returns-2
 returns-2 c =
@@ -59,14 +32,14 @@ pub mask-spec : {M : Type 1} → statement M
 mask-spec =
     tie.close
     (tie.spec
-    min-requires
-    sbox-table-requires
-    mask-blocks-requires
-    same-length
+    (λ c κs. search needs)
+    (λ c κs. search needs)
+    (λ c κs. search needs)
+    (λ c. search needs)
     returns
-    add-stream
-    stream-requires
-    sub-mask-block
-    mask-block-requires
-    same-length-2
+    (λ c. search needs)
+    (λ c κs. search needs)
+    (λ c. search needs)
+    (λ c κs. search needs)
+    (λ c. search needs)
     returns-2)

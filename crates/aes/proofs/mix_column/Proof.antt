@@ -5,15 +5,6 @@ use Rattle.aes.proofs.Packing.{mix-packed}
 use Rattle.aes.proofs.mix_column.Statement.{statement}
 use Rattle.aes.proofs.mix_column.Tie as tie
 
-pack-requires : tie.Need-pack-requires
-pack-requires c κs = search needs
-
-mix-word-requires : tie.Need-mix-word-requires
-mix-word-requires c κs = search needs
-
-u32-bytes-requires : tie.Need-u32-bytes-requires
-u32-bytes-requires c κs = search needs
-
 returns : tie.Need-returns
 returns c =
     c .u32-bytes .ensures
@@ -21,4 +12,4 @@ returns c =
     ∙ mix-packed (c .before .before .before .args .c) (c .before .before .pack .result) (c .before .before .pack .ensures)
 
 pub mix-column-spec : {M : Type 1} → statement M
-mix-column-spec = tie.close (tie.spec pack-requires mix-word-requires u32-bytes-requires returns)
+mix-column-spec = tie.close (tie.spec (λ c κs. search needs) (λ c κs. search needs) (λ c κs. search needs) returns)

@@ -6,18 +6,6 @@ use Rattle.aes.specs.Packed.{turned1}
 use Rattle.aes.proofs.mix_word.Statement.{statement}
 use Rattle.aes.proofs.mix_word.Tie as tie
 
-twice-requires : tie.Need-twice-requires
-twice-requires c κs = search needs
-
-turn1-requires : tie.Need-turn1-requires
-turn1-requires c κs = search needs
-
-turn2-requires : tie.Need-turn2-requires
-turn2-requires c κs = search needs
-
-turn3-requires : tie.Need-turn3-requires
-turn3-requires c κs = search needs
-
 returns : tie.Need-returns
 returns c =
     let w = c .before .before .before .before .args .w in
@@ -28,4 +16,4 @@ returns c =
 
 pub mix-word-spec : {M : Type 1} → statement M
 mix-word-spec =
-    tie.close (tie.spec twice-requires turn1-requires turn2-requires turn3-requires returns)
+    tie.close (tie.spec (λ c κs. search needs) (λ c κs. search needs) (λ c κs. search needs) (λ c κs. search needs) returns)

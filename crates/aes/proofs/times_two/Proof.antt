@@ -3,12 +3,9 @@ use borrow.Author.Needs.{needs}
 use Rattle.aes.proofs.times_two.Statement.{statement}
 use Rattle.aes.proofs.times_two.Tie as tie
 
-mul-result : tie.Need-mul-result
-mul-result c = search needs
-
 returns : tie.Need-returns
 unfolding xtime
 returns c = search needs
 
 pub times-two-spec : {M : Type 1} → statement M
-times-two-spec = tie.close (tie.spec mul-result returns)
+times-two-spec = tie.close (tie.spec (λ c. search needs) returns)

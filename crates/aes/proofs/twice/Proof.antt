@@ -11,8 +11,5 @@ mul-result c = record { fits = omega (arith, and-le-r (c .args .w) 0x7f7f7f7f) }
 mul-result-2 : tie.Need-mul-result-2
 mul-result-2 c = record { fits = omega (arith, and-le-r (c .args .w / 128) 0x01010101) }
 
-returns : tie.Need-returns
-returns c = search needs
-
 pub twice-spec : {M : Type 1} → statement M
-twice-spec = tie.close (tie.spec mul-result mul-result-2 returns)
+twice-spec = tie.close (tie.spec mul-result mul-result-2 (λ c. search needs))

@@ -8,22 +8,10 @@ use Rattle.cases.proofs.main.Tie as tie
 zeros : (n m : ℕ) → m ≤ n → m ≤ length (replicate {A = ℕ} n 0)
 zeros n m h = rw length-replicate h
 
-slice-aggregate-run : tie.Need-slice-aggregate-run
-slice-aggregate-run c = search needs
-
-slice-aggregate-run-2 : tie.Need-slice-aggregate-run-2
-slice-aggregate-run-2 c = search needs
-
-slice-aggregate-run-3 : tie.Need-slice-aggregate-run-3
-slice-aggregate-run-3 c = search needs
-
 run-requires : tie.Need-run-requires
 run-requires c κs = (zeros 262144 164253 (lit≤ tt), zeros 65536 65536 (lit≤ tt))
-
-returns : tie.Need-returns
-returns c = search needs
 
 pub main-spec : {M : Type 1} → statement M
 main-spec =
     tie.close
-    (tie.spec slice-aggregate-run slice-aggregate-run-2 slice-aggregate-run-3 run-requires returns)
+    (tie.spec (λ c. search needs) (λ c. search needs) (λ c. search needs) run-requires (λ c. search needs))

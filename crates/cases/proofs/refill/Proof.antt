@@ -13,35 +13,8 @@ use Rattle.cases.proofs.refill.Tie as tie
 ended : (b : Bool) (n : ℕ) → b ≡ false → b ≡ true → 164253 ≤ n
 ended b n f t = let z : _≡_ {A = ℕ} 0 1 = cc in omega arith
 
-sub-n : tie.Need-sub-n
-sub-n c = search needs
-
-returns : tie.Need-returns
-returns c = search needs
-
 returns-2 : tie.Need-returns-2
 returns-2 c = (search needs, record { more = search needs; same = refl; whole = ended (c .before .before .before .before .before .args .input .open) _ (not-true _ (c .if2 .taken)) })
-
-move-front-requires : tie.Need-move-front-requires
-move-front-requires c κs = search needs
-
-sub-read-full : tie.Need-sub-read-full
-sub-read-full c = search needs
-
-part-read-full-start : tie.Need-part-read-full-start
-part-read-full-start c = search needs
-
-part-read-full-end : tie.Need-part-read-full-end
-part-read-full-end c = search needs
-
-read-full-requires : tie.Need-read-full-requires
-read-full-requires c κs = search needs
-
-add-end : tie.Need-add-end
-add-end c = search needs
-
-same-length : tie.Need-same-length
-same-length c = search needs
 
 returns-3 : tie.Need-returns-3
 returns-3 c =
@@ -53,14 +26,14 @@ pub refill-spec : {M : Type 1} → statement M
 refill-spec =
     tie.close
     (tie.spec
-    sub-n
-    returns
+    (λ c. search needs)
+    (λ c. search needs)
     returns-2
-    move-front-requires
-    sub-read-full
-    part-read-full-start
-    part-read-full-end
-    read-full-requires
-    add-end
-    same-length
+    (λ c κs. search needs)
+    (λ c. search needs)
+    (λ c. search needs)
+    (λ c. search needs)
+    (λ c κs. search needs)
+    (λ c. search needs)
+    (λ c. search needs)
     returns-3)

@@ -5,23 +5,11 @@ use Rattle.crc32c.proofs.Words.{ends, rest-length}
 use Rattle.crc32c.proofs.checksum.Statement.{statement}
 use Rattle.crc32c.proofs.checksum.Tie as tie
 
-over-fours-requires : tie.Need-over-fours-requires
-over-fours-requires c κs = search needs
-
 over-pairs-requires : tie.Need-over-pairs-requires
 over-pairs-requires c κs = c .over-fours .ensures .within
 
 over-words-requires : tie.Need-over-words-requires
 over-words-requires c κs = c .over-pairs .ensures .0
-
-sub-last : tie.Need-sub-last
-sub-last c = search needs
-
-part-last-start : tie.Need-part-last-start
-part-last-start c = search needs
-
-part-last-end : tie.Need-part-last-end
-part-last-end c = search needs
 
 last-requires : tie.Need-last-requires
 last-requires c κs =
@@ -40,11 +28,11 @@ pub checksum-spec : {M : Type 1} → statement M
 checksum-spec =
     tie.close
     (tie.spec
-    over-fours-requires
+    (λ c κs. search needs)
     over-pairs-requires
     over-words-requires
-    sub-last
-    part-last-start
-    part-last-end
+    (λ c. search needs)
+    (λ c. search needs)
+    (λ c. search needs)
     last-requires
     returns)

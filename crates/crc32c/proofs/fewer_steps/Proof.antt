@@ -7,18 +7,6 @@ use borrow.Author.Needs.{needs}
 use Rattle.crc32c.proofs.fewer_steps.Statement.{statement}
 use Rattle.crc32c.proofs.fewer_steps.Tie as tie
 
-sub-steps-32 : tie.Need-sub-steps-32
-sub-steps-32 c = search needs
-
-shl-steps-32 : tie.Need-shl-steps-32
-shl-steps-32 c = search needs
-
-steps-32-requires : tie.Need-steps-32-requires
-steps-32-requires c κs = search needs
-
-shr-result : tie.Need-shr-result
-shr-result c = search needs
-
 returns : tie.Need-returns
 returns c =
     let a = c .before .args in
@@ -28,8 +16,8 @@ pub fewer-steps-spec : {M : Type 1} → statement M
 fewer-steps-spec =
     tie.close
     (tie.spec
-    sub-steps-32
-    shl-steps-32
-    steps-32-requires
-    shr-result
+    (λ c. search needs)
+    (λ c. search needs)
+    (λ c κs. search needs)
+    (λ c. search needs)
     returns)

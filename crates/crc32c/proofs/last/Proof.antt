@@ -5,20 +5,8 @@ use borrow.Author.Needs.{needs}
 use Rattle.crc32c.proofs.last.Statement.{statement}
 use Rattle.crc32c.proofs.last.Tie as tie
 
-cast-n : tie.Need-cast-n
-cast-n c = search needs
-
 returns : tie.Need-returns
 returns c = crc-none (c .before .before .args .c) (c .before .before .args .rest .now) (omega arith)
-
-mixed-requires : tie.Need-mixed-requires
-mixed-requires c κs = search needs
-
-mul-fewer-steps : tie.Need-mul-fewer-steps
-mul-fewer-steps c = search needs
-
-fewer-steps-requires : tie.Need-fewer-steps-requires
-fewer-steps-requires c κs = search needs
 
 returns-2 : tie.Need-returns-2
 returns-2 c = c .fewer-steps .ensures ∙ c .before .mixed .ensures
@@ -27,9 +15,9 @@ pub last-spec : {M : Type 1} → statement M
 last-spec =
     tie.close
     (tie.spec
-    cast-n
+    (λ c. search needs)
     returns
-    mul-fewer-steps
-    mixed-requires
-    fewer-steps-requires
+    (λ c. search needs)
+    (λ c κs. search needs)
+    (λ c κs. search needs)
     returns-2)

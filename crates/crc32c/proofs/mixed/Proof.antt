@@ -10,9 +10,6 @@ use Rattle.crc32c.proofs.Words.{mixed-in}
 use Rattle.crc32c.proofs.mixed.Statement.{statement}
 use Rattle.crc32c.proofs.mixed.Tie as tie
 
-u32-at-requires : tie.Need-u32-at-requires
-u32-at-requires c κs = search needs
-
 returns : tie.Need-returns
 returns c =
     let z = c .before .before in
@@ -21,4 +18,4 @@ returns c =
     ap (λ (x : ℕ). steps (8 * length g) (bitXor (z .args .c) x)) (c .u32-at .ensures) ∙ mixed-in (z .args .c) g (z .pre) bytes
 
 pub mixed-spec : {M : Type 1} → statement M
-mixed-spec = tie.close (tie.spec u32-at-requires returns)
+mixed-spec = tie.close (tie.spec (λ c κs. search needs) returns)

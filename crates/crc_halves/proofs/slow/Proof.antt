@@ -6,8 +6,5 @@ use Rattle.crc_halves.proofs.slow.Tie as tie
 read-requires : tie.Need-read-requires
 read-requires c κs = halves tt
 
-returns : tie.Need-returns
-returns c = search needs
-
 pub slow-spec : {M : Type 1} → statement M
-slow-spec = tie.close (tie.spec read-requires returns)
+slow-spec = tie.close (tie.spec read-requires (λ c. search needs))

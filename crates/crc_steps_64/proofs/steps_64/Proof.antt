@@ -6,30 +6,6 @@ use Rattle.crc_steps.proofs.Rules.{by-bytes}
 use Rattle.crc_steps_64.proofs.steps_64.Statement.{statement}
 use Rattle.crc_steps_64.proofs.steps_64.Tie as tie
 
-place-requires : tie.Need-place-requires
-place-requires c κs = search needs
-
-byte-0-requires : tie.Need-byte-0-requires
-byte-0-requires c κs = search needs
-
-place-requires-2 : tie.Need-place-requires-2
-place-requires-2 c κs = search needs
-
-byte-1-requires : tie.Need-byte-1-requires
-byte-1-requires c κs = search needs
-
-place-requires-3 : tie.Need-place-requires-3
-place-requires-3 c κs = search needs
-
-byte-2-requires : tie.Need-byte-2-requires
-byte-2-requires c κs = search needs
-
-place-requires-4 : tie.Need-place-requires-4
-place-requires-4 c κs = search needs
-
-byte-3-requires : tie.Need-byte-3-requires
-byte-3-requires c κs = search needs
-
 returns : tie.Need-returns
 returns c =
     let p = c .before in
@@ -46,12 +22,12 @@ pub steps-64-spec : {M : Type 1} → statement M
 steps-64-spec =
     tie.close
     (tie.spec
-    place-requires
-    byte-0-requires
-    place-requires-2
-    byte-1-requires
-    place-requires-3
-    byte-2-requires
-    place-requires-4
-    byte-3-requires
+    (λ c κs. search needs)
+    (λ c κs. search needs)
+    (λ c κs. search needs)
+    (λ c κs. search needs)
+    (λ c κs. search needs)
+    (λ c κs. search needs)
+    (λ c κs. search needs)
+    (λ c κs. search needs)
     returns)

@@ -5,15 +5,9 @@ use borrow.Author.Needs.{needs}
 use Rattle.gcm.proofs.hash_key.Statement.{statement}
 use Rattle.gcm.proofs.hash_key.Tie as tie
 
-encrypt-requires : tie.Need-encrypt-requires
-encrypt-requires c κs = search needs
-
-block-of-requires : tie.Need-block-of-requires
-block-of-requires c κs = search needs
-
 returns : tie.Need-returns
 unfolding hashKey stateOf columnAt
 returns c = c .block-of .ensures ∙ ap blockNumber (c .before .encrypt .ensures)
 
 pub hash-key-spec : {M : Type 1} → statement M
-hash-key-spec = tie.close (tie.spec encrypt-requires block-of-requires returns)
+hash-key-spec = tie.close (tie.spec (λ c κs. search needs) (λ c κs. search needs) returns)

@@ -6,15 +6,6 @@ use borrow.Author.Needs.{needs}
 use Rattle.gcm.proofs.open.Statement.{statement}
 use Rattle.gcm.proofs.open.Tie as tie
 
-expand-requires : tie.Need-expand-requires
-expand-requires c κs = search needs
-
-open-with-requires : tie.Need-open-with-requires
-open-with-requires c κs = search needs
-
-same-length : tie.Need-same-length
-same-length c = search needs
-
 returns : tie.Need-returns
 returns c =
     let x = c .before .before .before .before .before in
@@ -22,4 +13,4 @@ returns c =
     record { is = c .before .before .open-with .ensures .is ∙ ap (λ (w : List State). openDone w (a .nonce) (a .sealed .now) (a .out .now)) (x .expand .ensures) }
 
 pub open-spec : {M : Type 1} → statement M
-open-spec = tie.close (tie.spec expand-requires open-with-requires same-length returns)
+open-spec = tie.close (tie.spec (λ c κs. search needs) (λ c κs. search needs) (λ c. search needs) returns)

@@ -18,24 +18,12 @@ returns c =
     let a = c .before .before .args in
     record { is = sym (open-none (a .w .now) (a .nonce) (a .buf .now) (a .buf .now) (c .if1 .taken)) }
 
-sub-n : tie.Need-sub-n
-sub-n c = search needs
-
 returns-2 : tie.Need-returns-2
 returns-2 c =
     let a = c .before .before .before .args in
     let h : 16 ≤ length (a .buf .now) = omega arith in
     let k : limit < length (a .buf .now) - 16 = omega arith in
     record { is = sym (open-long (a .w .now) (a .nonce) (a .buf .now) (a .buf .now) h k) }
-
-tag-fits-requires : tie.Need-tag-fits-requires
-tag-fits-requires c κs = search needs
-
-mask-requires : tie.Need-mask-requires
-mask-requires c κs = search needs
-
-same-length : tie.Need-same-length
-same-length c = search needs
 
 returns-3 : tie.Need-returns-3
 returns-3 c =
@@ -50,12 +38,6 @@ returns-3 c =
       is = ap (done (wrote (length s - 16))) (m .mask .ensures ∙ masked-over (a .w .now) (a .nonce) s (length s - 16) l)
           ∙ sym (open-right (a .w .now) (a .nonce) s s h k l g);
     }
-
-put-zeros-requires : tie.Need-put-zeros-requires
-put-zeros-requires c κs = search needs
-
-same-length-2 : tie.Need-same-length-2
-same-length-2 c = search needs
 
 returns-4 : tie.Need-returns-4
 returns-4 c =
@@ -77,12 +59,12 @@ open-in-place-spec =
     tie.close
     (tie.spec
     returns
-    sub-n
+    (λ c. search needs)
     returns-2
-    tag-fits-requires
-    mask-requires
-    same-length
+    (λ c κs. search needs)
+    (λ c κs. search needs)
+    (λ c. search needs)
     returns-3
-    put-zeros-requires
-    same-length-2
+    (λ c κs. search needs)
+    (λ c. search needs)
     returns-4)

@@ -20,9 +20,6 @@ returns c =
     let a = c .before .before .before .args in
     record { is = sym (open-none (a .w .now) (a .nonce) (a .sealed .now) (a .out .now) (c .if1 .taken)) }
 
-sub-n : tie.Need-sub-n
-sub-n c = search needs
-
 returns-2 : tie.Need-returns-2
 returns-2 c =
     let a = c .before .before .before .before .args in
@@ -38,23 +35,11 @@ returns-3 c =
     let l : length (a .out .now) < length (a .sealed .now) - 16 = omega arith in
     record { is = sym (open-short (a .w .now) (a .nonce) (a .sealed .now) (a .out .now) h k l) }
 
-tag-fits-requires : tie.Need-tag-fits-requires
-tag-fits-requires c κs = search needs
-
 slice-aggregate-put : tie.Need-slice-aggregate-put
 slice-aggregate-put c =
     let s = c .before .before .before .before .before .before .before .before .before .args .sealed .now in
     let h : length s - 16 ≤ length s = omega arith in
     sym (length-take-le (length s - 16) s h)
-
-put-requires : tie.Need-put-requires
-put-requires c κs = search needs
-
-mask-requires : tie.Need-mask-requires
-mask-requires c κs = search needs
-
-same-length : tie.Need-same-length
-same-length c = search needs
 
 returns-4 : tie.Need-returns-4
 returns-4 c =
@@ -74,12 +59,6 @@ returns-4 c =
           (m .mask .ensures ∙ opened-over (a .w .now) (a .nonce) (take (length s - 16) s) (a .out .now) under (length s - 16) (length-take-le (length s - 16) s n) l (p .put .ensures))
           ∙ sym (open-right (a .w .now) (a .nonce) s (a .out .now) h k l g);
     }
-
-put-zeros-requires : tie.Need-put-zeros-requires
-put-zeros-requires c κs = search needs
-
-same-length-2 : tie.Need-same-length-2
-same-length-2 c = search needs
 
 returns-5 : tie.Need-returns-5
 returns-5 c =
@@ -102,15 +81,15 @@ open-with-spec =
     tie.close
     (tie.spec
     returns
-    sub-n
+    (λ c. search needs)
     returns-2
     returns-3
-    tag-fits-requires
+    (λ c κs. search needs)
     slice-aggregate-put
-    put-requires
-    mask-requires
-    same-length
+    (λ c κs. search needs)
+    (λ c κs. search needs)
+    (λ c. search needs)
     returns-4
-    put-zeros-requires
-    same-length-2
+    (λ c κs. search needs)
+    (λ c. search needs)
     returns-5)

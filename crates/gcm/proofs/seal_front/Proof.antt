@@ -14,12 +14,6 @@ use borrow.Author.Needs.{needs}
 use Rattle.gcm.proofs.seal_front.Statement.{statement}
 use Rattle.gcm.proofs.seal_front.Tie as tie
 
-mask-requires : tie.Need-mask-requires
-mask-requires c κs = search needs
-
-slice-reshare-prefix-tag : tie.Need-slice-reshare-prefix-tag
-slice-reshare-prefix-tag c = search needs
-
 slice-aggregate-tag : tie.Need-slice-aggregate-tag
 slice-aggregate-tag c =
     let mask = c .before .before .before in
@@ -27,27 +21,6 @@ slice-aggregate-tag c =
     let l = mask .mask .last .1 .1 .0 in
     let h : n ≤ length l = search needs in
     sym (length-take-le n l h)
-
-tag-requires : tie.Need-tag-requires
-tag-requires c κs = search needs
-
-sub-put : tie.Need-sub-put
-sub-put c = search needs
-
-part-put-start : tie.Need-part-put-start
-part-put-start c = search needs
-
-part-put-end : tie.Need-part-put-end
-part-put-end c = search needs
-
-slice-aggregate-put : tie.Need-slice-aggregate-put
-slice-aggregate-put c = search needs
-
-put-requires : tie.Need-put-requires
-put-requires c κs = search needs
-
-same-length : tie.Need-same-length
-same-length c = search needs
 
 returns : tie.Need-returns
 unfolding sealedBy
@@ -72,14 +45,14 @@ pub seal-front-spec : {M : Type 1} → statement M
 seal-front-spec =
     tie.close
     (tie.spec
-    mask-requires
-    slice-reshare-prefix-tag
+    (λ c κs. search needs)
+    (λ c. search needs)
     slice-aggregate-tag
-    tag-requires
-    sub-put
-    part-put-start
-    part-put-end
-    slice-aggregate-put
-    put-requires
-    same-length
+    (λ c κs. search needs)
+    (λ c. search needs)
+    (λ c. search needs)
+    (λ c. search needs)
+    (λ c. search needs)
+    (λ c κs. search needs)
+    (λ c. search needs)
     returns)

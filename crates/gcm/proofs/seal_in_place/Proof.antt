@@ -14,20 +14,11 @@ returns c =
     let a = c .before .before .args in
     record { is = sym (in-place-short (a .w .now) (a .nonce) (a .buf .now) (c .if1 .taken)) }
 
-sub-n : tie.Need-sub-n
-sub-n c = search needs
-
 returns-2 : tie.Need-returns-2
 returns-2 c =
     let a = c .before .before .before .args in
     let k : limit < length (a .buf .now) - 16 = omega arith in
     record { is = sym (in-place-long (a .w .now) (a .nonce) (a .buf .now) k) }
-
-seal-front-requires : tie.Need-seal-front-requires
-seal-front-requires c κs = search needs
-
-same-length : tie.Need-same-length
-same-length c = search needs
 
 returns-3 : tie.Need-returns-3
 returns-3 c =
@@ -41,4 +32,4 @@ returns-3 c =
 
 pub seal-in-place-spec : {M : Type 1} → statement M
 seal-in-place-spec =
-    tie.close (tie.spec returns sub-n returns-2 seal-front-requires same-length returns-3)
+    tie.close (tie.spec returns (λ c. search needs) returns-2 (λ c κs. search needs) (λ c. search needs) returns-3)

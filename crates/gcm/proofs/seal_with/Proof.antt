@@ -15,30 +15,12 @@ returns c =
     let a = c .before .before .before .args in
     record { is = sym (seal-long (a .w .now) (a .nonce) (a .text .now) (a .out .now) (c .if1 .taken)) }
 
-add-if2 : tie.Need-add-if2
-add-if2 c = search needs
-
-add-t10 : tie.Need-add-t10
-add-t10 c = search needs
-
 returns-2 : tie.Need-returns-2
 returns-2 c =
     let a = c .before .before .before .before .args in
     let h : length (a .text .now) ≤ limit = omega arith in
     let k : length (a .out .now) < length (a .text .now) + 16 = omega arith in
     record { is = sym (seal-short (a .w .now) (a .nonce) (a .text .now) (a .out .now) h k) }
-
-put-requires : tie.Need-put-requires
-put-requires c κs = search needs
-
-seal-front-requires : tie.Need-seal-front-requires
-seal-front-requires c κs = search needs
-
-add-t8 : tie.Need-add-t8
-add-t8 c = search needs
-
-same-length : tie.Need-same-length
-same-length c = search needs
 
 returns-3 : tie.Need-returns-3
 returns-3 c =
@@ -59,11 +41,11 @@ seal-with-spec =
     tie.close
     (tie.spec
     returns
-    add-if2
-    add-t10
+    (λ c. search needs)
+    (λ c. search needs)
     returns-2
-    put-requires
-    seal-front-requires
-    add-t8
-    same-length
+    (λ c κs. search needs)
+    (λ c κs. search needs)
+    (λ c. search needs)
+    (λ c. search needs)
     returns-3)

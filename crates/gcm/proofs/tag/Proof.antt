@@ -7,21 +7,6 @@ use borrow.Author.Needs.{needs}
 use Rattle.gcm.proofs.tag.Statement.{statement}
 use Rattle.gcm.proofs.tag.Tie as tie
 
-hash-key-requires : tie.Need-hash-key-requires
-hash-key-requires c κs = search needs
-
-hash-requires : tie.Need-hash-requires
-hash-requires c κs = search needs
-
-stream-block-requires : tie.Need-stream-block-requires
-stream-block-requires c κs = search needs
-
-block-of-requires : tie.Need-block-of-requires
-block-of-requires c κs = search needs
-
-xor-bytes-requires : tie.Need-xor-bytes-requires
-xor-bytes-requires c κs = search needs
-
 returns : tie.Need-returns
 unfolding tagOf
 returns c =
@@ -35,9 +20,9 @@ pub tag-spec : {M : Type 1} → statement M
 tag-spec =
     tie.close
     (tie.spec
-    hash-key-requires
-    hash-requires
-    stream-block-requires
-    block-of-requires
-    xor-bytes-requires
+    (λ c κs. search needs)
+    (λ c κs. search needs)
+    (λ c κs. search needs)
+    (λ c κs. search needs)
+    (λ c κs. search needs)
     returns)

@@ -14,24 +14,6 @@ slice-aggregate-tag c =
     let h : a .n ≤ length (a .s .now) = search needs in
     sym (length-take-le (a .n) (a .s .now) h)
 
-tag-requires : tie.Need-tag-requires
-tag-requires c κs = search needs
-
-slice-aggregate-same : tie.Need-slice-aggregate-same
-slice-aggregate-same c = search needs
-
-sub-same : tie.Need-sub-same
-sub-same c = search needs
-
-part-same-start : tie.Need-part-same-start
-part-same-start c = search needs
-
-part-same-end : tie.Need-part-same-end
-part-same-end c = search needs
-
-same-requires : tie.Need-same-requires
-same-requires c κs = search needs
-
 returns : tie.Need-returns
 unfolding tagFits
 returns c =
@@ -43,10 +25,10 @@ tag-fits-spec =
     tie.close
     (tie.spec
     slice-aggregate-tag
-    tag-requires
-    slice-aggregate-same
-    sub-same
-    part-same-start
-    part-same-end
-    same-requires
+    (λ c κs. search needs)
+    (λ c. search needs)
+    (λ c. search needs)
+    (λ c. search needs)
+    (λ c. search needs)
+    (λ c κs. search needs)
     returns)

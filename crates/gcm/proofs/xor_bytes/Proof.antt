@@ -6,9 +6,6 @@ use borrow.Author.Needs.{needs}
 use Rattle.gcm.proofs.xor_bytes.Statement.{statement}
 use Rattle.gcm.proofs.xor_bytes.Tie as tie
 
-block-bytes-requires : tie.Need-block-bytes-requires
-block-bytes-requires c κs = search needs
-
 returns : tie.Need-returns
 returns c =
     let z = c .before .before .before .before .before .args in
@@ -17,4 +14,4 @@ returns c =
     c .block-bytes .ensures ∙ ap blockBytes (xor-pair (z .a .hi) (z .a .lo) (z .b .hi) (z .b .lo) ha hb)
 
 pub xor-bytes-spec : {M : Type 1} → statement M
-xor-bytes-spec = tie.close (tie.spec block-bytes-requires returns)
+xor-bytes-spec = tie.close (tie.spec (λ c κs. search needs) returns)

@@ -4,15 +4,6 @@ use borrow.Author.Needs.{needs}
 use Rattle.ghash.proofs.fallen.Statement.{statement}
 use Rattle.ghash.proofs.fallen.Tie as tie
 
-mul-result : tie.Need-mul-result
-mul-result c = search needs
-
-mul-result-2 : tie.Need-mul-result-2
-mul-result-2 c = search needs
-
-mul-result-3 : tie.Need-mul-result-3
-mul-result-3 c = search needs
-
 mul-result-4 : tie.Need-mul-result-4
 mul-result-4 c = record { fits = omega (arith, spread-fits (c .args .x) (c .pre)) }
 
@@ -20,4 +11,4 @@ returns : tie.Need-returns
 returns c = half-fallen (c .args .x) (c .pre)
 
 pub fallen-spec : {M : Type 1} → statement M
-fallen-spec = tie.close (tie.spec mul-result mul-result-2 mul-result-3 mul-result-4 returns)
+fallen-spec = tie.close (tie.spec (λ c. search needs) (λ c. search needs) (λ c. search needs) mul-result-4 returns)

@@ -6,18 +6,6 @@ use Rattle.ghash.specs.Ghash.{pair, mulFrom}
 use Rattle.ghash.proofs.four.Statement.{statement}
 use Rattle.ghash.proofs.four.Tie as tie
 
-turn-requires : tie.Need-turn-requires
-turn-requires c κs = search needs
-
-turn-requires-2 : tie.Need-turn-requires-2
-turn-requires-2 c κs = search needs
-
-turn-requires-3 : tie.Need-turn-requires-3
-turn-requires-3 c κs = search needs
-
-turn-requires-4 : tie.Need-turn-requires-4
-turn-requires-4 c κs = search needs
-
 returns : tie.Need-returns
 unfolding mulFrom
 returns c =
@@ -26,4 +14,4 @@ returns c =
 
 pub four-spec : {M : Type 1} → statement M
 four-spec =
-    tie.close (tie.spec turn-requires turn-requires-2 turn-requires-3 turn-requires-4 returns)
+    tie.close (tie.spec (λ c κs. search needs) (λ c κs. search needs) (λ c κs. search needs) (λ c κs. search needs) returns)

@@ -4,20 +4,11 @@ use borrow.Author.Needs.{needs}
 use Rattle.ghash.proofs.four_steps.Statement.{statement}
 use Rattle.ghash.proofs.four_steps.Tie as tie
 
-mul-moved : tie.Need-mul-moved
-mul-moved c = search needs
-
-element-copy-out-moved : tie.Need-element-copy-out-moved
-element-copy-out-moved c = search needs
-
 moved-requires : tie.Need-moved-requires
 moved-requires c κs =
     let z = c .before .before .args .z in
     let h : z .lo % 16 < 16 = omega arith in
     c .before .before .pre .at (z .lo % 16) h
 
-returns : tie.Need-returns
-returns c = search needs
-
 pub four-steps-spec : {M : Type 1} → statement M
-four-steps-spec = tie.close (tie.spec mul-moved element-copy-out-moved moved-requires returns)
+four-steps-spec = tie.close (tie.spec (λ c. search needs) (λ c. search needs) moved-requires (λ c. search needs))

@@ -5,12 +5,6 @@ use borrow.Author.Needs.{needs}
 use Rattle.ghash.proofs.half_steps.Statement.{statement}
 use Rattle.ghash.proofs.half_steps.Tie as tie
 
-fallen-requires : tie.Need-fallen-requires
-fallen-requires c κs = search needs
-
-mul-low : tie.Need-mul-low
-mul-low c = search needs
-
 add-low : tie.Need-add-low
 add-low c =
     let z = c .before .args .z in
@@ -24,4 +18,4 @@ returns c =
     sym (half-steps (z .hi) (z .lo) (c .fallen .result) h (c .fallen .ensures))
 
 pub half-steps-spec : {M : Type 1} → statement M
-half-steps-spec = tie.close (tie.spec fallen-requires mul-low add-low returns)
+half-steps-spec = tie.close (tie.spec (λ c κs. search needs) (λ c. search needs) add-low returns)

@@ -9,21 +9,6 @@ use borrow.Author.Needs.{needs}
 use Rattle.ghash.proofs.hash_text.Statement.{statement}
 use Rattle.ghash.proofs.hash_text.Tie as tie
 
-mul-end : tie.Need-mul-end
-mul-end c = search needs
-
-hash-blocks-requires : tie.Need-hash-blocks-requires
-hash-blocks-requires c κs = search needs
-
-last-block-requires : tie.Need-last-block-requires
-last-block-requires c κs = search needs
-
-added-requires : tie.Need-added-requires
-added-requires c κs = search needs
-
-times-by-requires : tie.Need-times-by-requires
-times-by-requires c κs = search needs
-
 returns : tie.Need-returns
 returns c =
     let b = c .before .before .before .before in
@@ -53,10 +38,10 @@ pub hash-text-spec : {M : Type 1} → statement M
 hash-text-spec =
     tie.close
     (tie.spec
-    mul-end
-    hash-blocks-requires
-    last-block-requires
-    added-requires
-    times-by-requires
+    (λ c. search needs)
+    (λ c κs. search needs)
+    (λ c κs. search needs)
+    (λ c κs. search needs)
+    (λ c κs. search needs)
     returns
     returns-2)

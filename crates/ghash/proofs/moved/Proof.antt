@@ -5,9 +5,6 @@ use borrow.Author.Needs.{needs}
 use Rattle.ghash.proofs.moved.Statement.{statement}
 use Rattle.ghash.proofs.moved.Tie as tie
 
-mul-low : tie.Need-mul-low
-mul-low c = search needs
-
 add-low : tie.Need-add-low
 add-low c =
     let h : c .args .z .lo < 2 ^ 64 = search needs in
@@ -20,4 +17,4 @@ returns c =
     sym (four-steps (z .hi) (z .lo) (c .args .r) h (c .pre))
 
 pub moved-spec : {M : Type 1} → statement M
-moved-spec = tie.close (tie.spec mul-low add-low returns)
+moved-spec = tie.close (tie.spec (λ c. search needs) add-low returns)

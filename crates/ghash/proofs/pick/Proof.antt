@@ -9,8 +9,5 @@ mul-result c =
     let h : c .args .m < 2 ^ 64 = search needs in
     record { fits = picked-fits (c .args .d) (c .args .m) h }
 
-returns : tie.Need-returns
-returns c = search needs
-
 pub pick-spec : {M : Type 1} → statement M
-pick-spec = tie.close (tie.spec mul-result returns)
+pick-spec = tie.close (tie.spec mul-result (λ c. search needs))

@@ -6,18 +6,6 @@ use borrow.Author.Needs.{needs}
 use Rattle.ghash.proofs.times_by_large.Statement.{statement}
 use Rattle.ghash.proofs.times_by_large.Tie as tie
 
-half-by-requires : tie.Need-half-by-requires
-half-by-requires c κs = search needs
-
-half-by-requires-2 : tie.Need-half-by-requires-2
-half-by-requires-2 c κs = search needs
-
-half-by-requires-3 : tie.Need-half-by-requires-3
-half-by-requires-3 c κs = search needs
-
-half-by-requires-4 : tie.Need-half-by-requires-4
-half-by-requires-4 c κs = search needs
-
 returns : tie.Need-returns
 returns c =
     let h₃ = c .before .before in
@@ -35,4 +23,4 @@ returns c =
 pub times-by-large-spec : {M : Type 1} → statement M
 times-by-large-spec =
     tie.close
-    (tie.spec half-by-requires half-by-requires-2 half-by-requires-3 half-by-requires-4 returns)
+    (tie.spec (λ c κs. search needs) (λ c κs. search needs) (λ c κs. search needs) (λ c κs. search needs) returns)

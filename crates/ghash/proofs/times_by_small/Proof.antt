@@ -9,27 +9,6 @@ use borrow.Author.Needs.{needs}
 use Rattle.ghash.proofs.times_by_small.Statement.{statement}
 use Rattle.ghash.proofs.times_by_small.Tie as tie
 
-half-by-requires : tie.Need-half-by-requires
-half-by-requires c κs = search needs
-
-half-steps-requires : tie.Need-half-steps-requires
-half-steps-requires c κs = search needs
-
-half-by-requires-2 : tie.Need-half-by-requires-2
-half-by-requires-2 c κs = search needs
-
-half-steps-requires-2 : tie.Need-half-steps-requires-2
-half-steps-requires-2 c κs = search needs
-
-half-by-requires-3 : tie.Need-half-by-requires-3
-half-by-requires-3 c κs = search needs
-
-half-steps-requires-3 : tie.Need-half-steps-requires-3
-half-steps-requires-3 c κs = search needs
-
-half-by-requires-4 : tie.Need-half-by-requires-4
-half-by-requires-4 c κs = search needs
-
 fits : (s : tie.After-struct-known) → (s .before .before .args .x .hi < 2 ^ 64) × (s .before .before .args .x .lo < 2 ^ 64)
 fits s = (search needs, search needs)
 
@@ -65,11 +44,11 @@ pub times-by-small-spec : {M : Type 1} → statement M
 times-by-small-spec =
     tie.close
     (tie.spec
-    half-by-requires
-    half-steps-requires
-    half-by-requires-2
-    half-steps-requires-2
-    half-by-requires-3
-    half-steps-requires-3
-    half-by-requires-4
+    (λ c κs. search needs)
+    (λ c κs. search needs)
+    (λ c κs. search needs)
+    (λ c κs. search needs)
+    (λ c κs. search needs)
+    (λ c κs. search needs)
+    (λ c κs. search needs)
     returns)

@@ -7,18 +7,6 @@ use borrow.Author.Needs.{needs}
 use Rattle.ghash.proofs.turn.Statement.{statement}
 use Rattle.ghash.proofs.turn.Tie as tie
 
-pick-requires : tie.Need-pick-requires
-pick-requires c κs = search needs
-
-pick-requires-2 : tie.Need-pick-requires-2
-pick-requires-2 c κs = search needs
-
-pick-requires-3 : tie.Need-pick-requires-3
-pick-requires-3 c κs = search needs
-
-pick-requires-4 : tie.Need-pick-requires-4
-pick-requires-4 c κs = search needs
-
 add-t12 : tie.Need-add-t12
 add-t12 c =
     let w = c .before .before .before .before .before .before .before .before .args .w in
@@ -40,4 +28,4 @@ returns c =
 pub turn-spec : {M : Type 1} → statement M
 turn-spec =
     tie.close
-    (tie.spec pick-requires pick-requires-2 pick-requires-3 pick-requires-4 add-t12 returns)
+    (tie.spec (λ c κs. search needs) (λ c κs. search needs) (λ c κs. search needs) (λ c κs. search needs) add-t12 returns)

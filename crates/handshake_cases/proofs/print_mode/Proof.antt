@@ -2,26 +2,11 @@ use borrow.Author.Needs.{needs}
 use Rattle.handshake_cases.proofs.print_mode.Statement.{statement}
 use Rattle.handshake_cases.proofs.print_mode.Tie as tie
 
-enum-known-picked : tie.Need-enum-known-picked
-enum-known-picked c = search needs
-
-print-picked-requires : tie.Need-print-picked-requires
-print-picked-requires c κs = search needs
-
 enum-told : tie.Need-enum-told
 enum-told c = search needs
 
-print-none-requires : tie.Need-print-none-requires
-print-none-requires c κs = search needs
-
-same-length : tie.Need-same-length
-same-length c = search needs
-
 returns : tie.Need-returns
 returns c = rw (c .before .before .before .before .before .picked .given .1) (c .before .before .print-picked .ensures)
-
-same-length-2 : tie.Need-same-length-2
-same-length-2 c = search needs
 
 returns-2 : tie.Need-returns-2
 returns-2 c = rw (c .before .before .before .before .enum-told .given .1) (c .before .before .print-none .ensures)
@@ -30,11 +15,11 @@ pub print-mode-spec : {M : Type 1} → statement M
 print-mode-spec =
     tie.close
     (tie.spec
-    enum-known-picked
-    print-picked-requires
+    (λ c. search needs)
+    (λ c κs. search needs)
     enum-told
-    print-none-requires
-    same-length
+    (λ c κs. search needs)
+    (λ c. search needs)
     returns
-    same-length-2
+    (λ c. search needs)
     returns-2)

@@ -5,23 +5,8 @@ use Rattle.handshake_cases.proofs.put_report.Tie as tie
 enum-told : tie.Need-enum-told
 enum-told c = search needs
 
-enum-known-report : tie.Need-enum-known-report
-enum-known-report c = search needs
-
-put-refused-requires : tie.Need-put-refused-requires
-put-refused-requires c κs = search needs
-
-slice-aggregate-put-word : tie.Need-slice-aggregate-put-word
-slice-aggregate-put-word c = search needs
-
-put-word-requires : tie.Need-put-word-requires
-put-word-requires c κs = search needs
-
 returns : tie.Need-returns
 returns c = rw (c .enum-told .given .1)
-
-same-length : tie.Need-same-length
-same-length c = search needs
 
 returns-2 : tie.Need-returns-2
 returns-2 c = rw (c .before .before .before .before .before .before .before .before .before .before .report .given .1) (cc)
@@ -31,10 +16,10 @@ put-report-spec =
     tie.close
     (tie.spec
     enum-told
-    enum-known-report
-    put-refused-requires
-    slice-aggregate-put-word
-    put-word-requires
+    (λ c. search needs)
+    (λ c κs. search needs)
+    (λ c. search needs)
+    (λ c κs. search needs)
     returns
-    same-length
+    (λ c. search needs)
     returns-2)

@@ -10,20 +10,11 @@ use Rattle.handshake_cases.specs.Steps.{stepGood}
 use Rattle.handshake_cases.proofs.step_good.Statement.{statement}
 use Rattle.handshake_cases.proofs.step_good.Tie as tie
 
-sub-if1 : tie.Need-sub-if1
-sub-if1 c = search needs
-
 returns : tie.Need-returns
 unfolding stepGood
 returns c = let a = c .before .before .args in
     let e : leb (a .at + 2) (length (a .s .now)) ≡ false = lt-leb (a .at + 2) (length (a .s .now)) (omega arith) in
     rw e
-
-add-byte-at : tie.Need-add-byte-at
-add-byte-at c = search needs
-
-byte-at-requires : tie.Need-byte-at-requires
-byte-at-requires c κs = search needs
 
 returns-2 : tie.Need-returns-2
 unfolding stepGood
@@ -32,4 +23,4 @@ returns-2 c = let a = c .before .before .before .args in
     rw e cc
 
 pub step-good-spec : {M : Type 1} → statement M
-step-good-spec = tie.close (tie.spec sub-if1 returns add-byte-at byte-at-requires returns-2)
+step-good-spec = tie.close (tie.spec (λ c. search needs) returns (λ c. search needs) (λ c κs. search needs) returns-2)

@@ -9,27 +9,6 @@ use Rattle.records.proofs.Laws.{did-is, did-none}
 use Rattle.handshake_cases.proofs.steps_record.Statement.{statement}
 use Rattle.handshake_cases.proofs.steps_record.Tie as tie
 
-u16-at-requires : tie.Need-u16-at-requires
-u16-at-requires c κs = search needs
-
-cast-n : tie.Need-cast-n
-cast-n c = search needs
-
-byte-at-requires : tie.Need-byte-at-requires
-byte-at-requires c κs = search needs
-
-both-requires : tie.Need-both-requires
-both-requires c κs = search needs
-
-both-requires-2 : tie.Need-both-requires-2
-both-requires-2 c κs = search needs
-
-bad-record-requires : tie.Need-bad-record-requires
-bad-record-requires c κs = search needs
-
-same-length : tie.Need-same-length
-same-length c = search needs
-
 returns : tie.Need-returns
 returns c = let t : c .before .before .before .before .before .both2 .result ≡ headed (c .before .before .before .before .before .before .before .before .before .before .before .args .s .now) = c .before .before .before .before .before .both2 .ensures ∙ ap (λ (b : Bool). leb 4 (length (c .before .before .before .before .before .before .before .before .before .before .before .args .s .now)) && b) (c .before .before .before .before .before .before .both .ensures ∙ rw (c .before .before .before .before .before .before .before .byte-at .ensures, c .before .before .before .before .before .before .before .before .u16-at .ensures)) in
     did-is (steps-bad (c .before .before .before .before .before .before .before .before .before .before .before .args .s .now) (sym t ∙ not-true (c .before .before .before .before .before .both2 .result) (c .before .before .before .before .if1 .taken))) (did-none (c .before .before .bad-record .ensures .0) (c .before .before .bad-record .ensures .1))
@@ -37,9 +16,6 @@ returns c = let t : c .before .before .before .before .before .both2 .result ≡
 make-steps-requires : tie.Need-make-steps-requires
 make-steps-requires c κs = let t : c .before .before .both2 .result ≡ headed (c .before .before .before .before .before .before .before .before .args .s .now) = c .before .before .both2 .ensures ∙ ap (λ (b : Bool). leb 4 (length (c .before .before .before .before .before .before .before .before .args .s .now)) && b) (c .before .before .before .both .ensures ∙ rw (c .before .before .before .before .byte-at .ensures, c .before .before .before .before .before .u16-at .ensures)) in
     headed-long (c .before .before .before .before .before .before .before .before .args .s .now) (sym t ∙ not-false (c .before .before .both2 .result) (c .before .if1 .left))
-
-same-length-2 : tie.Need-same-length-2
-same-length-2 c = search needs
 
 returns-2 : tie.Need-returns-2
 returns-2 c = let t : c .before .before .before .before .before .both2 .result ≡ headed (c .before .before .before .before .before .before .before .before .before .before .before .args .s .now) = c .before .before .before .before .before .both2 .ensures ∙ ap (λ (b : Bool). leb 4 (length (c .before .before .before .before .before .before .before .before .before .before .before .args .s .now)) && b) (c .before .before .before .before .before .before .both .ensures ∙ rw (c .before .before .before .before .before .before .before .byte-at .ensures, c .before .before .before .before .before .before .before .before .u16-at .ensures)) in
@@ -49,14 +25,14 @@ pub steps-record-spec : {M : Type 1} → statement M
 steps-record-spec =
     tie.close
     (tie.spec
-    u16-at-requires
-    cast-n
-    byte-at-requires
-    both-requires
-    both-requires-2
-    bad-record-requires
-    same-length
+    (λ c κs. search needs)
+    (λ c. search needs)
+    (λ c κs. search needs)
+    (λ c κs. search needs)
+    (λ c κs. search needs)
+    (λ c κs. search needs)
+    (λ c. search needs)
     returns
     make-steps-requires
-    same-length-2
+    (λ c. search needs)
     returns-2)

@@ -5,17 +5,8 @@ use borrow.Author.Needs.{needs}
 use Rattle.refusal.proofs.or_else.Statement.{statement}
 use Rattle.refusal.proofs.or_else.Tie as tie
 
-enum-told : tie.Need-enum-told
-enum-told c = search needs
-
-enum-known-a : tie.Need-enum-known-a
-enum-known-a c = search needs
-
-returns : tie.Need-returns
-returns c = search needs
-
 returns-2 : tie.Need-returns-2
 returns-2 c = sym (ap (λ (v : Verdict). orElse (judgedBy v) (judgedBy (c .before .before .before .args .b))) (c .before .a .given .1))
 
 pub or-else-spec : {M : Type 1} → statement M
-or-else-spec = tie.close (tie.spec enum-told enum-known-a returns returns-2)
+or-else-spec = tie.close (tie.spec (λ c. search needs) (λ c. search needs) (λ c. search needs) returns-2)

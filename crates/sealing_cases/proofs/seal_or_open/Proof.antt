@@ -3,21 +3,9 @@ use Rattle.sealing_cases.specs.Sealing.{doneBy}
 use Rattle.sealing_cases.proofs.seal_or_open.Statement.{statement}
 use Rattle.sealing_cases.proofs.seal_or_open.Tie as tie
 
-open-requires : tie.Need-open-requires
-open-requires c κs = search needs
-
-same-length : tie.Need-same-length
-same-length c = search needs
-
 returns : tie.Need-returns
 unfolding doneBy
 returns c = rw (c .before .before .before .before .if1 .taken) (c .before .before .«open» .ensures .is)
-
-seal-requires : tie.Need-seal-requires
-seal-requires c κs = search needs
-
-same-length-2 : tie.Need-same-length-2
-same-length-2 c = search needs
 
 returns-2 : tie.Need-returns-2
 unfolding doneBy
@@ -25,4 +13,4 @@ returns-2 c = rw (c .before .before .before .before .if1 .left) (c .before .befo
 
 pub seal-or-open-spec : {M : Type 1} → statement M
 seal-or-open-spec =
-    tie.close (tie.spec open-requires same-length returns seal-requires same-length-2 returns-2)
+    tie.close (tie.spec (λ c κs. search needs) (λ c. search needs) returns (λ c κs. search needs) (λ c. search needs) returns-2)

@@ -18,30 +18,12 @@ use Rattle.text.specs.Page.{page}
 use Rattle.sealing_cases.proofs.sealing_record.Statement.{statement}
 use Rattle.sealing_cases.proofs.sealing_record.Tie as tie
 
-sealing-size-requires : tie.Need-sealing-size-requires
-sealing-size-requires c κs = search needs
-
-is-whole-requires : tie.Need-is-whole-requires
-is-whole-requires c κs = search needs
-
-bad-record-requires : tie.Need-bad-record-requires
-bad-record-requires c κs = search needs
-
-same-length : tie.Need-same-length
-same-length c = search needs
-
 returns : tie.Need-returns
 unfolding sealingRecord
 returns c = let s = c .before .before .before .before .before .before .before .before .before .before .args .s .now in
     let room = length (c .before .before .before .before .before .before .before .before .before .before .args .space .now) in
     let e : isWhole (sealingSize room s) s ≡ false = ap (λ (k : ℕ). isWhole k s) (sym (c .before .before .before .before .before .before .sealing-size .ensures)) ∙ sym (c .before .before .before .before .before .is-whole .ensures) ∙ not-true (c .before .before .before .before .before .is-whole .result) (c .before .before .before .before .if1 .taken) in
     did-bad (sealingSize room s) (doneLine (doneOf (c .before .before .before .before .before .before .before .before .before .before .args .opens) s) ∷ []) e (c .before .before .bad-record .ensures .0) (c .before .before .bad-record .ensures .1)
-
-u32-at-requires : tie.Need-u32-at-requires
-u32-at-requires c κs = search needs
-
-cast-n : tie.Need-cast-n
-cast-n c = search needs
 
 slice-relend-prefix-buf : tie.Need-slice-relend-prefix-buf
 slice-relend-prefix-buf c = let s = c .before .before .before .before .before .before .before .args .s .now in
@@ -56,42 +38,6 @@ slice-aggregate-buf c = let s = c .before .before .before .before .before .befor
     let e : isWhole (sealingSize room s) s ≡ true = ap (λ (k : ℕ). isWhole k s) (sym (c .before .before .before .before .sealing-size .ensures)) ∙ sym (c .before .before .before .is-whole .ensures) ∙ not-false (c .before .before .before .is-whole .result) (c .before .before .if1 .left) in
     let h = sealing-buffer room s e in
     sym (length-take-le (c .before .u32-at .result) (c .before .before .before .before .before .before .before .before .args .space .now) (omega (arith, c .before .u32-at .ensures)))
-
-byte-at-requires : tie.Need-byte-at-requires
-byte-at-requires c κs = search needs
-
-count-up-requires : tie.Need-count-up-requires
-count-up-requires c κs = search needs
-
-u32-at-requires-2 : tie.Need-u32-at-requires-2
-u32-at-requires-2 c κs = search needs
-
-cast-part : tie.Need-cast-part
-cast-part c = search needs
-
-part-requires : tie.Need-part-requires
-part-requires c κs = search needs
-
-key-at-requires : tie.Need-key-at-requires
-key-at-requires c κs = search needs
-
-nonce-at-requires : tie.Need-nonce-at-requires
-nonce-at-requires c κs = search needs
-
-seal-or-open-requires : tie.Need-seal-or-open-requires
-seal-or-open-requires c κs = search needs
-
-checksum-requires : tie.Need-checksum-requires
-checksum-requires c κs = search needs
-
-print-outcome-requires : tie.Need-print-outcome-requires
-print-outcome-requires c κs = search needs
-
-same-length-2 : tie.Need-same-length-2
-same-length-2 c = search needs
-
-same-length-3 : tie.Need-same-length-3
-same-length-3 c = search needs
 
 returns-2 : tie.Need-returns-2
 unfolding sealingRecord prints
@@ -117,25 +63,25 @@ pub sealing-record-spec : {M : Type 1} → statement M
 sealing-record-spec =
     tie.close
     (tie.spec
-    sealing-size-requires
-    is-whole-requires
-    bad-record-requires
-    same-length
+    (λ c κs. search needs)
+    (λ c κs. search needs)
+    (λ c κs. search needs)
+    (λ c. search needs)
     returns
-    u32-at-requires
-    cast-n
+    (λ c κs. search needs)
+    (λ c. search needs)
     slice-relend-prefix-buf
     slice-aggregate-buf
-    byte-at-requires
-    count-up-requires
-    u32-at-requires-2
-    cast-part
-    part-requires
-    key-at-requires
-    nonce-at-requires
-    seal-or-open-requires
-    checksum-requires
-    print-outcome-requires
-    same-length-2
-    same-length-3
+    (λ c κs. search needs)
+    (λ c κs. search needs)
+    (λ c κs. search needs)
+    (λ c. search needs)
+    (λ c κs. search needs)
+    (λ c κs. search needs)
+    (λ c κs. search needs)
+    (λ c κs. search needs)
+    (λ c κs. search needs)
+    (λ c κs. search needs)
+    (λ c. search needs)
+    (λ c. search needs)
     returns-2)

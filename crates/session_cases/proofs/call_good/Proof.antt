@@ -10,26 +10,11 @@ use Rattle.session_cases.specs.Session.{callGood}
 use Rattle.session_cases.proofs.call_good.Statement.{statement}
 use Rattle.session_cases.proofs.call_good.Tie as tie
 
-sub-if1 : tie.Need-sub-if1
-sub-if1 c = search needs
-
 returns : tie.Need-returns
 unfolding callGood
 returns c = let a = c .before .before .args in
     let e : leb (a .at + 9) (length (a .s .now)) ≡ false = lt-leb (a .at + 9) (length (a .s .now)) (omega arith) in
     rw e
-
-byte-at-requires : tie.Need-byte-at-requires
-byte-at-requires c κs = search needs
-
-add-u64-at : tie.Need-add-u64-at
-add-u64-at c = search needs
-
-u64-at-requires : tie.Need-u64-at-requires
-u64-at-requires c κs = search needs
-
-value-good-requires : tie.Need-value-good-requires
-value-good-requires c κs = search needs
 
 returns-2 : tie.Need-returns-2
 unfolding callGood
@@ -41,10 +26,10 @@ pub call-good-spec : {M : Type 1} → statement M
 call-good-spec =
     tie.close
     (tie.spec
-    sub-if1
+    (λ c. search needs)
     returns
-    byte-at-requires
-    add-u64-at
-    u64-at-requires
-    value-good-requires
+    (λ c κs. search needs)
+    (λ c. search needs)
+    (λ c κs. search needs)
+    (λ c κs. search needs)
     returns-2)

@@ -11,37 +11,13 @@ use Rattle.session_cases.specs.Session.{sessionAfter}
 use Rattle.session_cases.proofs.session_record.Statement.{statement}
 use Rattle.session_cases.proofs.session_record.Tie as tie
 
-u16-at-requires : tie.Need-u16-at-requires
-u16-at-requires c κs = search needs
-
-cast-n : tie.Need-cast-n
-cast-n c = search needs
-
-both-requires : tie.Need-both-requires
-both-requires c κs = search needs
-
-bad-record-requires : tie.Need-bad-record-requires
-bad-record-requires c κs = search needs
-
-same-length : tie.Need-same-length
-same-length c = search needs
-
 returns : tie.Need-returns
 returns c = let e : headed (c .before .before .before .before .before .before .before .before .before .args .s .now) ≡ false = sym (c .before .before .before .before .before .both .ensures ∙ ap (λ (n : ℕ). leb 11 (length (c .before .before .before .before .before .before .before .before .before .args .s .now)) && leb n 4096) (c .before .before .before .before .before .before .u16-at .ensures)) ∙ not-true (c .before .before .before .before .before .both .result) (c .before .before .before .before .if1 .taken) in
     did-is (session-bad (c .before .before .before .before .before .before .before .before .before .args .s .now) e) (did-none (c .before .before .bad-record .ensures .0) (c .before .before .bad-record .ensures .1))
 
-u64-at-requires : tie.Need-u64-at-requires
-u64-at-requires c κs = search needs
-
-session-after-requires : tie.Need-session-after-requires
-session-after-requires c κs = search needs
-
 make-calls-requires : tie.Need-make-calls-requires
 make-calls-requires c κs = let e : headed (c .before .before .before .before .before .before .before .before .args .s .now) ≡ true = sym (c .before .before .before .before .both .ensures ∙ ap (λ (n : ℕ). leb 11 (length (c .before .before .before .before .before .before .before .before .args .s .now)) && leb n 4096) (c .before .before .before .before .before .u16-at .ensures)) ∙ not-false (c .before .before .before .before .both .result) (c .before .before .before .if1 .left) in
     headed-long (c .before .before .before .before .before .before .before .before .args .s .now) e
-
-same-length-2 : tie.Need-same-length-2
-same-length-2 c = search needs
 
 returns-2 : tie.Need-returns-2
 returns-2 c = let e : headed (c .before .before .before .before .before .before .before .before .before .before .before .args .s .now) ≡ true = sym (c .before .before .before .before .before .before .before .both .ensures ∙ ap (λ (n : ℕ). leb 11 (length (c .before .before .before .before .before .before .before .before .before .before .before .args .s .now)) && leb n 4096) (c .before .before .before .before .before .before .before .before .u16-at .ensures)) ∙ not-false (c .before .before .before .before .before .before .before .both .result) (c .before .before .before .before .before .before .if1 .left) in
@@ -51,14 +27,14 @@ pub session-record-spec : {M : Type 1} → statement M
 session-record-spec =
     tie.close
     (tie.spec
-    u16-at-requires
-    cast-n
-    both-requires
-    bad-record-requires
-    same-length
+    (λ c κs. search needs)
+    (λ c. search needs)
+    (λ c κs. search needs)
+    (λ c κs. search needs)
+    (λ c. search needs)
     returns
-    u64-at-requires
-    session-after-requires
+    (λ c κs. search needs)
+    (λ c κs. search needs)
     make-calls-requires
-    same-length-2
+    (λ c. search needs)
     returns-2)

@@ -2,33 +2,6 @@ use borrow.Author.Needs.{needs}
 use Rattle.body_cases.proofs.reading.print_done.Statement.{statement}
 use Rattle.body_cases.proofs.reading.print_done.Tie as tie
 
-put-tag-requires : tie.Need-put-tag-requires
-put-tag-requires c κs = search needs
-
-slice-aggregate-put-field : tie.Need-slice-aggregate-put-field
-slice-aggregate-put-field c = search needs
-
-put-field-requires : tie.Need-put-field-requires
-put-field-requires c κs = search needs
-
-slice-aggregate-put-field-2 : tie.Need-slice-aggregate-put-field-2
-slice-aggregate-put-field-2 c = search needs
-
-put-field-requires-2 : tie.Need-put-field-requires-2
-put-field-requires-2 c κs = search needs
-
-slice-aggregate-put-span : tie.Need-slice-aggregate-put-span
-slice-aggregate-put-span c = search needs
-
-put-span-requires : tie.Need-put-span-requires
-put-span-requires c κs = search needs
-
-put-end-requires : tie.Need-put-end-requires
-put-end-requires c κs = search needs
-
-same-length : tie.Need-same-length
-same-length c = search needs
-
 returns : tie.Need-returns
 returns c = rw (c .before .before .put-end .ensures, c .before .before .before .before .before .before .put-span .ensures, c .before .before .before .before .before .before .before .before .before .before .before .put-field2 .ensures, c .before .before .before .before .before .before .before .before .before .before .before .before .before .before .before .before .put-field .ensures, c .before .before .before .before .before .before .before .before .before .before .before .before .before .before .before .before .before .before .before .before .before .put-tag .ensures)
 
@@ -36,13 +9,13 @@ pub print-done-spec : {M : Type 1} → statement M
 print-done-spec =
     tie.close
     (tie.spec
-    put-tag-requires
-    slice-aggregate-put-field
-    put-field-requires
-    slice-aggregate-put-field-2
-    put-field-requires-2
-    slice-aggregate-put-span
-    put-span-requires
-    put-end-requires
-    same-length
+    (λ c κs. search needs)
+    (λ c. search needs)
+    (λ c κs. search needs)
+    (λ c. search needs)
+    (λ c κs. search needs)
+    (λ c. search needs)
+    (λ c κs. search needs)
+    (λ c κs. search needs)
+    (λ c. search needs)
     returns)

@@ -2,21 +2,9 @@ use borrow.Author.Needs.{needs}
 use Rattle.body_cases.proofs.reading.print_ident.Statement.{statement}
 use Rattle.body_cases.proofs.reading.print_ident.Tie as tie
 
-put-block-requires : tie.Need-put-block-requires
-put-block-requires c κs = search needs
-
-put-ident-requires : tie.Need-put-ident-requires
-put-ident-requires c κs = search needs
-
-put-end-requires : tie.Need-put-end-requires
-put-end-requires c κs = search needs
-
-same-length : tie.Need-same-length
-same-length c = search needs
-
 returns : tie.Need-returns
 returns c = rw (c .before .before .put-end .ensures, c .before .before .before .before .before .before .put-ident .ensures, c .before .before .before .before .before .before .before .before .before .before .put-block .ensures)
 
 pub print-ident-spec : {M : Type 1} → statement M
 print-ident-spec =
-    tie.close (tie.spec put-block-requires put-ident-requires put-end-requires same-length returns)
+    tie.close (tie.spec (λ c κs. search needs) (λ c κs. search needs) (λ c κs. search needs) (λ c. search needs) returns)

@@ -14,44 +14,11 @@ use Rattle.text.specs.Page.{page}
 use Rattle.body_cases.proofs.reading.read_record.Statement.{statement}
 use Rattle.body_cases.proofs.reading.read_record.Tie as tie
 
-read-size-requires : tie.Need-read-size-requires
-read-size-requires c κs = search needs
-
-is-whole-requires : tie.Need-is-whole-requires
-is-whole-requires c κs = search needs
-
-bad-record-requires : tie.Need-bad-record-requires
-bad-record-requires c κs = search needs
-
-same-length : tie.Need-same-length
-same-length c = search needs
-
 returns : tie.Need-returns
 unfolding readRecord
 returns c = let s = c .before .before .before .before .before .before .before .before .before .args .s .now in
     let e : isWhole (readSize s) s ≡ false = ap (λ (k : ℕ). isWhole k s) (sym (c .before .before .before .before .before .before .read-size .ensures)) ∙ sym (c .before .before .before .before .before .is-whole .ensures) ∙ not-true (c .before .before .before .before .before .is-whole .result) (c .before .before .before .before .if1 .taken) in
     did-bad (readSize s) (readLine (getD s 1 0) (answerOf s) ∷ []) e (c .before .before .bad-record .ensures .0) (c .before .before .bad-record .ensures .1)
-
-byte-at-requires : tie.Need-byte-at-requires
-byte-at-requires c κs = search needs
-
-u32-at-requires : tie.Need-u32-at-requires
-u32-at-requires c κs = search needs
-
-cast-part : tie.Need-cast-part
-cast-part c = search needs
-
-part-requires : tie.Need-part-requires
-part-requires c κs = search needs
-
-read-requires : tie.Need-read-requires
-read-requires c κs = search needs
-
-print-body-requires : tie.Need-print-body-requires
-print-body-requires c κs = search needs
-
-same-length-2 : tie.Need-same-length-2
-same-length-2 c = search needs
 
 returns-2 : tie.Need-returns-2
 unfolding readRecord prints
@@ -64,16 +31,16 @@ pub read-record-spec : {M : Type 1} → statement M
 read-record-spec =
     tie.close
     (tie.spec
-    read-size-requires
-    is-whole-requires
-    bad-record-requires
-    same-length
+    (λ c κs. search needs)
+    (λ c κs. search needs)
+    (λ c κs. search needs)
+    (λ c. search needs)
     returns
-    byte-at-requires
-    u32-at-requires
-    cast-part
-    part-requires
-    read-requires
-    print-body-requires
-    same-length-2
+    (λ c κs. search needs)
+    (λ c κs. search needs)
+    (λ c. search needs)
+    (λ c κs. search needs)
+    (λ c κs. search needs)
+    (λ c κs. search needs)
+    (λ c. search needs)
     returns-2)

@@ -5,24 +5,6 @@ use Rattle.body_cases.proofs.Requests.{rest-given, end, step, asked}
 use Rattle.body_cases.proofs.writing.ask_auth_done.Statement.{statement}
 use Rattle.body_cases.proofs.writing.ask_auth_done.Tie as tie
 
-start-requires : tie.Need-start-requires
-start-requires c κs = search needs
-
-given-u64-requires : tie.Need-given-u64-requires
-given-u64-requires c κs = search needs
-
-given-u32-requires : tie.Need-given-u32-requires
-given-u32-requires c κs = search needs
-
-given-bytes-requires : tie.Need-given-bytes-requires
-given-bytes-requires c κs = search needs
-
-no-list-requires : tie.Need-no-list-requires
-no-list-requires c κs = search needs
-
-no-list-requires-2 : tie.Need-no-list-requires-2
-no-list-requires-2 c κs = search needs
-
 returns : tie.Need-returns
 returns c = asked (c .before .before .before .before .before .before .before .start .ensures)
     (step (c .before .before .before .before .before .before .given-u64 .ensures) (step (c .before .before .before .before .before .given-u32 .ensures) (step (rest-given 0 (c .before .before .before .before .given-bytes .ensures)) end)))
@@ -32,10 +14,10 @@ pub ask-auth-done-spec : {M : Type 1} → statement M
 ask-auth-done-spec =
     tie.close
     (tie.spec
-    start-requires
-    given-u64-requires
-    given-u32-requires
-    given-bytes-requires
-    no-list-requires
-    no-list-requires-2
+    (λ c κs. search needs)
+    (λ c κs. search needs)
+    (λ c κs. search needs)
+    (λ c κs. search needs)
+    (λ c κs. search needs)
+    (λ c κs. search needs)
     returns)

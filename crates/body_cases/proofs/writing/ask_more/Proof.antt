@@ -5,18 +5,6 @@ use Rattle.body_cases.proofs.Requests.{size-given, end, step, asked}
 use Rattle.body_cases.proofs.writing.ask_more.Statement.{statement}
 use Rattle.body_cases.proofs.writing.ask_more.Tie as tie
 
-start-requires : tie.Need-start-requires
-start-requires c κs = search needs
-
-given-bytes-requires : tie.Need-given-bytes-requires
-given-bytes-requires c κs = search needs
-
-no-list-requires : tie.Need-no-list-requires
-no-list-requires c κs = search needs
-
-no-list-requires-2 : tie.Need-no-list-requires-2
-no-list-requires-2 c κs = search needs
-
 returns : tie.Need-returns
 returns c = asked (c .before .before .before .before .before .start .ensures)
     (step (size-given (c .before .before .before .before .given-bytes .ensures)) end)
@@ -25,4 +13,4 @@ returns c = asked (c .before .before .before .before .before .start .ensures)
 pub ask-more-spec : {M : Type 1} → statement M
 ask-more-spec =
     tie.close
-    (tie.spec start-requires given-bytes-requires no-list-requires no-list-requires-2 returns)
+    (tie.spec (λ c κs. search needs) (λ c κs. search needs) (λ c κs. search needs) (λ c κs. search needs) returns)

@@ -6,71 +6,41 @@ use Rattle.body_cases.proofs.Requests.{asks-for, asks-none, not-listed}
 use Rattle.body_cases.proofs.writing.ask_session.Statement.{statement}
 use Rattle.body_cases.proofs.writing.ask_session.Tie as tie
 
-ask-ident-requires : tie.Need-ask-ident-requires
-ask-ident-requires c κs = search needs
-
 returns : tie.Need-returns
 unfolding layoutIn
 returns c = λ h. asks-for (c .before .before .before .args .tag) 8 (c .before .if1 .taken) refl (c .ask-ident .ensures)
-
-ask-ident-requires-2 : tie.Need-ask-ident-requires-2
-ask-ident-requires-2 c κs = search needs
 
 returns-2 : tie.Need-returns-2
 unfolding layoutIn
 returns-2 c = λ h. asks-for (c .before .before .before .before .args .tag) 9 (c .before .if2 .taken) refl (c .ask-ident2 .ensures)
 
-ask-number-requires : tie.Need-ask-number-requires
-ask-number-requires c κs = search needs
-
 returns-3 : tie.Need-returns-3
 unfolding layoutIn
 returns-3 c = λ h. asks-for (c .before .before .before .before .before .args .tag) 10 (c .before .if3 .taken) refl (c .ask-number .ensures)
-
-ask-reconnect-requires : tie.Need-ask-reconnect-requires
-ask-reconnect-requires c κs = search needs
 
 returns-4 : tie.Need-returns-4
 unfolding layoutIn
 returns-4 c = λ h. asks-for (c .before .before .before .before .before .before .args .tag) 11 (c .before .if4 .taken) refl (c .ask-reconnect .ensures)
 
-ask-reset-requires : tie.Need-ask-reset-requires
-ask-reset-requires c κs = search needs
-
 returns-5 : tie.Need-returns-5
 unfolding layoutIn
 returns-5 c = λ h. asks-for (c .before .before .before .before .before .before .before .args .tag) 12 (c .before .if5 .taken) refl (c .ask-reset .ensures)
-
-ask-number-requires-2 : tie.Need-ask-number-requires-2
-ask-number-requires-2 c κs = search needs
 
 returns-6 : tie.Need-returns-6
 unfolding layoutIn
 returns-6 c = λ h. asks-for (c .before .before .before .before .before .before .before .before .args .tag) 15 (c .before .if6 .taken) refl (c .ask-number2 .ensures)
 
-ask-stamp-requires : tie.Need-ask-stamp-requires
-ask-stamp-requires c κs = search needs
-
 returns-7 : tie.Need-returns-7
 unfolding layoutIn
 returns-7 c = λ h. asks-for (c .before .before .before .before .before .before .before .before .before .args .tag) 18 (c .before .if7 .taken) refl (c .ask-stamp .ensures)
-
-ask-stamp-requires-2 : tie.Need-ask-stamp-requires-2
-ask-stamp-requires-2 c κs = search needs
 
 returns-8 : tie.Need-returns-8
 unfolding layoutIn
 returns-8 c = λ h. asks-for (c .before .before .before .before .before .before .before .before .before .before .args .tag) 19 (c .before .if8 .taken) refl (c .ask-stamp2 .ensures)
 
-ask-number-requires-3 : tie.Need-ask-number-requires-3
-ask-number-requires-3 c κs = search needs
-
 returns-9 : tie.Need-returns-9
 unfolding layoutIn
 returns-9 c = λ h. asks-for (c .before .before .before .before .before .before .before .before .before .before .before .args .tag) 20 (c .before .if9 .taken) refl (c .ask-number3 .ensures)
-
-ask-none-requires : tie.Need-ask-none-requires
-ask-none-requires c κs = search needs
 
 returns-10 : tie.Need-returns-10
 returns-10 c = λ h. asks-none (c .before .before .before .before .before .before .before .before .before .before .before .args .tag) (not-listed (c .before .before .before .before .before .before .before .before .before .before .before .args .tag) (λ e. omega arith) (λ e. omega arith) (λ e. omega arith) (λ e. omega arith) (λ e. omega arith) (λ e. omega arith) (c .before .before .before .before .before .before .before .before .before .if1 .left) (c .before .before .before .before .before .before .before .before .if2 .left) (c .before .before .before .before .before .before .before .if3 .left) (c .before .before .before .before .before .before .if4 .left) (c .before .before .before .before .before .if5 .left) (c .before .before .before .before .if6 .left) (c .before .before .before .if7 .left) (c .before .before .if8 .left) (c .before .if9 .left)) (c .ask-none .ensures .0) (c .ask-none .ensures .1) (c .ask-none .ensures .2)
@@ -79,23 +49,23 @@ pub ask-session-spec : {M : Type 1} → statement M
 ask-session-spec =
     tie.close
     (tie.spec
-    ask-ident-requires
+    (λ c κs. search needs)
     returns
-    ask-ident-requires-2
+    (λ c κs. search needs)
     returns-2
-    ask-number-requires
+    (λ c κs. search needs)
     returns-3
-    ask-reconnect-requires
+    (λ c κs. search needs)
     returns-4
-    ask-reset-requires
+    (λ c κs. search needs)
     returns-5
-    ask-number-requires-2
+    (λ c κs. search needs)
     returns-6
-    ask-stamp-requires
+    (λ c κs. search needs)
     returns-7
-    ask-stamp-requires-2
+    (λ c κs. search needs)
     returns-8
-    ask-number-requires-3
+    (λ c κs. search needs)
     returns-9
-    ask-none-requires
+    (λ c κs. search needs)
     returns-10)

@@ -3,14 +3,8 @@ use borrow.Author.Needs.{needs}
 use Rattle.body_cases.proofs.writing.behind.Statement.{statement}
 use Rattle.body_cases.proofs.writing.behind.Tie as tie
 
-min-requires : tie.Need-min-requires
-min-requires c κs = search needs
-
-add-result : tie.Need-add-result
-add-result c = search needs
-
 returns : tie.Need-returns
 returns c = end-behind (c .before .before .args .s .now) (c .before .before .args .at) (c .min .result) (c .before .before .args .k) (c .min .ensures)
 
 pub behind-spec : {M : Type 1} → statement M
-behind-spec = tie.close (tie.spec min-requires add-result returns)
+behind-spec = tie.close (tie.spec (λ c κs. search needs) (λ c. search needs) returns)

@@ -2,11 +2,8 @@ use borrow.Author.Needs.{needs}
 use Rattle.body_cases.proofs.writing.limit.Statement.{statement}
 use Rattle.body_cases.proofs.writing.limit.Tie as tie
 
-either-requires : tie.Need-either-requires
-either-requires c κs = search needs
-
 returns : tie.Need-returns
 returns c = cc
 
 pub limit-spec : {M : Type 1} → statement M
-limit-spec = tie.close (tie.spec either-requires returns)
+limit-spec = tie.close (tie.spec (λ c κs. search needs) returns)

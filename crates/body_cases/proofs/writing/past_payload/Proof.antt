@@ -6,15 +6,6 @@ use borrow.Author.Needs.{needs}
 use Rattle.body_cases.proofs.writing.past_payload.Statement.{statement}
 use Rattle.body_cases.proofs.writing.past_payload.Tie as tie
 
-read-payload-requires : tie.Need-read-payload-requires
-read-payload-requires c κs = search needs
-
-enum-known-next : tie.Need-enum-known-next
-enum-known-next c = search needs
-
-enum-known-next-2 : tie.Need-enum-known-next-2
-enum-known-next-2 c = search needs
-
 returns : tie.Need-returns
 returns c = took-read (ap (inSpan sized (c .before .before .before .before .before .args .s .now)) (sym (c .before .next .given .1)) ∙ c .before .before .before .read-payload .ensures) .next
 
@@ -23,4 +14,4 @@ returns-2 c = took-failed {f = number 0 0} (ap (inSpan sized (c .before .before 
 
 pub past-payload-spec : {M : Type 1} → statement M
 past-payload-spec =
-    tie.close (tie.spec read-payload-requires enum-known-next enum-known-next-2 returns returns-2)
+    tie.close (tie.spec (λ c κs. search needs) (λ c. search needs) (λ c. search needs) returns returns-2)

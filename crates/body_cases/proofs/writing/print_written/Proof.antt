@@ -2,29 +2,8 @@ use borrow.Author.Needs.{needs}
 use Rattle.body_cases.proofs.writing.print_written.Statement.{statement}
 use Rattle.body_cases.proofs.writing.print_written.Tie as tie
 
-enum-known-written : tie.Need-enum-known-written
-enum-known-written c = search needs
-
-print-wrote-requires : tie.Need-print-wrote-requires
-print-wrote-requires c κs = search needs
-
-enum-known-written-2 : tie.Need-enum-known-written-2
-enum-known-written-2 c = search needs
-
-in-numbers-requires : tie.Need-in-numbers-requires
-in-numbers-requires c κs = search needs
-
-print-refused-requires : tie.Need-print-refused-requires
-print-refused-requires c κs = search needs
-
-same-length : tie.Need-same-length
-same-length c = search needs
-
 returns : tie.Need-returns
 returns c = rw (c .before .before .before .before .before .written .given .1) (c .before .before .print-wrote .ensures)
-
-same-length-2 : tie.Need-same-length-2
-same-length-2 c = search needs
 
 returns-2 : tie.Need-returns-2
 returns-2 c = rw (c .before .before .before .before .before .before .written2 .given .1) (rw (c .before .before .before .in-numbers .ensures) at (c .before .before .print-refused .ensures))
@@ -33,12 +12,12 @@ pub print-written-spec : {M : Type 1} → statement M
 print-written-spec =
     tie.close
     (tie.spec
-    enum-known-written
-    print-wrote-requires
-    enum-known-written-2
-    in-numbers-requires
-    print-refused-requires
-    same-length
+    (λ c. search needs)
+    (λ c κs. search needs)
+    (λ c. search needs)
+    (λ c κs. search needs)
+    (λ c κs. search needs)
+    (λ c. search needs)
     returns
-    same-length-2
+    (λ c. search needs)
     returns-2)

@@ -18,33 +18,6 @@ use Rattle.text.specs.Page.{page}
 use Rattle.body_cases.proofs.writing.write_record.Statement.{statement}
 use Rattle.body_cases.proofs.writing.write_record.Tie as tie
 
-byte-at-requires : tie.Need-byte-at-requires
-byte-at-requires c κs = search needs
-
-u32-at-requires : tie.Need-u32-at-requires
-u32-at-requires c κs = search needs
-
-cast-n : tie.Need-cast-n
-cast-n c = search needs
-
-ask-requires : tie.Need-ask-requires
-ask-requires c κs = search needs
-
-both-requires : tie.Need-both-requires
-both-requires c κs = search needs
-
-sized-requires : tie.Need-sized-requires
-sized-requires c κs = search needs
-
-is-whole-requires : tie.Need-is-whole-requires
-is-whole-requires c κs = search needs
-
-bad-record-requires : tie.Need-bad-record-requires
-bad-record-requires c κs = search needs
-
-same-length : tie.Need-same-length
-same-length c = search needs
-
 returns : tie.Need-returns
 unfolding writeRecord
 returns c = let s = c .before .before .before .before .before .before .before .before .before .before .before .before .before .before .before .before .args .s .now in
@@ -69,27 +42,6 @@ slice-aggregate-buf c = let s = c .before .before .before .before .before .befor
     let h = write-buffer room s e in
     sym (length-take-le (c .before .before .before .before .before .before .before .before .u32-at .result) (c .before .before .before .before .before .before .before .before .before .before .before .before .before .args .space .now) (omega (arith, c .before .before .before .before .before .before .before .before .u32-at .ensures)))
 
-byte-at-requires-2 : tie.Need-byte-at-requires-2
-byte-at-requires-2 c κs = search needs
-
-count-up-requires : tie.Need-count-up-requires
-count-up-requires c κs = search needs
-
-write-asked-requires : tie.Need-write-asked-requires
-write-asked-requires c κs = search needs
-
-checksum-requires : tie.Need-checksum-requires
-checksum-requires c κs = search needs
-
-print-written-requires : tie.Need-print-written-requires
-print-written-requires c κs = search needs
-
-same-length-2 : tie.Need-same-length-2
-same-length-2 c = search needs
-
-same-length-3 : tie.Need-same-length-3
-same-length-3 c = search needs
-
 returns-2 : tie.Need-returns-2
 unfolding writeRecord prints
 returns-2 c = let s = c .before .before .before .before .before .before .before .before .before .before .before .before .before .before .before .before .before .before .before .before .before .before .before .before .before .before .before .before .before .before .args .s .now in
@@ -109,23 +61,23 @@ pub write-record-spec : {M : Type 1} → statement M
 write-record-spec =
     tie.close
     (tie.spec
-    byte-at-requires
-    u32-at-requires
-    cast-n
-    ask-requires
-    both-requires
-    sized-requires
-    is-whole-requires
-    bad-record-requires
-    same-length
+    (λ c κs. search needs)
+    (λ c κs. search needs)
+    (λ c. search needs)
+    (λ c κs. search needs)
+    (λ c κs. search needs)
+    (λ c κs. search needs)
+    (λ c κs. search needs)
+    (λ c κs. search needs)
+    (λ c. search needs)
     returns
     slice-relend-prefix-buf
     slice-aggregate-buf
-    byte-at-requires-2
-    count-up-requires
-    write-asked-requires
-    checksum-requires
-    print-written-requires
-    same-length-2
-    same-length-3
+    (λ c κs. search needs)
+    (λ c κs. search needs)
+    (λ c κs. search needs)
+    (λ c κs. search needs)
+    (λ c κs. search needs)
+    (λ c. search needs)
+    (λ c. search needs)
     returns-2)

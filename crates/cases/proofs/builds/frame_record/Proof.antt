@@ -20,30 +20,12 @@ use borrow.Author.Needs.{needs}
 use Rattle.cases.proofs.builds.frame_record.Statement.{statement}
 use Rattle.cases.proofs.builds.frame_record.Tie as tie
 
-frame-size-requires : tie.Need-frame-size-requires
-frame-size-requires c κs = search needs
-
-is-whole-requires : tie.Need-is-whole-requires
-is-whole-requires c κs = search needs
-
-bad-record-requires : tie.Need-bad-record-requires
-bad-record-requires c κs = search needs
-
-same-length : tie.Need-same-length
-same-length c = search needs
-
 returns : tie.Need-returns
 unfolding frameRecord
 returns c =
     let s = c .before .before .before .before .before .before .before .before .before .before .args .s .now in
     let e : isWhole (frameSize s) s ≡ false = ap (λ (k : ℕ). isWhole k s) (sym (c .before .before .before .before .before .before .frame-size .ensures)) ∙ sym (c .before .before .before .before .before .is-whole .ensures) ∙ not-true (c .before .before .before .before .before .is-whole .result) (c .before .before .before .before .if1 .taken) in
     did-bad (frameSize s) (doneLine (frameDoneOf s) ∷ []) e (c .before .before .bad-record .ensures .0) (c .before .before .bad-record .ensures .1)
-
-u32-at-requires : tie.Need-u32-at-requires
-u32-at-requires c κs = search needs
-
-cast-n : tie.Need-cast-n
-cast-n c = search needs
 
 slice-relend-prefix-buf : tie.Need-slice-relend-prefix-buf
 slice-relend-prefix-buf c =
@@ -58,54 +40,6 @@ slice-aggregate-buf c =
     let e : isWhole (frameSize s) s ≡ true = ap (λ (k : ℕ). isWhole k s) (sym (c .before .before .before .before .frame-size .ensures)) ∙ sym (c .before .before .before .is-whole .ensures) ∙ not-false (c .before .before .before .is-whole .result) (c .before .before .if1 .left) in
     let h = frame-buffer s e in
     sym (length-take-le (c .before .u32-at .result) (c .before .before .before .before .before .before .before .before .args .space .now) (omega (arith, c .before .u32-at .ensures, c .before .before .before .before .before .before .before .before .pre)))
-
-byte-at-requires : tie.Need-byte-at-requires
-byte-at-requires c κs = search needs
-
-count-up-requires : tie.Need-count-up-requires
-count-up-requires c κs = search needs
-
-u64-at-requires : tie.Need-u64-at-requires
-u64-at-requires c κs = search needs
-
-byte-at-requires-2 : tie.Need-byte-at-requires-2
-byte-at-requires-2 c κs = search needs
-
-revision-of-requires : tie.Need-revision-of-requires
-revision-of-requires c κs = search needs
-
-behind-requires : tie.Need-behind-requires
-behind-requires c κs = search needs
-
-read-header-requires : tie.Need-read-header-requires
-read-header-requires c κs = search needs
-
-u32-at-requires-2 : tie.Need-u32-at-requires-2
-u32-at-requires-2 c κs = search needs
-
-cast-part : tie.Need-cast-part
-cast-part c = search needs
-
-part-requires : tie.Need-part-requires
-part-requires c κs = search needs
-
-byte-at-requires-3 : tie.Need-byte-at-requires-3
-byte-at-requires-3 c κs = search needs
-
-build-frame-requires : tie.Need-build-frame-requires
-build-frame-requires c κs = search needs
-
-checksum-requires : tie.Need-checksum-requires
-checksum-requires c κs = search needs
-
-print-built-requires : tie.Need-print-built-requires
-print-built-requires c κs = search needs
-
-same-length-2 : tie.Need-same-length-2
-same-length-2 c = search needs
-
-same-length-3 : tie.Need-same-length-3
-same-length-3 c = search needs
 
 returns-2 : tie.Need-returns-2
 unfolding frameRecord prints
@@ -123,29 +57,29 @@ pub frame-record-spec : {M : Type 1} → statement M
 frame-record-spec =
     tie.close
     (tie.spec
-    frame-size-requires
-    is-whole-requires
-    bad-record-requires
-    same-length
+    (λ c κs. search needs)
+    (λ c κs. search needs)
+    (λ c κs. search needs)
+    (λ c. search needs)
     returns
-    u32-at-requires
-    cast-n
+    (λ c κs. search needs)
+    (λ c. search needs)
     slice-relend-prefix-buf
     slice-aggregate-buf
-    byte-at-requires
-    count-up-requires
-    u64-at-requires
-    byte-at-requires-2
-    revision-of-requires
-    behind-requires
-    read-header-requires
-    u32-at-requires-2
-    cast-part
-    part-requires
-    byte-at-requires-3
-    build-frame-requires
-    checksum-requires
-    print-built-requires
-    same-length-2
-    same-length-3
+    (λ c κs. search needs)
+    (λ c κs. search needs)
+    (λ c κs. search needs)
+    (λ c κs. search needs)
+    (λ c κs. search needs)
+    (λ c κs. search needs)
+    (λ c κs. search needs)
+    (λ c κs. search needs)
+    (λ c. search needs)
+    (λ c κs. search needs)
+    (λ c κs. search needs)
+    (λ c κs. search needs)
+    (λ c κs. search needs)
+    (λ c κs. search needs)
+    (λ c. search needs)
+    (λ c. search needs)
     returns-2)

@@ -14,45 +14,12 @@ use borrow.Author.Needs.{needs}
 use Rattle.cases.proofs.checksums.checksum_record.Statement.{statement}
 use Rattle.cases.proofs.checksums.checksum_record.Tie as tie
 
-checksum-size-requires : tie.Need-checksum-size-requires
-checksum-size-requires c κs = search needs
-
-is-whole-requires : tie.Need-is-whole-requires
-is-whole-requires c κs = search needs
-
-bad-record-requires : tie.Need-bad-record-requires
-bad-record-requires c κs = search needs
-
-same-length : tie.Need-same-length
-same-length c = search needs
-
 returns : tie.Need-returns
 unfolding checksumRecord
 returns c =
     let s = c .before .before .before .before .before .before .before .before .before .args .s .now in
     let e : isWhole (checksumSize s) s ≡ false = ap (λ (k : ℕ). isWhole k s) (sym (c .before .before .before .before .before .before .checksum-size .ensures)) ∙ sym (c .before .before .before .before .before .is-whole .ensures) ∙ not-true (c .before .before .before .before .before .is-whole .result) (c .before .before .before .before .if1 .taken) in
     did-bad (checksumSize s) (checksumLine (crcOf (numberAt 4 1 s) (take (numberAt 4 5 s) (drop 9 s))) ∷ []) e (c .before .before .bad-record .ensures .0) (c .before .before .bad-record .ensures .1)
-
-u32-at-requires : tie.Need-u32-at-requires
-u32-at-requires c κs = search needs
-
-cast-n : tie.Need-cast-n
-cast-n c = search needs
-
-u32-at-requires-2 : tie.Need-u32-at-requires-2
-u32-at-requires-2 c κs = search needs
-
-part-requires : tie.Need-part-requires
-part-requires c κs = search needs
-
-checksum-requires : tie.Need-checksum-requires
-checksum-requires c κs = search needs
-
-print-checksum-requires : tie.Need-print-checksum-requires
-print-checksum-requires c κs = search needs
-
-same-length-2 : tie.Need-same-length-2
-same-length-2 c = search needs
 
 returns-2 : tie.Need-returns-2
 unfolding checksumRecord prints
@@ -65,16 +32,16 @@ pub checksum-record-spec : {M : Type 1} → statement M
 checksum-record-spec =
     tie.close
     (tie.spec
-    checksum-size-requires
-    is-whole-requires
-    bad-record-requires
-    same-length
+    (λ c κs. search needs)
+    (λ c κs. search needs)
+    (λ c κs. search needs)
+    (λ c. search needs)
     returns
-    u32-at-requires
-    cast-n
-    u32-at-requires-2
-    part-requires
-    checksum-requires
-    print-checksum-requires
-    same-length-2
+    (λ c κs. search needs)
+    (λ c. search needs)
+    (λ c κs. search needs)
+    (λ c κs. search needs)
+    (λ c κs. search needs)
+    (λ c κs. search needs)
+    (λ c. search needs)
     returns-2)
