@@ -1,7 +1,8 @@
 /*
- * Sealing, sealed builds, sessions, the joined call, the handshake and bodies from C, against
- * known values: GCM's published vectors, and what the rules say. Prints a line
- * for each that differs; the exit status is 0 only if there is none.
+ * Sealing, sealed builds, sessions, the joined call, the switch and sealed frames,
+ * the handshake and bodies from C, against known values: GCM's published vectors,
+ * and what the rules say. Prints a line for each that differs; the exit status is
+ * 0 only if there is none.
  */
 #include <stdio.h>
 #include <string.h>
@@ -57,6 +58,7 @@ static void sealing(void)
     refused(17, 0, "a damaged tag");
     check(memcmp(back, zeros, 16) == 0, "zeros behind a damaged tag");
     check(mahuixen_open(zeros, zeros, out, 15, back, 16, &refusal) == 0 && refusal.number == 17, "no whole tag");
+    check(mahuixen_open(zeros, zeros, empty, 16, NULL, 0, &refusal) == 0 && refusal.number == 0, "an opened empty text");
 }
 
 /* ---- sealed builds: what is built opens to the frame's preamble and its segment */
@@ -64,6 +66,7 @@ static void sealing(void)
 static void sealed_builds(void)
 {
     static const mahuixen_header header = {MAHUIXEN_TAG_ACK, 1, {{8, 0}, {0, 0}, {0, 0}, {0, 0}}};
+    static const mahuixen_header sparse = {MAHUIXEN_TAG_MESSAGE, 4, {{0, 0}, {1, 0}, {1, 0}, {1, 0}}};
     static const uint8_t source[8] = {1, 2, 3, 4, 5, 6, 7, 8};
     mahuixen_sending sending;
     mahuixen_sending before;
@@ -82,6 +85,10 @@ static void sealed_builds(void)
     check(sending.spent == 1 && ((uint8_t *)sending.nonce)[4] == 2, "the next nonce");
     check(mahuixen_open(key, nonce, wire + 3, 96, text, 80, &refusal) == 80, "a sealed build opens");
     check(text[0] == MAHUIXEN_TAG_ACK && text[1] == 1 && memcmp(text + 32, source, 8) == 0, "what it opens to");
+
+    check(mahuixen_build_sealed(wire, sizeof wire, 0, &sending, &sparse, source, 3, &refusal) ==
+              3 + MAHUIXEN_SEALED_OVERHEAD,
+          "a frame with the most bytes beside its segments");
 
     before = sending;
     check(mahuixen_abort_sealed(wire, sizeof wire, 0, &sending, &header, source, 8, &refusal) == 0, "one segment");
@@ -184,6 +191,132 @@ static void deliveries(void)
     check(mahuixen_session_held(&session, 0, &message) == 0, "what a delivered full reset drops");
 }
 
+/* ---- the switch: two sides behind a crc frame, what one builds sealed is received by the other */
+
+static const uint8_t the_key[16] = {1, 2, 3, 4, 5, 6, 7, 8, 9, 10, 11, 12, 13, 14, 15, 16};
+static const uint8_t of_us[12] = {1, 0, 0, 0, 0xFF, 0xFF, 0xFF, 0xFF, 0xFF, 0xFF, 0xFF, 0xFF};
+static const uint8_t of_the_peer[12] = {2};
+
+/* A receiver behind a banner and a crc frame, switched, and what its side then builds with. */
+static void switched(mahuixen_state *state, const uint8_t receiving[12], const uint8_t sending[12], mahuixen_sending *sends)
+{
+    static const mahuixen_header header = {MAHUIXEN_TAG_AUTH_SIGNATURE, 1, {{4, 8}, {0, 0}, {0, 0}, {0, 0}}};
+    static const uint8_t source[4] = {1, 2, 3, 4};
+    uint8_t wire[100];
+    uint8_t store[4];
+    mahuixen_report report;
+    uint64_t banner = mahuixen_build_banner(wire, sizeof wire, 0, MAHUIXEN_FEATURE_REVISION_1, 0, &refusal);
+    uint64_t frame = mahuixen_build_frame(wire, sizeof wire, banner, MAHUIXEN_MSGR21, &header, source, 4, &refusal);
+
+    (void)mahuixen_start(state, MAHUIXEN_FEATURE_REVISION_1, 0);
+    check(mahuixen_switch(state, the_key, receiving, sending, sends) == 27, "a switch before a frame");
+    check(mahuixen_receive(state, &report, wire, banner, NULL, 0) == MAHUIXEN_BANNER, "a banner before a switch");
+    check(mahuixen_receive(state, &report, wire + banner, frame, store, sizeof store) == MAHUIXEN_FRAME,
+          "a frame before a switch");
+    check(mahuixen_switch(state, the_key, receiving, sending, sends) == 0, "a switch behind a frame");
+    check(memcmp(sends->key, the_key, 16) == 0 && memcmp(sends->nonce, sending, 12) == 0, "what it hands out");
+}
+
+/* Two segments, the first longer than what stands in a first part: three parts, cut at every byte. */
+static void sealed_frames(void)
+{
+    static const mahuixen_header header = {MAHUIXEN_TAG_MESSAGE, 2, {{50, 8}, {20, 0}, {0, 0}, {0, 0}}};
+    static mahuixen_state ours;
+    static mahuixen_state theirs;
+    static mahuixen_state state;
+    mahuixen_sending unused;
+    mahuixen_sending sends;
+    mahuixen_report report;
+    uint8_t source[70];
+    uint8_t store[128];
+    uint8_t wire[400];
+    uint64_t whole;
+    uint64_t aborted;
+    uint64_t cut;
+    size_t i;
+
+    for (i = 0; i < sizeof source; i++)
+        source[i] = (uint8_t)(i + 1);
+    switched(&ours, of_the_peer, of_us, &unused);
+    switched(&theirs, of_us, of_the_peer, &sends);
+    whole = mahuixen_build_sealed(wire, sizeof wire, 0, &sends, &header, source, sizeof source, &refusal);
+    aborted = mahuixen_abort_sealed(wire, sizeof wire, whole, &sends, &header, source, sizeof source, &refusal);
+    check(whole == 96 + 32 + 64 && aborted == whole && sends.spent == 6, "two sealed frames of three parts");
+    for (cut = 0; cut < whole; cut++) {
+        state = ours;
+        check(mahuixen_receive(&state, &report, wire, cut, store, sizeof store) == MAHUIXEN_MORE && report.taken == cut,
+              "a sealed frame as far as it came");
+        check(mahuixen_receive(&state, &report, wire + cut, whole + aborted - cut, store, sizeof store) == MAHUIXEN_FRAME,
+              "a sealed frame");
+        check(report.taken == whole - cut && memcmp(&report.header, &header, sizeof header) == 0, "its bytes and its header");
+        check(memcmp(store, source, sizeof source) == 0 && store[70] == 0 && store[127] == 0, "its segments");
+        check(mahuixen_receive(&state, &report, wire + whole, aborted, store, sizeof store) == MAHUIXEN_DROPPED,
+              "an aborted sealed frame");
+        check(report.taken == aborted && store[0] == 0 && store[49] == 0, "what is left of it");
+    }
+    state = ours;
+    check(mahuixen_receive(&state, &report, wire, whole, store, 127) == MAHUIXEN_REFUSED, "a store too short");
+    check(report.refusal.number == 10 && report.refusal.first == 128 && report.taken == 96, "a store too short: 10");
+    wire[100] ^= 1;
+    state = ours;
+    check(mahuixen_receive(&state, &report, wire, whole, store, sizeof store) == MAHUIXEN_REFUSED, "a damaged part");
+    check(report.refusal.number == 17 && report.taken == 96 + 32 && store[0] == 0, "a damaged part: 17");
+    check(mahuixen_receive(&state, &report, wire, whole, NULL, 0) == MAHUIXEN_REFUSED && report.refusal.number == 17 &&
+              report.taken == 0,
+          "17 again");
+    check(state.sealed.key[0] == 0 && state.sealed.key[1] == 0, "no key is kept");
+}
+
+/* A sealed ack: nothing is released before its last byte, nor where a bit of it is changed. */
+static void sealed_ack(void)
+{
+    static const mahuixen_header header = {MAHUIXEN_TAG_ACK, 1, {{8, 0}, {0, 0}, {0, 0}, {0, 0}}};
+    static const uint8_t number[8] = {1};
+    static mahuixen_state ours;
+    static mahuixen_state theirs;
+    static mahuixen_state state;
+    mahuixen_sending unused;
+    mahuixen_sending sends;
+    mahuixen_session before;
+    mahuixen_session session;
+    mahuixen_answer effect;
+    mahuixen_message message;
+    mahuixen_report report;
+    uint8_t store[48];
+    uint8_t wire[96];
+    size_t cut;
+
+    mahuixen_session_start(&before);
+    (void)mahuixen_session_accept(&before, 700, &effect);
+    (void)mahuixen_session_accept(&before, 701, &effect);
+    switched(&ours, of_the_peer, of_us, &unused);
+    switched(&theirs, of_us, of_the_peer, &sends);
+    check(mahuixen_build_sealed(wire, sizeof wire, 0, &sends, &header, number, 8, &refusal) == 96, "a sealed ack");
+    for (cut = 0; cut < sizeof wire; cut++) {
+        state = ours;
+        session = before;
+        check(mahuixen_deliver(&state, &session, &report, &effect, wire, cut, store, sizeof store) == MAHUIXEN_MORE &&
+                  effect.kind == MAHUIXEN_EFFECT_NOTHING && memcmp(&session, &before, sizeof session) == 0,
+              "nothing before a sealed ack's last byte");
+        check(mahuixen_deliver(&state, &session, &report, &effect, wire + cut, sizeof wire - cut, store, sizeof store) ==
+                      MAHUIXEN_FRAME &&
+                  effect.kind == MAHUIXEN_SESSION_DONE && report.header.tag == MAHUIXEN_TAG_ACK,
+              "a sealed ack is delivered");
+        check(session.released == 1 && session.handles[session.released % MAHUIXEN_SESSION_PLACES] == 700, "what it releases");
+        check(mahuixen_session_held(&session, 0, &message) == 1 && message.number == 2 && message.handle == 701,
+              "what is held behind it");
+        wire[cut] ^= 1;
+        state = ours;
+        session = before;
+        check(mahuixen_deliver(&state, &session, &report, &effect, wire, sizeof wire, store, sizeof store) ==
+                      MAHUIXEN_REFUSED &&
+                  report.refusal.number == 17 && effect.kind == MAHUIXEN_EFFECT_NOTHING &&
+                  memcmp(&session, &before, sizeof session) == 0,
+              "a changed sealed ack releases nothing");
+        wire[cut] ^= 1;
+    }
+}
+
 /* ---- the handshake */
 
 static void handshake(void)
@@ -231,8 +364,8 @@ static void bodies(void)
 
     memset(&body, 0, sizeof body);
     body.kind = MAHUIXEN_BODY_BAD_METHOD;
-    body.numbers[0] = 2;
-    body.numbers[1] = (uint32_t)-95;
+    body.numbers[MAHUIXEN_BAD_METHOD_METHOD] = 2;
+    body.numbers[MAHUIXEN_BAD_METHOD_ERROR] = (uint32_t)-95;
     memset(out, 0xAA, sizeof out);
     check(mahuixen_write_body(out, sizeof out, MAHUIXEN_TAG_AUTH_BAD_METHOD, &body, methods, 2, modes, 1, NULL, 0,
                               &refusal) == sizeof bad,
@@ -240,9 +373,11 @@ static void bodies(void)
     refused(0, 0, "a body is written");
     check(memcmp(out, bad, sizeof bad) == 0 && out[sizeof bad] == 0xAA, "a body's bytes");
     check(mahuixen_read_body(MAHUIXEN_TAG_AUTH_BAD_METHOD, out, sizeof bad, &read) == MAHUIXEN_BODY_BAD_METHOD, "its kind");
-    check(read.numbers[0] == 2 && (int32_t)(uint32_t)read.numbers[1] == -95, "its numbers");
-    check(read.first.count == 2 && mahuixen_list_number(out, read.first, 1) == 1, "its first list");
-    check(read.second.count == 1 && mahuixen_list_number(out, read.second, 0) == 0xFFFFFFFF, "its second list");
+    check(read.numbers[MAHUIXEN_BAD_METHOD_METHOD] == 2 &&
+              (int32_t)(uint32_t)read.numbers[MAHUIXEN_BAD_METHOD_ERROR] == -95,
+          "its numbers");
+    check(read.first.count == 2 && mahuixen_list_number(out, &read.first, 1) == 1, "its first list");
+    check(read.second.count == 1 && mahuixen_list_number(out, &read.second, 0) == 0xFFFFFFFF, "its second list");
     check(mahuixen_read_body(MAHUIXEN_TAG_AUTH_BAD_METHOD, out, sizeof bad - 1, &read) == MAHUIXEN_BODY_REFUSED, "cut off");
     check(read.refusal.number == 20 && read.refusal.first == 24, "where it is cut off");
 
@@ -252,6 +387,8 @@ static void bodies(void)
     check(mahuixen_write_body(out, sizeof out, MAHUIXEN_TAG_SERVER_IDENT, &body, NULL, 0, NULL, 0, block, 3, &refusal) == 55,
           "the length of an ident");
     check(mahuixen_read_body(MAHUIXEN_TAG_SERVER_IDENT, out, 55, &read) == MAHUIXEN_BODY_IDENT, "an ident");
+    check(out[0] == 100 && out[7] == 101 && read.numbers[MAHUIXEN_IDENT_ADDRESSES] == 100, "an ident's addresses count");
+    check(out[47] == 106 && read.numbers[MAHUIXEN_IDENT_COOKIE] == 106, "an ident's cookie");
     check(memcmp(read.numbers, body.numbers, sizeof body.numbers) == 0, "an ident's numbers");
     check(read.bytes.len == 3 && memcmp(out + read.bytes.at, block, 3) == 0, "an ident's addresses");
     check(mahuixen_write_body(out, 54, MAHUIXEN_TAG_SERVER_IDENT, &body, NULL, 0, NULL, 0, block, 3, &refusal) == 0, "14");
@@ -294,6 +431,8 @@ int main(void)
     sealed_builds();
     sessions();
     deliveries();
+    sealed_frames();
+    sealed_ack();
     handshake();
     bodies();
     if (failures == 0)

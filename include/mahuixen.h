@@ -1,6 +1,8 @@
 /*
- * Both ends of Ceph's msgr2 wire protocol: a builder of banners and frames, and
- * a receiver that reads a stream which the network may cut anywhere.
+ * Both ends of Ceph's msgr2 wire protocol: builders of banners and frames, a
+ * receiver that reads a stream which the network may cut anywhere, the switch to
+ * secure mode and sealed frames, the bodies and steps of the handshake, and
+ * sessions that outlive their connections.
  *
  * Every function answers for every number and every byte that it is handed.
  * Nothing is allocated, nothing is kept between calls and nothing is shared:
@@ -65,7 +67,8 @@ enum {
     MAHUIXEN_FRAME_LIMIT = 2097152,   /* all segments of a frame; the store that crc frames need at most */
     MAHUIXEN_STORE_LIMIT = 2097232,   /* the store that any frame needs at most */
     MAHUIXEN_BANNER_LENGTH = 26,      /* the banner that is built */
-    MAHUIXEN_FRAME_OVERHEAD = 49      /* at most so many bytes of a frame are not its segments' */
+    MAHUIXEN_FRAME_OVERHEAD = 49,     /* at most so many bytes of a crc frame are not its segments' */
+    MAHUIXEN_SEALED_OVERHEAD = 173    /* and so many of a sealed frame */
 };
 
 /* Start values of the checksum. */
@@ -84,7 +87,8 @@ enum {
                              reported at its end, as a frame or dropped, or refused */
 };
 
-/* The tag of a frame. */
+/* The tag of a frame. mahuixen_read_body and mahuixen_write_body have the bodies of all but 7, 13, 14, 16 and 17, whose
+ * segments are the caller's own to read and to write. */
 enum {
     MAHUIXEN_TAG_HELLO = 1,
     MAHUIXEN_TAG_AUTH_REQUEST = 2,
@@ -124,7 +128,9 @@ enum {
     MAHUIXEN_REFUSAL_TAG = 8,               /* a tag outside 1 to 20; first: the tag */
     MAHUIXEN_REFUSAL_LIMIT = 9,             /* a segment, or all of them, above the limit; first: the place of the first
                                                length that is too long, or of the one at which the sum is */
-    MAHUIXEN_REFUSAL_STORE_SHORT = 10,      /* the store is shorter than the segments; first: their length */
+    MAHUIXEN_REFUSAL_STORE_SHORT = 10,      /* the store is too short for the frame; first: the bytes that it needs, which
+                                               are those of its segments, or, sealed, of its segments each rounded up to
+                                               a multiple of 16, and 32 more */
     MAHUIXEN_REFUSAL_SEGMENT_CHECKSUM = 11, /* a segment's checksum differs; first: the segment, 1 to 4 */
     MAHUIXEN_REFUSAL_LATE_STATUS = 12,      /* the low four bits of an epilogue's late status are no code word; first: the byte */
     MAHUIXEN_REFUSAL_SOURCE_LENGTH = 13,    /* build: the source is not as long as the segments */
@@ -132,7 +138,8 @@ enum {
     MAHUIXEN_REFUSAL_ABORT_ONE_SEGMENT = 15, /* build: an msgr2.1 frame of one segment cannot be aborted */
     MAHUIXEN_REFUSAL_OWN_FEATURES = 16,     /* our own features: an unknown bit, or required and not supported */
     MAHUIXEN_REFUSAL_AUTH_TAG = 17,         /* sealed bytes fewer than 16, or their authentication tag differs */
-    MAHUIXEN_REFUSAL_NONCES_SPENT = 18,     /* build: the key has fewer nonces left than the sealed frame has parts */
+    MAHUIXEN_REFUSAL_NONCES_SPENT = 18,     /* build: fewer nonces are left than the sealed frame has parts;
+                                               receive: a sealed part came, and no nonce is left to open it with */
     MAHUIXEN_REFUSAL_PADDING = 19,          /* the padding of a sealed frame's segment is not 0 */
     MAHUIXEN_REFUSAL_BODY_MALFORMED = 20,   /* a body that is not its tag's; first: the place of the first fault in it */
     MAHUIXEN_REFUSAL_UNEXPECTED_TAG = 21,   /* a tag that the side's state does not wait for; first: the tag */
@@ -140,7 +147,7 @@ enum {
     MAHUIXEN_REFUSAL_ACK_AHEAD = 23,        /* an ack, or a reconnect's msg_seq, above the last number given */
     MAHUIXEN_REFUSAL_NON_CANONICAL = 24,    /* an epilogue that is not spelled as we write it: the checksum of an unused
                                                segment is not 0, or, in msgr2.0, the late flags are neither 0 nor 1;
-                                               first: the lowest such segment, 1 to 4, or 0 for the late flags */
+                                               first: the lowest such segment, 2 to 4, or 0 for the late flags */
     MAHUIXEN_REFUSAL_NUMBERS_SPENT = 25,    /* the session's last message number was 2^64 - 1 */
     MAHUIXEN_REFUSAL_STATE_CONTRADICTS = 26, /* a state that contradicts itself, or a number beyond its field's type;
                                                no start gives such a state, and no call that was not handed one */
@@ -261,7 +268,8 @@ enum { MAHUIXEN_SESSION_PLACES = 64 };
 typedef struct mahuixen_session {
     uint64_t released;
     uint64_t last;
-    uint64_t handles[64]; /* the caller's, message n's at n % 64 */
+    uint64_t handles[64]; /* the caller's, message n's at n % 64, where it stays until message n + 64 is accepted: of
+                             messages that were just released it can still be read there */
 } mahuixen_session;
 
 typedef struct mahuixen_answer {
@@ -317,13 +325,43 @@ enum {
                                        modes */
     MAHUIXEN_BODY_MORE = 4,         /* no number; the payload as bytes: auth_reply_more and auth_request_more */
     MAHUIXEN_BODY_AUTH_DONE = 5,    /* global id; mode, 32 bits; the payload as bytes */
-    MAHUIXEN_BODY_IDENT = 6,        /* number of addresses, 32 bits; gid, global seq, supported, required, flags, cookie;
-                                       the addresses as bytes: client_ident and server_ident */
-    MAHUIXEN_BODY_RECONNECT = 7,    /* number of addresses, 32 bits; client cookie, server cookie, global seq, connect
-                                       seq, message seq; the addresses as bytes */
+    MAHUIXEN_BODY_IDENT = 6,        /* number of addresses, 32 bits (see below); gid, global seq, supported, required,
+                                       flags, cookie; the addresses as bytes: client_ident and server_ident */
+    MAHUIXEN_BODY_RECONNECT = 7,    /* number of addresses, 32 bits (see below); client cookie, server cookie, global
+                                       seq, connect seq, message seq; the addresses as bytes */
     MAHUIXEN_BODY_NUMBER = 8,       /* one number: missing features, reconnect_ok's message seq, ack */
     MAHUIXEN_BODY_RESET = 9,        /* full or not, 8 bits */
     MAHUIXEN_BODY_STAMP = 10        /* no number; eight bytes: keepalive2 and its ack */
+};
+
+/*
+ * The place of each number among a body's numbers. The number of addresses of an
+ * ident and of a reconnect is what stands in the body's first four bytes. Ceph's
+ * own programs put a byte 2 in front of their count, so that with them it is 258
+ * for one address, and the bytes of the addresses begin with the count's last byte.
+ */
+enum {
+    MAHUIXEN_HELLO_ENTITY = 0,
+    MAHUIXEN_AUTH_REQUEST_METHOD = 0,
+    MAHUIXEN_BAD_METHOD_METHOD = 0,
+    MAHUIXEN_BAD_METHOD_ERROR = 1,
+    MAHUIXEN_AUTH_DONE_GLOBAL_ID = 0,
+    MAHUIXEN_AUTH_DONE_MODE = 1,
+    MAHUIXEN_IDENT_ADDRESSES = 0,
+    MAHUIXEN_IDENT_GID = 1,
+    MAHUIXEN_IDENT_GLOBAL_SEQ = 2,
+    MAHUIXEN_IDENT_SUPPORTED = 3,
+    MAHUIXEN_IDENT_REQUIRED = 4,
+    MAHUIXEN_IDENT_FLAGS = 5,
+    MAHUIXEN_IDENT_COOKIE = 6,
+    MAHUIXEN_RECONNECT_ADDRESSES = 0,
+    MAHUIXEN_RECONNECT_CLIENT_COOKIE = 1,
+    MAHUIXEN_RECONNECT_SERVER_COOKIE = 2,
+    MAHUIXEN_RECONNECT_GLOBAL_SEQ = 3,
+    MAHUIXEN_RECONNECT_CONNECT_SEQ = 4,
+    MAHUIXEN_RECONNECT_MSG_SEQ = 5,
+    MAHUIXEN_NUMBER_VALUE = 0,
+    MAHUIXEN_RESET_FULL = 0
 };
 
 /* A list of 32-bit numbers in a segment: the place of its first number and how many there are. */
@@ -341,7 +379,7 @@ typedef struct mahuixen_span {
 /* What a body says; all that its kind does not use is 0. */
 typedef struct mahuixen_body {
     uint64_t kind;
-    uint64_t numbers[7];
+    uint64_t numbers[7]; /* by the places above */
     mahuixen_list first;
     mahuixen_list second;
     mahuixen_span bytes;
@@ -399,8 +437,8 @@ static inline uint64_t mahuixen_receive(mahuixen_state *state, mahuixen_report *
  * of the peer's first part and of ours. Answers 0; or 26, or 27 anywhere else,
  * and then the state is as it was and nothing can be built with *sends.
  */
-static inline uint64_t mahuixen_switch(mahuixen_state *state, const uint8_t *key, const uint8_t *receiving,
-                                       const uint8_t *sending, mahuixen_sending *sends)
+static inline uint64_t mahuixen_switch(mahuixen_state *state, const uint8_t key[16], const uint8_t receiving[12],
+                                       const uint8_t sending[12], mahuixen_sending *sends)
 {
     sends->nonce[1] = 0;
     return mahuixen_switch_in(state, &state->crc, (const uint8_t *)state->crc.block, &state->sealed,
@@ -442,8 +480,10 @@ uint64_t mahuixen_abort_frame(uint8_t *buf, uint64_t buf_len, uint64_t queued, u
 uint64_t mahuixen_seal(const uint8_t key[16], const uint8_t nonce[12], const uint8_t *text, uint64_t text_len,
                        uint8_t *out, uint64_t out_len, mahuixen_refusal *refusal);
 
-/* Opens sealed bytes into the front of out, 16 bytes shorter. Refused with 17 for fewer than 16 bytes, 9 or 14, which
- * leave every byte as it was, and last with 17 for a tag that differs, which leaves zeros where the text would stand. */
+/* Opens sealed bytes into the front of out, 16 bytes shorter, and answers how many it wrote: 0 for a good empty text
+ * too, so look at the refusal's number, which is 0 where they were opened. Refused with 17 for fewer than 16 bytes, 9 or
+ * 14, which leave every byte as it was, and last with 17 for a tag that differs, which leaves zeros where the text would
+ * stand. */
 uint64_t mahuixen_open(const uint8_t key[16], const uint8_t nonce[12], const uint8_t *sealed, uint64_t sealed_len,
                        uint8_t *out, uint64_t out_len, mahuixen_refusal *refusal);
 
@@ -519,22 +559,30 @@ static inline uint64_t mahuixen_session_reconnect(mahuixen_session *session, uin
     return mahuixen_session_reconnect_in(session, session->handles, answer, msg_seq);
 }
 
-/* A session_reset came: a full one, where full is not 0, drops what is held, another keeps it. Done, or refused with 26. */
+/* A session_reset came: a full one, where full is not 0, drops what is held, another keeps it. Hand in 1 where the frame's
+ * byte is 1, and else 0: only 1 is a full reset, as mahuixen_deliver reads it. Done, or refused with 26. */
 static inline uint64_t mahuixen_session_reset(mahuixen_session *session, uint64_t full, mahuixen_answer *answer)
 {
     return mahuixen_session_reset_in(session, session->handles, answer, full);
 }
 
-/* The message at a place of those held, 0 the oldest: answers 1 and writes it; answers 0 where fewer are held, or 26, and
- * writes zeros. */
+/*
+ * The message at a place of those held, 0 the oldest: answers 1 and writes it;
+ * answers 0 where fewer are held, or 26 for a session that contradicts itself, and
+ * writes zeros. So compare with 1:
+ *
+ *     for (uint64_t place = 0; mahuixen_session_held(&session, place, &message) == 1; place++)
+ *         send_again(&message);
+ */
 static inline uint64_t mahuixen_session_held(const mahuixen_session *session, uint64_t place, mahuixen_message *message)
 {
     return mahuixen_session_held_in(session, session->handles, message, place);
 }
 
 /*
- * What a delivered report did to the session, in an answer's fields: an answer of the session, or one of these two. The
- * refusal of a malformed body is 20, and nothing was done.
+ * What a delivered report did to the session, in an answer's fields: an answer of the session, or one of these two.
+ * MAHUIXEN_SESSION_DONE is an ack where the report's tag is 20, and a reset where it is 12: what a full reset drops was
+ * not acknowledged. The refusal of a malformed body is 20, and nothing was done.
  */
 enum {
     MAHUIXEN_EFFECT_NOTHING = 0,  /* the report asks nothing of the session */
@@ -575,7 +623,8 @@ uint64_t mahuixen_pick_mode(const uint32_t *preferred, uint64_t preferred_count,
                             uint64_t allowed_count);
 
 /* Reads the body of a control frame, its one segment, by the frame's tag: writes the whole body and answers its kind.
- * MAHUIXEN_BODY_REFUSED, with refusal 20, for one that is not of its tag, and with 26 for a tag above 255. */
+ * MAHUIXEN_BODY_REFUSED, with refusal 20, for one that is not of its tag, or a tag that has none (7, 13, 14, 16, 17 and
+ * all above 20), and with 26 for a tag above 255. */
 uint64_t mahuixen_read_body(uint64_t tag, const uint8_t *segment, uint64_t segment_len, mahuixen_body *body);
 
 /*
@@ -591,9 +640,9 @@ uint64_t mahuixen_write_body(uint8_t *out, uint64_t out_len, uint64_t tag, const
                              mahuixen_refusal *refusal);
 
 /* Number i of a list that stands in the segment that was read; i is below the list's count. */
-static inline uint32_t mahuixen_list_number(const uint8_t *segment, mahuixen_list list, uint64_t i)
+static inline uint32_t mahuixen_list_number(const uint8_t *segment, const mahuixen_list *list, uint64_t i)
 {
-    const uint8_t *at = segment + list.at + 4 * i;
+    const uint8_t *at = segment + list->at + 4 * i;
     return (uint32_t)at[0] | (uint32_t)at[1] << 8 | (uint32_t)at[2] << 16 | (uint32_t)at[3] << 24;
 }
 
@@ -633,7 +682,7 @@ static inline const char *mahuixen_refusal_text(uint64_t number)
     case MAHUIXEN_REFUSAL_ACK_AHEAD: return "the peer acknowledges a message that was never sent";
     case MAHUIXEN_REFUSAL_NON_CANONICAL: return "the epilogue is not spelled as we write it";
     case MAHUIXEN_REFUSAL_NUMBERS_SPENT: return "the session has no message number left";
-    case MAHUIXEN_REFUSAL_STATE_CONTRADICTS: return "the fields of the state contradict each other";
+    case MAHUIXEN_REFUSAL_STATE_CONTRADICTS: return "the fields of the state contradict each other, or a number is beyond its field";
     case MAHUIXEN_REFUSAL_SWITCH_REFUSED: return "there was no switch to secure mode to be made";
     default: return "unknown";
     }

@@ -32,7 +32,7 @@ const COUNTED: usize = 9;
 /// What a network packet usually carries.
 const PACKET: usize = 1_460;
 
-const STORE: usize = mahuixen::LONGEST_STORE;
+const STORE: usize = mahuixen::STORE_LIMIT;
 
 fn frame(lengths: [u32; 2]) -> Frame {
     let [one, two] = lengths.map(|length| second::frame::Segment {
@@ -196,10 +196,12 @@ fn receivers() {
     for length in LENGTHS {
         let whole = stream(length);
         let banner = mahuixen::BANNER_LENGTH;
+        // One whole frame at least, so that there is something to report.
+        let single = SINGLE_BYTES.max(banner + wire_length(length as usize));
         let pieces = [
             (whole.len(), whole.len(), "whole"),
             (whole.len(), PACKET, "pieces of 1,460"),
-            (SINGLE_BYTES, 1, "pieces of 1"),
+            (single, 1, "pieces of 1"),
         ];
         for (bytes, piece, of) in pieces {
             let stream = &whole[..bytes];

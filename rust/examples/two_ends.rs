@@ -8,7 +8,7 @@
 
 use mahuixen::{abort_frame, build_banner, build_frame};
 use mahuixen::{tag, Features, Header, Receiver, Refusal, Report, Revision, Segment};
-use mahuixen::{LONGEST_FRAME, LONGEST_STORE};
+use mahuixen::{LONGEST_FRAME, STORE_LIMIT};
 use std::error::Error;
 use std::io::{Read, Write};
 use std::net::{Ipv4Addr, TcpListener, TcpStream};
@@ -54,7 +54,7 @@ impl End {
             cuts: Cuts(seed),
             send: vec![0; LONGEST_FRAME],
             receiver: Receiver::start(OWN)?,
-            store: vec![0; LONGEST_STORE],
+            store: vec![0; STORE_LIMIT],
             unread: Vec::new(),
             said: Vec::new(),
         })

@@ -51,7 +51,10 @@ pub enum Body<'a, L> {
     },
     /// client_ident and server_ident
     Ident {
-        /// How many addresses there are.
+        /// How many addresses there are: what stands in the body's first four
+        /// bytes. Ceph's own programs put a byte 2 in front of their count, so
+        /// that with them this is 258 for one address, and the block begins with
+        /// the count's last byte.
         addresses: u32,
         /// The addresses; of a client also the one that it wanted.
         block: &'a [u8],
@@ -70,7 +73,8 @@ pub enum Body<'a, L> {
     },
     /// session_reconnect
     Reconnect {
-        /// How many addresses there are.
+        /// How many addresses there are, as in [`Body::Ident`]: with Ceph's own
+        /// programs 258 for one.
         addresses: u32,
         /// The addresses.
         block: &'a [u8],
@@ -127,7 +131,8 @@ fn list(segment: &[u8], RawList { at, count }: RawList) -> List<'_> {
 ///
 /// # Errors
 ///
-/// [`Refusal::BodyMalformed`] for one that is not of its tag.
+/// [`Refusal::BodyMalformed`] for one that is not of its tag, or a tag that has
+/// none: 7, 13, 14, 16, 17 and all above 20.
 ///
 /// ```
 /// use mahuixen::{read_body, tag, Body, Refusal};

@@ -5,6 +5,7 @@ use crate::sys::{self, RawRefusal, RawVerdict};
 
 /// A side's state. A server alone comes to `More` and `Standby`, a client alone
 /// to `Wait`.
+#[must_use = "a step answers the state that the side is in from then on"]
 #[derive(Clone, Copy, Debug, PartialEq, Eq, Hash)]
 pub enum Handshake {
     /// The peer's hello is to come.

@@ -54,7 +54,9 @@ pub struct Received {
     pub report: Report,
 }
 
-/// A receiver of one stream.
+/// A receiver of one stream. A clone is a receiver of its own, which goes on from
+/// the same byte; of a receiver and its clones one alone may switch, since each
+/// would hand out a [`Sending`] that starts from the same nonce.
 ///
 /// ```
 /// use mahuixen::{Features, Receiver, Refusal, Report, Revision};
@@ -114,10 +116,10 @@ impl Receiver {
     /// a refusal.
     ///
     /// Lend the same store at every call, as the last call left it: between
-    /// two calls it holds the frame that is under way. [`LONGEST_STORE`] bytes
+    /// two calls it holds the frame that is under way. [`STORE_LIMIT`] bytes
     /// are always enough; less will do where the peer's longest frame is known.
     ///
-    /// [`LONGEST_STORE`]: crate::LONGEST_STORE
+    /// [`STORE_LIMIT`]: crate::STORE_LIMIT
     ///
     /// ```
     /// use mahuixen::{Features, Receiver, Refusal, Report};
@@ -160,7 +162,7 @@ impl Receiver {
     /// assert_eq!(effect, Effect::Nothing);
     /// let (received, effect) = receiver.deliver(&mut session, &stream[banner..], &mut store);
     /// assert_eq!((received.taken, received.report), (frame, Report::Frame(ack)));
-    /// assert_eq!(effect, Effect::Done);
+    /// assert_eq!(effect, Effect::Acked);
     /// assert_eq!(session.held(0)?.map(|message| message.handle), Some(701));
     /// # Ok::<(), Refusal>(())
     /// ```
@@ -171,13 +173,16 @@ impl Receiver {
         store: &mut [u8],
     ) -> (Received, Effect) {
         let (report, effect) = sys::deliver(&mut self.state, session.raw(), piece, store);
-        (Received::from(report), Effect::from(effect))
+        let effect = Effect::of(effect, report.header.tag);
+        (Received::from(report), effect)
     }
 
     /// Switches a msgr2.1 stream to secure, behind a reported or dropped frame
     /// and before any byte of the next: sealed frames come from then on, and
     /// what is handed out builds ours. One key, and a nonce each for the peer's
-    /// first part and for ours.
+    /// first part and for ours. They are for one switch only: a clone of this
+    /// receiver, or another connection, that is switched with them too would
+    /// seal with the same nonces again.
     ///
     /// # Errors
     ///

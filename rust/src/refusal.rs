@@ -99,9 +99,10 @@ pub enum Refusal {
         /// long.
         at: u64,
     },
-    /// 10: the store is shorter than the frame's segments together.
+    /// 10: the store is too short for the frame.
     StoreShort {
-        /// Bytes that the frame needs.
+        /// Bytes that the frame needs: those of its segments, or, sealed, of its
+        /// segments each rounded up to a multiple of 16, and 32 more.
         needed: u64,
     },
     /// 11: a segment's checksum differs.
@@ -130,8 +131,8 @@ pub enum Refusal {
     OwnFeatures,
     /// 17: sealed bytes are fewer than 16, or their authentication tag differs.
     AuthTag,
-    /// 18, of a sealed build: the key has fewer nonces left than the frame has
-    /// parts.
+    /// 18: of a sealed build, fewer nonces are left than the frame has parts; of
+    /// a receiver, a sealed part came and no nonce is left to open it with.
     NoncesSpent,
     /// 19: the padding of a sealed frame's segment is not 0.
     Padding,
@@ -153,13 +154,14 @@ pub enum Refusal {
     /// of a segment that is not used is not 0, or a msgr2.0 frame's late flags
     /// are neither 0 nor 1.
     NonCanonical {
-        /// The number of the lowest such segment, 1 to 4, or 0 where it is the
+        /// The number of the lowest such segment, 2 to 4, or 0 where it is the
         /// late flags.
         segment: u64,
     },
     /// 25: the session's last message number was 2^64 - 1.
     NumbersSpent,
-    /// 26: the fields of the state contradict each other.
+    /// 26: the fields of the state contradict each other, or a number is beyond
+    /// its field.
     StateContradicts,
     /// 27: a switch to secure mode where there is none to be made, or a build
     /// with what such a switch handed back.
@@ -378,7 +380,10 @@ impl fmt::Display for Refusal {
                 "the checksum field of segment {segment}, which is not used, is not 0"
             ),
             Self::NumbersSpent => write!(f, "the session has no message number left"),
-            Self::StateContradicts => write!(f, "the fields of the state contradict each other"),
+            Self::StateContradicts => write!(
+                f,
+                "the fields of the state contradict each other, or a number is beyond its field"
+            ),
             Self::SwitchRefused => write!(f, "there was no switch to secure mode to be made"),
             Self::Other { number, details } => {
                 write!(f, "refusal {number} with the details {details:?}")

@@ -11,8 +11,8 @@ pub const TAG_LENGTH: usize = 16;
 /// Seals the text into the front of `out`, [`TAG_LENGTH`] bytes longer than it
 /// is, and answers how many bytes it wrote: AES-128-GCM with no further data.
 ///
-/// A nonce must never be used twice with one key. [`Sending`] sees to that
-/// itself.
+/// A nonce must never be used twice with one key. [`Sending`] counts them itself,
+/// and says what that asks of its caller.
 ///
 /// # Errors
 ///
@@ -67,8 +67,15 @@ pub fn open(
     written(sys::open(key, nonce, sealed, out))
 }
 
-/// What builds sealed frames: a key, and the nonce of the next part. No nonce is
-/// used twice, since it cannot be copied.
+/// What builds sealed frames: a key, and the nonce of the next part. It cannot be
+/// copied, and no build uses a nonce that an earlier one used.
+///
+/// Two that start from one nonce under one key do, and nothing here can see that.
+/// So the caller owes: a state that was taken out with [`Sending::into_raw`] is put
+/// back once, and no older copy of it; and of a [`Receiver`](crate::Receiver) and
+/// its clones, or of receivers that are given the same key and nonces, one alone
+/// switches. Its text for debugging does not show the key.
+#[must_use = "a switch hands it out once"]
 #[derive(Debug, PartialEq, Eq)]
 pub struct Sending {
     state: RawSending,
@@ -77,10 +84,11 @@ pub struct Sending {
 impl Sending {
     /// The sending side in this state, wherever it was kept. Any state will do:
     /// one that contradicts itself is told so at the next build. A state that was
-    /// used before must not be: its nonces are spent.
+    /// used before must not be: its nonces are spent, and a second build with them
+    /// gives away what the two have in common.
     ///
     /// ```
-    /// use mahuixen::sys::{Key, Nonce, RawSending};
+    /// use mahuixen::{Key, Nonce, RawSending};
     /// use mahuixen::{tag, Header, Refusal, Segment, Sending};
     ///
     /// let broken = RawSending { exhausted: 1, spent: 1, ..RawSending::default() };
@@ -88,7 +96,6 @@ impl Sending {
     /// let built = Sending::from_raw(broken).build(&mut [0; 200], 0, &header, &[7; 8]);
     /// assert_eq!(built, Err(Refusal::StateContradicts));
     /// ```
-    #[must_use]
     pub const fn from_raw(state: RawSending) -> Self {
         Self { state }
     }
@@ -111,7 +118,7 @@ impl Sending {
     /// then as it was, and no nonce is spent.
     ///
     /// ```
-    /// use mahuixen::sys::{Key, Nonce, RawSending};
+    /// use mahuixen::{Key, Nonce, RawSending};
     /// use mahuixen::{open, tag, Header, Segment, Sending};
     ///
     /// let (key, nonce) = ([7; 16], [1; 12]);
@@ -153,7 +160,7 @@ impl Sending {
     /// As [`Sending::build`], with [`Refusal::AbortOneSegment`] before [`Refusal::NoRoom`].
     ///
     /// ```
-    /// use mahuixen::sys::RawSending;
+    /// use mahuixen::RawSending;
     /// use mahuixen::{tag, Header, Refusal, Segment, Sending};
     ///
     /// let mut sending = Sending::from_raw(RawSending::default());

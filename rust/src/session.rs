@@ -2,6 +2,7 @@
 
 use crate::refusal::{Numbers, Refusal};
 use crate::sys::{self, RawAnswer, RawSession};
+use crate::tag;
 
 pub use crate::sys::Message;
 
@@ -98,7 +99,8 @@ impl Session {
         number(sys::session_reconnect(&mut self.state, msg_seq)).map(|held| held as usize)
     }
 
-    /// A session_reset came: a full one drops what is held, another keeps it.
+    /// A session_reset came: a full one, whose byte is 1, drops what is held,
+    /// another keeps it.
     ///
     /// # Errors
     ///
@@ -115,7 +117,7 @@ impl Session {
     /// # Ok::<(), mahuixen::Refusal>(())
     /// ```
     pub fn reset(&mut self, full: bool) -> Result<(), Refusal> {
-        number(sys::session_reset(&mut self.state, full)).map(drop)
+        number(sys::session_reset(&mut self.state, full.into())).map(drop)
     }
 
     /// The message at a place of those held, 0 the oldest; none where fewer are
@@ -131,6 +133,69 @@ impl Session {
             // 26, which has no details.
             _ => Err(Refusal::StateContradicts),
         }
+    }
+
+    /// Up to this number no message is held: they were acknowledged, or dropped by
+    /// a full reset.
+    ///
+    /// ```
+    /// use mahuixen::Session;
+    ///
+    /// let mut session = Session::start();
+    /// for handle in [700, 701, 702] {
+    ///     session.accept(handle)?;
+    /// }
+    /// let before = session.released();
+    /// session.ack(2)?;
+    /// let freed: Vec<_> = (before + 1..=session.released()).map(|n| session.handle(n)).collect();
+    /// assert_eq!(freed, [Some(700), Some(701)]);
+    /// assert_eq!((session.released(), session.last(), session.len()), (2, 3, 1));
+    /// # Ok::<(), mahuixen::Refusal>(())
+    /// ```
+    #[must_use]
+    pub const fn released(&self) -> u64 {
+        self.state.released
+    }
+
+    /// The last number that was given; 0 before the first.
+    #[must_use]
+    pub const fn last(&self) -> u64 {
+        self.state.last
+    }
+
+    /// How many messages are held: those from above [`Session::released`] up to
+    /// [`Session::last`].
+    #[must_use]
+    pub fn len(&self) -> usize {
+        let held = self.state.last.saturating_sub(self.state.released);
+        usize::try_from(held).unwrap_or(usize::MAX)
+    }
+
+    /// Whether no message is held.
+    #[must_use]
+    pub fn is_empty(&self) -> bool {
+        self.len() == 0
+    }
+
+    /// The handle of one of the last 64 messages, held or already released: a
+    /// handle stays where it is until the message 64 numbers later is accepted.
+    /// None of any other number.
+    ///
+    /// ```
+    /// use mahuixen::Session;
+    ///
+    /// let mut session = Session::start();
+    /// session.accept(700)?;
+    /// session.ack(1)?;
+    /// assert_eq!(session.held(0), Ok(None));
+    /// assert_eq!([0, 1, 2].map(|number| session.handle(number)), [None, Some(700), None]);
+    /// # Ok::<(), mahuixen::Refusal>(())
+    /// ```
+    #[must_use]
+    pub fn handle(&self, number: u64) -> Option<u64> {
+        let places = self.state.handles.len() as u64;
+        let is_kept = number > 0 && self.last().checked_sub(number)? < places;
+        is_kept.then(|| self.state.handles[(number % places) as usize])
     }
 
     /// The session in this state, wherever it was kept. Any state will do: one that
@@ -153,7 +218,7 @@ impl Session {
         Self { state }
     }
 
-    pub(crate) const fn raw(&mut self) -> &mut RawSession {
+    pub(crate) fn raw(&mut self) -> &mut RawSession {
         &mut self.state
     }
 
@@ -165,14 +230,17 @@ impl Session {
 }
 
 /// What a delivered report did to the session.
+#[must_use = "what it releases may be freed, what it drops or resends is to be sent"]
 #[derive(Clone, Copy, Debug, PartialEq, Eq)]
 pub enum Effect {
     /// The report asks nothing of the session.
     Nothing,
-    /// An ack or a reset was done. What an ack has the session hold no longer may
-    /// be freed; what a full reset dropped was not acknowledged, and is to be sent
-    /// as new messages.
-    Done,
+    /// An ack was done: what the session holds no longer may be freed, which are
+    /// the messages up to [`Session::released`].
+    Acked,
+    /// A reset was done. What a full one dropped was not acknowledged, and is to be
+    /// sent as new messages; another drops nothing.
+    Reset,
     /// A reconnect_ok was done: so many messages are held, and are to be sent
     /// again.
     Resend(usize),
@@ -184,12 +252,15 @@ pub enum Effect {
     Malformed(Refusal),
 }
 
-impl From<RawAnswer> for Effect {
-    fn from(effect: RawAnswer) -> Self {
+impl Effect {
+    /// What was done, of a report on a frame with this tag: an ack and a reset are
+    /// answered alike.
+    pub(crate) fn of(effect: RawAnswer, tag: u64) -> Self {
         let refusal = || Refusal::from(Numbers::from(effect.refusal));
         match effect.kind {
             0 => Self::Nothing,
-            1 => Self::Done,
+            1 if tag == u64::from(tag::SESSION_RESET) => Self::Reset,
+            1 => Self::Acked,
             // At most 64.
             3 => Self::Resend(effect.number as usize),
             4 => Self::Refused(refusal()),

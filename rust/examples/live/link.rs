@@ -6,7 +6,7 @@ use mahuixen::{build_banner, build_frame, write_body, Body, Effect};
 use mahuixen::{
     Features, Handshake, Header, Receiver, Report, Revision, Segment, Session, Verdict,
 };
-use mahuixen::{LONGEST_FRAME, LONGEST_STORE};
+use mahuixen::{LONGEST_FRAME, STORE_LIMIT};
 use std::io::{ErrorKind, Read, Write};
 use std::net::{Ipv4Addr, Shutdown, TcpStream};
 use std::time::Duration;
@@ -40,7 +40,7 @@ impl Link {
             receiver: Receiver::start(own)?,
             revision: Revision::Msgr20,
             handshake: Handshake::Hello,
-            store: vec![0; LONGEST_STORE],
+            store: vec![0; STORE_LIMIT],
             unread: Vec::new(),
             send: vec![0; LONGEST_FRAME],
         };

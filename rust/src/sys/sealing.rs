@@ -1,9 +1,10 @@
 //! Sealing, opening and sealed builds.
 
 use super::{Built, RawHeader, RawRefusal};
+use core::fmt;
 
 /// What the builder of sealed frames is between two builds, in 64-bit numbers
-/// and bytes.
+/// and bytes. A clone that is built with would use the same nonces again.
 #[repr(C)]
 #[derive(Clone, Debug, Default, PartialEq, Eq)]
 pub struct RawSending {
@@ -19,10 +20,24 @@ pub struct RawSending {
     pub nonce: Nonce,
 }
 
-/// Sixteen bytes, which the C header has as two 64-bit numbers.
+/// Sixteen bytes, which the C header has as two 64-bit numbers. The text for
+/// debugging does not show them, and so no state's does.
+///
+/// ```
+/// use mahuixen::{Key, RawSending};
+///
+/// let state = RawSending { key: Key([171; 16]), ..RawSending::default() };
+/// assert!(format!("{state:?}").contains("key: Key(..)"));
+/// ```
 #[repr(C, align(8))]
-#[derive(Clone, Copy, Debug, Default, PartialEq, Eq)]
+#[derive(Clone, Copy, Default, PartialEq, Eq)]
 pub struct Key(pub [u8; 16]);
+
+impl fmt::Debug for Key {
+    fn fmt(&self, f: &mut fmt::Formatter<'_>) -> fmt::Result {
+        f.write_str("Key(..)")
+    }
+}
 
 /// Twelve bytes, which the C header has as two 64-bit numbers with four bytes
 /// that are not looked at.

@@ -135,9 +135,9 @@ pub fn session_reconnect(session: &mut RawSession, msg_seq: u64) -> RawAnswer {
     called(mahuixen_session_reconnect_in, session, msg_seq)
 }
 
-/// A reset came.
-pub fn session_reset(session: &mut RawSession, full: bool) -> RawAnswer {
-    called(mahuixen_session_reset_in, session, full.into())
+/// A reset came, a full one where the number is not 0.
+pub fn session_reset(session: &mut RawSession, full: u64) -> RawAnswer {
+    called(mahuixen_session_reset_in, session, full)
 }
 
 /// 1 and the message at a place of those held, 0 where there are fewer, or 26.

@@ -1,11 +1,11 @@
 //! Generated builds and checksums, done by both; what was built is read back.
 
 use crate::guarded::Guarded;
-use crate::same;
+use crate::same::{self, REFUSED};
 use crate::tally::Tally;
-use mahuixen::sys::{self, Built, RawHeader, RawRefusal};
+use mahuixen::sys::{self, Built, RawHeader};
 use mahuixen::{abort_frame, build_banner, build_frame, checksum};
-use mahuixen::{Features, Header, Receiver, Refusal, Report, Revision};
+use mahuixen::{Features, Header, Receiver, Report, Revision, FRAME_OVERHEAD};
 use second::builder;
 use second::random::Random;
 use second::records::{BannerRecord, ChecksumRecord, FrameRecord, Record, SendBuffer};
@@ -17,48 +17,17 @@ pub const KINDS: [&str; 11] = [
     "banners",
     "frames, read back",
     "aborted frames, read back",
-    "refused 6",
-    "refused 8",
-    "refused 9",
-    "refused 13",
-    "refused 14",
-    "refused 15",
-    "refused 16",
+    REFUSED[6],
+    REFUSED[8],
+    REFUSED[9],
+    REFUSED[13],
+    REFUSED[14],
+    REFUSED[15],
+    REFUSED[16],
 ];
 
 fn kind(refusal: u8) -> &'static str {
-    match refusal {
-        6 => KINDS[4],
-        8 => KINDS[5],
-        9 => KINDS[6],
-        16 => KINDS[10],
-        other => KINDS[usize::from(other) - 6],
-    }
-}
-
-/// The crate's answer in bare numbers.
-fn bare(built: Result<usize, Refusal>) -> Built {
-    match built {
-        Ok(written) => (written as u64, RawRefusal::default()),
-        Err(refusal) => {
-            let [first, second, third] = refusal.details();
-            let number = refusal.number().into();
-            let refusal = RawRefusal {
-                number,
-                first,
-                second,
-                third,
-            };
-            (0, refusal)
-        }
-    }
-}
-
-fn expected(answer: &Answer) -> Built {
-    match answer {
-        Ok(written) => (*written, RawRefusal::default()),
-        Err(refusal) => (0, same::numbers(*refusal)),
-    }
+    REFUSED[usize::from(refusal)]
 }
 
 /// Builds into a guarded buffer and holds it to what the second builder made.
@@ -70,14 +39,17 @@ fn compare(
 ) {
     let mut send = Guarded::new(random, &buffer.bytes());
     let built = build(random, send.lend());
-    assert_eq!(built, expected(&answer));
+    assert_eq!(built, same::built(answer));
     send.expect(made, "send buffer");
 }
 
 fn checksums(random: &mut Random, record: &ChecksumRecord) {
     let held = Guarded::new(random, &record.bytes);
-    let sum = checksum(record.start, held.content());
-    assert_eq!(sum, second::checksum::checksum(record.start, &record.bytes));
+    let due = second::checksum::checksum(record.start, &record.bytes);
+    assert_eq!(checksum(record.start, held.content()), due);
+    // Of a start above 32 bits the low ones count.
+    let start = random.u64() << 32 | u64::from(record.start);
+    assert_eq!(sys::checksum(start, held.content()), u64::from(due));
     held.expect(&record.bytes, "bytes");
 }
 
@@ -90,7 +62,7 @@ fn banner(random: &mut Random, record: &BannerRecord, tally: &mut Tally) {
         if random.once_in(2) {
             sys::build_banner(send, queued, own)
         } else {
-            bare(build_banner(send, queued as usize, own))
+            same::bare(build_banner(send, queued as usize, own))
         }
     });
     tally.count(answer.map_or_else(|refusal| kind(refusal.number), |_| KINDS[1]));
@@ -102,8 +74,8 @@ fn build(random: &mut Random, record: &FrameRecord, source: &[u8], send: &mut [u
     let header = same::header(&record.frame);
     let revision = same::revision(record.revision);
     match (random.once_in(2), record.abort) {
-        (true, false) => bare(build_frame(send, queued, revision, &header, source)),
-        (true, true) => bare(abort_frame(send, queued, revision, &header, source)),
+        (true, false) => same::bare(build_frame(send, queued, revision, &header, source)),
+        (true, true) => same::bare(abort_frame(send, queued, revision, &header, source)),
         (false, abort) => {
             let number = number(random, revision);
             let build = [sys::build_frame, sys::abort_frame][usize::from(abort)];
@@ -124,10 +96,19 @@ fn number(random: &mut Random, revision: Revision) -> u64 {
 fn beyond_its_fields(
     random: &mut Random,
     build: fn(&mut [u8], u64, u64, &RawHeader, &[u8]) -> Built,
-    mut header: RawHeader,
+    header: RawHeader,
     source: &[u8],
     send: &mut [u8],
 ) {
+    let header = widened(random, header);
+    let before = send.to_vec();
+    let built = build(send, 0, random.u64(), &header, source);
+    assert_eq!(built, (0, same::CONTRADICTS));
+    assert!(send == before, "a refused build changed the buffer");
+}
+
+/// The header with a number beyond its field.
+pub fn widened(random: &mut Random, mut header: RawHeader) -> RawHeader {
     let segment = random.between(0, 3) as usize;
     let (number, bits) = match random.between(1, 4) {
         1 => (&mut header.tag, 8),
@@ -136,13 +117,7 @@ fn beyond_its_fields(
         _ => (&mut header.segments[segment].align, 16),
     };
     *number |= 1 << random.between(bits, 63);
-    let before = send.to_vec();
-    let refusal = RawRefusal {
-        number: 26,
-        ..RawRefusal::default()
-    };
-    assert_eq!(build(send, 0, random.u64(), &header, source), (0, refusal));
-    assert!(send == before, "a refused build changed the buffer");
+    header
 }
 
 fn frame(random: &mut Random, record: &FrameRecord, tally: &mut Tally) {
@@ -157,6 +132,7 @@ fn frame(random: &mut Random, record: &FrameRecord, tally: &mut Tally) {
     match answer {
         Err(refusal) => tally.count(kind(refusal.number)),
         Ok(written) => {
+            assert!(written <= record.frame.sum() + FRAME_OVERHEAD as u64);
             let start = queued as usize;
             let wire = &made[start..start + written as usize];
             read_back(random, record, wire);

@@ -1,4 +1,4 @@
-//! Buffers whose surroundings must stay as they are.
+//! Buffers and structs whose surroundings must stay as they are.
 
 use second::random::Random;
 use std::ops::Range;
@@ -16,7 +16,7 @@ pub struct Guarded {
 }
 
 /// Random bytes, eight at a time, since every call needs some.
-fn noise(random: &mut Random, length: u32) -> Vec<u8> {
+pub fn noise(random: &mut Random, length: u32) -> Vec<u8> {
     let words = std::iter::repeat_with(|| random.u64().to_le_bytes());
     words.flatten().take(length as usize).collect()
 }
@@ -52,5 +52,35 @@ impl Guarded {
         assert!(front == self.front, "{what}: bytes in front changed");
         assert!(behind == self.behind, "{what}: bytes behind changed");
         assert!(self.content() == content, "{what}: other bytes than due");
+    }
+}
+
+/// A struct of 64-bit numbers between others.
+#[repr(C)]
+pub struct Framed<T> {
+    front: [u64; 4],
+    pub it: T,
+    behind: [u64; 4],
+}
+
+const AROUND: [u64; 4] = [0xA5A5_0123_4567_89AB; 4];
+
+impl<T> Framed<T> {
+    pub fn new(it: T) -> Self {
+        Self {
+            front: AROUND,
+            it,
+            behind: AROUND,
+        }
+    }
+
+    /// What it is now; the numbers around it must be as they were.
+    pub fn taken_out(self) -> T {
+        let framed = std::hint::black_box(self);
+        assert!(
+            framed.front == AROUND && framed.behind == AROUND,
+            "numbers around a struct changed"
+        );
+        framed.it
     }
 }

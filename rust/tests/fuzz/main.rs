@@ -1,16 +1,24 @@
-//! Generated streams, states and builds, given to the library and to the
-//! independent second program in one process; their answers must be the same.
+//! Every call of the library, given generated streams, states, sessions, requests
+//! and bodies in one process with the independent second program; their answers
+//! must be the same.
 //!
-//! `MAHUIXEN_STREAMS` says how many streams and builds, `MAHUIXEN_SEED` what
-//! they are generated from. `cargo test --release --test fuzz -- --nocapture`
-//! shows how often each kind of answer came up.
+//! `MAHUIXEN_STREAMS` says how many streams and builds, and with them how many of
+//! all else, `MAHUIXEN_SEED` what they are generated from. `cargo test --release
+//! --test fuzz -- --nocapture` shows how often each kind of answer came up.
 
+mod bodies;
 mod builds;
+mod delivered;
 mod guarded;
+mod handshake;
 mod longest;
 mod probes;
 mod rebuilt;
 mod same;
+mod sealed_links;
+mod sealed_states;
+mod sealing;
+mod sessions;
 mod streams;
 mod switches;
 mod tally;
@@ -62,6 +70,13 @@ fn states_put_together() {
         probes::put_together(&mut random, &mut probes);
     }
     probes.expect("calls on states put together", streams(), &probes::KINDS);
+    let mut probes = Tally::default();
+    let states = streams() / 2;
+    for _ in 0..states {
+        probes::put_together_sealed(&mut random, &mut probes);
+    }
+    let kinds = &probes::SEALED_KINDS;
+    probes.expect("calls on sealed states put together", states, kinds);
 }
 
 #[test]
@@ -109,14 +124,87 @@ fn builds() {
 
 #[test]
 fn switched_links() {
+    let mut random = Random::new(seed() ^ 0x5357);
     let mut seen = switches::Seen::default();
-    for record in generate::switching::records(seed(), streams() / 25) {
-        switches::run(&record, &mut seen);
+    let links = streams() / 10;
+    for record in generate::switching::records(seed(), links) {
+        switches::run(&mut random, &record, &mut seen);
     }
-    println!("switched links: {seen:?}");
-    let each = [seen.calls, seen.made, seen.refused, seen.sealed];
-    assert!(
-        streams() < 25_000 || each.iter().all(|count| *count > 100),
-        "{seen:?}"
-    );
+    let calls = &seen.calls;
+    calls.expect("calls on switched links", links, &switches::KINDS);
+    let probes = &seen.probes;
+    probes.expect("calls on changed states of them", links, &probes::KINDS);
+}
+
+#[test]
+fn sealed_links() {
+    let mut random = Random::new(seed() ^ 0x4C4B);
+    for _ in 0..streams() / 500 {
+        sealed_links::run(&mut random);
+    }
+}
+
+#[test]
+fn joined_calls() {
+    let mut random = Random::new(seed() ^ 0x4A43);
+    let mut tally = Tally::default();
+    let links = streams() / 5;
+    for _ in 0..links {
+        delivered::run(&mut random, &mut tally);
+    }
+    tally.expect("joined calls", links, &delivered::KINDS);
+}
+
+#[test]
+fn sealing_and_opening() {
+    let mut random = Random::new(seed());
+    let mut tally = Tally::default();
+    let texts = streams() / 10;
+    for record in generate::sealing::records(seed(), texts) {
+        sealing::run(&mut random, &record, &mut tally);
+    }
+    tally.expect("texts sealed and opened", texts, &sealing::KINDS);
+}
+
+#[test]
+fn sealed_builds() {
+    let mut random = Random::new(seed());
+    let mut tally = Tally::default();
+    let states = streams() / 20;
+    for record in generate::builds::records(seed(), states) {
+        sealing::builds(&mut random, &record, &mut tally);
+    }
+    tally.expect("sealed builds", states, &sealing::BUILD_KINDS);
+}
+
+#[test]
+fn sessions() {
+    let mut random = Random::new(seed());
+    let mut tally = Tally::default();
+    let count = streams() / 10;
+    for record in generate::session::records(seed(), count) {
+        sessions::run(&mut random, &record, &mut tally);
+    }
+    for _ in 0..count {
+        sessions::put_together(&mut random, &mut tally);
+    }
+    tally.expect("calls on sessions", count, &sessions::KINDS);
+}
+
+#[test]
+fn bodies_steps_and_modes() {
+    let mut random = Random::new(seed());
+    let (mut bodies, mut steps) = (Tally::default(), Tally::default());
+    let count = streams() / 5;
+    for record in generate::handshake::records(seed(), count) {
+        match record {
+            Record::Body(record) => bodies::read(&mut random, &record, &mut bodies),
+            Record::Write(record) => bodies::write(&mut random, &record, &mut bodies),
+            Record::Steps(record) => handshake::steps(&mut random, &record, &mut steps),
+            Record::Mode(record) => handshake::modes(&record, &mut steps),
+            _ => unreachable!("not among the records of the handshake"),
+        }
+    }
+    bodies.expect("bodies", count, &bodies::KINDS);
+    steps.expect("steps and modes", count, &handshake::KINDS);
 }

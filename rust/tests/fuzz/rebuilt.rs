@@ -1,6 +1,8 @@
 //! What a state of the library means, by docs/STATE.md: whether it contradicts
-//! itself, and which second receiver is in the same place.
+//! itself, and which second receiver is in the same place. Here those on a crc
+//! link; `sealed_states` has those behind a switch.
 
+use crate::sealed_states;
 use mahuixen::sys::{CrcState, RawHeader, RawRefusal};
 use mahuixen::{Block, Features, Header, Numbers, State};
 use second::banner::{judge_payload_length, Features as SecondFeatures};
@@ -71,7 +73,7 @@ impl From<Fields> for State {
 
 /// The fields of a state on a crc link, unless one of its numbers is beyond its
 /// field.
-pub fn fields(state: &State) -> Option<Fields> {
+fn fields(state: &State) -> Option<Fields> {
     let crc = &state.crc;
     let header = Header::from(crc.header);
     let fields = Fields {
@@ -229,8 +231,8 @@ fn good_block(state: &Fields) -> bool {
     state.block.iter().skip(came).all(|byte| *byte == 0)
 }
 
-/// Whether the state agrees with itself.
-pub fn agrees(state: &State) -> bool {
+/// The fields of a state on a crc link that agrees with itself.
+fn agreeing(state: &State) -> Option<Fields> {
     let rules = [
         good_ready,
         good_own,
@@ -243,7 +245,52 @@ pub fn agrees(state: &State) -> bool {
         good_count,
         good_block,
     ];
-    fields(state).is_some_and(|state| rules.iter().all(|rule| rule(&state)))
+    fields(state).filter(|state| rules.iter().all(|rule| rule(state)))
+}
+
+/// A state that agrees with itself.
+pub enum Meaning {
+    Crc(Fields),
+    Sealed(sealed_states::Fields),
+}
+
+impl Meaning {
+    /// None where the state contradicts itself.
+    pub fn of(state: &State) -> Option<Self> {
+        let crc = || agreeing(state).map(Self::Crc);
+        crc().or_else(|| sealed_states::agreeing(state).map(Self::Sealed))
+    }
+
+    pub fn is_refused(&self) -> bool {
+        match self {
+            Self::Crc(fields) => fields.stage == REFUSED,
+            Self::Sealed(fields) => fields.stage == sealed_states::REFUSED,
+        }
+    }
+
+    /// What the state's frame needs of the store.
+    pub fn needed(&self) -> u64 {
+        match self {
+            Self::Crc(fields) => needed(fields),
+            Self::Sealed(fields) => sealed_states::needed(fields),
+        }
+    }
+
+    /// A second receiver in the same place; the state is live and has its room.
+    pub fn rebuilt(&self, store: &[u8]) -> Receiver {
+        match self {
+            Self::Crc(fields) => rebuilt(fields, store),
+            Self::Sealed(fields) => sealed_states::rebuilt(fields, store),
+        }
+    }
+
+    /// Whether a switch is made: behind a frame of a msgr2.1 stream.
+    pub fn may_switch(&self) -> bool {
+        match self {
+            Self::Crc(fields) => fields.ready == 1 && fields.revision == 1,
+            Self::Sealed(_) => false,
+        }
+    }
 }
 
 /// The bytes of a banner up to where the state is.
@@ -306,7 +353,7 @@ fn banner(state: &Fields) -> Vec<u8> {
 /// A second receiver that was given a stream which leads to this state, with
 /// the store as it is. The state agrees with itself, is not refused, and has
 /// the room it needs: to each such state a stream leads.
-pub fn rebuilt(state: &Fields, store: &[u8]) -> Receiver {
+fn rebuilt(state: &Fields, store: &[u8]) -> Receiver {
     let stream = match state.stage {
         0..PREAMBLE => banner_so_far(state),
         _ => [banner(state), frame_so_far(state, store)].concat(),
@@ -329,7 +376,7 @@ pub fn rebuilt(state: &Fields, store: &[u8]) -> Receiver {
 }
 
 /// What a live receiver that has a body under way needs of the store.
-pub fn needed(state: &Fields) -> u64 {
+fn needed(state: &Fields) -> u64 {
     if in_body(state) {
         state.header.total()
     } else {

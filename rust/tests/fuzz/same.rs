@@ -1,7 +1,7 @@
 //! The second program's values as the library has them.
 
-use mahuixen::sys::{RawRefusal, RawReport};
-use mahuixen::{Features, Header, Report, Revision, Segment};
+use mahuixen::sys::{Built, RawRefusal, RawReport};
+use mahuixen::{Features, Header, Refusal, Report, Revision, Segment};
 use second::frame::Frame;
 
 pub fn features(features: second::banner::Features) -> Features {
@@ -95,7 +95,7 @@ pub fn tells(report: &Report, expected: &second::report::Report) -> bool {
     }
 }
 
-/// The kinds that [`kind`] tells apart.
+/// The kinds that [`kind`] tells apart on a crc link.
 pub const KINDS: [&str; 20] = [
     "more",
     "banner msgr2.0",
@@ -103,6 +103,25 @@ pub const KINDS: [&str; 20] = [
     "frame",
     "dropped",
     "segment 1 early",
+    REFUSED[1],
+    REFUSED[2],
+    REFUSED[3],
+    REFUSED[4],
+    REFUSED[5],
+    REFUSED[6],
+    REFUSED[7],
+    REFUSED[8],
+    REFUSED[9],
+    REFUSED[10],
+    REFUSED[11],
+    REFUSED[12],
+    REFUSED[16],
+    REFUSED[24],
+];
+
+/// Each refusal at its number.
+pub const REFUSED: [&str; 28] = [
+    "not refused",
     "refused 1",
     "refused 2",
     "refused 3",
@@ -115,18 +134,63 @@ pub const KINDS: [&str; 20] = [
     "refused 10",
     "refused 11",
     "refused 12",
+    "refused 13",
+    "refused 14",
+    "refused 15",
     "refused 16",
+    "refused 17",
+    "refused 18",
+    "refused 19",
+    "refused 20",
+    "refused 21",
+    "refused 22",
+    "refused 23",
     "refused 24",
+    "refused 25",
+    "refused 26",
+    "refused 27",
 ];
 
 pub fn kind(report: &RawReport) -> &'static str {
-    match (report.kind, report.refusal.number) {
-        (0, _) => KINDS[0],
-        (1, _) => KINDS[1 + report.revision as usize],
-        (2 | 3, _) => KINDS[1 + report.kind as usize],
-        (5, _) => KINDS[5],
-        (_, 16) => KINDS[18],
-        (_, 24) => KINDS[19],
-        (_, number) => KINDS[5 + number as usize],
+    match report.kind {
+        0 => KINDS[0],
+        1 => KINDS[1 + report.revision as usize],
+        2 | 3 => KINDS[1 + report.kind as usize],
+        5 => KINDS[5],
+        _ => REFUSED[report.refusal.number as usize],
     }
 }
+
+/// The crate's answer of a call that writes, in bare numbers.
+pub fn bare(built: Result<usize, Refusal>) -> Built {
+    match built {
+        Ok(written) => (written as u64, RawRefusal::default()),
+        Err(refusal) => {
+            let [first, second, third] = refusal.details();
+            let number = refusal.number().into();
+            let refusal = RawRefusal {
+                number,
+                first,
+                second,
+                third,
+            };
+            (0, refusal)
+        }
+    }
+}
+
+/// The second program's answer of such a call.
+pub fn built(answer: Result<u64, second::refusal::Refusal>) -> Built {
+    match answer {
+        Ok(written) => (written, RawRefusal::default()),
+        Err(refusal) => (0, numbers(refusal)),
+    }
+}
+
+/// 26, which has no details.
+pub const CONTRADICTS: RawRefusal = RawRefusal {
+    number: 26,
+    first: 0,
+    second: 0,
+    third: 0,
+};

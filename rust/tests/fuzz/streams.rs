@@ -1,6 +1,6 @@
 //! A generated stream and its calls, answered by both receivers.
 
-use crate::guarded::Guarded;
+use crate::guarded::{Framed, Guarded};
 use crate::tally::Tally;
 use crate::{probes, same};
 use mahuixen::sys::{self, RawReport};
@@ -68,7 +68,9 @@ impl Library {
                 assert_eq!(received.taken, taken);
             }
             Self::Bare(state) => {
-                let report = sys::receive(state, piece, store);
+                let mut framed = Framed::new(*state);
+                let report = sys::receive(&mut framed.it, piece, store);
+                *state = framed.taken_out();
                 assert_eq!(report, same::raw(taken, expected));
             }
         }

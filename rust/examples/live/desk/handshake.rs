@@ -126,7 +126,7 @@ impl Desk {
                 );
                 self.send_again(link)
             }
-            (tag::SESSION_RESET, Effect::Done) => {
+            (_, Effect::Reset) => {
                 println!("  got reset; {}", self.held()?);
                 self.start_over(link)
             }

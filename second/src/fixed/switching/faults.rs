@@ -28,7 +28,15 @@ fn bits() -> Vec<Record> {
 /// Each byte of each padding, behind a good tag, of whole and aborted frames.
 fn paddings() -> Vec<Record> {
     let mut records = Vec::new();
-    let shapes: [&[u32]; 6] = [&[0], &[20], &[60], &[5, 3], &[60, 5, 0, 17], &[47, 16]];
+    let shapes: [&[u32]; 7] = [
+        &[0],
+        &[20],
+        &[60],
+        &[5, 3],
+        &[60, 5, 0, 17],
+        &[2, 1, 17, 3],
+        &[47, 16],
+    ];
     for lengths in shapes {
         let mut frames = vec![sealed(lengths)];
         if lengths.len() > 1 {

@@ -2,7 +2,6 @@
 //! however they are cut, and a sealed ack releases what it covers and nothing
 //! before it is whole.
 
-use crate::CASES;
 use mahuixen::{build_banner, build_frame, tag, Effect, Features, Header, Message};
 use mahuixen::{Receiver, Refusal, Report, Revision, Segment, Sending, Session};
 use second::random::Random;
@@ -34,53 +33,47 @@ fn switched(key: [u8; 16], nonces: [[u8; 12]; 2]) -> [(Receiver, Sending); 2] {
     })
 }
 
-#[test]
-fn what_is_sealed_comes_back() {
-    let mut random = Random::new(41);
-    let mut frames = 0;
-    for _ in 0..CASES / 20 {
-        let key = bytes(&mut random);
-        let nonces = [bytes(&mut random), bytes(&mut random)];
-        let [(_, mut sending), (mut receiver, _)] = switched(key, nonces);
-        let mut store = [0; 600];
-        for _ in 0..4 {
-            let used: Vec<Segment> = (0..random.between(1, 4))
-                .map(|_| Segment::new(random.between(1, 120), 8))
-                .collect();
-            let header = Header::new(random.between(1, 20) as u8, &used);
-            let source = random.bytes(header.total() as u32);
-            let abort = used.len() > 1 && random.once_in(4);
-            let mut wire = [0; 900];
-            let length = if abort {
-                sending.abort(&mut wire, 0, &header, &source)
-            } else {
-                sending.build(&mut wire, 0, &header, &source)
-            }
-            .expect("a sealed build");
-            let mut at = 0;
-            while at < length {
-                let size = random.between(0, 200) as usize;
-                let piece = &wire[at..length.min(at + size)];
-                let received = receiver.receive(piece, &mut store);
-                at += received.taken;
-                let due = match (at == length && received.taken > 0, abort) {
-                    (false, _) => Report::More,
-                    (true, false) => Report::Frame(header),
-                    (true, true) => Report::Dropped(header),
-                };
-                assert_eq!(received.report, due);
-            }
-            if !abort {
-                assert_eq!(&store[..source.len()], source);
-            }
-            frames += 1;
+/// What is sealed comes back.
+pub fn run(random: &mut Random) {
+    let key = bytes(random);
+    let nonces = [bytes(random), bytes(random)];
+    let [(_, mut sending), (mut receiver, _)] = switched(key, nonces);
+    let mut store = [0; 600];
+    for _ in 0..4 {
+        let used: Vec<Segment> = (0..random.between(1, 4))
+            .map(|_| Segment::new(random.between(1, 120), 8))
+            .collect();
+        let header = Header::new(random.between(1, 20) as u8, &used);
+        let source = random.bytes(header.total() as u32);
+        let abort = used.len() > 1 && random.once_in(4);
+        let mut wire = [0; 900];
+        let length = if abort {
+            sending.abort(&mut wire, 0, &header, &source)
+        } else {
+            sending.build(&mut wire, 0, &header, &source)
         }
-        // What is not sealed with the next nonce is refused, and stays so.
-        let damaged = receiver.receive(&[7; 96], &mut store).report;
-        assert_eq!(damaged, Report::Refused(Refusal::AuthTag));
-        assert_eq!(receiver.receive(&[], &mut store).report, damaged);
+        .expect("a sealed build");
+        let mut at = 0;
+        while at < length {
+            let size = random.between(0, 200) as usize;
+            let piece = &wire[at..length.min(at + size)];
+            let received = receiver.receive(piece, &mut store);
+            at += received.taken;
+            let due = match (at == length && received.taken > 0, abort) {
+                (false, _) => Report::More,
+                (true, false) => Report::Frame(header),
+                (true, true) => Report::Dropped(header),
+            };
+            assert_eq!(received.report, due);
+        }
+        if !abort {
+            assert_eq!(&store[..source.len()], source);
+        }
     }
-    assert_eq!(frames, CASES / 5);
+    // What is not sealed with the next nonce is refused, and stays so.
+    let damaged = receiver.receive(&[7; 96], &mut store).report;
+    assert_eq!(damaged, Report::Refused(Refusal::AuthTag));
+    assert_eq!(receiver.receive(&[], &mut store).report, damaged);
 }
 
 #[test]
@@ -109,7 +102,7 @@ fn a_sealed_ack_releases_when_it_is_whole() {
             })
         );
         let (last, effect) = receiver.deliver(&mut session, &wire[cut..], &mut store);
-        assert_eq!((last.report, effect), (Report::Frame(ack), Effect::Done));
+        assert_eq!((last.report, effect), (Report::Frame(ack), Effect::Acked));
         assert_eq!(
             held(&session),
             Some(Message {
