@@ -376,7 +376,8 @@ typedef struct mahuixen_span {
     uint64_t len;
 } mahuixen_span;
 
-/* What a body says; all that its kind does not use is 0. */
+/* What a body says; all that its kind does not use is 0. Lists and bytes lie within the segment that was read; an empty one has its place too,
+ * which may be the segment's end. */
 typedef struct mahuixen_body {
     uint64_t kind;
     uint64_t numbers[7]; /* by the places above */
@@ -623,8 +624,8 @@ uint64_t mahuixen_pick_mode(const uint32_t *preferred, uint64_t preferred_count,
                             uint64_t allowed_count);
 
 /* Reads the body of a control frame, its one segment, by the frame's tag: writes the whole body and answers its kind.
- * MAHUIXEN_BODY_REFUSED, with refusal 20, for one that is not of its tag, or a tag that has none (7, 13, 14, 16, 17 and
- * all above 20), and with 26 for a tag above 255. */
+ * MAHUIXEN_BODY_REFUSED, with refusal 20, for one that is not of its tag, or a tag that has none (0, 7, 13, 14, 16, 17
+ * and 21 to 255), and with 26 for a tag above 255. */
 uint64_t mahuixen_read_body(uint64_t tag, const uint8_t *segment, uint64_t segment_len, mahuixen_body *body);
 
 /*

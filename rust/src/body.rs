@@ -132,7 +132,7 @@ fn list(segment: &[u8], RawList { at, count }: RawList) -> List<'_> {
 /// # Errors
 ///
 /// [`Refusal::BodyMalformed`] for one that is not of its tag, or a tag that has
-/// none: 7, 13, 14, 16, 17 and all above 20.
+/// none: 0, 7, 13, 14, 16, 17 and all above 20.
 ///
 /// ```
 /// use mahuixen::{read_body, tag, Body, Refusal};
@@ -150,7 +150,7 @@ fn list(segment: &[u8], RawList { at, count }: RawList) -> List<'_> {
 /// # Ok::<(), Refusal>(())
 /// ```
 pub fn read_body(tag: u8, segment: &[u8]) -> Result<Body<'_, List<'_>>, Refusal> {
-    let raw = sys::read_body(tag.into(), segment);
+    let (_, raw) = sys::read_body(tag.into(), segment);
     let RawSpan { at, len } = raw.bytes;
     let bytes = part(segment, at, len);
     let [a, b, c, d, e, f, g] = raw.numbers;

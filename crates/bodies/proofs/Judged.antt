@@ -16,15 +16,15 @@ use Rattle.buffer.proofs.Numbers.{leOf-le, length-le}
 use Rattle.preamble.specs.Judge.{segmentLimit}
 use Rattle.fields.specs.declared.Cursor.{Cursor}
 use Rattle.fields.specs.Layout.{Kind, num, neg, list, size, rest, plain, good, fault, past, stepOf}
-use Rattle.fields.specs.Field.{Field, number, negative, numbers, sized, opaque, fixed, kindOf, words, wordsOf, fieldBytes, Fits}
+use Rattle.fields.specs.Field.{Field, number, negative, numbers, sized, opaque, fixed, kindOf, words, wordsOf, fieldBytes, fieldAt, Fits}
 use Rattle.fields.specs.Writing.{sound, faultIn}
 use Rattle.bodies.specs.declared.Request.{Request}
 use Rattle.bodies.specs.declared.Request.the-variants as request
 use Rattle.bodies.specs.Rows.{requested}
-use Rattle.bodies.specs.Read.{run, Answer, whole, malformed, settled, readOf, Took}
+use Rattle.bodies.specs.Read.{run, fieldsOf, Answer, whole, malformed, settled, readOf}
 use Rattle.bodies.specs.Write.{kindsOf, bytesOf}
 use Rattle.bodies.specs.Claims.{AllFit, none, one}
-use Rattle.bodies.proofs.Rows.{Row, step, end, row-read}
+use Rattle.bodies.proofs.Rows.{stuck}
 
 -- the first fault
 unfoldable pub judge : List Field → ℕ → Cursor
@@ -57,6 +57,24 @@ closed-request (request.Number n) ms ns bs = cons tt nil
 closed-request (request.Reset n) ms ns bs = cons tt nil
 closed-request request.Stamp ms ns bs = cons refl nil
 
+-- ---- fields that stand, one behind the other: they read as their layout says
+
+record Holds (k : Kind) (s : List ℕ) (c : Cursor) (f : Field) (d : Cursor) : Type 0 where
+  next : d ≡ stepOf k s c
+  value : f ≡ fieldAt k s (c .at)
+
+data Row (s : List ℕ) : Cursor → List Kind → List Field → Cursor → Type 0 where
+  end : {c : Cursor} → Row s c [] [] c
+  step : {k : Kind} {c d e : Cursor} {f : Field} {ks : List Kind} {fs : List Field} → Holds k s c f d → Row s d ks fs e → Row s c (k ∷ ks) (f ∷ fs) e
+
+row-run : {s : List ℕ} {c e : Cursor} {ks : List Kind} {fs : List Field} → Row s c ks fs e → run ks s c ≡ e
+row-run end = refl
+row-run (step t r) = rw (← (t .next)) (row-run r)
+
+row-fields : {s : List ℕ} {c e : Cursor} {ks : List Kind} {fs : List Field} → Row s c ks fs e → fieldsOf ks s c ≡ fs
+row-fields end = refl
+row-fields (step {f = f} t r) = rw (← (t .next), ← (t .value)) (ap (λ (l : List Field). f ∷ l) (row-fields r))
+
 -- ---- a field that stands behind pre and before post
 
 number-there : (w n : ℕ) (pre post : List ℕ) → n < 256 ^ w → numberAt w (length pre) (pre ++ (le w n ++ post)) ≡ n
@@ -82,19 +100,19 @@ module _ (pre post : List ℕ) where
   passes w xs e = rw (le-leb w (length (pre ++ (xs ++ post)) - length pre) (let r = room pre xs post in omega arith), e)
 
   -- each kind: a sound field is there, and the cursor goes behind its bytes
-  took-number : (w n : ℕ) → n < 256 ^ w → Took (num w) (pre ++ (le w n ++ post)) (good (length pre)) (number w n) (good (length pre + length (le w n)))
+  took-number : (w n : ℕ) → n < 256 ^ w → Holds (num w) (pre ++ (le w n ++ post)) (good (length pre)) (number w n) (good (length pre + length (le w n)))
   unfolding stepOf
-  took-number w n h = record { next = passes w (le w n) (length-le w n); value = λ _. ap (number w) (sym (number-there w n pre post h)) }
+  took-number w n h = record { next = passes w (le w n) (length-le w n); value = ap (number w) (sym (number-there w n pre post h)) }
 
-  took-negative : (n : ℕ) → 2147483648 ≤ n → n < 4294967296 → Took neg (pre ++ (le 4 n ++ post)) (good (length pre)) (negative n) (good (length pre + length (le 4 n)))
+  took-negative : (n : ℕ) → 2147483648 ≤ n → n < 4294967296 → Holds neg (pre ++ (le 4 n ++ post)) (good (length pre)) (negative n) (good (length pre + length (le 4 n)))
   unfolding stepOf
   took-negative n h k =
       record {
         next = rw (number-there 4 n pre post k, le-ltb n 2147483648 h) (passes 4 (le 4 n) refl);
-        value = λ _. ap negative (sym (number-there 4 n pre post k));
+        value = ap negative (sym (number-there 4 n pre post k));
       }
 
-  took-numbers : (ns : List ℕ) → length ns ≤ 32 → ((i : ℕ) → i < length ns → getD ns i 0 < 4294967296) → Took list (pre ++ ((le 4 (length ns) ++ words ns) ++ post)) (good (length pre)) (numbers ns) (good (length pre + length (le 4 (length ns) ++ words ns)))
+  took-numbers : (ns : List ℕ) → length ns ≤ 32 → ((i : ℕ) → i < length ns → getD ns i 0 < 4294967296) → Holds list (pre ++ ((le 4 (length ns) ++ words ns) ++ post)) (good (length pre)) (numbers ns) (good (length pre + length (le 4 (length ns) ++ words ns)))
   unfolding stepOf
   took-numbers ns h k =
       let xs : List ℕ = le 4 (length ns) ++ words ns in
@@ -102,20 +120,20 @@ module _ (pre post : List ℕ) where
       let e : length xs ≡ 4 + 4 * length ns = let w = length-words ns in omega arith in
       record {
         next = rw (n, le-ltb 32 (length ns) h, le-leb (4 + 4 * length ns) (length (pre ++ (xs ++ post)) - length pre) (let r = room pre xs post in omega arith), e);
-        value = λ _. rw (n, drop-append-add pre (xs ++ post) 4) (ap numbers (sym (words-there ns post k)));
+        value = rw (n, drop-append-add pre (xs ++ post) 4) (ap numbers (sym (words-there ns post k)));
       }
 
-  took-sized : (bs : List ℕ) → length bs < 4294967296 → Took size (pre ++ ((le 4 (length bs) ++ bs) ++ post)) (good (length pre)) (sized bs) (good (length pre + length (le 4 (length bs) ++ bs)))
+  took-sized : (bs : List ℕ) → length bs < 4294967296 → Holds size (pre ++ ((le 4 (length bs) ++ bs) ++ post)) (good (length pre)) (sized bs) (good (length pre + length (le 4 (length bs) ++ bs)))
   unfolding stepOf
   took-sized bs h =
       let xs : List ℕ = le 4 (length bs) ++ bs in
       let n = number-there 4 (length bs) pre (bs ++ post) h in
       record {
         next = rw n (passes (4 + length bs) xs (omega arith));
-        value = λ _. rw (n, drop-append-add pre (xs ++ post) 4) (ap sized (sym (take-at bs post (length bs) refl)));
+        value = rw (n, drop-append-add pre (xs ++ post) 4) (ap sized (sym (take-at bs post (length bs) refl)));
       }
 
-  took-opaque : (k : ℕ) (bs : List ℕ) → length post ≡ k → Took (rest k) (pre ++ (bs ++ post)) (good (length pre)) (opaque k bs) (good (length pre + length bs))
+  took-opaque : (k : ℕ) (bs : List ℕ) → length post ≡ k → Holds (rest k) (pre ++ (bs ++ post)) (good (length pre)) (opaque k bs) (good (length pre + length bs))
   unfolding stepOf
   took-opaque k bs e =
       let r = room pre bs post in
@@ -123,12 +141,12 @@ module _ (pre post : List ℕ) where
       let b : length (pre ++ (bs ++ post)) - k - length pre ≡ length bs = omega arith in
       record {
         next = rw (le-leb k (length (pre ++ (bs ++ post)) - length pre) (omega arith), a);
-        value = λ _. rw (b, drop-append-seam pre (bs ++ post)) (ap (opaque k) (sym (take-at bs post (length bs) refl)));
+        value = rw (b, drop-append-seam pre (bs ++ post)) (ap (opaque k) (sym (take-at bs post (length bs) refl)));
       }
 
-  took-fixed : (w : ℕ) (bs : List ℕ) → length bs ≡ w → Took (plain w) (pre ++ (bs ++ post)) (good (length pre)) (fixed w bs) (good (length pre + length bs))
+  took-fixed : (w : ℕ) (bs : List ℕ) → length bs ≡ w → Holds (plain w) (pre ++ (bs ++ post)) (good (length pre)) (fixed w bs) (good (length pre + length bs))
   unfolding stepOf
-  took-fixed w bs e = record { next = passes w bs e; value = λ _. rw (drop-append-seam pre (bs ++ post)) (ap (fixed w) (sym (take-at bs post w e))) }
+  took-fixed w bs e = record { next = passes w bs e; value = rw (drop-append-seam pre (bs ++ post)) (ap (fixed w) (sym (take-at bs post w e))) }
 
   -- one that is not sound fails
   negative-fails : (n : ℕ) → n < 2147483648 → stepOf neg (pre ++ (le 4 n ++ post)) (good (length pre)) ≡ fault (length pre)
@@ -147,7 +165,7 @@ module _ (pre post : List ℕ) where
   unfolding stepOf
   fixed-long w bs h = rw (le-leb w (length (pre ++ (bs ++ post)) - length pre) (let r = room pre bs post in omega arith))
 
-took : (f : Field) (fs : List Field) (pre : List ℕ) → Fits f → sound f ≡ true → Closes f fs → length (fieldBytes f) ≤ segmentLimit → Took (kindOf f) (pre ++ (fieldBytes f ++ bytesOf fs)) (good (length pre)) f (good (length pre + length (fieldBytes f)))
+took : (f : Field) (fs : List Field) (pre : List ℕ) → Fits f → sound f ≡ true → Closes f fs → length (fieldBytes f) ≤ segmentLimit → Holds (kindOf f) (pre ++ (fieldBytes f ++ bytesOf fs)) (good (length pre)) f (good (length pre + length (fieldBytes f)))
 unfolding Fits Closes
 took (number w n) fs pre h s k l = took-number pre (bytesOf fs) w n h
 took (negative n) fs pre h s k l = took-negative pre (bytesOf fs) n (leb-true 2147483648 n s) h
@@ -158,12 +176,7 @@ took (fixed w bs) fs pre h s k l = took-fixed pre (bytesOf fs) w bs (eqb-true (l
 
 -- ---- the fault
 
-stuck : (ks : List Kind) (s : List ℕ) (n : ℕ) → run ks s (fault n) ≡ fault n
-unfolding stepOf
-stuck [] s n = refl
-stuck (k ∷ ks) s n = stuck ks s n
-
-pub settles : (s : List ℕ) (ks : List Kind) (c : Cursor) (n m : ℕ) (a : Answer) → c ≡ fault n → n ≡ m → settled s (run ks s c) a ≡ malformed m
+settles : (s : List ℕ) (ks : List Kind) (c : Cursor) (n m : ℕ) (a : Answer) → c ≡ fault n → n ≡ m → settled s (run ks s c) a ≡ malformed m
 unfolding settled
 settles s ks c n m a e f = rw (e, stuck ks s n, f)
 
@@ -241,4 +254,8 @@ read-judged fs x y l = go (judge fs 0 .failed) refl
   where
     go : (b : Bool) → judge fs 0 .failed ≡ b → readOf (kindsOf fs) (bytesOf fs) ≡ cond (judge fs 0 .failed) (malformed (judge fs 0 .at)) (whole fs)
     go true t = rw t (stops (bytesOf fs) fs [] x y refl l t _)
-    go false t = rw t (sym (row-read refl (rows (bytesOf fs) fs [] x y refl l t) (rw (eq-eqb (length (bytesOf fs)) (length (bytesOf fs)) refl))))
+    go false t =
+        let r = rows (bytesOf fs) fs [] x y refl l t in
+        let a : run (kindsOf fs) (bytesOf fs) (good 0) ≡ good (length (bytesOf fs)) = row-run r in
+        let b : fieldsOf (kindsOf fs) (bytesOf fs) (good 0) ≡ fs = row-fields r in
+        rw (t, a, b, eq-eqb (length (bytesOf fs)) (length (bytesOf fs)) refl)

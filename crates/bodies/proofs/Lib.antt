@@ -1,4 +1,5 @@
 pub mod Rows
+pub mod Made
 pub mod Tags
 pub mod Judged
 pub mod Drafted

@@ -1,10 +1,11 @@
 -- The worked bodies at the limit of a segment.
-use mathlib.Core.Path.{_≡_, refl, _∙_}
+use mathlib.Core.Path.{_≡_, refl, sym, _∙_}
 use mathlib.Core.List.{List, [], _∷_, _++_, append-nil}
-use Prim.Native.Nat.{ℕ, _+_, _≤_, _<_}
+use Prim.Native.Nat.{ℕ, _+_, _-_, _≤_, _<_}
 use native.Mathlib.Omega.{arith}
 use borrow.Author.Tests.{lt-leb, le-ltb}
-use lib.ListN.{length, length-append}
+use lib.ListN.{length, take, length-append}
+use lib.Seq.{take-all}
 use Rattle.buffer.specs.Le.{le, numberAt}
 use Rattle.preamble.specs.Judge.{segmentLimit}
 use Rattle.refusal.specs.Refusals.{row}
@@ -21,7 +22,9 @@ use Rattle.bodies.proofs.ByTags.{reads-as}
 
 hello-read : (bs : List ℕ) → 1 + length bs ≤ segmentLimit → readBody 1 (8 ∷ bs) ≡ whole (helloOf 8 bs)
 unfolding bodyOf tagBody helloBody numberAt
-hello-read bs h = reads-as (8 ∷ bs) 1 ∙ rw (le-ltb segmentLimit (length (8 ∷ bs)) (omega arith), le-ltb (length (8 ∷ bs)) 1 (omega arith))
+hello-read bs h =
+    let e : take (length (8 ∷ bs) - 1) bs ≡ bs = take-all (length (8 ∷ bs) - 1) bs (omega arith) in
+    sym (reads-as (8 ∷ bs) 1) ∙ rw (le-ltb segmentLimit (length (8 ∷ bs)) (omega arith), le-ltb (length (8 ∷ bs)) 1 (omega arith), e)
 
 hello-bytes : (bs : List ℕ) → bytesOf (helloOf 8 bs) ≡ 8 ∷ bs
 unfolding bytesOf

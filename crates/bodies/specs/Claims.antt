@@ -15,10 +15,14 @@ use Rattle.bodies.specs.declared.Written.{Written}
 use Rattle.bodies.specs.declared.Written.the-variants as written
 use Rattle.bodies.specs.Rows.{requested}
 use Rattle.bodies.specs.Read.{whole, readBody, answerOf}
+use Rattle.bodies.specs.ByTag.{bodyOf}
 use Rattle.bodies.specs.Write.{bytesOf, done, outcomeOf, writeBody, writes}
 
 -- THE PROMISE of `read`
 pub record Reads (tag : ℕ) (s : List ℕ) (b : Body) : Type 0 where
+  -- its numbers, and the places of its lists and bytes
+  pub body : b ≡ bodyOf tag s
+  -- what stands there
   pub answer : answerOf s b ≡ readBody tag s
 
 pub data AllFit : List Field → Type 0 where

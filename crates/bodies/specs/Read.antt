@@ -11,7 +11,7 @@ use Rattle.refusal.specs.declared.Refusal.the-variants.{BodyMalformed}
 use Rattle.refusal.specs.Refusals.{numbersOf}
 use Rattle.fields.specs.declared.Cursor.{Cursor}
 use Rattle.fields.specs.Layout.{Kind, good, stepOf}
-use Rattle.fields.specs.Field.{Field, fieldAt}
+use Rattle.fields.specs.Field.{Field, fieldAt, Place, placeAt}
 use Rattle.fields.specs.Reading.{spanIn, numbersIn}
 use Rattle.bodies.specs.declared.Body.{Body}
 use Rattle.bodies.specs.declared.Body.the-variants as body
@@ -66,6 +66,14 @@ answerOf s (body.Refused r) = refused (numbersOf r)
 -- ---- as the code goes
 
 -- a field of a row that goes on behind a fault: what it reads there tells nothing
-pub record Took (k : Kind) (s : List ℕ) (c : Cursor) (f : Field) (d : Cursor) : Type 0 where
+pub record Took (k : Kind) (s : List ℕ) (c : Cursor) (f : Field) (p : Place) (d : Cursor) : Type 0 where
   pub next : d ≡ stepOf k s c
   pub value : d .failed ≡ false → f ≡ fieldAt k s (c .at)
+  pub place : d .failed ≡ false → p ≡ placeAt k s (c .at)
+
+abbrev pub malformedBody : ℕ → Body
+malformedBody at = body.Refused (BodyMalformed at)
+
+-- the body, unless a field failed or a byte is left over
+unfoldable pub settledBody : List ℕ → Cursor → Body → Body
+settledBody s c b = cond (c .failed) (malformedBody (c .at)) (cond (eqb (c .at) (length s)) b (malformedBody (c .at)))

@@ -5,11 +5,15 @@ use Prim.Native.Nat.{ℕ}
 use lib.ListN.{length, replicate}
 use Rattle.buffer.specs.Le.{le}
 use Rattle.refusal.specs.Refusals.{row}
-use Rattle.fields.specs.Field.{Field}
+use Rattle.refusal.specs.declared.Refusal.the-variants.{BodyMalformed}
+use Rattle.fields.specs.Field.{Field, numbersFrom, bytesFrom}
+use Rattle.bodies.specs.declared.Body.{Body}
+use Rattle.bodies.specs.declared.Body.the-variants as body
 use Rattle.bodies.specs.declared.Ident.{Ident}
 use Rattle.bodies.specs.declared.Reconnect.{Reconnect}
 use Rattle.bodies.specs.Rows.{helloOf, authRequestOf, badMethodOf, moreOf, authDoneOf, identOf, reconnectOf, oneNumberOf, resetOf, stampOf}
 use Rattle.bodies.specs.Read.{Answer, whole, refused, readBody}
+use Rattle.bodies.specs.ByTag.{bodyOf}
 use Rattle.bodies.specs.Write.{Outcome, wrote, turnedAway, Done, done, writeBody}
 
 abbrev zeros : ℕ → List ℕ
@@ -139,6 +143,55 @@ abbrev pub AllRead : List Reading → Type 0
 AllRead [] = Unit {0}
 AllRead (x ∷ xs) = (readBody (x .tag) (x .bytes) ≡ x .answer) × AllRead xs
 
+-- ---- places
+
+pub record Placing : Type 0 where
+  pub tag : ℕ
+  pub bytes : List ℕ
+  pub body : Body
+
+abbrev places : ℕ → List ℕ → Body → Placing
+places tag bytes b = record { tag = tag; bytes = bytes; body = b }
+
+unfoldable pub placings : List Placing
+placings =
+    -- to the end
+    places 1 (8 ∷ 1 ∷ 2 ∷ 3 ∷ []) (body.Hello 8 (bytesFrom 1 3))
+    ∷ places 1 (8 ∷ []) (body.Hello 8 (bytesFrom 1 0))
+    ∷ places 6 (le 8 4107 ++ le 4 1 ++ 9 ∷ 9 ∷ []) (body.AuthDone 4107 1 (bytesFrom 12 2))
+    ∷ places 6 (le 8 4107 ++ le 4 1) (body.AuthDone 4107 1 (bytesFrom 12 0))
+    -- a list stands behind its count, which counts numbers; what follows stands behind the last of them
+    ∷ places 2 (le 4 2 ++ le 4 2 ++ le 4 1 ++ le 4 2 ++ 9 ∷ []) (body.AuthRequest 2 (numbersFrom 8 2) (bytesFrom 16 1))
+    ∷ places 2 (le 4 1 ++ le 4 0) (body.AuthRequest 1 (numbersFrom 8 0) (bytesFrom 8 0))
+    ∷ places 2 (le 4 1 ++ le 4 2 ++ le 4 1 ++ le 4 2) (body.AuthRequest 1 (numbersFrom 8 2) (bytesFrom 16 0))
+    ∷ places 2 (le 4 1 ++ le 4 0 ++ 9 ∷ 9 ∷ []) (body.AuthRequest 1 (numbersFrom 8 0) (bytesFrom 8 2))
+    ∷ places 3 (le 4 1 ++ le 4 4294967201 ++ le 4 1 ++ le 4 2 ++ le 4 2 ++ le 4 1 ++ le 4 2) (body.BadMethod 1 4294967201 (numbersFrom 12 1) (numbersFrom 20 2))
+    ∷ places 3 (le 4 1 ++ le 4 2147483648 ++ le 4 0 ++ le 4 0) (body.BadMethod 1 2147483648 (numbersFrom 12 0) (numbersFrom 16 0))
+    ∷ places 3 (le 4 1 ++ le 4 2147483648 ++ le 4 0 ++ le 4 1 ++ le 4 2) (body.BadMethod 1 2147483648 (numbersFrom 12 0) (numbersFrom 16 1))
+    ∷ places 3 (le 4 1 ++ le 4 2147483648 ++ le 4 1 ++ le 4 2 ++ le 4 0) (body.BadMethod 1 2147483648 (numbersFrom 12 1) (numbersFrom 20 0))
+    -- a payload stands behind its length, which does not count itself
+    ∷ places 4 (le 4 3 ++ 7 ∷ 8 ∷ 9 ∷ []) (body.More (bytesFrom 4 3))
+    ∷ places 4 (le 4 0) (body.More (bytesFrom 4 0))
+    ∷ places 5 (le 4 0) (body.More (bytesFrom 4 0))
+    -- blocks end where the closing fields begin
+    ∷ places 8 (2 ∷ 1 ∷ 0 ∷ 0 ∷ 0 ∷ 6 ∷ closing48) (body.Identity 258 (bytesFrom 4 2) identity)
+    ∷ places 9 (le 4 0 ++ closing48) (body.Identity 0 (bytesFrom 4 0) identity)
+    ∷ places 8 (le 4 1 ++ closing48) (body.Identity 1 (bytesFrom 4 0) identity)
+    ∷ places 11 (le 4 1 ++ 6 ∷ closing40) (body.Resume 1 (bytesFrom 4 1) resumed)
+    ∷ places 11 (le 4 1 ++ closing40) (body.Resume 1 (bytesFrom 4 0) resumed)
+    ∷ places 18 (208 ∷ 201 ∷ 249 ∷ 106 ∷ 169 ∷ 238 ∷ 149 ∷ 11 ∷ []) (body.Stamp (bytesFrom 0 8))
+    ∷ places 19 (zeros 8) (body.Stamp (bytesFrom 0 8))
+    -- nothing has a place
+    ∷ places 20 (le 8 5) (body.Number 5)
+    ∷ places 12 (255 ∷ []) (body.Reset 255)
+    ∷ places 4 (le 4 4 ++ 7 ∷ 8 ∷ 9 ∷ []) (body.Refused (BodyMalformed 0))
+    ∷ places 5 (le 4 1 ++ 1 ∷ 2 ∷ []) (body.Refused (BodyMalformed 5))
+    ∷ []
+
+abbrev pub AllPlaced : List Placing → Type 0
+AllPlaced [] = Unit {0}
+AllPlaced (x ∷ xs) = (bodyOf (x .tag) (x .bytes) ≡ x .body) × AllPlaced xs
+
 -- ---- writing
 
 pub record Writing : Type 0 where
@@ -201,4 +254,4 @@ AtLimit =
     × ((bs out : List ℕ) → length bs ≡ 1048437 → writeBody 2 (authRequestOf 1 (zeros 33) bs) out ≡ done (turnedAway (row 20 0 0 0)) out)
 
 unfoldable pub Worked : Type 0
-Worked = AllRead readings × AllWritten writings × AtLimit
+Worked = AllRead readings × AllPlaced placings × AllWritten writings × AtLimit

@@ -33,15 +33,14 @@ ghost use mathlib.Core.Path.{_≡_};
 ghost use Prim.Native.Nat.{_<_};
 ghost use Rattle.preamble.specs.Judge.{segmentLimit};
 ghost use Rattle.fields.specs.Layout.{num, neg, list, size, rest, plain};
-ghost use Rattle.fields.specs.Field.{number, negative, numbers, sized, opaque, fixed};
+ghost use Rattle.fields.specs.Field.{number, negative, numbers, sized, opaque, fixed, nowhere, numbersAt, bytesAt};
 ghost use Rattle.fields.specs.Reading.{numbersIn, spanIn};
 ghost use Rattle.fields.specs.Writing.{empty};
-ghost use Rattle.bodies.specs.Table.{layoutOf, hello, authRequest, badMethod, more, authDone, ident, reconnect, oneNumber, reset, stamp};
 ghost use Rattle.bodies.specs.Rows.{helloOf, authRequestOf, badMethodOf, moreOf, authDoneOf, identOf, reconnectOf, oneNumberOf, resetOf, stampOf, requested};
-ghost use Rattle.bodies.specs.Read.{Took, settled, readBy, readOf, answerOf};
+ghost use Rattle.bodies.specs.Read.{Took, settledBody};
 ghost use Rattle.bodies.specs.Write.{writes, AppendedAll, judged, decided, isWrote};
 ghost use Rattle.bodies.specs.Claims.{Reads, Writes, RoundTrips};
-ghost use Rattle.bodies.specs.ByTag.{EveryBody};
+ghost use Rattle.bodies.specs.ByTag.{helloBody, authRequestBody, badMethodBody, moreBody, authDoneBody, identBody, reconnectBody, oneNumberBody, resetBody, stampBody, tagBody, EveryBody};
 ghost use Rattle.bodies.specs.Worked.{Worked};
 
 pub struct Ident {
@@ -129,7 +128,7 @@ struct FieldSpan {
 }
 
 fn field_u8(s: &[u8], c: Cursor) -> FieldU8
-    ensures { λ r. ⌜ Took (num 1) (now (s .entry)) c (number 1 (r .value)) (r .next) ⌝ }
+    ensures { λ r. ⌜ Took (num 1) (now (s .entry)) c (number 1 (r .value)) nowhere (r .next) ⌝ }
 {
     match read_u8(s, c) {
         U8Step::Read(value, next) => FieldU8 {
@@ -144,7 +143,7 @@ fn field_u8(s: &[u8], c: Cursor) -> FieldU8
 }
 
 fn field_u32(s: &[u8], c: Cursor) -> FieldU32
-    ensures { λ r. ⌜ Took (num 4) (now (s .entry)) c (number 4 (r .value)) (r .next) ⌝ }
+    ensures { λ r. ⌜ Took (num 4) (now (s .entry)) c (number 4 (r .value)) nowhere (r .next) ⌝ }
 {
     match read_u32(s, c) {
         U32Step::Read(value, next) => FieldU32 {
@@ -159,7 +158,7 @@ fn field_u32(s: &[u8], c: Cursor) -> FieldU32
 }
 
 fn field_u64(s: &[u8], c: Cursor) -> FieldU64
-    ensures { λ r. ⌜ Took (num 8) (now (s .entry)) c (number 8 (r .value)) (r .next) ⌝ }
+    ensures { λ r. ⌜ Took (num 8) (now (s .entry)) c (number 8 (r .value)) nowhere (r .next) ⌝ }
 {
     match read_u64(s, c) {
         U64Step::Read(value, next) => FieldU64 {
@@ -174,7 +173,7 @@ fn field_u64(s: &[u8], c: Cursor) -> FieldU64
 }
 
 fn field_negative(s: &[u8], c: Cursor) -> FieldU32
-    ensures { λ r. ⌜ Took neg (now (s .entry)) c (negative (r .value)) (r .next) ⌝ }
+    ensures { λ r. ⌜ Took neg (now (s .entry)) c (negative (r .value)) nowhere (r .next) ⌝ }
 {
     match read_negative(s, c) {
         U32Step::Read(value, next) => FieldU32 {
@@ -189,7 +188,7 @@ fn field_negative(s: &[u8], c: Cursor) -> FieldU32
 }
 
 fn field_list(s: &[u8], c: Cursor) -> FieldList
-    ensures { λ r. ⌜ Took list (now (s .entry)) c (numbers (numbersIn (now (s .entry)) (r .value))) (r .next) ⌝ }
+    ensures { λ r. ⌜ Took list (now (s .entry)) c (numbers (numbersIn (now (s .entry)) (r .value))) (numbersAt (r .value)) (r .next) ⌝ }
 {
     match read_list(s, c) {
         ListStep::Read(value, next) => FieldList {
@@ -204,7 +203,7 @@ fn field_list(s: &[u8], c: Cursor) -> FieldList
 }
 
 fn field_payload(s: &[u8], c: Cursor) -> FieldSpan
-    ensures { λ r. ⌜ Took size (now (s .entry)) c (sized (spanIn (now (s .entry)) (r .value))) (r .next) ⌝ }
+    ensures { λ r. ⌜ Took size (now (s .entry)) c (sized (spanIn (now (s .entry)) (r .value))) (bytesAt (r .value)) (r .next) ⌝ }
 {
     match read_payload(s, c) {
         SpanStep::Read(value, next) => FieldSpan {
@@ -219,7 +218,7 @@ fn field_payload(s: &[u8], c: Cursor) -> FieldSpan
 }
 
 fn field_rest(s: &[u8], c: Cursor, closing: usize) -> FieldSpan
-    ensures { λ r. ⌜ Took (rest closing) (now (s .entry)) c (opaque closing (spanIn (now (s .entry)) (r .value))) (r .next) ⌝ }
+    ensures { λ r. ⌜ Took (rest closing) (now (s .entry)) c (opaque closing (spanIn (now (s .entry)) (r .value))) (bytesAt (r .value)) (r .next) ⌝ }
 {
     match read_rest(s, c, closing) {
         SpanStep::Read(value, next) => FieldSpan {
@@ -234,7 +233,7 @@ fn field_rest(s: &[u8], c: Cursor, closing: usize) -> FieldSpan
 }
 
 fn field_bytes(s: &[u8], c: Cursor, w: usize) -> FieldSpan
-    ensures { λ r. ⌜ Took (plain w) (now (s .entry)) c (fixed w (spanIn (now (s .entry)) (r .value))) (r .next) ⌝ }
+    ensures { λ r. ⌜ Took (plain w) (now (s .entry)) c (fixed w (spanIn (now (s .entry)) (r .value))) (bytesAt (r .value)) (r .next) ⌝ }
 {
     match read_bytes(s, c, w) {
         SpanStep::Read(value, next) => FieldSpan {
@@ -250,7 +249,7 @@ fn field_bytes(s: &[u8], c: Cursor, w: usize) -> FieldSpan
 
 // The body, unless a field failed or a byte is left over.
 fn settle(s: &[u8], c: Cursor, body: Body) -> Body
-    ensures { λ r. ⌜ answerOf (now (s .entry)) r ≡ settled (now (s .entry)) c (answerOf (now (s .entry)) body) ⌝ }
+    ensures { λ r. ⌜ r ≡ settledBody (now (s .entry)) c body ⌝ }
 {
     let at = c.at;
     if c.failed {
@@ -265,7 +264,7 @@ fn settle(s: &[u8], c: Cursor, body: Body) -> Body
 // ---- the bodies: a row of steps each
 
 fn read_hello(s: &[u8]) -> Body
-    ensures { λ r. ⌜ answerOf (now (s .entry)) r ≡ readOf hello (now (s .entry)) ⌝ }
+    ensures { λ r. ⌜ r ≡ helloBody (now (s .entry)) ⌝ }
 {
     let a = field_u8(s, start());
     let p = field_rest(s, a.next, 0);
@@ -278,7 +277,7 @@ fn read_hello(s: &[u8]) -> Body
 }
 
 fn read_auth_request(s: &[u8]) -> Body
-    ensures { λ r. ⌜ answerOf (now (s .entry)) r ≡ readOf authRequest (now (s .entry)) ⌝ }
+    ensures { λ r. ⌜ r ≡ authRequestBody (now (s .entry)) ⌝ }
 {
     let a = field_u32(s, start());
     let b = field_list(s, a.next);
@@ -294,7 +293,7 @@ fn read_auth_request(s: &[u8]) -> Body
 }
 
 fn read_bad_method(s: &[u8]) -> Body
-    ensures { λ r. ⌜ answerOf (now (s .entry)) r ≡ readOf badMethod (now (s .entry)) ⌝ }
+    ensures { λ r. ⌜ r ≡ badMethodBody (now (s .entry)) ⌝ }
 {
     let a = field_u32(s, start());
     let e = field_negative(s, a.next);
@@ -312,7 +311,7 @@ fn read_bad_method(s: &[u8]) -> Body
 }
 
 fn read_more(s: &[u8]) -> Body
-    ensures { λ r. ⌜ answerOf (now (s .entry)) r ≡ readOf more (now (s .entry)) ⌝ }
+    ensures { λ r. ⌜ r ≡ moreBody (now (s .entry)) ⌝ }
 {
     let p = field_payload(s, start());
     let payload = p.value;
@@ -320,7 +319,7 @@ fn read_more(s: &[u8]) -> Body
 }
 
 fn read_auth_done(s: &[u8]) -> Body
-    ensures { λ r. ⌜ answerOf (now (s .entry)) r ≡ readOf authDone (now (s .entry)) ⌝ }
+    ensures { λ r. ⌜ r ≡ authDoneBody (now (s .entry)) ⌝ }
 {
     let a = field_u64(s, start());
     let b = field_u32(s, a.next);
@@ -335,7 +334,7 @@ fn read_auth_done(s: &[u8]) -> Body
 }
 
 fn read_ident(s: &[u8]) -> Body
-    ensures { λ r. ⌜ answerOf (now (s .entry)) r ≡ readOf ident (now (s .entry)) ⌝ }
+    ensures { λ r. ⌜ r ≡ identBody (now (s .entry)) ⌝ }
 {
     let n = field_u32(s, start());
     let p = field_rest(s, n.next, 48);
@@ -363,14 +362,14 @@ fn read_ident(s: &[u8]) -> Body
 }
 
 fn read_one_number(s: &[u8]) -> Body
-    ensures { λ r. ⌜ answerOf (now (s .entry)) r ≡ readOf oneNumber (now (s .entry)) ⌝ }
+    ensures { λ r. ⌜ r ≡ oneNumberBody (now (s .entry)) ⌝ }
 {
     let a = field_u64(s, start());
     settle(s, a.next, Body::Number(a.value))
 }
 
 fn read_reconnect(s: &[u8]) -> Body
-    ensures { λ r. ⌜ answerOf (now (s .entry)) r ≡ readOf reconnect (now (s .entry)) ⌝ }
+    ensures { λ r. ⌜ r ≡ reconnectBody (now (s .entry)) ⌝ }
 {
     let n = field_u32(s, start());
     let p = field_rest(s, n.next, 40);
@@ -396,14 +395,14 @@ fn read_reconnect(s: &[u8]) -> Body
 }
 
 fn read_reset(s: &[u8]) -> Body
-    ensures { λ r. ⌜ answerOf (now (s .entry)) r ≡ readOf reset (now (s .entry)) ⌝ }
+    ensures { λ r. ⌜ r ≡ resetBody (now (s .entry)) ⌝ }
 {
     let a = field_u8(s, start());
     settle(s, a.next, Body::Reset(a.value))
 }
 
 fn read_stamp(s: &[u8]) -> Body
-    ensures { λ r. ⌜ answerOf (now (s .entry)) r ≡ readOf stamp (now (s .entry)) ⌝ }
+    ensures { λ r. ⌜ r ≡ stampBody (now (s .entry)) ⌝ }
 {
     let p = field_bytes(s, start(), 8);
     let stamp = p.value;
@@ -418,7 +417,7 @@ fn limit() -> usize
 
 // Bodies of the tags 1 to 6, which authenticate.
 fn read_auth(tag: u8, s: &[u8]) -> Body
-    ensures { λ r. ⌜ (tag < 8 → answerOf (now (s .entry)) r ≡ readBy (layoutOf tag) (now (s .entry))) ⌝ }
+    ensures { λ r. ⌜ (tag < 8 → r ≡ tagBody tag (now (s .entry))) ⌝ }
 {
     if tag == 1 {
         return read_hello(s);
@@ -443,7 +442,7 @@ fn read_auth(tag: u8, s: &[u8]) -> Body
 
 // Bodies of the tags from 8 on.
 fn read_session(tag: u8, s: &[u8]) -> Body
-    ensures { λ r. ⌜ (7 < tag → answerOf (now (s .entry)) r ≡ readBy (layoutOf tag) (now (s .entry))) ⌝ }
+    ensures { λ r. ⌜ (7 < tag → r ≡ tagBody tag (now (s .entry))) ⌝ }
 {
     if tag == 8 {
         return read_ident(s);
@@ -716,7 +715,7 @@ pub fn round_trips()
     ensures { λ _. ⌜ RoundTrips ⌝ }
 {}
 
-// What each tag's body comes to, written out place by place: a promise and no code.
+// What stands at the places that are written out for each tag is what the table says, and all of it stands within the segment: a promise and no code.
 pub fn every_body()
     ensures { λ _. ⌜ EveryBody ⌝ }
 {}

@@ -1,17 +1,17 @@
 -- One law for each return of a step of the cursor, over plain variables.
 use mathlib.Core.Path.{_≡_, refl, sym, ap, _∙_}
-use mathlib.Core.Bool.{Bool, true, false}
+use mathlib.Core.Bool.{Bool, true, false, cond}
 use mathlib.Core.List.{List, [], _∷_}
 use Prim.Native.Nat.{ℕ, zero, suc, _+_, _-_, _*_, _/_, _≤_, _<_, min}
 use native.Mathlib.Omega.{arith}
-use lib.Dec.{leb}
+use lib.Dec.{leb, ltb}
 use borrow.Author.Tests.{le-leb, lt-leb, lt-ltb, le-ltb, leb-true, leb-false}
 use lib.ListN.{length, take, drop, getD, drop-of-length-le, List·getD-eq-default}
 use lib.Seq.{drop-drop}
 use Rattle.buffer.specs.Le.{numberAt, leOf}
 use Rattle.fields.specs.declared.Cursor.{Cursor}
 use Rattle.fields.specs.Layout.{Kind, num, neg, list, size, rest, plain, good, fault, stepOf}
-use Rattle.fields.specs.Field.{opaque, wordsOf}
+use Rattle.fields.specs.Field.{wordsOf}
 
 module _ (s : List ℕ) (c : Cursor) where
   pub stays : (k : Kind) → c .failed ≡ true → c ≡ stepOf k s c
@@ -69,9 +69,46 @@ behind s at r k e = go (leb at (length s)) refl
         let h = leb-false at (length s) t in
         drop-of-length-le s {i = r + k} (omega arith) ∙ sym (drop-of-length-le s {i = at + k} (omega arith))
 
+-- ---- a list or payload that stands begins within the segment
+
+first-fine : (b : Bool) (c d : Cursor) → c .failed ≡ true → cond b c d .failed ≡ false → d .failed ≡ false
+first-fine true c d t h = absurd (let z : _≡_ {A = ℕ} 0 1 = cc in omega arith)
+first-fine false c d t h = h
+
+not-failed : (c d : Cursor) → cond (c .failed) c d .failed ≡ false → d .failed ≡ false
+not-failed c d = go (c .failed) refl
+  where
+    go : (b : Bool) → c .failed ≡ b → cond b c d .failed ≡ false → d .failed ≡ false
+    go true t h = first-fine true c d t h
+    go false t h = h
+
+counted : (w n p : ℕ) (c : Cursor) → cond (leb (4 + w) n) c (fault p) .failed ≡ false → 4 ≤ n
+counted w n p c = go (leb (4 + w) n) refl
+  where
+    go : (b : Bool) → leb (4 + w) n ≡ b → cond b c (fault p) .failed ≡ false → 4 ≤ n
+    go true t h = let l = leb-true (4 + w) n t in omega arith
+    go false t h = absurd (let z : _≡_ {A = ℕ} 0 1 = cc in omega arith)
+
+module _ (s : List ℕ) (c d : Cursor) (h : d .failed ≡ false) where
+  pub list-begins : d ≡ stepOf list s c → c .at ≤ length s
+  unfolding stepOf
+  list-begins e =
+      let n = numberAt 4 (c .at) s in
+      let g : stepOf list s c .failed ≡ false = rw e at h in
+      let i = first-fine (ltb 32 n) (fault (c .at)) _ refl (not-failed c _ g) in
+      let k = counted (4 * n) (length s - c .at) _ _ i in
+      omega arith
+
+  pub size-begins : d ≡ stepOf size s c → c .at ≤ length s
+  unfolding stepOf
+  size-begins e =
+      let g : stepOf size s c .failed ≡ false = rw e at h in
+      let k = counted (numberAt 4 (c .at) s) (length s - c .at) _ _ (not-failed c _ g) in
+      omega arith
+
 -- all bytes up to the closing ones, cut as the code cuts them
-pub up-to : (s : List ℕ) (at k a b : ℕ) → a ≡ min k (length s) → b ≡ min at (length s - a) → opaque k (take (length s - a - b) (drop at s)) ≡ opaque k (take (length s - k - at) (drop at s))
-up-to s at k a b ea eb = let e : length s - a - b ≡ length s - k - at = omega arith in rw e
+pub up-to : (s : List ℕ) (at k a b : ℕ) → a ≡ min k (length s) → b ≡ min at (length s - a) → length s - a - b ≡ length s - k - at
+up-to s at k a b ea eb = omega arith
 
 pub plain-passed : (s : List ℕ) (c : Cursor) (w : ℕ) → stepOf (num w) s c ≡ stepOf (plain w) s c
 unfolding stepOf

@@ -1,9 +1,11 @@
--- Filled fields: their bytes, and what a field holds that starts at a place of a segment.
+-- Filled fields: their bytes, and of a field that starts at a place of a segment what it holds and where that stands.
 use mathlib.Core.List.{List, [], _∷_, _++_}
 use Prim.Native.Nat.{ℕ, zero, suc, _+_, _-_, _^_, _<_}
 use lib.IntN.{ℤ, pos, negsuc}
 use lib.ListN.{length, take, drop, getD}
 use Rattle.buffer.specs.Le.{le, leOf, numberAt}
+use Rattle.fields.specs.declared.Span.{Span}
+use Rattle.fields.specs.declared.NumberList.{NumberList}
 use Rattle.fields.specs.Layout.{Kind, num, neg, list, size, rest, plain}
 
 pub data Field : Type 0 where
@@ -56,6 +58,28 @@ fieldAt list s at = numbers (wordsOf (numberAt 4 at s) (drop (at + 4) s))
 fieldAt size s at = sized (take (numberAt 4 at s) (drop (at + 4) s))
 fieldAt (rest k) s at = opaque k (take (length s - k - at) (drop at s))
 fieldAt (plain w) s at = fixed w (take w (drop at s))
+
+-- ---- where it stands: a number is not looked up, a list is so many numbers from a place on, all else so many bytes
+
+pub data Place : Type 0 where
+  nowhere : Place
+  numbersAt : NumberList → Place
+  bytesAt : Span → Place
+
+abbrev pub numbersFrom : ℕ → ℕ → NumberList
+numbersFrom at count = record { at = at; count = count }
+
+abbrev pub bytesFrom : ℕ → ℕ → Span
+bytesFrom at len = record { at = at; len = len }
+
+-- (02, K6; 000, "Hello" to "Message exchange") a list stands behind its 32-bit count, a payload behind its 32-bit length, and opaque bytes reach up to the closing ones
+abbrev pub placeAt : Kind → List ℕ → ℕ → Place
+placeAt (num w) s at = nowhere
+placeAt neg s at = nowhere
+placeAt list s at = numbersAt (numbersFrom (at + 4) (numberAt 4 at s))
+placeAt size s at = bytesAt (bytesFrom (at + 4) (numberAt 4 at s))
+placeAt (rest k) s at = bytesAt (bytesFrom at (length s - k - at))
+placeAt (plain w) s at = bytesAt (bytesFrom at w)
 
 -- each of the numbers is one of 32 bits
 pub record WordsFit (ns : List ℕ) : Type 0 where

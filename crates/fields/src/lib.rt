@@ -7,9 +7,9 @@ use buffer::u64_at;
 use preamble::SEGMENT_LIMIT;
 ghost use mathlib.Core.Path.{_≡_};
 ghost use mathlib.Core.Bool.{true, cond};
-ghost use Prim.Native.Nat.{ℕ, _+_, _-_, _<_};
+ghost use Prim.Native.Nat.{ℕ, _+_, _-_, _≤_, _<_};
 ghost use lib.Dec.{ltb};
-ghost use lib.ListN.{length, drop, getD};
+ghost use lib.ListN.{length, getD};
 ghost use Rattle.buffer.specs.Le.{le};
 ghost use Rattle.preamble.specs.Judge.{segmentLimit};
 ghost use Rattle.fields.specs.Layout.{num, neg, list, size, rest, plain, good, stepOf};
@@ -220,7 +220,7 @@ pub fn read_negative(s: &[u8], c: Cursor) -> U32Step
 
 // The place behind a 32-bit count.
 fn behind_count(s: &[u8], at: usize) -> usize
-    ensures { λ r. ⌜ drop r (now (s .entry)) ≡ drop (at + 4) (now (s .entry)) ⌝ }
+    ensures { λ r. ⌜ (at ≤ length (now (s .entry)) → r ≡ at + 4) ⌝ }
 {
     min(at, s.len()) + 4
 }

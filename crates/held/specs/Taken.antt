@@ -2,7 +2,7 @@
 use mathlib.Core.List.{List}
 use Prim.Native.Nat.{ℕ}
 use Rattle.fields.specs.Layout.{Kind, good}
-use Rattle.fields.specs.Field.{Field, number, negative, sized, opaque, fixed}
+use Rattle.fields.specs.Field.{Field, number, negative, sized, opaque, fixed, Place, nowhere, numbersAt, bytesAt}
 use Rattle.fields.specs.Field as field
 use Rattle.fields.specs.Reading.{Step, read, failed, takeOf, spanIn, numbersIn}
 use Rattle.held.specs.declared.Taken.{Taken}
@@ -23,21 +23,21 @@ contentOf (opaque k bs) = bytes bs
 contentOf (fixed w bs) = bytes bs
 
 pub data Shown : Type 0 where
-  -- what a field holds, and the place behind it
-  got : Content → ℕ → Shown
+  -- what a field holds, where that stands, and the place behind it
+  got : Content → Place → ℕ → Shown
   -- the place of its fault
   off : ℕ → Shown
 
 abbrev pub shown : List ℕ → Taken → Shown
-shown s (taken.Number n next) = got (value n) next
-shown s (taken.List l next) = got (numbers (numbersIn s l)) next
-shown s (taken.Bytes p next) = got (bytes (spanIn s p)) next
+shown s (taken.Number n next) = got (value n) nowhere next
+shown s (taken.List l next) = got (numbers (numbersIn s l)) (numbersAt l) next
+shown s (taken.Bytes p next) = got (bytes (spanIn s p)) (bytesAt p) next
 shown s (taken.Failed at) = off at
 
 abbrev pub showOf : Step → Shown
-showOf (read f d) = got (contentOf f) (d .at)
+showOf (read f p d) = got (contentOf f) p (d .at)
 showOf (failed d) = off (d .at)
 
--- the field of a kind at a place, and the place behind it; or the place of its fault
+-- the field of a kind at a place, where it stands, and the place behind it; or the place of its fault
 unfoldable pub heldOf : Kind → List ℕ → ℕ → Shown
 heldOf k s at = showOf (takeOf k s (good at))

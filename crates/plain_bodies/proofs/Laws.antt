@@ -1,7 +1,7 @@
 -- What reading and writing promise, in words.
-use mathlib.Core.Path.{_≡_, ap, _∙_}
+use mathlib.Core.Path.{_≡_, refl, ap, _∙_}
 use mathlib.Core.List.{List}
-use mathlib.Core.Bool.{Bool, true, false, not, _&&_}
+use mathlib.Core.Bool.{Bool, true, false, cond, not, _&&_}
 use Prim.Native.Nat.{ℕ, _≤_}
 use native.Mathlib.Omega.{arith}
 use borrow.Author.Tests.{leb-true, le-leb, not-true, not-false}
@@ -11,20 +11,53 @@ use Rattle.refusal.specs.declared.Refusal.the-variants.{StateContradicts}
 use Rattle.refusal.specs.Refusals.{numbersOf}
 use Rattle.refusal.proofs.Booleans.{both-left}
 use Rattle.bodies.specs.declared.Body.{Body}
+use Rattle.bodies.specs.declared.Body.the-variants as body
 use Rattle.bodies.specs.declared.Request.{Request}
 use Rattle.bodies.specs.declared.Written as bodies
 use Rattle.bodies.specs.Rows.{requested}
-use Rattle.bodies.specs.Read.{answerOf}
+use Rattle.bodies.specs.Read.{refused, readBody, answerOf}
+use Rattle.bodies.specs.ByTag.{bodyOf, Within}
 use Rattle.bodies.specs.Write.{outcomeOf, writeBody}
 use Rattle.bodies.specs.Claims.{Reads, Writes}
+use Rattle.bodies.proofs.ByTags.{reads-as, all-within}
 use Rattle.plain.specs.declared.Written.{Written}
 use Rattle.plain.specs.Words.{maxU8, lowU8, plainRefused, plainDone}
 use Rattle.plain.proofs.Headers.{small8}
-use Rattle.plain_bodies.specs.Words.{plainRead, requestOf, fits, plainOutcome, inPlain, plainWrite, PlainWrites}
+use Rattle.plain_bodies.specs.Words.{bodyWords, plainBody, WithinWords, PlainReads, requestOf, fits, plainOutcome, inPlain, plainWrite, PlainWrites}
 
 -- a tag within its field is its own low bits
-pub read-words : (tag : ℕ) (s : List ℕ) (b : Body) → tag ≤ maxU8 → Reads (lowU8 tag) s b → answerOf s b ≡ plainRead tag s
-read-words tag s b l h = rw (le-leb tag maxU8 l) (rw (small8 tag (omega arith)) at (h .answer))
+pub read-words : (tag : ℕ) (s : List ℕ) (b : Body) → tag ≤ maxU8 → Reads (lowU8 tag) s b → b ≡ plainBody tag s
+read-words tag s b l h = rw (le-leb tag maxU8 l) (rw (small8 tag (omega arith)) at (h .body))
+
+-- what stands in a body, and that it does
+answer-words : (tag : ℕ) (s : List ℕ) (q : Bool) → answerOf s (cond q (bodyOf tag s) (body.Refused StateContradicts)) ≡ cond q (readBody tag s) (refused (numbersOf StateContradicts))
+answer-words tag s true = reads-as s tag
+answer-words tag s false = refl
+
+within : (tag : ℕ) (s : List ℕ) (q : Bool) → Within s (cond q (bodyOf tag s) (body.Refused StateContradicts))
+unfolding Within
+within tag s true = all-within s tag
+within tag s false = tt
+
+-- nothing, at the front, is within any segment
+within-words : (s : List ℕ) (b : Body) → Within s b → WithinWords s (bodyWords b)
+unfolding Within
+within-words s (body.Hello entity address) h = (omega arith, omega arith, h)
+within-words s (body.AuthRequest method modes payload) h = (h .0, omega arith, h .1)
+within-words s (body.BadMethod method error methods modes) h = (h .0, h .1, omega arith)
+within-words s (body.More payload) h = (omega arith, omega arith, h)
+within-words s (body.AuthDone id mode payload) h = (omega arith, omega arith, h)
+within-words s (body.Identity addresses block i) h = (omega arith, omega arith, h)
+within-words s (body.Resume addresses block k) h = (omega arith, omega arith, h)
+within-words s (body.Number n) h = (omega arith, omega arith, omega arith)
+within-words s (body.Reset full) h = (omega arith, omega arith, omega arith)
+within-words s (body.Stamp p) h = (omega arith, omega arith, h)
+within-words s (body.Refused r) h = (omega arith, omega arith, omega arith)
+
+pub plain-reads : (tag : ℕ) (s : List ℕ) (b : Body) (n : ℕ) (ws : List ℕ) → b ≡ plainBody tag s → ws ≡ bodyWords b → n ≡ getD ws 0 0 → PlainReads tag s n ws
+plain-reads tag s b n ws e w k =
+    let u : ws ≡ bodyWords (plainBody tag s) = w ∙ ap bodyWords e in
+    record { words = u; kind = k; answer = answer-words tag s (leb tag maxU8); within = rw u (within-words s (plainBody tag s) (within tag s (leb tag maxU8))) }
 
 module _ (tag : ℕ) (ws ms ns bs out : List ℕ) where
   -- a number is beyond its field

@@ -4,9 +4,9 @@
 use mathlib.Core.Path.{_≡_}
 use mathlib.Core.List.{List, [], _∷_, _++_}
 use mathlib.Core.Bool.{Bool, cond, _&&_, _||_}
-use Prim.Native.Nat.{ℕ}
+use Prim.Native.Nat.{ℕ, _+_, _*_, _≤_}
 use lib.Dec.{eqb, leb}
-use lib.ListN.{getD}
+use lib.ListN.{length, getD}
 use Rattle.refusal.specs.declared.Numbers.{Numbers}
 use Rattle.refusal.specs.declared.Refusal.the-variants.{StateContradicts}
 use Rattle.refusal.specs.Refusals.{row, numbersOf}
@@ -20,6 +20,7 @@ use Rattle.bodies.specs.declared.Request.{Request}
 use Rattle.bodies.specs.declared.Request.the-variants as request
 use Rattle.bodies.specs.Read as read
 use Rattle.bodies.specs.Read.{readBody, answerOf}
+use Rattle.bodies.specs.ByTag.{bodyOf}
 use Rattle.bodies.specs.Rows.{requested}
 use Rattle.bodies.specs.Write as write
 use Rattle.plain.specs.declared.Written.{Written}
@@ -70,12 +71,24 @@ bodyWords (body.Refused r) = saying 0 (two 0 0) nothing nothing nothing (numbers
 abbrev pub plainRead : ℕ → List ℕ → read.Answer
 plainRead tag s = cond (leb tag maxU8) (readBody tag s) (read.refused (numbersOf StateContradicts))
 
--- THE PROMISE OF READING: the words of a body that stands for that; a call answers its kind
+-- and the body that says it: its numbers, and the places of its lists and bytes
+abbrev pub plainBody : ℕ → List ℕ → Body
+plainBody tag s = cond (leb tag maxU8) (bodyOf tag s) (body.Refused StateContradicts)
+
+-- what the words say of lists and bytes lies within the segment
+abbrev pub WithinWords : List ℕ → List ℕ → Type 0
+WithinWords s ws =
+    (getD ws 8 0 + 4 * getD ws 9 0 ≤ length s)
+    × (getD ws 10 0 + 4 * getD ws 11 0 ≤ length s)
+    × (getD ws 12 0 + getD ws 13 0 ≤ length s)
+
+-- THE PROMISE OF READING: the words of that body; a call answers its kind
 pub record PlainReads (tag : ℕ) (s : List ℕ) (n : ℕ) (ws : List ℕ) : Type 0 where
+  pub words : ws ≡ bodyWords (plainBody tag s)
   pub kind : n ≡ getD ws 0 0
-  pub body : Body
-  pub words : ws ≡ bodyWords body
-  pub answer : answerOf s body ≡ plainRead tag s
+  -- what stands at its places, each of which lies within the segment
+  pub answer : answerOf s (plainBody tag s) ≡ plainRead tag s
+  pub within : WithinWords s ws
 
 -- ---- a body to be written
 

@@ -14,10 +14,10 @@ use refusal::Numbers;
 use refusal::Refusal;
 use refusal::in_numbers;
 ghost use mathlib.Core.Path.{_≡_};
-ghost use Rattle.bodies.specs.Read.{answerOf};
 ghost use Rattle.bodies.specs.Write.{outcomeOf};
 ghost use Rattle.plain.specs.Words.{lowU8, lowU32, written};
-ghost use Rattle.plain_bodies.specs.Words.{spanWords, listWords, nothing, saying, none, two, identNumbers, reconnectNumbers, bodyWords, plainRead, PlainReads, identAt, reconnectAt, requestWith, requestOf, fits, plainOutcome, PlainWrites};
+ghost use Rattle.plain_bodies.specs.Worked.{Worked};
+ghost use Rattle.plain_bodies.specs.Words.{spanWords, listWords, nothing, saying, none, two, identNumbers, reconnectNumbers, bodyWords, plainBody, PlainReads, identAt, reconnectAt, requestWith, requestOf, fits, plainOutcome, PlainWrites};
 
 // ---- reading
 
@@ -214,7 +214,7 @@ fn body_words(b: Body) -> [u64; 18]
 }
 
 fn read_any(tag: u64, s: &[u8]) -> Body
-    ensures { λ r. ⌜ answerOf (now (s .entry)) r ≡ plainRead tag (now (s .entry)) ⌝ }
+    ensures { λ r. ⌜ r ≡ plainBody tag (now (s .entry)) ⌝ }
 {
     if 255 < tag {
         return Body::Refused(Refusal::StateContradicts);
@@ -366,3 +366,8 @@ pub fn plain_write(
     *refusal = why;
     w.written
 }
+
+// Each kind of body is the words that are written out for it.
+pub fn worked_words()
+    ensures { λ _. ⌜ Worked ⌝ }
+{}

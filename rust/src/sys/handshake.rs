@@ -133,14 +133,15 @@ pub fn pick_mode(preferred: &[u32], allowed: &[u32]) -> u64 {
     }
 }
 
-/// What a body says.
+/// The kind that is answered, and what a body says.
 #[must_use]
-pub fn read_body(tag: u64, segment: &[u8]) -> RawBody {
+pub fn read_body(tag: u64, segment: &[u8]) -> (u64, RawBody) {
     let mut body = RawBody::default();
     // SAFETY: the pair is a slice, which is only read; the body is lent to this call
     // alone.
-    unsafe { mahuixen_read_body(tag, segment.as_ptr(), segment.len() as u64, &mut body) };
-    body
+    let kind =
+        unsafe { mahuixen_read_body(tag, segment.as_ptr(), segment.len() as u64, &mut body) };
+    (kind, body)
 }
 
 /// Writes a body at the front of out.

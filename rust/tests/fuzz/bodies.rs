@@ -323,8 +323,9 @@ pub fn read(random: &mut Random, record: &BodyRecord, tally: &mut Tally) {
     let held = Guarded::new(random, bytes);
     let due = body::read(*tag, bytes);
     tally.count([READ, NOT_READ][usize::from(due.is_err())]);
-    let raw = sys::read_body((*tag).into(), held.content());
+    let (kind, raw) = sys::read_body((*tag).into(), held.content());
     assert_eq!(raw, words(*tag, due.clone()));
+    assert_eq!(kind, raw.kind);
     let typed = read_body(*tag, held.content()).map(as_second);
     assert_eq!(
         typed.map_err(|r| same::bare(Err(r)).1),
@@ -337,7 +338,7 @@ pub fn read(random: &mut Random, record: &BodyRecord, tally: &mut Tally) {
             refusal: same::CONTRADICTS,
             ..RawBody::default()
         };
-        assert_eq!(sys::read_body(wide, bytes), refused);
+        assert_eq!(sys::read_body(wide, bytes), (0, refused));
         tally.count(REFUSED[26]);
     }
 }

@@ -1,16 +1,16 @@
-use Rattle.bodies.proofs.Rows.{above-limit, within-limit}
+use Rattle.bodies.proofs.ByTags.{above-limit, within-limit}
 use borrow.Author.Needs.{needs}
 use Rattle.bodies.proofs.read.Statement.{statement}
 use Rattle.bodies.proofs.read.Tie as tie
 
 returns : tie.Need-returns
-returns c = record { answer = above-limit _ _ (rw (c .before .limit .ensures) at (c .if1 .taken)) }
+returns c = above-limit _ _ (rw (c .before .limit .ensures) at (c .if1 .taken))
 
 returns-2 : tie.Need-returns-2
-returns-2 c = record { answer = within-limit _ _ (rw (c .before .before .before .limit .ensures) at (c .before .before .if1 .left)) (c .read-auth .ensures (c .before .if2 .taken)) }
+returns-2 c = within-limit _ _ (rw (c .before .before .before .limit .ensures) at (c .before .before .if1 .left)) (c .read-auth .ensures (c .before .if2 .taken))
 
 returns-3 : tie.Need-returns-3
-returns-3 c = record { answer = within-limit _ _ (rw (c .before .before .before .limit .ensures) at (c .before .before .if1 .left)) (c .read-session .ensures (c .before .if2 .left)) }
+returns-3 c = within-limit _ _ (rw (c .before .before .before .limit .ensures) at (c .before .before .if1 .left)) (c .read-session .ensures (c .before .if2 .left))
 
 pub read-spec : {M : Type 1} → statement M
 read-spec =

@@ -1,32 +1,32 @@
 use native.Mathlib.Omega.{arith}
-use Rattle.bodies.specs.Table.{layoutIn}
-use Rattle.bodies.proofs.Rows.{by-tag, unlisted-tag}
+use Rattle.bodies.specs.ByTag.{tagBody}
+use Rattle.bodies.proofs.ByTags.{by-tag, unlisted-tag}
 use borrow.Author.Needs.{needs}
 use Rattle.bodies.proofs.read_auth.Statement.{statement}
 use Rattle.bodies.proofs.read_auth.Tie as tie
 
 returns : tie.Need-returns
-unfolding layoutIn
+unfolding tagBody
 returns c = λ h. by-tag _ 1 (c .before .if1 .taken) (c .read-hello .ensures)
 
 returns-2 : tie.Need-returns-2
-unfolding layoutIn
+unfolding tagBody
 returns-2 c = λ h. by-tag _ 2 (c .before .if2 .taken) (c .read-auth-request .ensures)
 
 returns-3 : tie.Need-returns-3
-unfolding layoutIn
+unfolding tagBody
 returns-3 c = λ h. by-tag _ 3 (c .before .if3 .taken) (c .read-bad-method .ensures)
 
 returns-4 : tie.Need-returns-4
-unfolding layoutIn
+unfolding tagBody
 returns-4 c = λ h. by-tag _ 4 (c .before .if4 .taken) (c .read-more .ensures)
 
 returns-5 : tie.Need-returns-5
-unfolding layoutIn
+unfolding tagBody
 returns-5 c = λ h. by-tag _ 5 (c .before .if5 .taken) (c .read-more2 .ensures)
 
 returns-6 : tie.Need-returns-6
-unfolding layoutIn
+unfolding tagBody
 returns-6 c = λ h. by-tag _ 6 (c .before .if6 .taken) (c .read-auth-done .ensures)
 
 returns-7 : tie.Need-returns-7

@@ -1,12 +1,13 @@
-use Rattle.bodies.proofs.Rows.{row-read, step, end}
+use Rattle.bodies.proofs.Made.{row-read, step, end}
+use Rattle.bodies.proofs.ByTags.{auth-done-is}
 use borrow.Author.Needs.{needs}
 use Rattle.bodies.proofs.read_auth_done.Statement.{statement}
 use Rattle.bodies.proofs.read_auth_done.Tie as tie
 
 returns : tie.Need-returns
 returns c =
-    row-read (c .before .before .before .before .before .start .ensures)
-    (step (c .before .before .before .before .field-u64 .ensures) (step (c .before .before .before .field-u32 .ensures) (step (c .before .before .field-rest .ensures) end)))
+    row-read (auth-done-is _) (c .before .before .before .before .before .start .ensures)
+    (step _ (c .before .before .before .before .field-u64 .ensures) (step _ (c .before .before .before .field-u32 .ensures) (step _ (c .before .before .field-rest .ensures) end)))
     (c .settle .ensures)
 
 pub read-auth-done-spec : {M : Type 1} → statement M

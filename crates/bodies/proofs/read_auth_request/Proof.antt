@@ -1,10 +1,11 @@
-use Rattle.bodies.proofs.Rows.{row-read, step, end}
+use Rattle.bodies.proofs.Made.{row-read, step, end}
+use Rattle.bodies.proofs.ByTags.{auth-request-is}
 use borrow.Author.Needs.{needs}
 use Rattle.bodies.proofs.read_auth_request.Statement.{statement}
 use Rattle.bodies.proofs.read_auth_request.Tie as tie
 
 returns : tie.Need-returns
-returns c = row-read (c .before .before .before .before .before .before .start .ensures) (step (c .before .before .before .before .before .field-u32 .ensures) (step (c .before .before .before .before .field-list .ensures) (step (c .before .before .before .field-rest .ensures) end))) (c .settle .ensures)
+returns c = row-read (auth-request-is _) (c .before .before .before .before .before .before .start .ensures) (step _ (c .before .before .before .before .before .field-u32 .ensures) (step _ (c .before .before .before .before .field-list .ensures) (step _ (c .before .before .before .field-rest .ensures) end))) (c .settle .ensures)
 
 pub read-auth-request-spec : {M : Type 1} → statement M
 read-auth-request-spec =

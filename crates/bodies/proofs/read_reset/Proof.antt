@@ -1,12 +1,13 @@
-use Rattle.bodies.proofs.Rows.{row-read, step, end}
+use Rattle.bodies.proofs.Made.{row-read, step, end}
+use Rattle.bodies.proofs.ByTags.{reset-is}
 use borrow.Author.Needs.{needs}
 use Rattle.bodies.proofs.read_reset.Statement.{statement}
 use Rattle.bodies.proofs.read_reset.Tie as tie
 
 returns : tie.Need-returns
 returns c =
-    row-read (c .before .before .start .ensures)
-    (step (c .before .field-u8 .ensures) end)
+    row-read (reset-is _) (c .before .before .start .ensures)
+    (step _ (c .before .field-u8 .ensures) end)
     (c .settle .ensures)
 
 pub read-reset-spec : {M : Type 1} → statement M

@@ -1,12 +1,13 @@
-use Rattle.bodies.proofs.Rows.{row-read, step, end}
+use Rattle.bodies.proofs.Made.{row-read, step, end}
+use Rattle.bodies.proofs.ByTags.{stamp-is}
 use borrow.Author.Needs.{needs}
 use Rattle.bodies.proofs.read_stamp.Statement.{statement}
 use Rattle.bodies.proofs.read_stamp.Tie as tie
 
 returns : tie.Need-returns
 returns c =
-    row-read (c .before .before .before .start .ensures)
-    (step (c .before .before .field-bytes .ensures) end)
+    row-read (stamp-is _) (c .before .before .before .start .ensures)
+    (step _ (c .before .before .field-bytes .ensures) end)
     (c .settle .ensures)
 
 pub read-stamp-spec : {M : Type 1} → statement M

@@ -10,7 +10,7 @@ returns : tie.Need-returns
 returns c = stopped (plain _) _ _ _ (c .before .skip .ensures ∙ plain-passed _ _ _) (c .if1 .taken)
 
 returns-2 : tie.Need-returns-2
-returns-2 c = went (plain _) _ _ _ _ (c .before .skip .ensures ∙ plain-passed _ _ _) (c .if1 .left) refl
+returns-2 c = went (plain _) _ _ _ _ _ (c .before .skip .ensures ∙ plain-passed _ _ _) (c .if1 .left) refl refl
 
 pub read-bytes-spec : {M : Type 1} → statement M
 read-bytes-spec = tie.close (tie.spec (λ c κs. search needs) returns returns-2)

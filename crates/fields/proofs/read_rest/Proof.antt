@@ -11,7 +11,8 @@ returns c = stopped (rest _) _ _ _ (c .before .skip-rest .ensures) (c .if1 .take
 returns-2 : tie.Need-returns-2
 returns-2 c =
     let g = c .before .before .before .before .before .args in
-    went (rest (g .closing)) _ _ _ _ (c .before .before .before .skip-rest .ensures) (c .before .before .if1 .left) (up-to (g .s .now) (g .c .at) (g .closing) _ _ (c .before .min .ensures) (c .min2 .ensures))
+    let e = up-to (g .s .now) (g .c .at) (g .closing) _ _ (c .before .min .ensures) (c .min2 .ensures) in
+    went (rest (g .closing)) _ _ _ _ _ (c .before .before .before .skip-rest .ensures) (c .before .before .if1 .left) (rw e) (rw e)
 
 pub read-rest-spec : {M : Type 1} → statement M
 read-rest-spec = tie.close (tie.spec (λ c κs. search needs) returns (λ c κs. search needs) (λ c. search needs) (λ c κs. search needs) (λ c. search needs) returns-2)
