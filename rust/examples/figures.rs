@@ -11,6 +11,7 @@ use mahuixen::{Features, Header, Receiver, Report, Segment, State};
 use second::builder::FrameRequest;
 use second::frame::Frame;
 use second::wire::Revision;
+use std::cell::RefCell;
 use std::hint::black_box;
 use std::time::{Duration, Instant};
 
@@ -122,44 +123,50 @@ fn print_head(title: &str) {
     println!("|---|---|---|---|---|---|");
 }
 
-/// Frames that the library reports of the stream, in pieces of this length.
-fn receive(stream: &[u8], piece: usize) -> usize {
-    let mut receiver = Receiver::start(Features::new(1, 0)).expect("good features");
+/// A receiver's store, made before any time is taken: what the system does for a
+/// buffer's first use is no receiver's work.
+fn store() -> RefCell<Vec<u8>> {
     let mut store = vec![0; STORE];
+    store.fill(1);
+    RefCell::new(store)
+}
+
+/// Frames that the library reports of the stream, in pieces of this length.
+fn receive(stream: &[u8], piece: usize, store: &mut [u8]) -> usize {
+    let mut receiver = Receiver::start(Features::new(1, 0)).expect("good features");
     let mut frames = 0;
     for mut piece in stream.chunks(piece) {
         while !piece.is_empty() {
-            let received = receiver.receive(piece, &mut store);
+            let received = receiver.receive(piece, store);
             piece = &piece[received.taken..];
             frames += usize::from(matches!(received.report, Report::Frame(_)));
         }
     }
-    black_box(&store);
+    black_box(store);
     frames
 }
 
-fn second_receive(stream: &[u8], piece: usize) -> usize {
+fn second_receive(stream: &[u8], piece: usize, store: &mut [u8]) -> usize {
     let own = second::banner::Features::new(1, 0);
     let (mut receiver, started) = second::receiver::Receiver::start(own);
     started.expect("good features");
-    let mut store = vec![0; STORE];
     let mut frames = 0;
     for mut piece in stream.chunks(piece) {
         while !piece.is_empty() {
-            let (taken, report) = receiver.receive(piece, &mut store);
+            let (taken, report) = receiver.receive(piece, store);
             piece = &piece[taken..];
             frames += usize::from(matches!(report, second::report::Report::Frame(_)));
         }
     }
-    black_box(&store);
+    black_box(store);
     frames
 }
 
 /// The least that can be done with frames of two segments of this length: each
 /// piece is copied behind the one before it, and a frame that is whole has its
 /// checksums compared. Answers how many are good.
-fn floor_receive(stream: &[u8], length: usize, piece: usize) -> usize {
-    let mut store = vec![0; wire_length(length)];
+fn floor_receive(stream: &[u8], length: usize, piece: usize, store: &mut [u8]) -> usize {
+    let store = &mut store[..wire_length(length)];
     let (mut at, mut frames) = (0, 0);
     for mut piece in stream.chunks(piece) {
         while !piece.is_empty() {
@@ -168,12 +175,12 @@ fn floor_receive(stream: &[u8], length: usize, piece: usize) -> usize {
             piece = &piece[taken..];
             at += taken;
             if at == store.len() {
-                frames += usize::from(floor_compare(&store, length));
+                frames += usize::from(floor_compare(store, length));
                 at = 0;
             }
         }
     }
-    black_box(&store);
+    black_box(store);
     frames
 }
 
@@ -193,6 +200,7 @@ fn floor_compare(frame: &[u8], length: usize) -> bool {
 
 fn receivers() {
     print_head("Receiver");
+    let store = store();
     for length in LENGTHS {
         let whole = stream(length);
         let banner = mahuixen::BANNER_LENGTH;
@@ -206,11 +214,14 @@ fn receivers() {
         for (bytes, piece, of) in pieces {
             let stream = &whole[..bytes];
             let works: [&dyn Fn() -> usize; 3] = [
-                &|| receive(stream, piece),
-                &|| floor_receive(&stream[banner..], length as usize, piece),
-                &|| second_receive(stream, piece),
+                &|| receive(stream, piece, &mut store.borrow_mut()),
+                &|| {
+                    let frames = &stream[banner..];
+                    floor_receive(frames, length as usize, piece, &mut store.borrow_mut())
+                },
+                &|| second_receive(stream, piece, &mut store.borrow_mut()),
             ];
-            let speeds = measure(bytes, works, second_receive(stream, piece));
+            let speeds = measure(bytes, works, works[2]());
             print_row(&format!("segments of {length}, {of}"), speeds);
         }
     }
@@ -358,7 +369,8 @@ fn checksums() {
 /// What a call costs that is offered a single byte, in nanoseconds.
 fn single_bytes() {
     let stream = &stream(64)[..SINGLE_BYTES];
-    let run = || receive(stream, 1);
+    let store = store();
+    let run = || receive(stream, 1, &mut store.borrow_mut());
     let frames = run();
     let times = (0..RUNS).map(|_| timed(run, frames)).collect();
     let each = counted(times) * 1e9 / stream.len() as f64;

@@ -82,7 +82,7 @@ fn over_fours(start: u32, bytes: &[u8]) -> Lanes
         d: 0,
         i: 0,
     };
-    while 32 <= bytes.len() - l.i {
+    while l.i + 32 <= bytes.len() {
         let next = four_words(l, bytes);
         l = next;
     }

@@ -16,8 +16,8 @@ abbrev μ-loop : tie.MeasureT-loop
 loop-holds : tie.Need-loop-holds Inv-loop μ-loop
 loop-holds c = begins (c .before .args .start) (c .before .args .bytes .now)
 
-sub-if1 : tie.Need-sub-if1 Inv-loop μ-loop
-sub-if1 c = omega (arith, c .before .loop .inv .within)
+add-if1 : tie.Need-add-if1 Inv-loop μ-loop
+add-if1 c = omega (arith, c .before .loop .inv .within)
 
 four-words-requires : tie.Need-four-words-requires Inv-loop μ-loop
 four-words-requires c κs = omega (arith, c .before .before .loop .inv .within)
@@ -40,7 +40,7 @@ over-fours-spec =
     Inv-loop
     μ-loop
     loop-holds
-    sub-if1
+    add-if1
     four-words-requires
     loop-less
     loop-again

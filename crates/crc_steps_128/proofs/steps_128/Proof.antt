@@ -15,8 +15,8 @@ returns c =
     let r = e .before in
     let f = r .before in
     let s = f .before in
-    ap₂ bitXor (f .byte-0 .ensures) (ap₂ bitXor (e .byte-1 .ensures) (ap₂ bitXor (d .byte-2 .ensures) (c .byte-3 .ensures)))
-    ∙ by-bytes 96 (s .before .args .w) (omega arith) (s .place .result) (r .place2 .result) (q .place3 .result) (p .place4 .result) (s .place .ensures) (r .place2 .ensures) (q .place3 .ensures) (p .place4 .ensures)
+    ap₂ bitXor (e .byte-0 .ensures) (ap₂ bitXor (d .byte-1 .ensures) (ap₂ bitXor (c .byte-2 .ensures) (f .byte-3 .ensures)))
+    ∙ by-bytes 96 (s .before .args .w) (omega arith) (r .place2 .result) (q .place3 .result) (p .place4 .result) (s .place .result) (r .place2 .ensures) (q .place3 .ensures) (p .place4 .ensures) (s .place .ensures)
 
 pub steps-128-spec : {M : Type 1} → statement M
 steps-128-spec =
