@@ -19,6 +19,7 @@ use Rattle.preamble.specs.declared.Header.{Header}
 use Rattle.preamble.specs.Judge.{headerOf}
 use Rattle.body.specs.End.{Ended, whole, dropped, turnedAway}
 use Rattle.stream.specs.declared.Event.the-variants as event
+use Rattle.stream.proofs.Events.{by-event}
 use Rattle.receiver.specs.declared.Stage.{Stage}
 use Rattle.receiver.specs.declared.Stage.the-variants as crc-stage
 use Rattle.receiver.specs.declared.Known.{Known}
@@ -27,6 +28,7 @@ use Rattle.receiver.specs.declared.Report.{Report}
 use Rattle.receiver.specs.declared.Report.the-variants as report
 use Rattle.receiver.specs.State.{rank, isMsgr21}
 use Rattle.receiver.specs.Step as crc
+use Rattle.receiver.specs.Calls.{passing}
 use Rattle.receiver.specs.Every as crc-every
 use Rattle.receiver.proofs.Every as crc-calls
 use Rattle.receiver.proofs.Adds as crc-adds
@@ -55,11 +57,7 @@ use Rattle.connection.proofs.Every.{stateOf, rule-of, in-use-of, secure
 -- n bytes of the stream since the last report, by the report and the state that it leaves
 abbrev Counts : Report → ℕ → State → Type 0
 Counts report.More n st = n ≡ unfinished st
-Counts (report.Event (event.Banner p r)) n st = n ≡ lengthBy (st .mode) (report.Event (event.Banner p r)) (st .crc .known) + unfinished st
-Counts (report.Event (event.First h)) n st = n ≡ lengthBy (st .mode) (report.Event (event.First h)) (st .crc .known) + unfinished st
-Counts (report.Event (event.Frame h)) n st = n ≡ lengthBy (st .mode) (report.Event (event.Frame h)) (st .crc .known) + unfinished st
-Counts (report.Event (event.Dropped h)) n st = n ≡ lengthBy (st .mode) (report.Event (event.Dropped h)) (st .crc .known) + unfinished st
-Counts (report.Event (event.Refused m)) n st = Unit {0}
+Counts (report.Event e) n st = passing e (n ≡ lengthBy (st .mode) (report.Event e) (st .crc .known) + unfinished st) (λ m. Unit {0})
 
 -- ---- crc frames
 
@@ -70,11 +68,7 @@ module _ (c : crc-state.State) (s piece : List ℕ) (l : crc.Running c s) where
   crc-counts : (ready : Bool) (x : sealed-state.State) (p : Report) → fed .received .report ≡ p
       → Counts p (crc-every.unfinished c + fed .received .taken) (stateOf mode.Crc ready (fed .received .state) x)
   crc-counts ready x report.More q = rw q at (crc-adds.feed-counts c s piece l)
-  crc-counts ready x (report.Event (event.Banner p r)) q = rw q at (crc-adds.feed-counts c s piece l)
-  crc-counts ready x (report.Event (event.First h)) q = rw q at (crc-adds.feed-counts c s piece l)
-  crc-counts ready x (report.Event (event.Frame h)) q = rw q at (crc-adds.feed-counts c s piece l)
-  crc-counts ready x (report.Event (event.Dropped h)) q = rw q at (crc-adds.feed-counts c s piece l)
-  crc-counts ready x (report.Event (event.Refused n)) q = tt
+  crc-counts ready x (report.Event e) q = rw q at (crc-adds.feed-counts c s piece l)
 
 -- ---- sealed frames
 
@@ -211,15 +205,16 @@ next-at : (n t : ℕ) (st : State) (p : Report) → agrees st ≡ true → ((m :
     → Counts p (n + t) st → Next n (record { state = st; taken = t; report = p })
 next-at n t st report.More a g c =
     record { adds = c ∙ sym (ap (λ (k : ℕ). k + unfinished st) (more-length (st .mode) (st .crc .known)) ∙ zero-add (unfinished st)); counted = record { agree = a; counts = λ _. refl } }
-next-at n t st (report.Event (event.Banner p r)) a g c = record { adds = c; counted = record { agree = a; counts = λ _. refl } }
-next-at n t st (report.Event (event.First h)) a g c = record { adds = c; counted = record { agree = a; counts = λ _. refl } }
-next-at n t st (report.Event (event.Frame h)) a g c = record { adds = c; counted = record { agree = a; counts = λ _. refl } }
-next-at n t st (report.Event (event.Dropped h)) a g c = record { adds = c; counted = record { agree = a; counts = λ _. refl } }
-next-at n t st (report.Event (event.Refused m)) a g c =
-    record {
+next-at n t st (report.Event e) a g c =
+    by-event (λ w. ((m : Numbers) → report.Event w ≡ report.Event (event.Refused m) → refusedInUse st ≡ true) → Counts (report.Event w) (n + t) st → Next n (record { state = st; taken = t; report = report.Event w }))
+    (λ w p h d. record { adds = rw p (rw p at d); counted = record { agree = a; counts = λ _. rw p } })
+    (λ m h d. record {
       adds = sym (ap (λ (k : ℕ). k + (n + t)) (refused-length (st .mode) m (st .crc .known)) ∙ zero-add (n + t));
-      counted = record { agree = a; counts = λ e. wrong (sym e ∙ g m refl) };
-    }
+      counted = record { agree = a; counts = λ i. wrong (sym i ∙ h m refl) };
+    })
+    e
+    g
+    c
 
 gone-refused : {m : Numbers} {st : State} → Gone m st → refusedInUse st ≡ true
 gone-refused (goneCrc g) = rw (g .mode, g .gone .stage)

@@ -18,15 +18,15 @@ use Rattle.refusal.proofs.Judgements.{all-fine, passed}
 use Rattle.banner.specs.declared.Features.{Features}
 use Rattle.banner.specs.Banner.{judgeOwn}
 use Rattle.stream.specs.declared.Event.{Event}
-use Rattle.stream.specs.declared.Event.the-variants as event
 use Rattle.stream.specs.Stream.{Entry, Trace, ended, traceOf}
 use Rattle.receiver.specs.declared.Report.{Report}
 use Rattle.receiver.specs.declared.Report.the-variants as report
 use Rattle.receiver.specs.declared.Stage.the-variants as stage
 use Rattle.receiver.specs.State.{rank, noRefusal, isMsgr21}
 use Rattle.receiver.specs.Step as crc
-use Rattle.receiver.specs.Calls.{pieceAt, entered, dueTaken, dueReport, refusedIn}
+use Rattle.receiver.specs.Calls.{pieceAt, passing, entered, dueTaken, dueReport, refusedIn}
 use Rattle.receiver.proofs.Entries.{Behind, noted}
+use Rattle.receiver.proofs.Appended.{clean-here, refused-append, entered-append}
 use Rattle.receiver.proofs.Machine.{Scanned, scan, scan-append, scan-behind}
 use Rattle.receiver.proofs.Machine as machine
 use Rattle.receiver.proofs.Lists.{Comes, Standing, running, gone, stays, every-list, uncut}
@@ -35,12 +35,12 @@ use Rattle.sealed_receiver.proofs.Live.{switched-running}
 use Rattle.secure.specs.Reading.{sealedTrace}
 use Rattle.connection.specs.declared.State.{State}
 use Rattle.connection.specs.declared.Mode.the-variants as mode
-use Rattle.connection.specs.Switched.{Switch, none, behind, spliced, traceWith, closesAt, choseMsgr21, behindFrame, maySwitch}
+use Rattle.connection.specs.Switched.{Switch, none, behind, closes, spliced, traceWith, closesAt, choseMsgr21, behindFrame, maySwitch}
 use Rattle.connection.specs.Step.{isSecure, noSecure, begun, agrees, mayBeSwitched, judgeSwitch, switchedState}
 use Rattle.connection.specs.Calls.{Piece, Try, Call, Chained, takenBy, stateBy, storeBy, reportedBy, counted, switchBy, Each, Repeats, OneMade, Tries, AsSwitched, SwitchedDemand3}
 use Rattle.connection.proofs.Machines.{crcByte, secureByte, crcSide, secureSide, CrcRunning, SecureRunning, CrcGone, before}
 use Rattle.connection.proofs.Scans.{trace, crc-trace, secure-trace, LastCloses, Just, ready-just, ready-closes, revision-chosen}
-use Rattle.connection.proofs.Splices.{passed-not, closings, spliced-there, AllBy, skipped, ahead-only, takes-some, lent-nothing}
+use Rattle.connection.proofs.Splices.{closings, spliced-there, AllBy, skipped, ahead-only, takes-some, lent-nothing}
 use Rattle.connection.proofs.Parted.{runs, refuses, crc-agrees, secure-agrees, Fed, takenOf, stateOf, storeOf, reportedOf, EachOf, reportedThen, countedBy, Unmade, Made, Parted, unmade, made, parted}
 use Rattle.connection.proofs.Tried.{tries-answered}
 
@@ -51,43 +51,27 @@ taken-grows t [] = le-refl t
 taken-grows t (c ∷ ps) = let h = taken-grows (t + c .received .taken) ps in omega (arith, h)
 
 -- reports without a refusal stand before those of later calls, and their frames are counted
-entered-clean : (r : Report) (t : ℕ) (s : List ℕ) (es : List Entry) → refusedIn (entered r t s es) ≡ false → (entered r t s es ≡ noted r t s [] ++ es) × (refusedIn es ≡ false)
-entered-clean report.More t s es e = (refl, e)
-entered-clean (report.Event (event.Banner p r)) t s es e = (refl, e)
-entered-clean (report.Event (event.First h)) t s es e = (refl, e)
-entered-clean (report.Event (event.Frame h)) t s es e = (refl, e)
-entered-clean (report.Event (event.Dropped h)) t s es e = (refl, e)
-entered-clean (report.Event (event.Refused n)) t s es e = wrong (sym e)
-
-entered-then : (r : Report) (t : ℕ) (s : List ℕ) (es fs : List Entry) → refusedIn (entered r t s es) ≡ false → entered r t s (es ++ fs) ≡ entered r t s es ++ fs
-entered-then report.More t s es fs e = refl
-entered-then (report.Event (event.Banner p r)) t s es fs e = refl
-entered-then (report.Event (event.First h)) t s es fs e = refl
-entered-then (report.Event (event.Frame h)) t s es fs e = refl
-entered-then (report.Event (event.Dropped h)) t s es fs e = refl
-entered-then (report.Event (event.Refused n)) t s es fs e = wrong (sym e)
-
 reported-then : (t : ℕ) (ps : List Piece) (fs : List Entry) → refusedIn (reportedOf t ps) ≡ false → reportedThen t ps fs ≡ reportedOf t ps ++ fs
 reported-then t [] fs e = refl
 reported-then t (c ∷ ps) fs e =
     let t′ = t + c .received .taken in
-    let q = entered-clean (c .received .report) t′ (c .store) (reportedOf t′ ps) e in
-    ap (entered (c .received .report) t′ (c .store)) (reported-then t′ ps fs (q .1)) ∙ entered-then (c .received .report) t′ (c .store) (reportedOf t′ ps) fs e
+    entered-append (c .received .report) t′ (c .store) (reportedThen t′ ps fs) (reportedOf t′ ps) fs e (reported-then t′ ps fs)
 
-counted-entered : (k : ℕ) (r : Report) (t : ℕ) (s : List ℕ) (es : List Entry) → refusedIn (entered r t s es) ≡ false → counted k r + closings es ≡ k + closings (entered r t s es)
-counted-entered k report.More t s es e = refl
-counted-entered k (report.Event (event.Banner p r)) t s es e = refl
-counted-entered k (report.Event (event.First h)) t s es e = refl
-counted-entered k (report.Event (event.Frame h)) t s es e = omega arith
-counted-entered k (report.Event (event.Dropped h)) t s es e = omega arith
-counted-entered k (report.Event (event.Refused n)) t s es e = wrong (sym e)
+counted-entered : (k n : ℕ) (r : Report) (t : ℕ) (s : List ℕ) (es : List Entry) → refusedIn (entered r t s es) ≡ false → (refusedIn es ≡ false → n ≡ counted k r + closings es) → n ≡ k + closings (entered r t s es)
+counted-entered k n report.More t s es e f = f e
+counted-entered k n (report.Event w) t s es e f =
+    let p = clean-here w (refusedIn (passing w es (λ m. []))) e in
+    rw p (f (rw p at e) ∙ go (closes w))
+  where
+    go : (b : Bool) → cond b (suc k) k + closings es ≡ k + cond b (suc (closings es)) (closings es)
+    go true = omega arith
+    go false = refl
 
 counted-closings : (k t : ℕ) (ps : List Piece) → refusedIn (reportedOf t ps) ≡ false → countedBy k ps ≡ k + closings (reportedOf t ps)
 counted-closings k t [] e = sym (add-zero k)
 counted-closings k t (c ∷ ps) e =
     let t′ = t + c .received .taken in
-    let q = entered-clean (c .received .report) t′ (c .store) (reportedOf t′ ps) e in
-    counted-closings (counted k (c .received .report)) t′ ps (q .1) ∙ counted-entered k (c .received .report) t′ (c .store) (reportedOf t′ ps) e
+    counted-entered k (countedBy k (c ∷ ps)) (c .received .report) t′ (c .store) (reportedOf t′ ps) e (counted-closings (counted k (c .received .report)) t′ ps)
 
 -- the entries of a scan lie at or before its last byte
 later-by : (t a : ℕ) (es : List Entry) → t ≤ a → AllBy t es → AllBy a es
@@ -105,13 +89,6 @@ scan-by step x s P (b ∷ bs) =
     let y = step x s b in
     let n : suc P + length bs ≡ P + length (b ∷ bs) = omega arith in
     noted-by (y .report) (suc P) (P + length (b ∷ bs)) (y .store) (scan step (y .state) (y .store) (suc P) bs .entries) (omega arith) (rw n at (scan-by step (y .state) (y .store) (suc P) bs))
-
--- a refusal among entries behind clean ones
-refused-later : (es fs : List Entry) → refusedIn es ≡ false → refusedIn (es ++ fs) ≡ refusedIn fs
-refused-later [] fs c = refl
-refused-later (e ∷ es) fs c =
-    let p = passed-not (e .event) (refusedIn es) c in
-    p Bool (refusedIn (es ++ fs)) (λ n. true) ∙ refused-later es fs (sym (p Bool (refusedIn es) (λ n. true)) ∙ c)
 
 -- ---- what is due on either side of a switch
 
@@ -427,7 +404,7 @@ module _ (own : Features) (store : List ℕ) (ok : judgeOwn (own .supported) (ow
 
     whole₂ : refusedIn (reportedBy 0 cs) ≡ true → (reportedBy 0 cs ≡ traceWith sw own stream store .entries) × (storeBy store cs ≡ traceWith sw own stream store .store)
     whole₂ e =
-        let f : refusedIn (reportedOf t₁ qs) ≡ true = sym (refused-later es (reportedOf t₁ qs) clean₁) ∙ ap refusedIn (sym reported₂) ∙ e in
+        let f : refusedIn (reportedOf t₁ qs) ≡ true = sym (refused-append es (reportedOf t₁ qs) clean₁) ∙ ap refusedIn (sym reported₂) ∙ e in
         let u = uncut secureSide stream st₂ s₁ t₁ qs r₂ f in (
           reported₂ ∙ ap (λ (l : List Entry). es ++ l) (u .0) ∙ sym (ap (λ (t : Trace). t .entries) uncut-trace),
           x .store ∙ u .1 ∙ sym (ap (λ (t : Trace). t .store) uncut-trace),

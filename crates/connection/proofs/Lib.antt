@@ -7,3 +7,5 @@ pub mod Chain
 pub mod Laws
 pub mod Every
 pub mod Adds
+pub mod Earlier
+pub mod Entries

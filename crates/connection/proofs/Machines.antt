@@ -21,8 +21,8 @@ use Rattle.preamble.specs.Judge.{headerOf, judgePreamble}
 use Rattle.body.specs.Body.{segmentSum, noEpilogue}
 use Rattle.body.specs.End.{Ended, whole, dropped, turnedAway, ending}
 use Rattle.stream.specs.Stream.{zeroed}
-use Rattle.stream.specs.declared.Event.{Event}
 use Rattle.stream.specs.declared.Event.the-variants as event
+use Rattle.stream.specs.Events.{Role, bannerEnd, firstEnd, frameEnd, streamEnd, roleOf}
 use Rattle.receiver.specs.declared.Report.{Report}
 use Rattle.receiver.specs.declared.Report.the-variants as report
 use Rattle.receiver.specs.declared.Known.{Known}
@@ -32,7 +32,7 @@ use Rattle.receiver.specs.declared.State as crc-state
 use Rattle.receiver.specs.State.{rank, isMsgr21, hasFirstSum, revisionRule, rules, countRule, blockRule}
 use Rattle.receiver.specs.State as crc-states
 use Rattle.receiver.specs.Step as crc
-use Rattle.receiver.proofs.Machine.{Machine, After, Silent, refusedAgain, scan-silent}
+use Rattle.receiver.proofs.Machine.{Machine, After, after-map, Silent, refusedAgain, scan-silent}
 use Rattle.receiver.proofs.Machine as machine
 use Rattle.receiver.proofs.Live as crc-live
 use Rattle.receiver.proofs.Every as crc-every
@@ -56,14 +56,16 @@ use Rattle.connection.specs.Calls.{Piece}
 abbrev pub before : crc-state.State → Bool
 before st = eqb (rank (st .position .stage)) 4 && eqb (st .position .got) 0
 
--- the revision behind a report, by the one before it
+-- the revision behind an event, by the one before it
+abbrev pub KeptBy : Role → Revision → Revision → Type 0
+KeptBy (bannerEnd p r) v w = (isMsgr21 v ≡ false) × (w ≡ r)
+KeptBy (firstEnd h) v w = w ≡ v
+KeptBy (frameEnd h) v w = w ≡ v
+KeptBy (streamEnd n) v w = Unit {0}
+
 abbrev pub Kept : Report → Revision → Revision → Type 0
 Kept report.More v w = w ≡ v
-Kept (report.Event (event.Banner p r)) v w = (isMsgr21 v ≡ false) × (w ≡ r)
-Kept (report.Event (event.First h)) v w = w ≡ v
-Kept (report.Event (event.Frame h)) v w = w ≡ v
-Kept (report.Event (event.Dropped h)) v w = w ≡ v
-Kept (report.Event (event.Refused n)) v w = Unit {0}
+Kept (report.Event e) v w = KeptBy (roleOf e) v w
 
 record Lands (v : Revision) (x : crc.Stepped) : Type 0 where
   there : closing (x .report) ≡ true → before (x .state) ≡ true
@@ -188,12 +190,8 @@ rule-after true a m e l = rw (e, l refl)
 rule-after false a m e l = refl
 
 crc-after : (r : Report) (st : State) (s : List ℕ) → st .mode ≡ mode.Crc → readyRule st ≡ true → After crc.Running crc-live.Gone r (st .crc) s → After CrcRunning CrcGone r st s
-crc-after report.More st s m q a = record { mode = m; rule = q; live = a }
-crc-after (report.Event (event.Banner p r)) st s m q a = record { mode = m; rule = q; live = a }
-crc-after (report.Event (event.First h)) st s m q a = record { mode = m; rule = q; live = a }
-crc-after (report.Event (event.Frame h)) st s m q a = record { mode = m; rule = q; live = a }
-crc-after (report.Event (event.Dropped h)) st s m q a = record { mode = m; rule = q; live = a }
-crc-after (report.Event (event.Refused n)) st s m q a = record { mode = m; rule = q; gone = a }
+crc-after r st s m q =
+    after-map crc.Running crc-live.Gone CrcRunning CrcGone r (st .crc) st s (λ a. record { mode = m; rule = q; live = a }) (λ n a. record { mode = m; rule = q; gone = a })
 
 pub crc-keeps : (st : State) (s : List ℕ) (b : ℕ) → CrcRunning st s → After CrcRunning CrcGone (crcByte st s b .report) (crcByte st s b .state) (crcByte st s b .store)
 crc-keeps st s b r =
@@ -317,12 +315,8 @@ pub record SecureGone (n : Numbers) (st : State) : Type 0 where
   pub gone : sealed-live.Gone n (st .secure)
 
 secure-after : (r : Report) (st : State) (s : List ℕ) → st .mode ≡ mode.Secure → st .ready ≡ false → After sealed.Running sealed-live.Gone r (st .secure) s → After SecureRunning SecureGone r st s
-secure-after report.More st s m q a = record { mode = m; rule = q; live = a }
-secure-after (report.Event (event.Banner p r)) st s m q a = record { mode = m; rule = q; live = a }
-secure-after (report.Event (event.First h)) st s m q a = record { mode = m; rule = q; live = a }
-secure-after (report.Event (event.Frame h)) st s m q a = record { mode = m; rule = q; live = a }
-secure-after (report.Event (event.Dropped h)) st s m q a = record { mode = m; rule = q; live = a }
-secure-after (report.Event (event.Refused n)) st s m q a = record { mode = m; rule = q; gone = a }
+secure-after r st s m q =
+    after-map sealed.Running sealed-live.Gone SecureRunning SecureGone r (st .secure) st s (λ a. record { mode = m; rule = q; live = a }) (λ n a. record { mode = m; rule = q; gone = a })
 
 pub secure-keeps : (st : State) (s : List ℕ) (b : ℕ) → SecureRunning st s → After SecureRunning SecureGone (secureByte st s b .report) (secureByte st s b .state) (secureByte st s b .store)
 secure-keeps st s b r =

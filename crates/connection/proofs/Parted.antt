@@ -9,14 +9,12 @@ use Rattle.refusal.specs.declared.Refusal.the-variants as refusal
 use Rattle.refusal.specs.Refusals.{Judged, fine, refused, numbersOf, judgedBy, unless}
 use Rattle.refusal.proofs.Booleans.{both-true}
 use Rattle.refusal.proofs.Judgements.{or-else-last}
-use Rattle.stream.specs.declared.Event.the-variants as event
 use Rattle.stream.specs.Stream.{Entry}
 use Rattle.receiver.specs.declared.Report.{Report}
-use Rattle.receiver.specs.declared.Report.the-variants as report
 use Rattle.receiver.specs.State as crc-states
 use Rattle.receiver.specs.State.{isMsgr21}
 use Rattle.receiver.specs.Calls.{pieceAt, entered}
-use Rattle.receiver.proofs.Machine.{Machine, After, feed, feed-after}
+use Rattle.receiver.proofs.Machine.{Machine, After, by-after, feed, feed-after}
 use Rattle.receiver.proofs.Machine as machine
 use Rattle.receiver.proofs.Lists as lists
 use Rattle.sealed_receiver.specs.State as sealed-states
@@ -35,12 +33,7 @@ pub data Stands (m : Machine) (x : m .State) (s : List ℕ) : Type 0 where
   refuses : (n : Numbers) → m .Gone n x → Stands m x s
 
 after-stands : (m : Machine) (r : Report) (x : m .State) (s : List ℕ) → After (m .Running) (m .Gone) r x s → Stands m x s
-after-stands m report.More x s a = runs a
-after-stands m (report.Event (event.Banner p r)) x s a = runs a
-after-stands m (report.Event (event.First h)) x s a = runs a
-after-stands m (report.Event (event.Frame h)) x s a = runs a
-after-stands m (report.Event (event.Dropped h)) x s a = runs a
-after-stands m (report.Event (event.Refused n)) x s a = refuses n a
+after-stands m r x s = by-after (m .Running) (m .Gone) r x s (λ a. runs a) (λ n a. refuses n a)
 
 pub next-stands : (m : Machine) (x : m .State) (s piece : List ℕ) (c : m .Call) → Stands m x s → m .Answered x s piece c → Stands m (m .answer c .state) (m .answer c .store)
 next-stands m x s piece c (runs r) a =

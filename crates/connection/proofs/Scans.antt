@@ -13,7 +13,7 @@ use Rattle.banner.specs.declared.Features.{Features}
 use Rattle.banner.specs.declared.Revision.{Revision}
 use Rattle.banner.specs.declared.Revision.the-variants.{Msgr20, Msgr21}
 use Rattle.banner.specs.Banner.{judgeOwn}
-use Rattle.stream.specs.declared.Event.the-variants as event
+use Rattle.stream.specs.Events.{Role, bannerEnd, firstEnd, frameEnd, streamEnd, roleOf, judgeRole, byJudgement}
 use Rattle.stream.specs.Stream.{Entry, Trace, traceOf}
 use Rattle.receiver.specs.declared.Report.{Report}
 use Rattle.receiver.specs.declared.Report.the-variants as report
@@ -23,6 +23,7 @@ use Rattle.receiver.specs.State.{noRefusal, isMsgr21}
 use Rattle.receiver.specs.Step as crc
 use Rattle.receiver.specs.Calls.{refusedIn}
 use Rattle.receiver.proofs.Entries.{noted}
+use Rattle.receiver.proofs.Appended.{clean-here, clean-behind}
 use Rattle.receiver.proofs.Machine.{Scanned}
 use Rattle.receiver.proofs.Machine as machine
 use Rattle.receiver.proofs.Scan as crc-scan
@@ -34,9 +35,9 @@ use Rattle.sealed_receiver.proofs.Gathered as gathered
 use Rattle.sealed_receiver.proofs.Traces.{sealed-trace}
 use Rattle.secure.specs.Reading.{sealedTrace}
 use Rattle.connection.specs.declared.State.{State}
-use Rattle.connection.specs.Switched.{closes, closesAt, choseMsgr21}
+use Rattle.connection.specs.Switched.{closes, closesAt, choosesMsgr21, choseMsgr21}
 use Rattle.connection.specs.Step.{closing}
-use Rattle.connection.proofs.Machines.{crcByte, secureByte, CrcRunning, CrcGone, Kept, crc-keeps, crc-kept, or-false, and-false}
+use Rattle.connection.proofs.Machines.{crcByte, secureByte, CrcRunning, CrcGone, KeptBy, Kept, crc-keeps, crc-kept, or-false, and-false}
 
 abbrev pub trace : {A : Type 0} → Scanned A → Trace
 trace c = record { entries = c .entries; store = c .store }
@@ -127,23 +128,23 @@ ready-closes st s P (b ∷ bs) e = ready-is st s P (b ∷ bs)
 clean-onward : (r : Report) (at : ℕ) (st : State) (s : List ℕ) (es : List Entry) → refusedIn (noted r at s es) ≡ false → machine.After CrcRunning CrcGone r st s
     → (refusedIn es ≡ false) × CrcRunning st s
 clean-onward report.More at st s es e a = (e, a)
-clean-onward (report.Event (event.Banner p r)) at st s es e a = (e, a)
-clean-onward (report.Event (event.First h)) at st s es e a = (e, a)
-clean-onward (report.Event (event.Frame h)) at st s es e a = (e, a)
-clean-onward (report.Event (event.Dropped h)) at st s es e a = (e, a)
-clean-onward (report.Event (event.Refused n)) at st s es e a = wrong (sym e)
+clean-onward (report.Event w) at st s es e a =
+    (clean-behind w (refusedIn es) e, machine.passed-running CrcRunning CrcGone (report.Event w) st s (clean-here w (refusedIn es) e) a)
+
+chose-by : (x : Role) (v w : Revision) (es : List Entry) → byJudgement (judgeRole x) (refusedIn es) (λ n. true) ≡ false → KeptBy x v w
+    → (isMsgr21 w || choseMsgr21 es) ≡ (isMsgr21 v || (choosesMsgr21 x || choseMsgr21 es))
+chose-by (bannerEnd p Msgr20) v w es e k =
+    ap (λ (x : Revision). isMsgr21 x || choseMsgr21 es) (k .1) ∙ sym (ap (λ (b : Bool). b || choseMsgr21 es) (k .0))
+chose-by (bannerEnd p Msgr21) v w es e k =
+    ap (λ (x : Revision). isMsgr21 x || choseMsgr21 es) (k .1) ∙ sym (ap (λ (b : Bool). b || true) (k .0))
+chose-by (firstEnd h) v w es e k = ap (λ (x : Revision). isMsgr21 x || choseMsgr21 es) k
+chose-by (frameEnd h) v w es e k = ap (λ (x : Revision). isMsgr21 x || choseMsgr21 es) k
+chose-by (streamEnd n) v w es e k = wrong (sym e)
 
 chose-noted : (r : Report) (v w : Revision) (at : ℕ) (s : List ℕ) (es : List Entry) → refusedIn (noted r at s es) ≡ false → Kept r v w
     → (isMsgr21 w || choseMsgr21 es) ≡ (isMsgr21 v || choseMsgr21 (noted r at s es))
 chose-noted report.More v w at s es e k = ap (λ (x : Revision). isMsgr21 x || choseMsgr21 es) k
-chose-noted (report.Event (event.Banner p Msgr20)) v w at s es e k =
-    ap (λ (x : Revision). isMsgr21 x || choseMsgr21 es) (k .1) ∙ sym (ap (λ (b : Bool). b || choseMsgr21 es) (k .0))
-chose-noted (report.Event (event.Banner p Msgr21)) v w at s es e k =
-    ap (λ (x : Revision). isMsgr21 x || choseMsgr21 es) (k .1) ∙ sym (ap (λ (b : Bool). b || true) (k .0))
-chose-noted (report.Event (event.First h)) v w at s es e k = ap (λ (x : Revision). isMsgr21 x || choseMsgr21 es) k
-chose-noted (report.Event (event.Frame h)) v w at s es e k = ap (λ (x : Revision). isMsgr21 x || choseMsgr21 es) k
-chose-noted (report.Event (event.Dropped h)) v w at s es e k = ap (λ (x : Revision). isMsgr21 x || choseMsgr21 es) k
-chose-noted (report.Event (event.Refused n)) v w at s es e k = wrong (sym e)
+chose-noted (report.Event x) v w at s es e k = chose-by (roleOf x) v w es e k
 
 pub revision-chosen : (st : State) (s : List ℕ) (P : ℕ) (bs : List ℕ) → CrcRunning st s → refusedIn (machine.scan crcByte st s P bs .entries) ≡ false
     → (let c = machine.scan crcByte st s P bs in isMsgr21 (c .state .crc .known .revision) ≡ (isMsgr21 (st .crc .known .revision) || choseMsgr21 (c .entries)))

@@ -1,20 +1,18 @@
 -- Entries up to a frame: what is spliced behind them, and what is due before and behind it.
 use Prim.Native.Nat.{ℕ, suc, _+_, _-_, _≤_, _<_, min}
 use mathlib.Core.List.{List, [], _∷_, _++_}
-use mathlib.Core.Path.{_≡_, refl, sym, ap, ap₂, _∙_}
+use mathlib.Core.Path.{_≡_, refl, ap, ap₂}
 use mathlib.Core.Bool.{Bool, true, false, cond, _&&_}
 use native.Mathlib.Omega.{arith}
 use lib.Dec.{leb, eqb}
 use borrow.Author.Tests.{le-leb, lt-leb, ne-eqb}
-use Rattle.refusal.specs.declared.Numbers.{Numbers}
-use Rattle.refusal.proofs.Booleans.{wrong}
-use Rattle.stream.specs.declared.Event.{Event}
 use Rattle.stream.specs.declared.Event.the-variants as event
 use Rattle.stream.specs.Stream.{Entry, Trace}
 use Rattle.receiver.specs.declared.Report.{Report}
 use Rattle.receiver.specs.declared.Report.the-variants as report
 use Rattle.receiver.specs.Calls.{dueTaken, dueReport, passing, refusedIn}
 use Rattle.receiver.proofs.Entries.{Behind}
+use Rattle.receiver.proofs.Appended.{clean-here, clean-behind}
 use Rattle.connection.specs.Switched.{closes, entered, spliced}
 use Rattle.connection.proofs.Scans.{LastCloses}
 
@@ -57,26 +55,14 @@ abbrev pub AllBy : ℕ → List Entry → Type 0
 AllBy t [] = Unit {0}
 AllBy t (e ∷ es) = (e .at ≤ t) × AllBy t es
 
-pub passed-not : (w : Event) (b : Bool) → passing w b (λ n. true) ≡ false → (A : Type 0) (a : A) (f : Numbers → A) → passing w a f ≡ a
-passed-not (event.Banner p r) b e A a f = refl
-passed-not (event.First h) b e A a f = refl
-passed-not (event.Frame h) b e A a f = refl
-passed-not (event.Dropped h) b e A a f = refl
-passed-not (event.Refused n) b e A a f = wrong (sym e)
-
-clean-rest : (e : Entry) (es : List Entry) → refusedIn (e ∷ es) ≡ false → refusedIn es ≡ false
-clean-rest e es c = sym (passed-not (e .event) (refusedIn es) c Bool (refusedIn es) (λ n. true)) ∙ c
-
 -- those that lie before do not count, where none is a refusal
 pub skipped : (es fs : List Entry) (t k : ℕ) → AllBy t es → refusedIn es ≡ false → (dueTaken (es ++ fs) t k ≡ dueTaken fs t k) × (dueReport (es ++ fs) t k ≡ dueReport fs t k)
 unfolding dueTaken dueReport
 skipped [] fs t k a c = (refl, refl)
 skipped (e ∷ es) fs t k a c =
-    let ih = skipped es fs t k (a .1) (clean-rest e es c) in
-    let p = passed-not (e .event) (refusedIn es) c in (
-      rw (le-leb (e .at) t (a .0)) (p ℕ (dueTaken (es ++ fs) t k) (λ n. 0) ∙ ih .0),
-      rw (le-leb (e .at) t (a .0)) (p Report (dueReport (es ++ fs) t k) (λ n. report.Event (event.Refused n)) ∙ ih .1),
-    )
+    let ih = skipped es fs t k (a .1) (clean-behind (e .event) (refusedIn es) c) in
+    let p = clean-here (e .event) (refusedIn es) c in
+    (rw (le-leb (e .at) t (a .0), p) (ih .0), rw (le-leb (e .at) t (a .0), p) (ih .1))
 
 -- where one of them lies ahead, later ones do not count
 pub ahead-only : (es fs gs : List Entry) (t t₁ k : ℕ) (s : List ℕ) → LastCloses es t₁ s → t < t₁

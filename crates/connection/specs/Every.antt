@@ -11,12 +11,14 @@ use Rattle.banner.specs.declared.Features.{Features}
 use Rattle.banner.specs.Banner.{judgeOwn}
 use Rattle.preamble.specs.declared.Header.{Header}
 use Rattle.stream.specs.declared.Event.the-variants as event
+use Rattle.stream.specs.Events.{roleOf, ofFrameEnd}
 use Rattle.receiver.specs.declared.Known.{Known}
 use Rattle.receiver.specs.declared.State as plain-state
 use Rattle.receiver.specs.declared.Report.{Report}
 use Rattle.receiver.specs.declared.Report.the-variants as report
 use Rattle.receiver.specs.State as plain
 use Rattle.receiver.specs.Step as plain-step
+use Rattle.receiver.specs.Calls.{passing}
 use Rattle.receiver.specs.Every as plain-every
 use Rattle.secure.specs.Layout.{firstLength, restPartLength, sealedLength}
 use Rattle.sealed_receiver.specs.declared.Stage.{Stage}
@@ -128,11 +130,7 @@ allTaken (switching c ∷ cs) = allTaken cs
 -- what a report says of the bytes up to it: behind a switch a frame's length on the wire as a sealed one
 abbrev pub sealedLengthOf : Report → ℕ
 sealedLengthOf report.More = 0
-sealedLengthOf (report.Event (event.Banner p r)) = 0
-sealedLengthOf (report.Event (event.First h)) = 0
-sealedLengthOf (report.Event (event.Frame h)) = sealedLength h
-sealedLengthOf (report.Event (event.Dropped h)) = sealedLength h
-sealedLengthOf (report.Event (event.Refused n)) = 0
+sealedLengthOf (report.Event e) = ofFrameEnd sealedLength (roleOf e)
 
 abbrev pub lengthBy : Mode → Report → Known → ℕ
 lengthBy mode.Crc r v = plain-every.lengthOf r v
@@ -161,11 +159,7 @@ unfinished st = unfinishedBy (st .mode) (st .crc) (st .secure)
 -- with a refusal, the bytes of its banner or frame, as of a receiver of crc frames
 abbrev pub unfinishedAfter : Report → ℕ → Received → ℕ
 unfinishedAfter report.More n r = unfinished (r .state)
-unfinishedAfter (report.Event (event.Banner p v)) n r = unfinished (r .state)
-unfinishedAfter (report.Event (event.First h)) n r = unfinished (r .state)
-unfinishedAfter (report.Event (event.Frame h)) n r = unfinished (r .state)
-unfinishedAfter (report.Event (event.Dropped h)) n r = unfinished (r .state)
-unfinishedAfter (report.Event (event.Refused m)) n r = n + r .taken
+unfinishedAfter (report.Event e) n r = passing e (unfinished (r .state)) (λ m. n + r .taken)
 
 abbrev pub leftBy : ℕ → List AnyCall → ℕ
 leftBy n [] = n

@@ -7,8 +7,8 @@ use lib.ListN.{take, drop}
 use lib.Dec.{eqb}
 use Rattle.banner.specs.declared.Features.{Features}
 use Rattle.banner.specs.declared.Revision.the-variants.{Msgr20, Msgr21}
-use Rattle.stream.specs.declared.Event.{Event}
-use Rattle.stream.specs.declared.Event.the-variants as event
+pub use Rattle.stream.specs.Events.{closes}
+use Rattle.stream.specs.Events.{Role, bannerEnd, firstEnd, frameEnd, streamEnd, roleOf}
 use Rattle.stream.specs.Stream.{Entry, Trace, ended, traceOf}
 use Rattle.secure.specs.Reading.{sealedTrace}
 
@@ -16,14 +16,6 @@ use Rattle.secure.specs.Reading.{sealedTrace}
 pub data Switch : Type 0 where
   none : Switch
   behind : ℕ → List ℕ → List ℕ → Switch
-
--- a frame or a drop
-abbrev pub closes : Event → Bool
-closes (event.Banner p r) = false
-closes (event.First h) = false
-closes (event.Frame h) = true
-closes (event.Dropped h) = true
-closes (event.Refused n) = false
 
 abbrev pub entered : Entry → Trace → Trace
 entered e t = record { entries = e ∷ t .entries; store = t .store }
@@ -48,18 +40,17 @@ closesAt t [] = false
 closesAt t (e ∷ []) = closes (e .event) && eqb (e .at) t
 closesAt t (e ∷ f ∷ es) = closesAt t (f ∷ es)
 
-abbrev pub choosesMsgr21 : Event → Bool
-choosesMsgr21 (event.Banner p Msgr20) = false
-choosesMsgr21 (event.Banner p Msgr21) = true
-choosesMsgr21 (event.First h) = false
-choosesMsgr21 (event.Frame h) = false
-choosesMsgr21 (event.Dropped h) = false
-choosesMsgr21 (event.Refused n) = false
+abbrev pub choosesMsgr21 : Role → Bool
+choosesMsgr21 (bannerEnd p Msgr20) = false
+choosesMsgr21 (bannerEnd p Msgr21) = true
+choosesMsgr21 (firstEnd h) = false
+choosesMsgr21 (frameEnd h) = false
+choosesMsgr21 (streamEnd n) = false
 
 -- a banner that chose msgr2.1 is among the entries
 abbrev pub choseMsgr21 : List Entry → Bool
 choseMsgr21 [] = false
-choseMsgr21 (e ∷ es) = choosesMsgr21 (e .event) || choseMsgr21 es
+choseMsgr21 (e ∷ es) = choosesMsgr21 (roleOf (e .event)) || choseMsgr21 es
 
 abbrev pub behindFrame : ℕ → List Entry → Bool
 behindFrame t es = closesAt t es && choseMsgr21 es

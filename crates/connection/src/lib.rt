@@ -24,7 +24,7 @@ ghost use Rattle.refusal.specs.Refusals.{fine, judgedBy};
 ghost use Rattle.receiver.specs.State.{rank};
 ghost use Rattle.receiver.specs.Step as crc;
 ghost use Rattle.sealed_receiver.specs.Step as sealed;
-ghost use Rattle.connection.specs.Switched.{closes};
+ghost use Rattle.stream.specs.Events.{closes};
 ghost use Rattle.connection.specs.Step.{isSecure, noSecure, closing, readyRule, agreesInUse, byCrc, bySecure, mayBeSwitched, judgeSwitch, switchedState, Gave, BegunWith, Answered, SwitchedWith};
 ghost use Rattle.connection.specs.Calls.{SwitchedDemand3};
 ghost use Rattle.connection.specs.Every.{EveryCall};

@@ -40,7 +40,7 @@ use Rattle.delivery.specs.declared.Asked.the-variants.{Nothing, Ack}
 use Rattle.delivery.specs.Asked.{askedByFrame}
 use Rattle.delivery.specs.Calls.{receives, callsDue}
 use Rattle.delivery.specs.Worked.{ours, store, message, asksOf, first, second, third, heldBy, ackText, masked, sealedAck, behindMessage, sealedEntries, SealedAck}
-use Rattle.delivery.proofs.Earlier.{upTo, behind-first, crc-first}
+use Rattle.connection.proofs.Earlier.{upTo, behind-first, crc-first}
 use Rattle.delivery.proofs.Quiet.{Quiet, releases-nothing}
 use Rattle.delivery.proofs.Played.{all-played}
 

@@ -17,7 +17,7 @@ use Rattle.bodies.specs.declared.Body.the-variants as body
 use Rattle.bodies.specs.Read.{answerOf}
 use Rattle.stream.proofs.Event as declared-event
 use Rattle.stream.specs.declared.Event.{Event}
-use Rattle.stream.specs.declared.Event.the-variants as event
+use Rattle.stream.proofs.Events.{by-frame}
 use Rattle.session.specs.declared.Outcome.{Outcome}
 use Rattle.session.specs.Laws.{Call, callOf}
 use Rattle.delivery.specs.declared.Asked.the-variants as asked
@@ -42,13 +42,12 @@ no-number h s (body.Reset f) k = absurd (miss others 8 tt k)
 no-number h s (body.Stamp p) k = refl
 no-number h s (body.Refused r) k = absurd (miss others 10 tt k)
 
--- events but for a frame (2)
-pub no-frame : (s : List ℕ) (e : Event) → OneOf (0 ∷ 1 ∷ 3 ∷ 4 ∷ []) (tagOf declared-event.the-type e) → asked.Nothing ≡ askedBy e s
-no-frame s (event.Banner p r) k = refl
-no-frame s (event.First h) k = refl
-no-frame s (event.Frame h) k = absurd (miss (0 ∷ 1 ∷ 3 ∷ 4 ∷ []) 2 tt k)
-no-frame s (event.Dropped h) k = refl
-no-frame s (event.Refused n) k = refl
+-- and events: all but a frame (2)
+abbrev pub notFrames : List ℕ
+notFrames = 0 ∷ 1 ∷ 3 ∷ 4 ∷ []
+
+pub no-frame : (s : List ℕ) (e : Event) → OneOf notFrames (tagOf declared-event.the-type e) → asked.Nothing ≡ askedBy e s
+no-frame s = by-frame (λ w. OneOf notFrames (tagOf declared-event.the-type w) → asked.Nothing ≡ askedBy w s) (λ h k. absurd (miss notFrames 2 tt k)) (λ w o k. rw o)
 
 pub take-min : (n : ℕ) (l : List ℕ) → take (min n (length l)) l ≡ take n l
 take-min n l = go (leb n (length l)) refl

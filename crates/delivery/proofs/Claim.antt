@@ -31,7 +31,7 @@ use Rattle.delivery.specs.declared.Delivered.{Delivered}
 use Rattle.delivery.specs.declared.Sent.{Sent}
 use Rattle.delivery.specs.Asked.{askedBy, askedByReport, settled, doneTo, receivedBy, switchedBy, Delivers, Called, ConnectedWith}
 use Rattle.delivery.specs.Calls.{Call, piece, tried, accepted, handed, Chained, sessionAfter, Connection, Connects, sessionAfterAll, onConnection, switchOf, entriesUpTo, added, Cause, sends, receives, causesFrom, causesOf, callsAsked, callsBy, callsDue, played, historyOf, Does, nothing, one, Each, EachOf, toldBy, toldIn, toldOf, reportsIn, StartsOf, Given, SwitchesOf, ReceivedOf, EveryRelease}
-use Rattle.delivery.proofs.Entries.{andTry, andPiece, taken-try, taken-piece, Adds, silent, again, reports, Grows, defined, grown}
+use Rattle.connection.proofs.Entries.{andTry, andPiece, taken-try, taken-piece, Adds, silent, again, reports, Grows, defined, grown}
 use Rattle.delivery.proofs.Reasons.{afterCalls, sent-held}
 use Rattle.delivery.proofs.Leaves.{left-of}
 

@@ -5,7 +5,7 @@ use mathlib.Core.List.{List, [], _∷_}
 use mathlib.Core.Bool.{Bool, true, false, cond, true≢false}
 use Prim.Native.Nat.{ℕ}
 use lib.ListN.{length}
-use Rattle.stream.specs.declared.Event.the-variants as event
+use Rattle.stream.proofs.Events.{by-frame}
 use Rattle.stream.specs.Stream.{entry}
 use Rattle.receiver.specs.declared.Report.{Report}
 use Rattle.receiver.specs.declared.Report.the-variants as report
@@ -33,11 +33,9 @@ use Rattle.delivery.proofs.Leaves.{Good, call-keeps, by-call, asked-lef
 asks-none : (q : Report) (s : List ℕ) → speaks q ≡ false → askedByReport q s ≡ asked.Nothing
 unfolding askedByFrame
 asks-none report.More s e = refl
-asks-none (report.Event (event.Banner p r)) s e = refl
-asks-none (report.Event (event.First h)) s e = refl
-asks-none (report.Event (event.Frame h)) s e = ap (λ (b : Bool). cond b (byBody h (bodyOf h s)) asked.Nothing) e
-asks-none (report.Event (event.Dropped h)) s e = refl
-asks-none (report.Event (event.Refused n)) s e = refl
+asks-none (report.Event w) s e =
+    by-frame (λ v. speaks (report.Event v) ≡ false → askedBy v s ≡ asked.Nothing)
+    (λ h f. ap (λ (b : Bool). cond b (byBody h (bodyOf h s)) asked.Nothing) f) (λ v o f. rw o) w e
 
 -- a session that is as it was holds what it held
 same-held : (s s′ : Session) (causes : List Cause) → s′ ≡ s → Leaves s s′ causes

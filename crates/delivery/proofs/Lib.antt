@@ -1,6 +1,4 @@
 pub mod Asks
-pub mod Earlier
-pub mod Entries
 pub mod Reasons
 pub mod Leaves
 pub mod Every

@@ -11,7 +11,7 @@ use Rattle.session.specs.Laws as session
 use Rattle.delivery.specs.declared.Delivery.{Delivery}
 use Rattle.delivery.specs.Calls.{Call, piece, tried, accepted, handed, sessionAfter, Connection, onConnection, switchOf, entriesUpTo, added, Cause, receives, causesFrom, callsDue, Each, toldIn}
 use Rattle.delivery.specs.Worked.{ours, store, ownCalls, reading, Completes}
-use Rattle.delivery.proofs.Earlier.{upTo, trace-first}
+use Rattle.connection.proofs.Earlier.{upTo, trace-first}
 use Rattle.delivery.proofs.Claim.{on-connection, each, Plays, calls-play}
 
 -- without calls of the caller's own, the causes are the entries of all bytes taken

@@ -14,7 +14,7 @@ use Rattle.delivery.specs.declared.Settled.{Settled}
 use Rattle.delivery.specs.Asked.{settled, doneTo}
 use Rattle.delivery.specs.Calls.{Call, piece, tried, accepted, handed, Chained, sessionAfter, Connection, switchOf, entriesUpTo, added, Does, nothing, one, Each}
 use Rattle.delivery.specs.Worked.{asksOf, ownCalls, ReleasesNothing, ours, store}
-use Rattle.delivery.proofs.Earlier.{upTo, trace-first}
+use Rattle.connection.proofs.Earlier.{upTo, trace-first}
 use Rattle.delivery.proofs.Reasons.{afterCalls}
 use Rattle.delivery.proofs.Claim.{on-connection, each}
 

@@ -18,9 +18,9 @@ use Rattle.bodies.specs.Table.{layoutIn}
 use Rattle.bodies.specs.Rows.{oneNumberOf, resetOf}
 use Rattle.bodies.specs.Read as read
 use Rattle.bodies.specs.Read.{Answer, whole, settled, readBody}
-use Rattle.stream.specs.declared.Event.{Event}
 use Rattle.stream.specs.declared.Event.the-variants as event
 use Rattle.stream.specs.Stream.{entry}
+use Rattle.stream.proofs.Events.{by-frame}
 use Rattle.session.specs.declared.Session.{Session}
 use Rattle.session.specs.declared.Message.{Message}
 use Rattle.session.specs.declared.Report.{Report}
@@ -145,14 +145,12 @@ frame-reason m h at s a (asks-reset n t q b) e =
 pub reason : (m : ℕ) (c : Cause) → oneReleases m (callsBy c) ≡ true → Reason m c
 reason m (sends h) e = absurd (true≢false (sym e))
 reason m (hands n) e = handedIn n (leb-true m n (either-way (leb m n) e))
-reason m (receives e) i = go (e .event) i
-  where
-    go : (w : Event) → oneReleases m (callsAsked (askedBy w (e .store))) ≡ true → Reason m (receives (entry w (e .at) (e .store)))
-    go (event.Banner p r) i = absurd (true≢false (sym i))
-    go (event.First h) i = absurd (true≢false (sym i))
-    go (event.Frame h) i = frame-reason m h (e .at) (e .store) (askedByFrame h (e .store)) (frame-asks h (e .store)) i
-    go (event.Dropped h) i = absurd (true≢false (sym i))
-    go (event.Refused n) i = absurd (true≢false (sym i))
+reason m (receives e) i =
+    by-frame (λ w. oneReleases m (callsAsked (askedBy w (e .store))) ≡ true → Reason m (receives (entry w (e .at) (e .store))))
+    (λ h j. frame-reason m h (e .at) (e .store) (askedByFrame h (e .store)) (frame-asks h (e .store)) j)
+    (λ w o j. absurd (true≢false (sym (rw o at j))))
+    (e .event)
+    i
 
 -- ---- fates
 

@@ -13,9 +13,10 @@ use Rattle.preamble.specs.declared.Header.{Header}
 use Rattle.fields.specs.Field.{Field, number, negative, numbers, sized, opaque, fixed}
 use Rattle.bodies.specs.Read.{Answer, whole, refused, readBody}
 use Rattle.stream.specs.declared.Event.{Event}
-use Rattle.stream.specs.declared.Event.the-variants as event
+use Rattle.stream.specs.Events.{isFrame, Role, bannerEnd, firstEnd, frameEnd, streamEnd, roleOf}
 use Rattle.receiver.specs.declared.Report.{Report}
 use Rattle.receiver.specs.declared.Report.the-variants as report
+use Rattle.receiver.specs.State.{noHeader}
 use Rattle.connection.specs.declared.State.{State}
 use Rattle.connection.specs.declared.Received.{Received}
 use Rattle.connection.specs.declared.Switched as connection
@@ -73,13 +74,16 @@ bodyOf h s = readBody (h .tag) (take (h .s1 .len) s)
 unfoldable pub askedByFrame : Header → List ℕ → Asked
 askedByFrame h s = cond (forSession (h .tag)) (byBody h (bodyOf h s)) asked.Nothing
 
+-- the header that comes with an event; with a banner and a refusal none does
+abbrev pub roleHeader : Role → Header
+roleHeader (bannerEnd p r) = noHeader
+roleHeader (firstEnd h) = h
+roleHeader (frameEnd h) = h
+roleHeader (streamEnd n) = noHeader
+
 -- WHAT AN EVENT ASKS, with the store then: only a whole frame asks for anything
 abbrev pub askedBy : Event → List ℕ → Asked
-askedBy (event.Banner p r) s = asked.Nothing
-askedBy (event.First h) s = asked.Nothing
-askedBy (event.Frame h) s = askedByFrame h s
-askedBy (event.Dropped h) s = asked.Nothing
-askedBy (event.Refused n) s = asked.Nothing
+askedBy e s = cond (isFrame e) (askedByFrame (roleHeader (roleOf e)) s) asked.Nothing
 
 abbrev pub askedByReport : Report → List ℕ → Asked
 askedByReport report.More s = asked.Nothing

@@ -1,11 +1,11 @@
 -- What holds of every call, whatever its receiving side, session, store and piece, also of those that no start and no earlier call handed back.
 use mathlib.Core.Path.{_≡_}
 use mathlib.Core.List.{List, [], _∷_}
-use mathlib.Core.Bool.{Bool, true, false}
+use mathlib.Core.Bool.{Bool, true, false, _&&_}
 use Prim.Native.Nat.{ℕ}
 use lib.ListN.{length}
 use Rattle.refusal.specs.declared.Numbers.{Numbers}
-use Rattle.stream.specs.declared.Event.the-variants as event
+use Rattle.stream.specs.Events.{isFrame, roleOf}
 use Rattle.stream.specs.Stream.{entry}
 use Rattle.receiver.specs.declared.Report.{Report}
 use Rattle.receiver.specs.declared.Report.the-variants as report
@@ -20,17 +20,13 @@ use Rattle.delivery.specs.declared.Effect.{Effect}
 use Rattle.delivery.specs.declared.Effect.the-variants as effect
 use Rattle.delivery.specs.declared.Delivered.{Delivered}
 use Rattle.delivery.specs.declared.Sent.{Sent}
-use Rattle.delivery.specs.Asked.{forSession, receivedBy, Delivers, Called}
+use Rattle.delivery.specs.Asked.{forSession, roleHeader, receivedBy, Delivers, Called}
 use Rattle.delivery.specs.Calls.{Cause, hands, receives, Leaves}
 
 -- a whole frame with one of the session's tags is reported
 abbrev pub speaks : Report → Bool
 speaks report.More = false
-speaks (report.Event (event.Banner p r)) = false
-speaks (report.Event (event.First h)) = false
-speaks (report.Event (event.Frame h)) = forSession (h .tag)
-speaks (report.Event (event.Dropped h)) = false
-speaks (report.Event (event.Refused n)) = false
+speaks (report.Event e) = isFrame e && forSession (roleHeader (roleOf e) .tag)
 
 -- 20, or a refusal of the session
 abbrev pub turnedAway : Effect → Bool

@@ -23,7 +23,8 @@ use Rattle.body.specs.declared.Late.the-variants as late
 use Rattle.body.specs.Body.{segmentSum, cutInto, noFirstSum, firstSumLength, noEpilogue, wireLength, frameBytes}
 use Rattle.body.specs.End.{lateOf, segmentBytes}
 use Rattle.stream.specs.declared.Event.{Event}
-use Rattle.stream.specs.declared.Event.the-variants.{Banner, First, Frame, Dropped, Refused}
+use Rattle.stream.specs.declared.Event.the-variants.{First, Frame, Dropped}
+use Rattle.stream.specs.Events.{Role, bannerEnd, firstEnd, frameEnd, streamEnd, roleOf}
 pub use Rattle.stream.specs.Events.{isFirst, isFrame, isDrop}
 use Rattle.stream.specs.Stream.{Entry, entry, zeroed, firstSumEnd, traceOf}
 use Rattle.receiver.specs.Calls.{Call, Chained, takenBy, listOf, refusedIn}
@@ -32,29 +33,27 @@ use Rattle.receiver.specs.Step.{started}
 -- ---- places: where the next frame begins
 
 -- an entry, where a frame begins at P: a frame and a drop move that place to their last byte, an early report leaves it
-abbrev pub FramesUpToAt : Event → ℕ → ℕ → (ℕ → Type 0) → Type 0
-FramesUpToAt (Banner p r) P at later = ⊥
-FramesUpToAt (First h) P at later = later P
-FramesUpToAt (Frame h) P at later = later at
-FramesUpToAt (Dropped h) P at later = later at
-FramesUpToAt (Refused n) P at later = ⊥
+abbrev pub FramesUpToAt : Role → ℕ → ℕ → (ℕ → Type 0) → Type 0
+FramesUpToAt (bannerEnd p r) P at later = ⊥
+FramesUpToAt (firstEnd h) P at later = later P
+FramesUpToAt (frameEnd h) P at later = later at
+FramesUpToAt (streamEnd n) P at later = ⊥
 
 -- frames and drops from byte P on, the last of which ends at byte n
 abbrev pub FramesUpTo : ℕ → ℕ → List Entry → Type 0
 FramesUpTo n P [] = P ≡ n
-FramesUpTo n P (e ∷ es) = FramesUpToAt (e .event) P (e .at) (λ Q. FramesUpTo n Q es)
+FramesUpTo n P (e ∷ es) = FramesUpToAt (roleOf (e .event)) P (e .at) (λ Q. FramesUpTo n Q es)
 
-abbrev pub BannerUpTo : Revision → ℕ → Event → ℕ → List Entry → Type 0
-BannerUpTo revision n (Banner p r) at es = (r ≡ revision) × FramesUpTo n at es
-BannerUpTo revision n (First h) at es = ⊥
-BannerUpTo revision n (Frame h) at es = ⊥
-BannerUpTo revision n (Dropped h) at es = ⊥
-BannerUpTo revision n (Refused m) at es = ⊥
+abbrev pub BannerUpTo : Revision → ℕ → Role → ℕ → List Entry → Type 0
+BannerUpTo revision n (bannerEnd p r) at es = (r ≡ revision) × FramesUpTo n at es
+BannerUpTo revision n (firstEnd h) at es = ⊥
+BannerUpTo revision n (frameEnd h) at es = ⊥
+BannerUpTo revision n (streamEnd m) at es = ⊥
 
 -- a banner that chose the revision, and frames and drops behind it, up to byte n
 abbrev pub UpTo : Revision → ℕ → List Entry → Type 0
 UpTo revision n [] = ⊥
-UpTo revision n (e ∷ es) = BannerUpTo revision n (e .event) (e .at) es
+UpTo revision n (e ∷ es) = BannerUpTo revision n (roleOf (e .event)) (e .at) es
 
 -- ---- the checks of the frame at the front of X, in a store of n bytes
 

@@ -6,13 +6,12 @@ use Prim.Native.Nat.{ℕ}
 use Rattle.stream.specs.Stream.{Entry, entry}
 use Rattle.receiver.specs.declared.Report.{Report}
 use Rattle.receiver.specs.declared.Report.the-variants as report
-use Rattle.receiver.specs.Calls.{passing, entered, refusedIn}
-use Rattle.receiver.proofs.Appended.{passed, clean-behind, passing-same, refused-append}
-use Rattle.text.specs.Line.{Piece}
+use Rattle.receiver.specs.Calls.{entered, refusedIn}
+use Rattle.receiver.proofs.Appended.{clean-here, clean-behind, passing-same, refused-append}
 use Rattle.text.specs.Page.{page}
 use Rattle.text.proofs.Laws.{puts-append}
 use Rattle.link.specs.declared.Walk.{Walk}
-use Rattle.link.specs.Lines.{lineOf, numbered, linesOf, refusedAt, entryEndBy, endOf}
+use Rattle.link.specs.Lines.{lineOf, numbered, linesOf, entryEndBy, endOf}
 use Rattle.link.specs.Walks.{lastOf, framesOf, Noted, reported}
 
 pub last-append : (p : ℕ) (es fs : List Entry) → lastOf p (es ++ fs) ≡ lastOf (lastOf p es) fs
@@ -30,17 +29,14 @@ unfolding linesOf framesOf
 lines-append k [] fs h = refl
 lines-append k (e ∷ es) fs h =
     let n = numbered k (e .event) in
-    let p : passing (e .event) (linesOf n (es ++ fs)) (λ m. []) ≡ linesOf n es ++ linesOf (framesOf n es) fs = passed (e .event) (refusedIn es) h (linesOf n (es ++ fs)) (λ m. []) ∙ lines-append n es fs (clean-behind (e .event) (refusedIn es) h) in
-    let q : passing (e .event) (linesOf n es) (λ m. []) ≡ linesOf n es = passed (e .event) (refusedIn es) h (linesOf n es) (λ m. []) in
-    ap (λ (l : List Piece). lineOf k (e .event) ++ l) p ∙ sym (append-assoc (lineOf k (e .event)) (linesOf n es) (linesOf (framesOf n es) fs)) ∙ ap (λ (l : List Piece). (lineOf k (e .event) ++ l) ++ linesOf (framesOf n es) fs) (sym q)
+    rw (clean-here (e .event) (refusedIn es) h, lines-append n es fs (clean-behind (e .event) (refusedIn es) h)) (sym (append-assoc (lineOf k (e .event)) (linesOf n es) (linesOf (framesOf n es) fs)))
 
 -- the end, where no refusal comes first
 pub end-append : (bad : Bool) (n p : ℕ) (es fs : List Entry) → refusedIn es ≡ false → endOf bad n p (es ++ fs) ≡ endOf bad n (lastOf p es) fs
 unfolding endOf lastOf
 end-append bad n p [] fs h = refl
 end-append bad n p (e ∷ es) fs h =
-    passed (e .event) (refusedIn es) h (endOf bad n (entryEndBy p (e .event) (e .at)) (es ++ fs)) (λ r. refusedAt (r .number) (e .at))
-    ∙ end-append bad n (entryEndBy p (e .event) (e .at)) es fs (clean-behind (e .event) (refusedIn es) h)
+    rw (clean-here (e .event) (refusedIn es) h) (end-append bad n (entryEndBy p (e .event) (e .at)) es fs (clean-behind (e .event) (refusedIn es) h))
 
 -- notes of one list behind those of another
 pub noted-next : (w w₁ r : Walk) (es fs : List Entry) (text text₁ text′ : List ℕ) → Noted w es text w₁ text₁ → refusedIn es ≡ false → Noted w₁ fs text₁ r text′ → Noted w (es ++ fs) text r text′
@@ -55,7 +51,7 @@ noted-next w w₁ r es fs text text₁ text′ a h b = record {
 -- a report's entry, before those of later calls
 pub entered-next : (r : Report) (at : ℕ) (s : List ℕ) (es : List Entry) → refusedIn (reported r at s) ≡ false → entered r at s es ≡ reported r at s ++ es
 entered-next report.More at s es h = refl
-entered-next (report.Event e) at s es h = rw (passed e false h es (λ n. []))
+entered-next (report.Event e) at s es h = rw (clean-here e false h)
 
 -- and behind those of all others
 pub entered-last : (r : Report) (at : ℕ) (s : List ℕ) → entered r at s [] ≡ reported r at s

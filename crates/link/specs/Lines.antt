@@ -9,8 +9,7 @@ use Rattle.banner.specs.Banner.{revisionNumber}
 use Rattle.preamble.specs.declared.Header.{Header}
 use Rattle.preamble.specs.Layout.{total}
 use Rattle.stream.specs.declared.Event.{Event}
-use Rattle.stream.specs.declared.Event.the-variants as event
-use Rattle.stream.specs.Events.{isBanner, closes}
+use Rattle.stream.specs.Events.{isBanner, isFrame, closes, Role, bannerEnd, firstEnd, frameEnd, streamEnd, roleOf}
 use Rattle.stream.specs.Stream.{Entry}
 use Rattle.receiver.specs.Calls.{passing}
 use Rattle.text.specs.Line.{Piece, raw, number, codes, word, newline, field}
@@ -24,13 +23,15 @@ bannerLine p r = field "banner supported" (p .supported) ++ field " required" (p
 abbrev pub frameLine : List ℕ → ℕ → Header → List Piece
 frameLine letters k h = (raw letters ∷ number k ∷ []) ++ field " tag" (h .tag) ++ field " segments" (h .count) ++ field " bytes" (total h) ++ (newline ∷ [])
 
--- k frames and drops came before. They are numbered together; an early report of segment 1 has no line, and a refusal, which ends the list, only the end's
+-- of a whole frame or not, where k frames and drops came before. They are numbered together; an early report of segment 1 has no line, and a refusal, which ends the list, only the end's
+abbrev pub roleLine : Bool → ℕ → Role → List Piece
+roleLine whole k (bannerEnd p r) = bannerLine p r
+roleLine whole k (firstEnd h) = []
+roleLine whole k (frameEnd h) = frameLine (cond whole (codes "frame") (codes "drop")) (k + 1) h
+roleLine whole k (streamEnd n) = []
+
 abbrev pub lineOf : ℕ → Event → List Piece
-lineOf k (event.Banner p r) = bannerLine p r
-lineOf k (event.First h) = []
-lineOf k (event.Frame h) = frameLine (codes "frame") (k + 1) h
-lineOf k (event.Dropped h) = frameLine (codes "drop") (k + 1) h
-lineOf k (event.Refused n) = []
+lineOf k e = roleLine (isFrame e) k (roleOf e)
 
 abbrev pub numbered : ℕ → Event → ℕ
 numbered k e = cond (closes e) (k + 1) k

@@ -178,11 +178,7 @@ mark-after ready taken (report.Event (event.Refused n)) h = marked ready (eqb ta
 -- what a report says was taken
 pub taken-word : (t : ℕ) (r : Report) → getD (reportWords t r) 1 0 ≡ t
 taken-word t report.More = refl
-taken-word t (report.Event (event.Banner p v)) = refl
-taken-word t (report.Event (event.First h)) = refl
-taken-word t (report.Event (event.Frame h)) = refl
-taken-word t (report.Event (event.Dropped h)) = refl
-taken-word t (report.Event (event.Refused n)) = refl
+taken-word t (report.Event e) = refl
 
 joined : {m m′ r r′ : ℕ} {c c′ : PlainState} {x x′ : PlainSecure} {q q′ : List ℕ} → m ≡ m′ → r ≡ r′ → c ≡ c′ → x ≡ x′ → q ≡ q′ → handed (connected m r c x) q ≡ handed (connected m′ r′ c′ x′) q′
 joined e f g h i = rw (e, f, g, h, i)

@@ -20,25 +20,15 @@ use Rattle.delivery.specs.declared.Asked.the-variants as asked
 use Rattle.delivery.specs.declared.Settled.{Settled}
 use Rattle.delivery.specs.Asked.{askedByFrame, askedByReport, doneTo}
 use Rattle.plain.specs.Words.{features, revisionOf, refusalAt, headerAt}
-use Rattle.plain_receiver.specs.Words.{reportOf}
+use Rattle.plain_receiver.specs.Words.{reportAs, reportOf}
 use Rattle.plain_session.specs.Words.{plainSession, sessionOf, sessionNumbers, answering}
 use Rattle.plain_delivery.specs.Words.{effectWords, PlainSettled, settledWith, plainSettled}
 
 -- ---- what words ask
 
--- the report that words with a kind n stand for
-abbrev kindOf : ℕ → List ℕ → receiver.Report
-kindOf n q =
-    cond (eqb n 0) report.More
-    (report.Event
-    (cond (eqb n 1) (event.Banner (features (getD q 3 0) (getD q 4 0)) (revisionOf (getD q 2 0)))
-    (cond (eqb n 2) (event.Frame (headerAt 5 q))
-    (cond (eqb n 3) (event.Dropped (headerAt 5 q))
-    (cond (eqb n 4) (event.Refused (refusalAt 15 q)) (event.First (headerAt 5 q)))))))
-
 pub by-frame : (q s : List ℕ) {h : Header} {a : Asked} → getD q 0 0 ≡ 2 → h ≡ headerAt 5 q → a ≡ askedByFrame h s → a ≡ askedByReport (reportOf q) s
 by-frame q s e f g =
-    g ∙ ap (λ (x : Header). askedByFrame x s) f ∙ subst (λ (n : ℕ). askedByFrame (headerAt 5 q) s ≡ askedByReport (kindOf n q) s) (sym e) refl
+    g ∙ ap (λ (x : Header). askedByFrame x s) f ∙ subst (λ (n : ℕ). askedByFrame (headerAt 5 q) s ≡ askedByReport (reportAs n q) s) (sym e) refl
 
 pub by-others : (q s : List ℕ) → eqb (getD q 0 0) 2 ≡ false → asked.Nothing ≡ askedByReport (reportOf q) s
 by-others q s e = go (eqb (getD q 0 0) 0) (eqb (getD q 0 0) 1) (eqb (getD q 0 0) 2) (eqb (getD q 0 0) 3) (eqb (getD q 0 0) 4) e

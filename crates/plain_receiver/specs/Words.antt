@@ -12,6 +12,7 @@ use Rattle.banner.specs.declared.Revision.{Revision}
 use Rattle.preamble.specs.declared.Header.{Header}
 use Rattle.stream.specs.declared.Event.{Event}
 use Rattle.stream.specs.declared.Event.the-variants as event
+use Rattle.stream.specs.Events.{kindOf, Role, bannerEnd, firstEnd, frameEnd, streamEnd, roleOf}
 use Rattle.receiver.specs.declared.Stage.{Stage}
 use Rattle.receiver.specs.declared.Stage.the-variants as stage
 use Rattle.receiver.specs.declared.Known.{Known}
@@ -102,41 +103,48 @@ pub record PlainOf (st : State) (p : PlainState) : Type 0 where
 -- ---- reports. Places: 0 kind (0 more, 1 banner, 2 frame, 3 dropped, 4 refused, 5 segment 1 early), 1 the bytes taken, 2 revision, 3 and 4 the peer's features,
 -- 5 to 14 header, 15 to 18 refusal; what a kind does not use is 0
 
+abbrev pub reportFields : ℕ → Features → Header → Numbers → List ℕ
+reportFields v p h n = v ∷ p .supported ∷ p .required ∷ (headerWords h ++ refusalWords n)
+
 abbrev pub reporting : ℕ → ℕ → ℕ → Features → Header → Numbers → List ℕ
-reporting kind taken v p h n = kind ∷ taken ∷ v ∷ p .supported ∷ p .required ∷ (headerWords h ++ refusalWords n)
+reporting kind taken v p h n = kind ∷ taken ∷ reportFields v p h n
+
+abbrev pub roleFields : Role → List ℕ
+roleFields (bannerEnd p v) = reportFields (revisionNumber v) p noHeader noRefusal
+roleFields (firstEnd h) = reportFields 0 noFeatures h noRefusal
+roleFields (frameEnd h) = reportFields 0 noFeatures h noRefusal
+roleFields (streamEnd n) = reportFields 0 noFeatures noHeader n
 
 abbrev pub eventWords : ℕ → Event → List ℕ
-eventWords t (event.Banner p v) = reporting 1 t (revisionNumber v) p noHeader noRefusal
-eventWords t (event.First h) = reporting 5 t 0 noFeatures h noRefusal
-eventWords t (event.Frame h) = reporting 2 t 0 noFeatures h noRefusal
-eventWords t (event.Dropped h) = reporting 3 t 0 noFeatures h noRefusal
-eventWords t (event.Refused n) = reporting 4 t 0 noFeatures noHeader n
+eventWords t e = kindOf e ∷ t ∷ roleFields (roleOf e)
 
 abbrev pub reportWords : ℕ → Report → List ℕ
 reportWords t report.More = reporting 0 t 0 noFeatures noHeader noRefusal
 reportWords t (report.Event e) = eventWords t e
 
 -- THE REPORT THAT WORDS STAND FOR
-abbrev pub reportOf : List ℕ → Report
-reportOf q =
-    cond (eqb (getD q 0 0) 0) report.More
+abbrev pub reportAs : ℕ → List ℕ → Report
+reportAs kind q =
+    cond (eqb kind 0) report.More
     (report.Event
-    (cond (eqb (getD q 0 0) 1) (event.Banner (features (getD q 3 0) (getD q 4 0)) (revisionOf (getD q 2 0)))
-    (cond (eqb (getD q 0 0) 2) (event.Frame (headerAt 5 q))
-    (cond (eqb (getD q 0 0) 3) (event.Dropped (headerAt 5 q))
-    (cond (eqb (getD q 0 0) 4) (event.Refused (refusalAt 15 q)) (event.First (headerAt 5 q)))))))
+    (cond (eqb kind 1) (event.Banner (features (getD q 3 0) (getD q 4 0)) (revisionOf (getD q 2 0)))
+    (cond (eqb kind 2) (event.Frame (headerAt 5 q))
+    (cond (eqb kind 3) (event.Dropped (headerAt 5 q))
+    (cond (eqb kind 4) (event.Refused (refusalAt 15 q)) (event.First (headerAt 5 q)))))))
+
+abbrev pub reportOf : List ℕ → Report
+reportOf q = reportAs (getD q 0 0) q
 
 -- the fields of a report are of their types
-abbrev pub EventTyped : Event → Type 0
-EventTyped (event.Banner p v) = Unit {0}
-EventTyped (event.First h) = Within headerLimits 0 (headerWords h)
-EventTyped (event.Frame h) = Within headerLimits 0 (headerWords h)
-EventTyped (event.Dropped h) = Within headerLimits 0 (headerWords h)
-EventTyped (event.Refused n) = n .number ≤ maxU8
+abbrev pub RoleTyped : Role → Type 0
+RoleTyped (bannerEnd p v) = Unit {0}
+RoleTyped (firstEnd h) = Within headerLimits 0 (headerWords h)
+RoleTyped (frameEnd h) = Within headerLimits 0 (headerWords h)
+RoleTyped (streamEnd n) = n .number ≤ maxU8
 
 abbrev pub ReportTyped : Report → Type 0
 ReportTyped report.More = Unit {0}
-ReportTyped (report.Event e) = EventTyped e
+ReportTyped (report.Event e) = RoleTyped (roleOf e)
 
 -- the words of a report, and that they stand for it
 pub record ReportOf (t : ℕ) (r : Report) (q : List ℕ) : Type 0 where

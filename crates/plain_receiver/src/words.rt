@@ -25,11 +25,12 @@ ghost use lib.ListN.{length};
 ghost use Rattle.refusal.specs.Refusals.{judgedBy};
 ghost use Rattle.receiver.specs.State.{rank, noFeatures, noHeader, noRefusal};
 ghost use Rattle.stream.specs.declared.Event.the-variants as event;
+ghost use Rattle.stream.specs.Events.{roleOf};
 ghost use Rattle.receiver.specs.declared.Report.the-variants as report;
 ghost use Rattle.receiver.specs.declared.Stage.{Stage};
 ghost use Rattle.receiver.specs.Step.{stateAt, contradiction};
 ghost use Rattle.plain.specs.Words.{Within, maxU8, headerWords, headerLimits};
-ghost use Rattle.plain_receiver.specs.Words.{plainState, stageOf, knownWith, knownOf, numbersWith, fits, Typed, PlainOf, reporting, eventWords, reportWords, EventTyped, ReportOf, numberOf};
+ghost use Rattle.plain_receiver.specs.Words.{plainState, stageOf, knownWith, knownOf, numbersWith, fits, Typed, PlainOf, reporting, eventWords, reportWords, RoleTyped, ReportOf, numberOf};
 
 fn stage_number(stage: Stage) -> u64
     ensures { λ r. ⌜ r ≡ rank stage ⌝ }
@@ -293,7 +294,7 @@ fn refused(taken: u64, n: Numbers) -> [u64; 19]
 }
 
 fn event_words(taken: u64, event: Event) -> [u64; 19]
-    ensures { λ r. ⌜ (r ≡ eventWords taken event) × EventTyped event ⌝ }
+    ensures { λ r. ⌜ (r ≡ eventWords taken event) × RoleTyped (roleOf event) ⌝ }
 {
     match event {
         Event::Banner(peer, revision) => reporting(

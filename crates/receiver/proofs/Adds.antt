@@ -2,7 +2,7 @@
 use Prim.Native.Nat.{ℕ, _+_, _-_, _≤_}
 use mathlib.Core.List.{List, [], _∷_}
 use mathlib.Core.Path.{_≡_, refl, sym, ap, _∙_}
-use mathlib.Core.Bool.{Bool, true, false, not, cond}
+use mathlib.Core.Bool.{Bool, true, false, not, cond, true≢false}
 use native.Mathlib.Omega.{arith}
 use native.Mathlib.Nat.{add-zero, zero-add, add-assoc}
 use lib.ListN.{length, take}
@@ -18,9 +18,10 @@ use Rattle.preamble.specs.Layout.{total}
 use Rattle.preamble.specs.Judge.{headerOf, judgePreamble}
 use Rattle.body.specs.Body.{segmentSum, noFirstSum, firstSumLength, noEpilogue, wireLength}
 use Rattle.body.specs.End.{Ended, whole, dropped, turnedAway, ending}
-use Rattle.stream.specs.declared.Event.{Event}
 use Rattle.stream.specs.declared.Event.the-variants as event
+use Rattle.stream.specs.Events.{roleOf}
 use Rattle.stream.specs.Stream.{zeroed}
+use Rattle.stream.proofs.Events.{by-event}
 use Rattle.receiver.specs.declared.Stage.{Stage}
 use Rattle.receiver.specs.declared.Stage.the-variants as stage
 use Rattle.receiver.specs.declared.Known.{Known}
@@ -30,23 +31,17 @@ use Rattle.receiver.specs.declared.Report.the-variants as report
 use Rattle.receiver.specs.declared.Received.{Received}
 use Rattle.receiver.specs.State.{sizeOf, isRefused, hasFirstSum, agrees}
 use Rattle.receiver.specs.Step.{at, withPeer, withHeader, withFirst, absorbed, stored, size, Stepped, silent, refuse, unlessRefused, endBanner, endFrame, beginEpilogue, beginRest, beginBody, reportFirst, behindFirstSum, reached, chunk, finish, onByte, Answer, onward, feed, neededBy, shortStore, Answered, Running, refusedState, started}
-use Rattle.receiver.specs.Every.{AnyCall, Handed, allTaken, lengthOf, allReported, cameBefore, unfinished, unfinishedAfter, unfinishedBy, Refuses}
+use Rattle.receiver.specs.Calls.{passing}
+use Rattle.receiver.specs.Every.{AnyCall, Handed, allTaken, roleLength, lengthOf, allReported, cameBefore, unfinished, unfinishedAfter, unfinishedBy, Refuses}
 use Rattle.body.proofs.Ends.{no-length}
 use Rattle.receiver.proofs.Frames.{rest-silent}
-use Rattle.receiver.proofs.Live.{Rules, Gone, After, live, inside-of, chunk-after, feed-after, refused-gone, agree-own}
+use Rattle.receiver.proofs.Live.{Rules, Gone, After, live, inside-of, chunk-after, feed-after, after-agrees, refused-gone, agree-own}
 use Rattle.receiver.proofs.Every.{feeding, shortened, refuses, gone-answer}
 
 -- n bytes of the stream since the last report, by the report and the state that it leaves
-abbrev CountsEvent : Event → ℕ → State → Type 0
-CountsEvent (event.Banner p r) n st = n ≡ lengthOf (report.Event (event.Banner p r)) (st .known) + unfinished st
-CountsEvent (event.First h) n st = n ≡ lengthOf (report.Event (event.First h)) (st .known) + unfinished st
-CountsEvent (event.Frame h) n st = n ≡ lengthOf (report.Event (event.Frame h)) (st .known) + unfinished st
-CountsEvent (event.Dropped h) n st = n ≡ lengthOf (report.Event (event.Dropped h)) (st .known) + unfinished st
-CountsEvent (event.Refused m) n st = Unit {0}
-
 abbrev Counts : Report → ℕ → State → Type 0
 Counts report.More n st = n ≡ unfinished st
-Counts (report.Event e) n st = CountsEvent e n st
+Counts (report.Event e) n st = passing e (n ≡ roleLength (roleOf e) (st .known) + unfinished st) (λ m. Unit {0})
 
 abbrev CountsStep : ℕ → Stepped → Type 0
 CountsStep n x = Counts (x .report) n (x .state)
@@ -205,12 +200,13 @@ refused-next n m st s r s′ g a =
 
 fed-next : (n : ℕ) (r : Report) (taken : ℕ) (st : State) (s : List ℕ) → After r st s → Counts r (n + taken) st → Next n (record { state = st; taken = taken; report = r })
 fed-next n report.More taken st s a c = record { adds = c ∙ sym (zero-add (unfinished st)); stands = record { agree = a .agree; counts = λ _. refl } }
-fed-next n (report.Event (event.Banner p v)) taken st s a c = record { adds = c; stands = record { agree = a .agree; counts = λ _. refl } }
-fed-next n (report.Event (event.First h)) taken st s a c = record { adds = c; stands = record { agree = a .agree; counts = λ _. refl } }
-fed-next n (report.Event (event.Frame h)) taken st s a c = record { adds = c; stands = record { agree = a .agree; counts = λ _. refl } }
-fed-next n (report.Event (event.Dropped h)) taken st s a c = record { adds = c; stands = record { agree = a .agree; counts = λ _. refl } }
-fed-next n (report.Event (event.Refused m)) taken st s a c =
-    record { adds = sym (zero-add (n + taken)); stands = record { agree = a .agree; counts = λ e. absurd (let z : true ≡ false = sym (ap isRefused (a .stage)) ∙ e in (let y : _≡_ {A = ℕ} 0 1 = cc in omega arith)) } }
+fed-next n (report.Event e) taken st s a c =
+    by-event (λ w. After (report.Event w) st s → Counts (report.Event w) (n + taken) st → Next n (record { state = st; taken = taken; report = report.Event w }))
+    (λ w p b d. record { adds = rw p (rw p at d); stands = record { agree = after-agrees (report.Event w) st s b; counts = λ _. rw p } })
+    (λ m b d. record { adds = sym (zero-add (n + taken)); stands = record { agree = b .agree; counts = λ i. absurd (true≢false (sym (ap isRefused (b .stage)) ∙ i)) } })
+    e
+    a
+    c
 
 call-next : (n : ℕ) (st : State) (s piece : List ℕ) (r : Received) (s′ : List ℕ) → Stands n st → Answered st s piece r s′ → Next n r
 call-next n st s piece r s′ w a = go (isRefused (st .position .stage)) refl (ltb (length s) (neededBy st)) refl

@@ -1,57 +1,48 @@
 -- Lists of entries and of calls, one behind the other.
-use mathlib.Core.Path.{_≡_, refl, sym, subst, _∙_}
+use mathlib.Core.Path.{_≡_, refl}
 use mathlib.Core.Bool.{Bool, true, false, true≢false}
 use mathlib.Core.List.{List, [], _∷_, _++_}
 use Prim.Native.Nat.{ℕ, _+_, _≤_}
 use native.Mathlib.Omega.{arith}
-use Rattle.refusal.specs.declared.Numbers.{Numbers}
+use Rattle.refusal.specs.Refusals.{fine}
 use Rattle.banner.specs.declared.Revision.{Revision}
 use Rattle.stream.specs.declared.Event.{Event}
-use Rattle.stream.specs.declared.Event.the-variants as event
+use Rattle.stream.specs.Events.{roleOf, judgeRole, judgeEvent, byJudgement}
 use Rattle.stream.specs.Stream.{Entry}
 use Rattle.stream.specs.Adds.{Adds}
-use Rattle.stream.proofs.Events.{by-adds}
+use Rattle.stream.proofs.Events.{by-event, by-adds}
 use Rattle.receiver.specs.declared.State.{State}
 use Rattle.receiver.specs.declared.Report.{Report}
 use Rattle.receiver.specs.declared.Report.the-variants as report
 use Rattle.receiver.specs.Calls.{Call, Chained, passing, takenBy, stateBy, storeBy, entered, reportedBy, refusedIn}
-use Rattle.receiver.proofs.Entries.{Passes, Kind, goesOn, ends, kind}
 
 -- ---- events
 
--- an event is passed, or is a refusal
-pub by-event : (C : Event → Type 0) → ((w : Event) → Passes (report.Event w) → C w) → ((n : Numbers) → C (event.Refused n)) → (w : Event) → C w
-by-event C passed refusal w = go (kind (report.Event w))
-  where
-    go : Kind (report.Event w) → C w
-    go (goesOn p) = passed w p
-    go (ends n q) = (let e : event.Refused n ≡ w = cc in subst C e (refusal n))
-
--- one behind which there is no refusal is passed
-pub passed : {A : Type 0} (w : Event) (b : Bool) → passing w b (λ n. true) ≡ false → (a : A) (f : Numbers → A) → passing w a f ≡ a
-passed {A} w b e a f = by-event (λ v. passing v b (λ n. true) ≡ false → passing v a f ≡ a) (λ v p d. p A a f) (λ n d. absurd (true≢false d)) w e
+-- where no refusal is among an event and those behind it, it is passed, and none is among those
+pub clean-here : (w : Event) (b : Bool) → passing w b (λ n. true) ≡ false → judgeEvent w ≡ fine
+clean-here w b e = by-event (λ v. passing v b (λ n. true) ≡ false → judgeEvent v ≡ fine) (λ v p d. p) (λ n d. absurd (true≢false d)) w e
 
 pub clean-behind : (w : Event) (b : Bool) → passing w b (λ n. true) ≡ false → b ≡ false
-clean-behind w b e = sym (passed w b e b (λ n. true)) ∙ e
+clean-behind w b e = rw (clean-here w b e) at e
 
 pub passing-same : {A : Type 0} (w : Event) (a : A) → passing w a (λ n. a) ≡ a
-passing-same {A} w a = by-event (λ v. passing v a (λ n. a) ≡ a) (λ v p. p A a (λ n. a)) (λ n. refl) w
+passing-same w a = by-event (λ v. passing v a (λ n. a) ≡ a) (λ v p. rw p) (λ n. refl) w
 
 -- ---- entries
 
 pub refused-append : (es fs : List Entry) → refusedIn es ≡ false → refusedIn (es ++ fs) ≡ refusedIn fs
 refused-append [] fs h = refl
-refused-append (e ∷ es) fs h = passed (e .event) (refusedIn es) h (refusedIn (es ++ fs)) (λ n. true) ∙ refused-append es fs (clean-behind (e .event) (refusedIn es) h)
+refused-append (e ∷ es) fs h = rw (clean-here (e .event) (refusedIn es) h) (refused-append es fs (clean-behind (e .event) (refusedIn es) h))
 
 -- behind entries that are no refusal, the others add up from some byte on
 pub adds-behind : (r : Revision) (P : ℕ) (es fs : List Entry) → refusedIn es ≡ false → Adds r P (es ++ fs) → (Q : ℕ) × Adds r Q fs
 adds-behind r P [] fs h a = (P, a)
 adds-behind r P (e ∷ es) fs h a =
-    by-adds (λ w. passing w (refusedIn es) (λ n. true) ≡ false → (Q : ℕ) × Adds r Q fs) r P (e .at) (λ Q. Adds r Q (es ++ fs))
+    by-adds (λ w. byJudgement (judgeRole w) (refusedIn es) (λ n. true) ≡ false → (Q : ℕ) × Adds r Q fs) r P (e .at) (λ Q. Adds r Q (es ++ fs))
     (λ f x c. adds-behind r P es fs c x)
-    (λ f q x. (λ c. adds-behind r (e .at) es fs c x, λ c. adds-behind r (e .at) es fs c x))
+    (λ f q x c. adds-behind r (e .at) es fs c x)
     (λ n l c. absurd (true≢false c))
-    (e .event)
+    (roleOf (e .event))
     a
     h
 
@@ -82,9 +73,9 @@ pub chained-append : (stream : List ℕ) (st : State) (s : List ℕ) (t : ℕ) (
 chained-append stream st s t [] ds a b = b
 chained-append stream st s t (c ∷ cs) ds a b = (a .0, chained-append stream (c .received .state) (c .store) (t + c .received .taken) cs ds (a .1) b)
 
-entered-append : (r : Report) (at : ℕ) (s : List ℕ) (xs es fs : List Entry) → refusedIn (entered r at s es) ≡ false → (refusedIn es ≡ false → xs ≡ es ++ fs) → entered r at s xs ≡ entered r at s es ++ fs
+pub entered-append : (r : Report) (at : ℕ) (s : List ℕ) (xs es fs : List Entry) → refusedIn (entered r at s es) ≡ false → (refusedIn es ≡ false → xs ≡ es ++ fs) → entered r at s xs ≡ entered r at s es ++ fs
 entered-append report.More at s xs es fs h f = f h
-entered-append (report.Event w) at s xs es fs h f = by-event C (λ v p c. rw (p (List Entry) xs (λ n. []), p (List Entry) es (λ n. []), f (rw (p (List Entry) es (λ n. [])) at (clean-behind v (refusedIn (passing v es (λ n. []))) c)))) (λ n c. absurd (true≢false c)) w h
+entered-append (report.Event w) at s xs es fs h f = by-event C (λ v p c. rw (p, f (rw p at c))) (λ n c. absurd (true≢false c)) w h
   where
     C : Event → Type 0
     C v = refusedIn (entered (report.Event v) at s es) ≡ false → entered (report.Event v) at s xs ≡ entered (report.Event v) at s es ++ fs
@@ -107,4 +98,4 @@ reported-between t (c ∷ cs) =
   where
     go : (r : Report) (E : ℕ) (es : List Entry) → t + c .received .taken ≤ E → Between t E es → Between t E (entered r (t + c .received .taken) (c .store) es)
     go report.More E es h b = b
-    go (report.Event w) E es h b = (omega arith, h, by-event (λ v. Between t E (passing v es (λ n. []))) (λ v p. rw (p (List Entry) es (λ n. [])) b) (λ n. tt) w)
+    go (report.Event w) E es h b = (omega arith, h, by-event (λ v. Between t E (passing v es (λ n. []))) (λ v p. rw p b) (λ n. tt) w)

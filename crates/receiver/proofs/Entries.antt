@@ -2,13 +2,15 @@
 use Prim.Native.Nat.{ℕ, suc, _+_, _≤_, _<_}
 use mathlib.Core.List.{List, [], _∷_, _++_, append-assoc, append-nil}
 use mathlib.Core.Path.{_≡_, refl, _∙_}
-use mathlib.Core.Bool.{Bool, true, false}
+use mathlib.Core.Bool.{true, false}
 use native.Mathlib.Omega.{arith}
 use borrow.Author.Tests.{le-leb, lt-leb}
 use Rattle.refusal.specs.declared.Numbers.{Numbers}
-use Rattle.stream.specs.declared.Event.{Event}
+use Rattle.refusal.specs.Refusals.{fine}
 use Rattle.stream.specs.declared.Event.the-variants as event
+use Rattle.stream.specs.Events.{judgeEvent}
 use Rattle.stream.specs.Stream.{Entry, entry}
+use Rattle.stream.proofs.Events.{by-event}
 use Rattle.receiver.specs.declared.Report.{Report}
 use Rattle.receiver.specs.declared.Report.the-variants as report
 use Rattle.receiver.specs.Calls.{entered, dueTaken, dueReport, passing, refusedIn}
@@ -65,35 +67,29 @@ unfolding Skips
 skips-none t t′ k fs h = (refl, refl)
 
 -- no refusal
-abbrev pub Passes : Report → Type 1
-Passes report.More = Unit {1}
-Passes (report.Event w) = (A : Type 0) (a : A) (f : Numbers → A) → passing w a f ≡ a
+abbrev pub Passes : Report → Type 0
+Passes report.More = Unit {0}
+Passes (report.Event w) = judgeEvent w ≡ fine
 
 -- a report is a refusal, or is passed
-pub data Kind (r : Report) : Type 1 where
+pub data Kind (r : Report) : Type 0 where
   goesOn : Passes r → Kind r
   ends : (n : Numbers) → r ≡ report.Event (event.Refused n) → Kind r
 
 pub kind : (r : Report) → Kind r
 kind report.More = goesOn tt
-kind (report.Event (event.Banner p r)) = goesOn (λ A a f. refl)
-kind (report.Event (event.First h)) = goesOn (λ A a f. refl)
-kind (report.Event (event.Frame h)) = goesOn (λ A a f. refl)
-kind (report.Event (event.Dropped h)) = goesOn (λ A a f. refl)
-kind (report.Event (event.Refused n)) = ends n refl
+kind (report.Event w) = by-event (λ v. Kind (report.Event v)) (λ v p. goesOn p) (λ n. ends n refl) w
 
 pub enters : (r : Report) (t : ℕ) (s : List ℕ) (es : List Entry) → Passes r → entered r t s es ≡ noted r t s [] ++ es
 enters report.More t s es p = refl
-enters (report.Event w) t s es p = rw (p (List Entry) es (λ n. []))
+enters (report.Event w) t s es p = rw p
 
 pub skips-noted : (r : Report) (t a : ℕ) (s : List ℕ) (es : List Entry) → Passes r → t ≤ a → Skips t es → Skips a (es ++ noted r a s [])
 unfolding Skips dueTaken dueReport
 skips-noted report.More t a s es p l sk t′ k fs h = rw append-nil (sk t′ k fs (omega arith))
 skips-noted (report.Event w) t a s es p l sk t′ k fs h =
-    let r = sk t′ k (entry w a s ∷ fs) (omega arith) in (
-      rw append-assoc (r .0 ∙ rw (le-leb a t′ h) (p ℕ (dueTaken fs t′ k) (λ n. 0))),
-      rw append-assoc (r .1 ∙ rw (le-leb a t′ h) (p Report (dueReport fs t′ k) (λ n. report.Event (event.Refused n)))),
-    )
+    let r = sk t′ k (entry w a s ∷ fs) (omega arith) in
+    (rw append-assoc (r .0 ∙ rw (le-leb a t′ h, p)), rw append-assoc (r .1 ∙ rw (le-leb a t′ h, p)))
 
 pub stops-refusal : (t a : ℕ) (n : Numbers) (s : List ℕ) (es : List Entry) → t ≤ a → Skips t es → Stops n a (es ++ (entry (event.Refused n) a s ∷ []))
 unfolding Skips Stops dueTaken dueReport
@@ -102,15 +98,9 @@ stops-refusal t a n s es l sk t′ k fs h =
     (rw append-assoc (r .0 ∙ rw (le-leb a t′ h)), rw append-assoc (r .1 ∙ rw (le-leb a t′ h)))
 
 -- and no refusal is among them
-clean-before : (e : Event) (b c : Bool) → (b ≡ false → c ≡ false) → passing e b (λ n. true) ≡ false → passing e c (λ n. true) ≡ false
-clean-before (event.Banner p r) b c f q = f q
-clean-before (event.First h) b c f q = f q
-clean-before (event.Frame h) b c f q = f q
-clean-before (event.Dropped h) b c f q = f q
-clean-before (event.Refused n) b c f q = q
-
 pub clean-noted : (r : Report) (t : ℕ) (s : List ℕ) (es : List Entry) → Passes r → refusedIn es ≡ false → refusedIn (es ++ noted r t s []) ≡ false
 clean-noted report.More t s es p e = rw append-nil e
-clean-noted (report.Event w) t s [] p e = p Bool false (λ n. true)
+clean-noted (report.Event w) t s [] p e = rw p
 clean-noted (report.Event w) t s (x ∷ es) p e =
-    clean-before (x .event) (refusedIn es) (refusedIn (es ++ (entry w t s ∷ []))) (clean-noted (report.Event w) t s es p) e
+    by-event (λ v. passing v (refusedIn es) (λ n. true) ≡ false → passing v (refusedIn (es ++ (entry w t s ∷ []))) (λ n. true) ≡ false)
+    (λ v q c. rw q (clean-noted (report.Event w) t s es p (rw q at c))) (λ n c. c) (x .event) e

@@ -27,7 +27,6 @@ use Rattle.body.specs.declared.Late.the-variants as late
 use Rattle.body.specs.Body.{segmentSum, segments, epilogueFrom, inEpilogue, noFirstSum, noEpilogue}
 use Rattle.body.specs.End as ended
 use Rattle.body.specs.End.{Ended, whole, dropped, turnedAway, compareFrom, compared, unusedFrom, judgeSpelling, byLate, unlessTurnedAway, lateOf, ending}
-use Rattle.stream.specs.declared.Event.the-variants as event
 use Rattle.stream.specs.Stream.{zeroed}
 use Rattle.receiver.specs.declared.Stage.{Stage}
 use Rattle.receiver.specs.declared.Stage.the-variants as stage
@@ -36,7 +35,6 @@ use Rattle.receiver.specs.declared.Place.the-variants as place
 use Rattle.receiver.specs.declared.Known.{Known}
 use Rattle.receiver.specs.declared.State.{State}
 use Rattle.receiver.specs.declared.Report.{Report}
-use Rattle.receiver.specs.declared.Report.the-variants as report
 use Rattle.buffer.specs.Zeros.{allZero}
 use Rattle.receiver.specs.State.{sizeOf, placeOf, isRefused, inBody, needed, blank, noRefusal, sameRevision, hasFirstSum, given, ownRule, payloadRule, peerRule, revisionRule, headerRule, firstRule, markRule, refusalRule, rules, leastOf, countRule, inBlock, blockRule, agreesAt, agrees}
 use Rattle.receiver.specs.Step.{at, onlyOwn, withPayload, withPeer, withRevision, withHeader, withFirst, nextFrame, refusedState, blockWith, storeWith, absorbed, stored, size, Stepped, silent, refuse, unlessRefused, endBanner, endFrame, beginEpilogue, beginRest, beginBody, reportFirst, behindFirstSum, reached, chunk, finish, onByte, feed, Running}
@@ -403,12 +401,7 @@ feed-after st s piece r = rw (← (plain-feed st s piece)) at (machine.feed-afte
 -- ---- and so a state that a call hands back agrees with itself
 
 pub after-agrees : (r : Report) (st : State) (s : List ℕ) → After r st s → agrees st ≡ true
-after-agrees report.More st s a = a .agree
-after-agrees (report.Event (event.Banner p r)) st s a = a .agree
-after-agrees (report.Event (event.First h)) st s a = a .agree
-after-agrees (report.Event (event.Frame h)) st s a = a .agree
-after-agrees (report.Event (event.Dropped h)) st s a = a .agree
-after-agrees (report.Event (event.Refused n)) st s a = a .agree
+after-agrees r st s = machine.by-after Running Gone r st s (λ a. a .agree) (λ n a. a .agree)
 
 -- ---- refused states
 

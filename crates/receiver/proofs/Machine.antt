@@ -1,19 +1,18 @@
 -- A machine that takes bytes, of any state and any step: the step run over a list of bytes, and what a piece takes of it.
 use Prim.Native.Nat.{ℕ, suc, _+_, _≤_, zero-le, suc-le-suc}
 use mathlib.Core.List.{List, [], _∷_, _++_}
-use mathlib.Core.Path.{_≡_, refl, sym, ap, _∙_}
-use mathlib.Core.Bool.{Bool, true, false}
+use mathlib.Core.Path.{_≡_, refl, ap, _∙_}
 use native.Mathlib.Omega.{arith}
 use native.Mathlib.Numerals.{add-one, one-add}
 use native.Mathlib.Nat.{add-zero, add-suc, suc-add}
 use lib.ListN.{length, take}
 use Rattle.refusal.specs.declared.Numbers.{Numbers}
-use Rattle.refusal.proofs.Booleans.{wrong}
-use Rattle.stream.specs.declared.Event.{Event}
 use Rattle.stream.specs.declared.Event.the-variants as event
 use Rattle.stream.specs.Stream.{Entry}
+use Rattle.stream.proofs.Events.{by-event}
 use Rattle.receiver.specs.declared.Report.{Report}
 use Rattle.receiver.specs.declared.Report.the-variants as report
+use Rattle.receiver.specs.Calls.{passing}
 use Rattle.receiver.proofs.Entries.{noted, noted-append, Behind, behind-noted, Fills, Passes}
 
 -- what a byte comes to
@@ -133,19 +132,15 @@ module _ {State : Type 0} (Running : State → List ℕ → Type 0) (Gone : Numb
   -- what holds behind a report
   abbrev pub After : Report → State → List ℕ → Type 0
   After report.More x s = Running x s
-  After (report.Event (event.Banner p r)) x s = Running x s
-  After (report.Event (event.First h)) x s = Running x s
-  After (report.Event (event.Frame h)) x s = Running x s
-  After (report.Event (event.Dropped h)) x s = Running x s
-  After (report.Event (event.Refused n)) x s = Gone n x
+  After (report.Event e) x s = passing e (Running x s) (λ n. Gone n x)
 
   pub passed-running : (r : Report) (x : State) (s : List ℕ) → Passes r → After r x s → Running x s
   passed-running report.More x s p a = a
-  passed-running (report.Event (event.Banner q r)) x s p a = a
-  passed-running (report.Event (event.First h)) x s p a = a
-  passed-running (report.Event (event.Frame h)) x s p a = a
-  passed-running (report.Event (event.Dropped h)) x s p a = a
-  passed-running (report.Event (event.Refused n)) x s p a = wrong (sym (p Bool false (λ m. true)))
+  passed-running (report.Event e) x s p a = rw p at a
+
+  pub by-after : {C : Type 0} (r : Report) (x : State) (s : List ℕ) → (Running x s → C) → ((n : Numbers) → Gone n x → C) → After r x s → C
+  by-after report.More x s f g a = f a
+  by-after {C} (report.Event e) x s f g a = by-event (λ w. After (report.Event w) x s → C) (λ w p b. f (rw p at b)) g e a
 
   module _ (onByte : State → List ℕ → ℕ → Stepped State)
       (keeps : (x : State) (s : List ℕ) (b : ℕ) → Running x s → After (onByte x s b .report) (onByte x s b .state) (onByte x s b .store)) where
@@ -160,6 +155,13 @@ module _ {State : Type 0} (Running : State → List ℕ → Type 0) (Gone : Numb
             → (let a = onward r y (feed onByte (y .state) (y .store) bs) in After (a .report) (a .state) (a .store))
         go report.More y a ih = ih a
         go (report.Event e) y a ih = a
+
+-- what holds behind a report of one machine, of another
+pub after-map : {A B : Type 0} (R : A → List ℕ → Type 0) (G : Numbers → A → Type 0) (R′ : B → List ℕ → Type 0) (G′ : Numbers → B → Type 0) (r : Report) (x : A) (y : B) (s : List ℕ)
+    → (R x s → R′ y s) → ((n : Numbers) → G n x → G′ n y) → After R G r x s → After R′ G′ r y s
+after-map R G R′ G′ report.More x y s f g a = f a
+after-map R G R′ G′ (report.Event e) x y s f g a =
+    by-event (λ w. After R G (report.Event w) x s → After R′ G′ (report.Event w) y s) (λ w p b. rw p (f (rw p at b))) g e a
 
 -- a call of a refused machine takes nothing, changes nothing and repeats the refusal
 abbrev pub refusedAgain : {State : Type 0} → Numbers → State → List ℕ → Answer State

@@ -11,6 +11,7 @@ use Rattle.banner.specs.declared.Features.{Features}
 use Rattle.banner.specs.Banner.{judgeOwn}
 use Rattle.stream.specs.declared.Event.{Event}
 use Rattle.stream.specs.declared.Event.the-variants as event
+use Rattle.stream.specs.Events.{judgeEvent, byJudgement}
 use Rattle.stream.specs.Stream.{Entry, entry, traceOf}
 use Rattle.stream.specs.Adds.{AddsUp}
 use Rattle.receiver.specs.declared.State.{State}
@@ -53,12 +54,9 @@ storeBy s [] = s
 storeBy s (c ∷ cs) = storeBy (c .store) cs
 
 -- behind an event that is passed, what the later ones give; behind a refusal, what the refusal gives
-abbrev pub passing : {A : Type 0} → Event → A → (Numbers → A) → A
-passing (event.Banner p r) a f = a
-passing (event.First h) a f = a
-passing (event.Frame h) a f = a
-passing (event.Dropped h) a f = a
-passing (event.Refused n) a f = f n
+module _ {ℓ} {A : Type ℓ} where
+  abbrev pub passing : Event → A → (Numbers → A) → A
+  passing e a f = byJudgement (judgeEvent e) a f
 
 -- a report's entry, before those of later calls; a refusal is entered once, and ends the list
 abbrev pub entered : Report → ℕ → List ℕ → List Entry → List Entry

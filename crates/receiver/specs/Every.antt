@@ -8,8 +8,8 @@ use Rattle.refusal.specs.declared.Numbers.{Numbers}
 use Rattle.banner.specs.declared.Features.{Features}
 use Rattle.preamble.specs.Layout.{total}
 use Rattle.body.specs.Body.{firstSumLength, wireLength}
-use Rattle.stream.specs.declared.Event.{Event}
 use Rattle.stream.specs.declared.Event.the-variants as event
+use Rattle.stream.specs.Events.{Role, bannerEnd, firstEnd, frameEnd, streamEnd, roleOf}
 use Rattle.receiver.specs.declared.Stage.{Stage}
 use Rattle.receiver.specs.declared.Stage.the-variants as stage
 use Rattle.receiver.specs.declared.Known.{Known}
@@ -18,6 +18,7 @@ use Rattle.receiver.specs.declared.Report.{Report}
 use Rattle.receiver.specs.declared.Report.the-variants as report
 use Rattle.receiver.specs.declared.Received.{Received}
 use Rattle.receiver.specs.State.{isRefused, agrees}
+use Rattle.receiver.specs.Calls.{passing}
 use Rattle.receiver.specs.Step.{Answered, Running, contradiction, shortStore, neededBy, refusedState, started}
 
 -- ---- every call
@@ -64,13 +65,15 @@ allTaken [] = 0
 allTaken (c ∷ cs) = c .received .taken + allTaken cs
 
 -- what a report says of the bytes up to it: the banner's length, or a frame's on the wire; an early report adds none. v is what the receiver then knows
+abbrev pub roleLength : Role → Known → ℕ
+roleLength (bannerEnd p r) v = 10 + v .payload
+roleLength (firstEnd h) v = 0
+roleLength (frameEnd h) v = wireLength (v .revision) h
+roleLength (streamEnd n) v = 0
+
 abbrev pub lengthOf : Report → Known → ℕ
 lengthOf report.More v = 0
-lengthOf (report.Event (event.Banner p r)) v = 10 + v .payload
-lengthOf (report.Event (event.First h)) v = 0
-lengthOf (report.Event (event.Frame h)) v = wireLength (v .revision) h
-lengthOf (report.Event (event.Dropped h)) v = wireLength (v .revision) h
-lengthOf (report.Event (event.Refused n)) v = 0
+lengthOf (report.Event e) v = roleLength (roleOf e) v
 
 abbrev pub allReported : List AnyCall → ℕ
 allReported [] = 0
@@ -96,11 +99,7 @@ unfinished st = cameBefore (st .position .stage) (st .known) + st .position .got
 -- with a refusal, the bytes of its banner or frame: those that were unfinished at the last report or call before it, and those that the refused call took
 abbrev pub unfinishedAfter : Report → ℕ → Received → ℕ
 unfinishedAfter report.More n r = unfinished (r .state)
-unfinishedAfter (report.Event (event.Banner p v)) n r = unfinished (r .state)
-unfinishedAfter (report.Event (event.First h)) n r = unfinished (r .state)
-unfinishedAfter (report.Event (event.Frame h)) n r = unfinished (r .state)
-unfinishedAfter (report.Event (event.Dropped h)) n r = unfinished (r .state)
-unfinishedAfter (report.Event (event.Refused m)) n r = n + r .taken
+unfinishedAfter (report.Event e) n r = passing e (unfinished (r .state)) (λ m. n + r .taken)
 
 abbrev pub unfinishedBy : ℕ → List AnyCall → ℕ
 unfinishedBy n [] = n

@@ -13,16 +13,16 @@ use Rattle.banner.specs.declared.Revision.{Revision}
 use Rattle.preamble.specs.declared.Header.{Header}
 use Rattle.preamble.specs.Judge.{headerOf}
 use Rattle.body.specs.End.{Ended, whole, dropped, turnedAway}
-use Rattle.stream.specs.declared.Event.{Event}
-use Rattle.stream.specs.declared.Event.the-variants.{Banner, First, Frame, Dropped, Refused}
+use Rattle.stream.specs.Events.{Role, bannerEnd, firstEnd, frameEnd, streamEnd, roleOf, isFrameEnd}
 use Rattle.stream.specs.Stream.{Entry, Trace, ended, unlessRefused, traceOf}
-use Rattle.stream.specs.Adds.{AddsAt, Adds, AddsFirst, AddsUp, AllAddUp}
+use Rattle.stream.specs.Adds.{AddsAt, Adds, AddsUp, AllAddUp}
 use Rattle.stream.proofs.Sums.{all-add-up}
+use Rattle.stream.proofs.Events.{by-front}
 use Rattle.aes.specs.Aes.{State, keyExpansion}
 use Rattle.gcm.specs.Gcm.{Opened, plain, fail, openedBy}
 use Rattle.secure.specs.Layout.{nextNonce, padding, inlineLength, lastLengths, firstLength, noRest, noLast, restPart, restPartLength, lastPart, lastPartLength, sealedLength}
 use Rattle.secure.specs.Reading.{judgeNonce, judgePadding, judgeFirst, unpadded, lastEnded, zeroed, byOpening, partTrace, Next, atEnd, lastTrace, restTrace, frames, sealedTrace}
-use Rattle.connection.specs.Switched.{Switch, none, behind, closes, spliced, traceWith}
+use Rattle.connection.specs.Switched.{Switch, none, behind, spliced, traceWith}
 use Rattle.connection.specs.Calls.{takenBy, switchBy, SwitchedDemand3}
 use Rattle.connection.proofs.Chain.{switched-demand3}
 use Rattle.sealed_ends.specs.Adds.{SealedAdds, either, AddsBehind, FirstBehind, AllBehind, AddsWith, SwitchedAddUp}
@@ -126,39 +126,28 @@ module _ (next : ℕ → List ℕ → Trace) (store : List ℕ) (g : (at : ℕ) 
   behind-adds : (n : ℕ) (revision : Revision) (P : ℕ) (es : List Entry) → Adds revision P es → AddsBehind n revision P (spliced n next es store .entries)
   unfolding spliced
   behind-adds n revision P [] a = tt
-  behind-adds n revision P (e ∷ es) a = go (e .event) (e .at) (e .store) (λ m Q. behind-adds m revision Q es) a
+  behind-adds n revision P (e ∷ es) a = go (roleOf (e .event)) (e .at) (e .store) (λ m Q. behind-adds m revision Q es) a
     where
-      go : (v : Event) (at : ℕ) (s : List ℕ) → ((m Q : ℕ) → Adds revision Q es → AddsBehind m revision Q (spliced m next es store .entries))
+      go : (v : Role) (at : ℕ) (s : List ℕ) → ((m Q : ℕ) → Adds revision Q es → AddsBehind m revision Q (spliced m next es store .entries))
           → AddsAt revision P v at (λ Q. Adds revision Q es)
           → AddsAt revision P v at
-          (λ Q. either (closes v && eqb n 1) (SealedAdds Q (cond (closes v && eqb n 1) (next at s) (spliced (cond (closes v) (n - 1) n) next es store) .entries))
-          (AddsBehind (cond (closes v) (n - 1) n) revision Q (cond (closes v && eqb n 1) (next at s) (spliced (cond (closes v) (n - 1) n) next es store) .entries)))
-      go (Banner p r) at s ih a = absurd a
-      go (First h) at s ih a = (a .0, ih n P (a .1))
-      go (Frame h) at s ih a = (a .0, by (eqb n 1))
+          (λ Q. either (isFrameEnd v && eqb n 1) (SealedAdds Q (cond (isFrameEnd v && eqb n 1) (next at s) (spliced (cond (isFrameEnd v) (n - 1) n) next es store) .entries))
+          (AddsBehind (cond (isFrameEnd v) (n - 1) n) revision Q (cond (isFrameEnd v && eqb n 1) (next at s) (spliced (cond (isFrameEnd v) (n - 1) n) next es store) .entries)))
+      go (bannerEnd p r) at s ih a = absurd a
+      go (firstEnd h) at s ih a = (a .0, ih n P (a .1))
+      go (frameEnd h) at s ih a = (a .0, by (eqb n 1))
         where
           by : (b : Bool) → either b (SealedAdds at (cond b (next at s) (spliced (n - 1) next es store) .entries)) (AddsBehind (n - 1) revision at (cond b (next at s) (spliced (n - 1) next es store) .entries))
           by true = g at s
           by false = ih (n - 1) at (a .1)
-      go (Dropped h) at s ih a = (a .0, by (eqb n 1))
-        where
-          by : (b : Bool) → either b (SealedAdds at (cond b (next at s) (spliced (n - 1) next es store) .entries)) (AddsBehind (n - 1) revision at (cond b (next at s) (spliced (n - 1) next es store) .entries))
-          by true = g at s
-          by false = ih (n - 1) at (a .1)
-      go (Refused m) at s ih a = a
+      go (streamEnd m) at s ih a = a
 
   all-behind : (n : ℕ) (es : List Entry) → AddsUp es → AllBehind n (spliced n next es store .entries)
   unfolding spliced
   all-behind n [] a = tt
-  all-behind n (e ∷ es) a = go (e .event) (e .at) (e .store) a
-    where
-      go : (v : Event) (at : ℕ) (s : List ℕ) → AddsFirst v at es
-          → FirstBehind n v at (cond (closes v && eqb n 1) (next at s) (spliced (cond (closes v) (n - 1) n) next es store) .entries)
-      go (Banner p r) at s a = behind-adds n r at es a
-      go (First h) at s a = absurd a
-      go (Frame h) at s a = absurd a
-      go (Dropped h) at s a = absurd a
-      go (Refused m) at s a = tt
+  all-behind n (e ∷ es) a =
+      by-front (λ v. FirstBehind n v (e .at) (cond (isFrameEnd v && eqb n 1) (next (e .at) (e .store)) (spliced (cond (isFrameEnd v) (n - 1) n) next es store) .entries)) (e .at) es
+      (λ p r x. behind-adds n r (e .at) es x) (λ m. tt) (roleOf (e .event)) a
 
 with-adds : (sw : Switch) (own : Features) (stream store : List ℕ) → AddsWith sw (traceWith sw own stream store .entries)
 unfolding AllAddUp

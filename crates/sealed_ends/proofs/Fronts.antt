@@ -12,7 +12,7 @@ use Rattle.banner.specs.declared.Revision.{Revision}
 use Rattle.banner.specs.Banner.{judgeOwn}
 use Rattle.body.specs.Body.{bodyLength, wireLength}
 use Rattle.stream.specs.declared.Event.{Event}
-use Rattle.stream.specs.declared.Event.the-variants.{Banner, First, Frame, Dropped, Refused}
+use Rattle.stream.specs.Events.{Role, bannerEnd, firstEnd, frameEnd, streamEnd, roleOf, isFrameEnd}
 use Rattle.stream.specs.Stream.{Entry, Trace, ended, after, refusedAt, payloadOf, traceOf}
 use Rattle.stream.specs.Stream as crc
 use Rattle.aes.specs.Aes.{State, keyExpansion}
@@ -47,15 +47,14 @@ last-cons e (f ∷ es) t s l = l
 -- without a frame the place stays
 none-left : (N P : ℕ) (es : List Entry) → FramesUpTo N P es → framesIn es ≡ 0 → P ≡ N
 none-left N P [] u z = u
-none-left N P (e ∷ es) u z = go (e .event) u z (λ Q. none-left N Q es)
+none-left N P (e ∷ es) u z = go (roleOf (e .event)) u z (λ Q. none-left N Q es)
   where
-    go : (v : Event) → FramesUpToAt v P (e .at) (λ Q. FramesUpTo N Q es) → cond (closes v) (suc (framesIn es)) (framesIn es) ≡ 0
+    go : (v : Role) → FramesUpToAt v P (e .at) (λ Q. FramesUpTo N Q es) → cond (isFrameEnd v) (suc (framesIn es)) (framesIn es) ≡ 0
         → ((Q : ℕ) → FramesUpTo N Q es → framesIn es ≡ 0 → Q ≡ N) → P ≡ N
-    go (Banner p r) u z ih = absurd u
-    go (First h) u z ih = ih P u z
-    go (Frame h) u z ih = absurd (omega arith)
-    go (Dropped h) u z ih = absurd (omega arith)
-    go (Refused n) u z ih = absurd u
+    go (bannerEnd p r) u z ih = absurd u
+    go (firstEnd h) u z ih = ih P u z
+    go (frameEnd h) u z ih = absurd (omega arith)
+    go (streamEnd n) u z ih = absurd u
 
 -- ---- crc frames: the last entry is that of the last frame, at the last byte
 

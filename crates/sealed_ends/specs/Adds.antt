@@ -8,27 +8,25 @@ use lib.Dec.{eqb}
 use Rattle.banner.specs.declared.Features.{Features}
 use Rattle.banner.specs.declared.Revision.{Revision}
 use Rattle.banner.specs.Banner.{judgeOwn}
-use Rattle.stream.specs.declared.Event.{Event}
-use Rattle.stream.specs.declared.Event.the-variants.{Banner, First, Frame, Dropped, Refused}
+use Rattle.stream.specs.Events.{Role, bannerEnd, firstEnd, frameEnd, streamEnd, roleOf, closes}
 use Rattle.stream.specs.Stream.{Entry}
 use Rattle.stream.specs.Adds.{AddsAt, AddsUp}
 use Rattle.secure.specs.Layout.{sealedLength}
-use Rattle.connection.specs.Switched.{Switch, none, behind, closes}
+use Rattle.connection.specs.Switched.{Switch, none, behind}
 use Rattle.connection.specs.Step.{begun}
 use Rattle.connection.specs.Calls.{Call, Chained, listOf, switchBy}
 
 -- a sealed frame's entry from P on, and what is asked of the later ones
-abbrev pub SealedAt : ℕ → Event → ℕ → (ℕ → Type 0) → Type 0
-SealedAt P (Banner p r) at later = ⊥
-SealedAt P (First h) at later = ⊥
-SealedAt P (Frame h) at later = (at ≡ P + sealedLength h) × later at
-SealedAt P (Dropped h) at later = (at ≡ P + sealedLength h) × later at
-SealedAt P (Refused n) at later = P < at
+abbrev pub SealedAt : ℕ → Role → ℕ → (ℕ → Type 0) → Type 0
+SealedAt P (bannerEnd p r) at later = ⊥
+SealedAt P (firstEnd h) at later = ⊥
+SealedAt P (frameEnd h) at later = (at ≡ P + sealedLength h) × later at
+SealedAt P (streamEnd n) at later = P < at
 
 -- sealed frames from P on
 abbrev pub SealedAdds : ℕ → List Entry → Type 0
 SealedAdds P [] = Unit {0}
-SealedAdds P (e ∷ es) = SealedAt P (e .event) (e .at) (λ Q. SealedAdds Q es)
+SealedAdds P (e ∷ es) = SealedAt P (roleOf (e .event)) (e .at) (λ Q. SealedAdds Q es)
 
 abbrev pub either : Bool → Type 0 → Type 0 → Type 0
 either true a b = a
@@ -38,19 +36,18 @@ either false a b = b
 abbrev pub AddsBehind : ℕ → Revision → ℕ → List Entry → Type 0
 AddsBehind n revision P [] = Unit {0}
 AddsBehind n revision P (e ∷ es) =
-    AddsAt revision P (e .event) (e .at)
+    AddsAt revision P (roleOf (e .event)) (e .at)
     (λ Q. either (closes (e .event) && eqb n 1) (SealedAdds Q es) (AddsBehind (cond (closes (e .event)) (n - 1) n) revision Q es))
 
-abbrev pub FirstBehind : ℕ → Event → ℕ → List Entry → Type 0
-FirstBehind n (Banner p r) at es = AddsBehind n r at es
-FirstBehind n (First h) at es = ⊥
-FirstBehind n (Frame h) at es = ⊥
-FirstBehind n (Dropped h) at es = ⊥
-FirstBehind n (Refused m) at es = Unit {0}
+abbrev pub FirstBehind : ℕ → Role → ℕ → List Entry → Type 0
+FirstBehind n (bannerEnd p r) at es = AddsBehind n r at es
+FirstBehind n (firstEnd h) at es = ⊥
+FirstBehind n (frameEnd h) at es = ⊥
+FirstBehind n (streamEnd m) at es = Unit {0}
 
 abbrev pub AllBehind : ℕ → List Entry → Type 0
 AllBehind n [] = Unit {0}
-AllBehind n (e ∷ es) = FirstBehind n (e .event) (e .at) es
+AllBehind n (e ∷ es) = FirstBehind n (roleOf (e .event)) (e .at) es
 
 abbrev pub AddsWith : Switch → List Entry → Type 0
 AddsWith none es = AddsUp es

@@ -6,11 +6,11 @@ use lib.ListN.{length}
 use Rattle.banner.specs.declared.Features.{Features}
 use Rattle.banner.specs.declared.Revision.{Revision}
 use Rattle.stream.specs.declared.Event.{Event}
-use Rattle.stream.specs.declared.Event.the-variants.{Banner, First, Frame, Dropped, Refused}
+use Rattle.stream.specs.Events.{roleOf, closes, ofFrameEnd}
 use Rattle.stream.specs.Stream.{Entry, Trace, traceOf}
 use Rattle.secure.specs.Layout.{nonceAfter, partCount}
 use Rattle.secure.specs.Reading.{sealedTrace}
-use Rattle.connection.specs.Switched.{Switch, behind, closes, traceWith}
+use Rattle.connection.specs.Switched.{Switch, behind, traceWith}
 use Rattle.ends.specs.Handed.{FramesUpTo, UpTo}
 
 -- how many frames and drops there are
@@ -20,11 +20,7 @@ framesIn (e ∷ es) = cond (closes (e .event)) (suc (framesIn es)) (framesIn es)
 
 -- and how many parts they had, each with a nonce of its own
 abbrev pub partsOf : Event → ℕ
-partsOf (Banner p r) = 0
-partsOf (First h) = 0
-partsOf (Frame h) = partCount h
-partsOf (Dropped h) = partCount h
-partsOf (Refused n) = 0
+partsOf e = ofFrameEnd partCount (roleOf e)
 
 abbrev pub partsIn : List Entry → ℕ
 partsIn [] = 0

@@ -13,6 +13,7 @@ use Rattle.refusal.proofs.Booleans.{wrong}
 use Rattle.stream.specs.declared.Event.the-variants as event
 use Rattle.receiver.specs.declared.Report.{Report}
 use Rattle.receiver.specs.declared.Report.the-variants as report
+use Rattle.receiver.proofs.Machine.{by-after}
 use Rattle.sealed_receiver.specs.declared.Stage.{Stage}
 use Rattle.sealed_receiver.specs.declared.Stage.the-variants as stage
 use Rattle.sealed_receiver.specs.declared.State.{State}
@@ -74,12 +75,7 @@ refused-gone st e r =
 -- ---- what an answer to a state that agrees with itself comes to: one that agrees, and is refused for good behind a refusal
 
 after-agrees : (r : Report) (st : State) (s : List ℕ) → After r st s → agrees st ≡ true
-after-agrees report.More st s a = a .agree
-after-agrees (report.Event (event.Banner p r)) st s a = a .agree
-after-agrees (report.Event (event.First h)) st s a = a .agree
-after-agrees (report.Event (event.Frame h)) st s a = a .agree
-after-agrees (report.Event (event.Dropped h)) st s a = a .agree
-after-agrees (report.Event (event.Refused n)) st s a = a .agree
+after-agrees r st s = by-after Running Gone r st s (λ a. a .agree) (λ n a. a .agree)
 
 pub record Well (x : Answer) : Type 0 where
   pub agree : agrees (x .received .state) ≡ true

@@ -1,7 +1,12 @@
--- Events by their kind.
-use mathlib.Core.Bool.{Bool, _||_}
+-- Events by their kind, and by their role in the stream.
+use mathlib.Core.Bool.{Bool, true, false}
 use Prim.Native.Nat.{ℕ}
 use lib.Dec.{eqb}
+use Rattle.refusal.specs.declared.Numbers.{Numbers}
+use Rattle.refusal.specs.Refusals.{Judged, fine, refused}
+use Rattle.banner.specs.declared.Features.{Features}
+use Rattle.banner.specs.declared.Revision.{Revision}
+use Rattle.preamble.specs.declared.Header.{Header}
 use Rattle.stream.specs.declared.Event.{Event}
 use Rattle.stream.specs.declared.Event.the-variants.{Banner, First, Frame, Dropped, Refused}
 
@@ -25,6 +30,50 @@ isFrame e = eqb (kindOf e) 2
 abbrev pub isDrop : Event → Bool
 isDrop e = eqb (kindOf e) 3
 
--- a frame or a drop: the end of a frame
+-- ---- roles: where several events are treated alike, their role is asked for
+
+-- what ends at an event's byte: the banner; segment 1, within its frame (02, K1); a frame, whole or dropped; and with a refusal the stream (01)
+pub data Role : Type 0 where
+  bannerEnd : Features → Revision → Role
+  firstEnd : Header → Role
+  frameEnd : Header → Role
+  streamEnd : Numbers → Role
+
+abbrev pub roleOf : Event → Role
+roleOf (Banner p r) = bannerEnd p r
+roleOf (First h) = firstEnd h
+roleOf (Frame h) = frameEnd h
+roleOf (Dropped h) = frameEnd h
+roleOf (Refused n) = streamEnd n
+
+abbrev pub isFrameEnd : Role → Bool
+isFrameEnd (bannerEnd p r) = false
+isFrameEnd (firstEnd h) = false
+isFrameEnd (frameEnd h) = true
+isFrameEnd (streamEnd n) = false
+
+-- a frame or a drop
 abbrev pub closes : Event → Bool
-closes e = isFrame e || isDrop e
+closes e = isFrameEnd (roleOf e)
+
+-- a number of the frame that ends, and 0 where none does
+abbrev pub ofFrameEnd : (Header → ℕ) → Role → ℕ
+ofFrameEnd f (bannerEnd p r) = 0
+ofFrameEnd f (firstEnd h) = 0
+ofFrameEnd f (frameEnd h) = f h
+ofFrameEnd f (streamEnd n) = 0
+
+-- all but a refusal are passed
+abbrev pub judgeRole : Role → Judged
+judgeRole (bannerEnd p r) = fine
+judgeRole (firstEnd h) = fine
+judgeRole (frameEnd h) = fine
+judgeRole (streamEnd n) = refused n
+
+abbrev pub judgeEvent : Event → Judged
+judgeEvent e = judgeRole (roleOf e)
+
+module _ {ℓ} {A : Type ℓ} where
+  abbrev pub byJudgement : Judged → A → (Numbers → A) → A
+  byJudgement fine a f = a
+  byJudgement (refused n) a f = f n

@@ -27,7 +27,7 @@ use Rattle.session.specs.Laws.{callOf, answersOf}
 use Rattle.delivery.specs.Asked.{askedByFrame, ConnectedWith}
 use Rattle.delivery.specs.Calls.{Chained, sessionAfter, Connection, Connects, Cause, sends, hands, receives, callsDue}
 use Rattle.delivery.specs.Worked.{ours, store, ack1, split, acked, Any, faultRows, second, heldRows, resultRows, brokenRows, answerRows, reading, resumed, Resumes, frameRows, tagRows, resetRows, segmentRows, reset0, reset2, twoWhole, twoAborted, tag10, Reasons, Worked}
-use Rattle.delivery.proofs.Earlier.{upTo}
+use Rattle.connection.proofs.Earlier.{upTo}
 use Rattle.delivery.proofs.Reasons.{afterCalls}
 use Rattle.delivery.proofs.Played.{all-played}
 use Rattle.delivery.proofs.Uncovered.{Holding, uncovered, quiet-holds}

@@ -16,12 +16,15 @@ use Rattle.stream.specs.declared.Event.the-variants as event
 use Rattle.stream.specs.Stream.{Entry, entry}
 use Rattle.receiver.specs.declared.Report.{Report}
 use Rattle.receiver.specs.declared.Report.the-variants as report
+use Rattle.stream.proofs.Events.{by-event}
+use Rattle.receiver.proofs.Appended.{passing-same}
 use Rattle.receiver.specs.Calls.{pieceAt, passing, entered, dueReport, refusedIn}
 use Rattle.connection.specs.declared.State.{State}
 use Rattle.connection.specs.Switched.{Switch, behind, traceWith}
 use Rattle.connection.specs.Step.{begun}
 use Rattle.connection.specs.Calls.{Piece, Try, Call, taking, switching, Chained, takenBy, reportedBy, listOf, counted, madeOr, switchBy, Each, Repeats, AsSwitched, SwitchedDemand3}
-use Rattle.delivery.proofs.Earlier.{upTo, trace-earlier}
+use Rattle.connection.proofs.Splices.{AllBy}
+use Rattle.connection.proofs.Earlier.{upTo, trace-earlier}
 
 -- ---- the first calls of a list
 
@@ -91,18 +94,14 @@ module _ (c : Piece) where
           ≡ entered r (t + d .received .taken) (d .store) (reportedBy (t + d .received .taken) cs)
           ++ cond (refusedIn (entered r (t + d .received .taken) (d .store) (reportedBy (t + d .received .taken) cs))) [] (lastly (takenBy (t + d .received .taken) cs))
       go report.More ih = ih
-      go (report.Event (event.Banner p r)) ih = rw ih
-      go (report.Event (event.First h)) ih = rw ih
-      go (report.Event (event.Frame h)) ih = rw ih
-      go (report.Event (event.Dropped h)) ih = rw ih
-      go (report.Event (event.Refused n)) ih = refl
+      go (report.Event w) ih = by-event C (λ v p. rw (p, ih)) (λ n. refl) w
+        where
+          C : Event → Type 0
+          C v = entered (report.Event v) (t + d .received .taken) (d .store) (reportedBy (t + d .received .taken) (andPiece c cs))
+              ≡ entered (report.Event v) (t + d .received .taken) (d .store) (reportedBy (t + d .received .taken) cs)
+              ++ cond (refusedIn (entered (report.Event v) (t + d .received .taken) (d .store) (reportedBy (t + d .received .taken) cs))) [] (lastly (takenBy (t + d .received .taken) cs))
 
 -- ---- behind a refusal
-
--- no entry stands behind byte t
-abbrev UpTo : ℕ → List Entry → Type 0
-UpTo t [] = Unit {0}
-UpTo t (e ∷ es) = (e .at ≤ t) × UpTo t es
 
 taken-more : (t : ℕ) (cs : List Call) → t ≤ takenBy t cs
 taken-more t [] = omega arith
@@ -111,45 +110,31 @@ taken-more t (taking c ∷ cs) =
     let h : t + c .received .taken ≤ takenBy (t + c .received .taken) cs = taken-more (t + c .received .taken) cs in
     omega arith
 
-up-to : (t : ℕ) (cs : List Call) → UpTo (takenBy t cs) (reportedBy t cs)
+up-to : (t : ℕ) (cs : List Call) → AllBy (takenBy t cs) (reportedBy t cs)
 up-to t [] = tt
 up-to t (switching c ∷ cs) = up-to t cs
 up-to t (taking c ∷ cs) = go (c .received .report) (up-to (t + c .received .taken) cs)
   where
-    go : (r : Report) → UpTo (takenBy (t + c .received .taken) cs) (reportedBy (t + c .received .taken) cs)
-        → UpTo (takenBy (t + c .received .taken) cs) (entered r (t + c .received .taken) (c .store) (reportedBy (t + c .received .taken) cs))
+    go : (r : Report) → AllBy (takenBy (t + c .received .taken) cs) (reportedBy (t + c .received .taken) cs)
+        → AllBy (takenBy (t + c .received .taken) cs) (entered r (t + c .received .taken) (c .store) (reportedBy (t + c .received .taken) cs))
     go report.More ih = ih
-    go (report.Event (event.Banner p r)) ih = (taken-more (t + c .received .taken) cs, ih)
-    go (report.Event (event.First h)) ih = (taken-more (t + c .received .taken) cs, ih)
-    go (report.Event (event.Frame h)) ih = (taken-more (t + c .received .taken) cs, ih)
-    go (report.Event (event.Dropped h)) ih = (taken-more (t + c .received .taken) cs, ih)
-    go (report.Event (event.Refused n)) ih = (taken-more (t + c .received .taken) cs, tt)
+    go (report.Event w) ih =
+        (taken-more (t + c .received .taken) cs, by-event (λ v. AllBy (takenBy (t + c .received .taken) cs) (passing v (reportedBy (t + c .received .taken) cs) (λ n. []))) (λ v p. rw p ih) (λ n. tt) w)
 
 -- what is due there is the refusal again
 record Again (r : Report) : Type 0 where
   refusal : Numbers
   is : r ≡ report.Event (event.Refused refusal)
 
-due-again : (es : List Entry) (t k : ℕ) → UpTo t es → refusedIn es ≡ true → Again (dueReport es t k)
+due-again : (es : List Entry) (t k : ℕ) → AllBy t es → refusedIn es ≡ true → Again (dueReport es t k)
 unfolding dueReport
 due-again [] t k u e = absurd (true≢false (sym e))
-due-again (e ∷ es) t k u i = rw (le-leb (e .at) t (u .0)) (go (e .event) (due-again es t k (u .1)) i)
-  where
-    go : (w : Event) → (refusedIn es ≡ true → Again (dueReport es t k)) → passing w (refusedIn es) (λ n. true) ≡ true → Again (passing w (dueReport es t k) (λ n. report.Event (event.Refused n)))
-    go (event.Banner p r) ih i = ih i
-    go (event.First h) ih i = ih i
-    go (event.Frame h) ih i = ih i
-    go (event.Dropped h) ih i = ih i
-    go (event.Refused n) ih i = record { refusal = n; is = refl }
+due-again (e ∷ es) t k u i =
+    rw (le-leb (e .at) t (u .0))
+    (by-event (λ w. passing w (refusedIn es) (λ n. true) ≡ true → Again (passing w (dueReport es t k) (λ n. report.Event (event.Refused n))))
+    (λ w p j. rw p (due-again es t k (u .1) (rw p at j))) (λ n j. record { refusal = n; is = refl }) (e .event) i)
 
 -- ---- what one more call adds
-
-none-behind : (w : Event) → passing {A = List Entry} w [] (λ n. []) ≡ []
-none-behind (event.Banner p r) = refl
-none-behind (event.First h) = refl
-none-behind (event.Frame h) = refl
-none-behind (event.Dropped h) = refl
-none-behind (event.Refused n) = refl
 
 pub data Adds (r : Report) (t′ : ℕ) (s′ : List ℕ) : List Entry → Type 0 where
   silent : r ≡ report.More → Adds r t′ s′ []
@@ -216,7 +201,7 @@ module _ (demand : SwitchedDemand3) (own : Features) (stream store : List ℕ) w
           go report.More e = record { new = []; grows = sym (rw (live, e) at e₁) ∙ ap (λ (es : List Entry). es ++ []) e₀; adds = silent e }
           go (report.Event w) e = record {
             new = entry w (t + c .received .taken) (c .store) ∷ [];
-            grows = sym (rw (live, e, none-behind w) at e₁) ∙ ap (λ (es : List Entry). es ++ (entry w (t + c .received .taken) (c .store) ∷ [])) e₀;
+            grows = sym (rw (live, e, passing-same {A = List Entry} w []) at e₁) ∙ ap (λ (es : List Entry). es ++ (entry w (t + c .received .taken) (c .store) ∷ [])) e₀;
             adds = reports w e;
           }
 
