@@ -17,20 +17,30 @@ use Rattle.build_cases.specs.Sealed.{PartDone, headPart, buildPart}
 use Rattle.cases.specs.Checksums.{checksumRecord}
 use Rattle.cases.specs.Builds.{bannerRecord, frameRecord}
 
--- kinds that have a crate of their own; the longest buffer has 65,536 bytes
+-- a stream that is received, with the longest store; it has 65,536 bytes, as the longest buffer has
+unfoldable pub streamRecord : List ℕ → Record
+streamRecord s =
+    cond (eqb (getD s 0 0) 0x52) (receiverRecord false false 65536 s)
+    (cond (eqb (getD s 0 0) 0x58) (receiverRecord true false 65536 s)
+    (cond (eqb (getD s 0 0) 0x54) (receiverRecord true true 65536 s)
+    badRecord))
+
+-- what is sealed, opened or written into a buffer
+unfoldable pub bufferRecord : List ℕ → Record
+bufferRecord s =
+    cond (eqb (getD s 0 0) 0x53) (sealingRecord false 65536 s)
+    (cond (eqb (getD s 0 0) 0x4F) (sealingRecord true 65536 s)
+    (cond (eqb (getD s 0 0) 0x57) (writeRecord 65536 s)
+    (streamRecord s)))
+
+-- kinds that have a crate of their own
 unfoldable pub otherRecord : List ℕ → Record
 otherRecord s =
     cond (eqb (getD s 0 0) 0x4E) (sessionRecord s)
     (cond (eqb (getD s 0 0) 0x50) (stepsRecord s)
     (cond (eqb (getD s 0 0) 0x4D) (modeRecord s)
-    (cond (eqb (getD s 0 0) 0x53) (sealingRecord false 65536 s)
-    (cond (eqb (getD s 0 0) 0x4F) (sealingRecord true 65536 s)
     (cond (eqb (getD s 0 0) 0x48) (readRecord s)
-    (cond (eqb (getD s 0 0) 0x57) (writeRecord 65536 s)
-    (cond (eqb (getD s 0 0) 0x52) (receiverRecord false false 65536 s)
-    (cond (eqb (getD s 0 0) 0x58) (receiverRecord true false 65536 s)
-    (cond (eqb (getD s 0 0) 0x54) (receiverRecord true true 65536 s)
-    badRecord)))))))))
+    (bufferRecord s))))
 
 unfoldable pub recordOf : List ℕ → Record
 recordOf s =

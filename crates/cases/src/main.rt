@@ -32,7 +32,7 @@ ghost use lib.ListN.{length, take, drop};
 ghost use Rattle.cases.specs.Between.{Between, Refilled};
 ghost use Rattle.records.specs.Records.{Did};
 ghost use Rattle.build_cases.specs.Sealed.{DidPart};
-ghost use Rattle.cases.specs.Kinds.{otherRecord, recordOf, nextOf};
+ghost use Rattle.cases.specs.Kinds.{streamRecord, bufferRecord, otherRecord, recordOf, nextOf};
 
 // The bytes of the longest record of any kind.
 const LONGEST: usize = 164253;
@@ -107,9 +107,45 @@ fn advance(input: Input, n: usize) -> Input
 
 // ---- records
 
+// Streams that are received: R, X and T.
+fn run_stream(s: &[u8], space: &mut [u8], text: &mut [u8], at: usize) -> Step
+    requires { ⌜ length (now space) ≡ 65536 ⌝ }
+    ensures { λ r. ⌜ Did (streamRecord (now (s .entry))) (now (s .entry)) (now (text .entry)) at (now (text .exit)) r ⌝ }
+{
+    let kind = byte_at(s, 0);
+    if kind == b'R' {
+        return receiver_record(false, false, s, space, text, at);
+    }
+    if kind == b'X' {
+        return receiver_record(true, false, s, space, text, at);
+    }
+    if kind == b'T' {
+        return receiver_record(true, true, s, space, text, at);
+    }
+    bad_record(text, at)
+}
+
+// What is sealed, opened or written into a buffer: S, O and W.
+fn run_buffer(s: &[u8], space: &mut [u8], text: &mut [u8], at: usize) -> Step
+    requires { ⌜ length (now space) ≡ 65536 ⌝ }
+    ensures { λ r. ⌜ Did (bufferRecord (now (s .entry))) (now (s .entry)) (now (text .entry)) at (now (text .exit)) r ⌝ }
+{
+    let kind = byte_at(s, 0);
+    if kind == b'S' {
+        return sealing_record(false, s, space, text, at);
+    }
+    if kind == b'O' {
+        return sealing_record(true, s, space, text, at);
+    }
+    if kind == b'W' {
+        return write_record(s, space, text, at);
+    }
+    run_stream(s, space, text, at)
+}
+
 // Kinds that have a crate of their own.
 fn run_other(s: &[u8], space: &mut [u8], text: &mut [u8], at: usize) -> Step
-    requires { ⌜ 65536 ≤ length (now space) ⌝ }
+    requires { ⌜ length (now space) ≡ 65536 ⌝ }
     ensures { λ r. ⌜ Did (otherRecord (now (s .entry))) (now (s .entry)) (now (text .entry)) at (now (text .exit)) r ⌝ }
 {
     let kind = byte_at(s, 0);
@@ -122,28 +158,10 @@ fn run_other(s: &[u8], space: &mut [u8], text: &mut [u8], at: usize) -> Step
     if kind == b'M' {
         return mode_record(s, text, at);
     }
-    if kind == b'S' {
-        return sealing_record(false, s, &mut space[..LARGEST], text, at);
-    }
-    if kind == b'O' {
-        return sealing_record(true, s, &mut space[..LARGEST], text, at);
-    }
     if kind == b'H' {
         return read_record(s, text, at);
     }
-    if kind == b'W' {
-        return write_record(s, &mut space[..LARGEST], text, at);
-    }
-    if kind == b'R' {
-        return receiver_record(false, false, s, &mut space[..LARGEST], text, at);
-    }
-    if kind == b'X' {
-        return receiver_record(true, false, s, &mut space[..LARGEST], text, at);
-    }
-    if kind == b'T' {
-        return receiver_record(true, true, s, &mut space[..LARGEST], text, at);
-    }
-    bad_record(text, at)
+    run_buffer(s, space, text, at)
 }
 
 // The record that the input begins with, by its first byte.
@@ -161,7 +179,7 @@ fn run_record(s: &[u8], space: &mut [u8], text: &mut [u8], at: usize) -> Step
     if kind == b'F' {
         return frame_record(s, space, text, at);
     }
-    run_other(s, space, text, at)
+    run_other(s, &mut space[..LARGEST], text, at)
 }
 
 // A build of a record that is not at its end, the head of one, or a record that is read at once.

@@ -1,5 +1,6 @@
+use mathlib.Core.Path.{sym}
 use borrow.Author.Needs.{needs}
-use Rattle.cases.proofs.Laws.{kind-is, kind-isnt}
+use Rattle.cases.proofs.Laws.{kind-is, kind-isnt, space-lent}
 use Rattle.cases.specs.Kinds.{recordOf}
 use Rattle.cases.proofs.run_record.Statement.{statement}
 use Rattle.cases.proofs.run_record.Tie as tie
@@ -18,6 +19,12 @@ returns-3 : tie.Need-returns-3
 unfolding recordOf
 returns-3 c = let k = c .before .before .before .before .before .before .before .before .before .before .byte-at .ensures in
     rw (kind-isnt k (c .before .before .before .before .before .before .before .before .before .if1 .left), kind-isnt k (c .before .before .before .before .before .before .before .before .if2 .left), kind-is k (c .before .before .before .before .before .before .before .if3 .taken)) (c .before .before .before .before .frame-record .ensures)
+
+slice-aggregate-run-other : tie.Need-slice-aggregate-run-other
+slice-aggregate-run-other c = sym (space-lent (c .before .before .before .before .before .before .before .before .args .space .now) (c .before .before .before .before .before .before .before .before .pre))
+
+run-other-requires : tie.Need-run-other-requires
+run-other-requires c κs = space-lent (c .before .before .before .before .before .before .before .before .before .args .space .now) (c .before .before .before .before .before .before .before .before .before .pre)
 
 returns-4 : tie.Need-returns-4
 unfolding recordOf
@@ -40,7 +47,9 @@ run-record-spec =
     (λ c. search needs)
     (λ c. search needs)
     returns-3
-    (λ c κs. search needs)
+    (λ c. search needs)
+    slice-aggregate-run-other
+    run-other-requires
     (λ c. search needs)
     (λ c. search needs)
     returns-4)
