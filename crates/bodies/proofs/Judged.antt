@@ -11,12 +11,12 @@ use borrow.Author.Tests.{le-leb, lt-leb, lt-ltb, le-ltb, eq-eqb, ne-eqb, leb-tru
 use lib.ListN.{length, getD, length-append}
 use lib.Seq.{take-at, drop-append-seam, drop-append-add}
 use Rattle.refusal.proofs.Booleans.{wrong}
-use Rattle.buffer.specs.Le.{le, numberAt}
+use Rattle.buffer.specs.Le.{le, numberAt, words}
 use Rattle.buffer.proofs.Numbers.{leOf-le, length-le}
 use Rattle.preamble.specs.Judge.{segmentLimit}
 use Rattle.fields.specs.declared.Cursor.{Cursor}
 use Rattle.fields.specs.Layout.{Kind, num, neg, list, size, rest, plain, good, fault, past, stepOf}
-use Rattle.fields.specs.Field.{Field, number, negative, numbers, sized, opaque, fixed, kindOf, words, wordsOf, fieldBytes, fieldAt, Fits}
+use Rattle.fields.specs.Field.{Field, number, negative, numbers, sized, opaque, fixed, kindOf, wordsOf, fieldBytes, fieldAt, Fits}
 use Rattle.fields.specs.Writing.{sound, faultIn}
 use Rattle.bodies.specs.declared.Request.{Request}
 use Rattle.bodies.specs.declared.Request.the-variants as request
@@ -82,12 +82,11 @@ unfolding numberAt
 number-there w n pre post h = rw (drop-append-seam pre (le w n ++ post), take-at (le w n) post w (length-le w n)) (leOf-le w n h)
 
 words-there : (ns post : List ℕ) → ((i : ℕ) → i < length ns → getD ns i 0 < 4294967296) → wordsOf (length ns) (words ns ++ post) ≡ ns
-unfolding words wordsOf
+unfolding wordsOf
 words-there [] post h = refl
 words-there (n ∷ ns) post h = ap₂ (λ (x : ℕ) (l : List ℕ). x ∷ l) (leOf-le 4 n (h 0 (omega arith))) (words-there ns post (λ i g. h (suc i) (omega arith)))
 
 pub length-words : (ns : List ℕ) → length (words ns) ≡ 4 * length ns
-unfolding words
 length-words [] = refl
 length-words (n ∷ ns) = let e = length-words ns in omega arith
 

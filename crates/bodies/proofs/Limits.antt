@@ -6,10 +6,9 @@ use native.Mathlib.Omega.{arith}
 use borrow.Author.Tests.{lt-leb, le-ltb}
 use lib.ListN.{length, take, length-append}
 use lib.Seq.{take-all}
-use Rattle.buffer.specs.Le.{le, numberAt}
+use Rattle.buffer.specs.Le.{le, numberAt, words}
 use Rattle.preamble.specs.Judge.{segmentLimit}
 use Rattle.refusal.specs.Refusals.{row}
-use Rattle.fields.specs.Field.{words}
 use Rattle.bodies.specs.Table.{layoutIn}
 use Rattle.bodies.specs.Rows.{helloOf, authRequestOf}
 use Rattle.bodies.specs.Read.{whole, readBody}

@@ -6,13 +6,13 @@ use Prim.Native.Nat.{ℕ, zero, suc}
 use native.Mathlib.Omega.{arith}
 use lib.ListN.{length, take, drop, length-append, length-drop, length-replicate}
 use lib.Seq.{length-take-le}
-use Rattle.buffer.specs.Le.{le}
+use Rattle.buffer.specs.Le.{le, words}
 use Rattle.banner.specs.declared.Revision.{Revision}
 use Rattle.banner.specs.declared.Revision.the-variants.{Msgr20, Msgr21}
 use Rattle.preamble.specs.declared.Header.{Header}
 use Rattle.preamble.specs.Layout.{total, preambleBytes}
 use Rattle.preamble.proofs.Laws.{length-preamble}
-use Rattle.body.specs.Body.{segmentSum, restLength, words, field, fieldsFrom, segments, epilogueFrom, inEpilogue, noFirstSum, firstSumLength, noEpilogue, epilogueLength, bodyLength, wireLength, firstSum, lateByte, epilogue, body, restSent, frameBytes}
+use Rattle.body.specs.Body.{segmentSum, restLength, field, fieldsFrom, segments, epilogueFrom, inEpilogue, noFirstSum, firstSumLength, noEpilogue, epilogueLength, bodyLength, wireLength, firstSum, lateByte, epilogue, body, restSent, frameBytes}
 
 -- zeros in place of a part's bytes
 pub take-sent : (abort : Bool) (n : ℕ) (l : List ℕ) → take n (restSent abort l) ≡ restSent abort (take n l)

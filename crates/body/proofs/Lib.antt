@@ -1,3 +1,4 @@
+pub mod Allowed
 pub mod Checksums
 pub mod Ends
 pub mod Laws

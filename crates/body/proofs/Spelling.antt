@@ -8,7 +8,7 @@ use lib.ListN.{length, take, drop, getD, length-drop, take-append-drop, drop-of-
 use lib.Seq.{take-add, take-at, drop-at, drop-drop, length-take-le}
 use lib.Dec.{ltb, eqb}
 use borrow.Author.Tests.{ltb-true, eqb-true, eqb-false}
-use Rattle.buffer.specs.Le.{le, numberAt, Bytes}
+use Rattle.buffer.specs.Le.{le, numberAt, Bytes, words}
 use Rattle.buffer.proofs.Numbers.{number-again, bytes-drop}
 use Rattle.refusal.specs.declared.Refusal.the-variants as refusal
 use Rattle.refusal.specs.Refusals.{Judged, fine, refused}
@@ -19,7 +19,7 @@ use Rattle.preamble.specs.declared.Header.{Header}
 use Rattle.preamble.specs.Layout.{total}
 use Rattle.body.specs.declared.Late.{Late}
 use Rattle.body.specs.declared.Late.the-variants as late
-use Rattle.body.specs.Body.{segmentSum, words, restLength, segments, epilogueFrom, inEpilogue, noFirstSum, firstSumLength, noEpilogue, epilogueLength, bodyLength, firstSum, lateByte, epilogue, body}
+use Rattle.body.specs.Body.{segmentSum, restLength, segments, epilogueFrom, inEpilogue, noFirstSum, firstSumLength, noEpilogue, epilogueLength, bodyLength, firstSum, lateByte, epilogue, body}
 use Rattle.body.specs.End.{whole, segmentBytes, stored, compared, unusedFrom, judgeLateFlags, judgeSpelling, lateOf, byLate, unlessTurnedAway, ending}
 use Rattle.body.proofs.Laws.{epilogue-is}
 use Rattle.body.proofs.Ends.{no-length}

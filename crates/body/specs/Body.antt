@@ -4,7 +4,7 @@ use mathlib.Core.Bool.{Bool, true, false, cond}
 use Prim.Native.Nat.{ℕ, suc, _+_}
 use lib.ListN.{length, take, drop, replicate}
 use lib.Dec.{leb, eqb}
-use Rattle.buffer.specs.Le.{le}
+use Rattle.buffer.specs.Le.{le, words}
 use Rattle.crc32c.specs.Crc.{crcOf}
 use Rattle.banner.specs.declared.Revision.{Revision}
 use Rattle.banner.specs.declared.Revision.the-variants.{Msgr20, Msgr21}
@@ -28,10 +28,6 @@ field count k bytes = cond (leb k count) (segmentSum bytes) 0
 abbrev pub fieldsFrom : ℕ → ℕ → List (List ℕ) → List ℕ
 fieldsFrom count k [] = []
 fieldsFrom count k (s ∷ ss) = field count k s ∷ fieldsFrom count (suc k) ss
-
-abbrev pub words : List ℕ → List ℕ
-words [] = []
-words (n ∷ ns) = le 4 n ++ words ns
 
 -- ---- segments
 

@@ -19,10 +19,10 @@ ghost use mathlib.Core.List.{_∷_, []};
 ghost use Prim.Native.Nat.{_+_, _<_, _≤_};
 ghost use lib.ListN.{drop, getD};
 ghost use lib.Dec.{leb, ltb, eqb};
-ghost use Rattle.buffer.specs.Le.{numberAt};
+ghost use Rattle.buffer.specs.Le.{numberAt, words};
 ghost use Rattle.refusal.specs.declared.Refusal.the-variants as refusal;
 ghost use Rattle.refusal.specs.Refusals.{judgedBy, unless};
-ghost use Rattle.body.specs.Body.{segmentSum, field, fieldsFrom, segments, restSent, words, lateByte, noFirstSum, firstSumLength, noEpilogue, epilogueLength, wireLength};
+ghost use Rattle.body.specs.Body.{segmentSum, field, fieldsFrom, segments, restSent, lateByte, noFirstSum, firstSumLength, noEpilogue, epilogueLength, wireLength};
 ghost use Rattle.body.specs.End.{lateOf, compareFrom, compared, unusedFrom, judgeLateFlags, judgeSpelling, endedBy, endedAs, byLate, ending};
 
 // The start value of a segment's checksum.

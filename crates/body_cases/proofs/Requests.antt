@@ -6,6 +6,7 @@ use Prim.Native.Nat.{ℕ, _+_, _*_, _≤_, min}
 use borrow.Author.Tests.{leb-true, ne-eqb}
 use lib.Dec.{leb}
 use lib.ListN.{take, drop, getD}
+use Rattle.refusal.proofs.Booleans.{both-left}
 use Rattle.buffer.specs.Le.{numberAt}
 use Rattle.crc32c.specs.Crc.{crcOf}
 use Rattle.fields.specs.declared.Cursor.{Cursor}
@@ -18,7 +19,7 @@ use Rattle.bodies.specs.Rows.{requested}
 use Rattle.bodies.specs.Write.{Done, done, outcomeOf, writeAs, writeBody}
 use Rattle.records.specs.Records.{isWhole, allowed, counted}
 use Rattle.records.specs.Records as records
-use Rattle.records.proofs.Laws.{first, sized-good, words-take}
+use Rattle.records.proofs.Laws.{sized-good, words-take}
 use Rattle.body_cases.specs.declared.writing.Asked.{Asked}
 use Rattle.body_cases.specs.Writing.{limited, fieldsGiven, allGiven, kindsFor, outcomeLine, doneLine, writeSize, writeOf, Given, BytesGiven, fieldsOf, Asks, AsksFor}
 
@@ -137,7 +138,7 @@ size-is room s tag n et en x eb es = es ∙ rw (eb, x .end, en, et)
 
 pub write-buffer : (room : ℕ) (s : List ℕ) → isWhole (writeSize room s) s ≡ true → numberAt 4 2 s ≤ room
 unfolding writeSize
-write-buffer room s e = leb-true (numberAt 4 2 s) room (first (leb (numberAt 4 2 s) room) _ (sized-good _ _ s e))
+write-buffer room s e = leb-true (numberAt 4 2 s) room (both-left (leb (numberAt 4 2 s) room) _ (sized-good _ _ s e))
 
 pub write-done : (s : List ℕ) (tag : ℕ) (buf : List ℕ) {a : Asked} {d : Done}
     → tag ≡ getD s 1 0

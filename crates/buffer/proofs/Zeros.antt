@@ -1,13 +1,13 @@
--- Zeros behind so many bytes of a list, told from the numbers that its bytes make.
+-- Lists of zeros, and zeros behind so many bytes of a list, told from the numbers that its bytes make.
 use mathlib.Core.Path.{_≡_, refl, sym, ap, ap₂, _∙_}
-use mathlib.Core.List.{List, [], _∷_}
+use mathlib.Core.List.{List, [], _∷_, _++_}
 use mathlib.Core.Bool.{Bool, true, false, _&&_, _||_, and-assoc}
 use Prim.Native.Nat.{ℕ, zero, suc, _+_, _-_, _*_, _^_, _≤_, _<_}
 use native.Mathlib.Nat.{pow-suc}
 use native.Mathlib.Omega.{arith}
 use borrow.Author.Tests.{eqb-true, eq-eqb, ltb-true, lt-ltb}
 use lib.Dec.{leb, ltb, eqb, leb·zero, leb·suc-zero, leb·suc-suc}
-use lib.ListN.{length, take, drop, length-drop}
+use lib.ListN.{length, take, drop, replicate, length-drop}
 use lib.Seq.{drop-nil, drop-drop, length-take-le, take-all}
 use Rattle.buffer.specs.Le.{leOf, numberAt, Bytes}
 use Rattle.buffer.specs.Zeros.{allZero}
@@ -26,6 +26,15 @@ right : (a b : Bool) → (a && b) ≡ true → b ≡ true
 right true b e = e
 right false true e = refl
 right false false e = e
+
+pub only-zeros : (l : List ℕ) → allZero l ≡ true → l ≡ replicate (length l) 0
+only-zeros [] e = refl
+only-zeros (x ∷ l) e =
+    ap₂ (λ (a : ℕ) (t : List ℕ). a ∷ t) (eqb-true x 0 (left (eqb x 0) (allZero l) e)) (only-zeros l (right (eqb x 0) (allZero l) e))
+
+pub zeros-append : (xs ys : List ℕ) → allZero (xs ++ ys) ≡ (allZero xs && allZero ys)
+zeros-append [] ys = refl
+zeros-append (x ∷ xs) ys = ap (λ (b : Bool). eqb x 0 && b) (zeros-append xs ys) ∙ sym (and-assoc (eqb x 0) (allZero xs) (allZero ys))
 
 -- all bytes are zero where their number is
 none : (l : List ℕ) → allZero l ≡ ltb (leOf l) 1

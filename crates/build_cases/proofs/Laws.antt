@@ -7,6 +7,7 @@ use native.Mathlib.Omega.{arith}
 use borrow.Author.Tests.{leb-true, eq-eqb, ne-eqb}
 use lib.Dec.{leb, eqb}
 use lib.ListN.{length, take, drop, getD}
+use Rattle.refusal.proofs.Booleans.{both-left, both-right}
 use Rattle.buffer.specs.Le.{numberAt}
 use Rattle.crc32c.specs.Crc.{crcOf}
 use Rattle.preamble.specs.declared.Header.{Header}
@@ -18,7 +19,7 @@ use Rattle.sealed_builder.specs.Build.{Done, done, refusedSending, sealedDone}
 use Rattle.text.specs.Line.{Piece}
 use Rattle.text.specs.Page.{page}
 use Rattle.records.specs.Records.{isWhole, badRecord, prints, allowed, counted}
-use Rattle.records.proofs.Laws.{first, second, sized-good, whole-within, did-bad, did-whole}
+use Rattle.records.proofs.Laws.{sized-good, whole-within, did-bad, did-whole}
 use Rattle.build_cases.specs.declared.Builds.{Builds}
 use Rattle.build_cases.specs.declared.Part.{Part}
 use Rattle.build_cases.specs.Sealed.{answerLine, sealedLine, sendingAfter, sendingOf, headSize, headBuilds, buildSize, doneBy, buildsAfter, partOf, DidPart}
@@ -60,7 +61,7 @@ head-long s e =
 pub build-buffer : (room : ℕ) (s : List ℕ) → isWhole (buildSize room s) s ≡ true → numberAt 4 27 s ≤ room
 build-buffer room s e =
     let g = sized-good (leb (getD s 26 0) 1 && (leb (numberAt 4 27 s) room && allowed (numberAt 4 40 s))) (44 + numberAt 4 40 s) s e in
-    leb-true (numberAt 4 27 s) room (first (leb (numberAt 4 27 s) room) _ (second (leb (getD s 26 0) 1) _ g))
+    leb-true (numberAt 4 27 s) room (both-left (leb (numberAt 4 27 s) room) _ (both-right (leb (getD s 26 0) 1) _ g))
 
 pub build-done : (sending : Sending) (s before source : List ℕ) (queued : ℕ) (header : Header) (abort : Bool)
     → header ≡ headerOf s

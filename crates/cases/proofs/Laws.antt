@@ -9,6 +9,7 @@ use borrow.Author.Tests.{leb-true, eq-eqb, ne-eqb}
 use lib.Dec.{leb, eqb}
 use lib.ListN.{length, take, drop, getD, set, length-drop}
 use lib.Seq.{getD-append-add, getD-drop, length-take-le, take-at}
+use Rattle.refusal.proofs.Booleans.{both-left, both-right}
 use Rattle.buffer.proofs.Turn.{copy-more}
 use Rattle.buffer.proofs.Parts.{back}
 use Rattle.buffer.specs.Le.{numberAt}
@@ -19,7 +20,7 @@ use Rattle.banner.specs.declared.Revision.{Revision}
 use Rattle.preamble.specs.declared.Header.{Header}
 use Rattle.preamble.specs.Judge.{headerOf}
 use Rattle.records.specs.Records.{allowed, isWhole, counted}
-use Rattle.records.proofs.Laws.{sized-good, first, second}
+use Rattle.records.proofs.Laws.{sized-good}
 use Rattle.build_cases.specs.Sealed.{answerLine}
 use Rattle.cases.specs.Builds.{doneLine, bannerSize, bannerDoneOf, revisionOf, frameSize, frameDoneOf}
 
@@ -45,7 +46,7 @@ banner-buffer s e = leb-true (numberAt 4 17 s) 65536 (sized-good (allowed (numbe
 pub frame-buffer : (s : List ℕ) → isWhole (frameSize s) s ≡ true → numberAt 4 29 s ≤ 65536
 frame-buffer s e =
     let g = sized-good ((leb (getD s 1 0) 1 && leb (getD s 28 0) 1) && (allowed (numberAt 4 29 s) && allowed (numberAt 4 42 s))) (46 + numberAt 4 42 s) s e in
-    leb-true (numberAt 4 29 s) 65536 (first (allowed (numberAt 4 29 s)) _ (second (leb (getD s 1 0) 1 && leb (getD s 28 0) 1) _ g))
+    leb-true (numberAt 4 29 s) 65536 (both-left (allowed (numberAt 4 29 s)) _ (both-right (leb (getD s 1 0) 1 && leb (getD s 28 0) 1) _ g))
 
 pub banner-done : (s before : List ℕ) (supported required queued : ℕ)
     → supported ≡ numberAt 8 1 s

@@ -203,7 +203,7 @@ fn run_next(builds: Builds, s: &[u8], space: &mut [u8], text: &mut [u8], at: usi
 // ---- the run
 
 // The next record, where the input has one.
-fn turn(held: &mut [u8], space: &mut [u8], text: &mut [u8], s: State) -> State
+fn run_one(held: &mut [u8], space: &mut [u8], text: &mut [u8], s: State) -> State
     requires { ⌜ Between s (length (now held)) (length (now space)) ⌝ }
     requires { ⌜ 0 < s .left ⌝ }
     ensures { λ r. ⌜ Between r (length (now (held .entry))) (length (now (space .entry))) ⌝ }
@@ -256,7 +256,7 @@ fn run(held: &mut [u8], space: &mut [u8], text: &mut [u8])
         left: MOST,
     };
     while 0 < s.left {
-        let next = turn(held, space, text, s);
+        let next = run_one(held, space, text, s);
         s = next;
     }
     io::write_all(STDOUT_FILENO, part(text, 0, s.filled));

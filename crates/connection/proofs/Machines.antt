@@ -57,22 +57,22 @@ abbrev pub before : crc-state.State → Bool
 before st = eqb (rank (st .position .stage)) 4 && eqb (st .position .got) 0
 
 -- the revision behind an event, by the one before it
-abbrev pub KeptBy : Role → Revision → Revision → Type 0
-KeptBy (bannerEnd p r) v w = (isMsgr21 v ≡ false) × (w ≡ r)
-KeptBy (firstEnd h) v w = w ≡ v
-KeptBy (frameEnd h) v w = w ≡ v
-KeptBy (streamEnd n) v w = Unit {0}
+abbrev pub RevisionAfterRole : Role → Revision → Revision → Type 0
+RevisionAfterRole (bannerEnd p r) v w = (isMsgr21 v ≡ false) × (w ≡ r)
+RevisionAfterRole (firstEnd h) v w = w ≡ v
+RevisionAfterRole (frameEnd h) v w = w ≡ v
+RevisionAfterRole (streamEnd n) v w = Unit {0}
 
-abbrev pub Kept : Report → Revision → Revision → Type 0
-Kept report.More v w = w ≡ v
-Kept (report.Event e) v w = KeptBy (roleOf e) v w
+abbrev pub RevisionAfter : Report → Revision → Revision → Type 0
+RevisionAfter report.More v w = w ≡ v
+RevisionAfter (report.Event e) v w = RevisionAfterRole (roleOf e) v w
 
 record Lands (v : Revision) (x : crc.Stepped) : Type 0 where
   there : closing (x .report) ≡ true → before (x .state) ≡ true
-  kept : Kept (x .report) v (x .state .known .revision)
+  revision : RevisionAfter (x .report) v (x .state .known .revision)
 
 lands-refused : (w : Known) (n : Numbers) (s : List ℕ) {v : Revision} → Lands v (crc.refuse w n s)
-lands-refused w n s = record { there = λ e. wrong e; kept = tt }
+lands-refused w n s = record { there = λ e. wrong e; revision = tt }
 
 lands-unless : (j : Judged) (w : Known) (s : List ℕ) {v : Revision} (x : crc.Stepped) → Lands v x → Lands v (crc.unlessRefused j w s x)
 lands-unless fine w s x l = l
@@ -83,18 +83,18 @@ lands-cond true x y l m = l
 lands-cond false x y l m = m
 
 lands-end : (e : Ended) (v : Known) (s : List ℕ) → Lands (v .revision) (crc.endFrame e v s)
-lands-end whole v s = record { there = λ e. refl; kept = refl }
-lands-end dropped v s = record { there = λ e. refl; kept = refl }
+lands-end whole v s = record { there = λ e. refl; revision = refl }
+lands-end dropped v s = record { there = λ e. refl; revision = refl }
 lands-end (turnedAway n) v s = lands-refused v n (zeroed (v .header) s)
 
 lands-silent : (st : crc-state.State) (s : List ℕ) → Lands (st .known .revision) (crc.silent st s)
-lands-silent st s = record { there = λ e. wrong e; kept = refl }
+lands-silent st s = record { there = λ e. wrong e; revision = refl }
 
 lands-banner : (v : Known) (s : List ℕ) → isMsgr21 (v .revision) ≡ false → Lands (v .revision) (crc.endBanner v s)
 lands-banner v s h =
     let r = revisionOf (v .own .supported) (v .peer .supported) in
     lands-unless (judgeFeatures (v .own .supported) (v .own .required) (v .peer .supported) (v .peer .required)) v s
-    (crc.stepped (crc.at stage.Preamble 0 (crc.withRevision v r)) s (report.Event (event.Banner (v .peer) r))) (record { there = λ e. wrong e; kept = (h, refl) })
+    (crc.stepped (crc.at stage.Preamble 0 (crc.withRevision v r)) s (report.Event (event.Banner (v .peer) r))) (record { there = λ e. wrong e; revision = (h, refl) })
 
 lands-epilogue : (v : Known) (s : List ℕ) → Lands (v .revision) (crc.beginEpilogue v s)
 lands-epilogue v s =
@@ -120,7 +120,7 @@ rest-revision v got s = go (ltb got (total (v .header))) (noEpilogue (v .revisio
     go false false = refl
 
 lands-first : (b : Bool) (h : Header) {v : Revision} (x : crc.Stepped) → x .state .known .revision ≡ v → Lands v x → Lands v (crc.reportFirst b h x)
-lands-first true h x q l = record { there = λ e. wrong e; kept = q }
+lands-first true h x q l = record { there = λ e. wrong e; revision = q }
 lands-first false h x q l = l
 
 -- a banner is reported where no revision is known yet
@@ -200,9 +200,9 @@ crc-keeps st s b r =
     (rule-after (closing (y .report)) (before (crc.onByte (st .crc) s b .state)) (st .mode) (r .mode) (lands-byte (st .crc) s b (r .live .agree) .there))
     (crc-live.byte-after (st .crc) s b (r .live))
 
-pub crc-kept : (st : State) (s : List ℕ) (b : ℕ) → CrcRunning st s
-    → Kept (crcByte st s b .report) (st .crc .known .revision) (crcByte st s b .state .crc .known .revision)
-crc-kept st s b r = lands-byte (st .crc) s b (r .live .agree) .kept
+pub crc-revision : (st : State) (s : List ℕ) (b : ℕ) → CrcRunning st s
+    → RevisionAfter (crcByte st s b .report) (st .crc .known .revision) (crcByte st s b .state .crc .known .revision)
+crc-revision st s b r = lands-byte (st .crc) s b (r .live .agree) .revision
 
 pub crc-silent-byte : (st : State) (s : List ℕ) (b : ℕ) → st .crc .position .stage ≡ stage.Refused → Silent {State = State} (λ x. x .crc .position .stage ≡ stage.Refused) s (crcByte st s b)
 unfolding crc.onByte crc.finish

@@ -37,7 +37,7 @@ use Rattle.secure.specs.Reading.{sealedTrace}
 use Rattle.connection.specs.declared.State.{State}
 use Rattle.connection.specs.Switched.{closes, closesAt, choosesMsgr21, choseMsgr21}
 use Rattle.connection.specs.Step.{closing}
-use Rattle.connection.proofs.Machines.{crcByte, secureByte, CrcRunning, CrcGone, KeptBy, Kept, crc-keeps, crc-kept, or-false, and-false}
+use Rattle.connection.proofs.Machines.{crcByte, secureByte, CrcRunning, CrcGone, RevisionAfterRole, RevisionAfter, crc-keeps, crc-revision, or-false, and-false}
 
 abbrev pub trace : {A : Type 0} → Scanned A → Trace
 trace c = record { entries = c .entries; store = c .store }
@@ -131,7 +131,7 @@ clean-onward report.More at st s es e a = (e, a)
 clean-onward (report.Event w) at st s es e a =
     (clean-behind w (refusedIn es) e, machine.passed-running CrcRunning CrcGone (report.Event w) st s (clean-here w (refusedIn es) e) a)
 
-chose-by : (x : Role) (v w : Revision) (es : List Entry) → byJudgement (judgeRole x) (refusedIn es) (λ n. true) ≡ false → KeptBy x v w
+chose-by : (x : Role) (v w : Revision) (es : List Entry) → byJudgement (judgeRole x) (refusedIn es) (λ n. true) ≡ false → RevisionAfterRole x v w
     → (isMsgr21 w || choseMsgr21 es) ≡ (isMsgr21 v || (choosesMsgr21 x || choseMsgr21 es))
 chose-by (bannerEnd p Msgr20) v w es e k =
     ap (λ (x : Revision). isMsgr21 x || choseMsgr21 es) (k .1) ∙ sym (ap (λ (b : Bool). b || choseMsgr21 es) (k .0))
@@ -141,7 +141,7 @@ chose-by (firstEnd h) v w es e k = ap (λ (x : Revision). isMsgr21 x || choseMsg
 chose-by (frameEnd h) v w es e k = ap (λ (x : Revision). isMsgr21 x || choseMsgr21 es) k
 chose-by (streamEnd n) v w es e k = wrong (sym e)
 
-chose-noted : (r : Report) (v w : Revision) (at : ℕ) (s : List ℕ) (es : List Entry) → refusedIn (noted r at s es) ≡ false → Kept r v w
+chose-noted : (r : Report) (v w : Revision) (at : ℕ) (s : List ℕ) (es : List Entry) → refusedIn (noted r at s es) ≡ false → RevisionAfter r v w
     → (isMsgr21 w || choseMsgr21 es) ≡ (isMsgr21 v || choseMsgr21 (noted r at s es))
 chose-noted report.More v w at s es e k = ap (λ (x : Revision). isMsgr21 x || choseMsgr21 es) k
 chose-noted (report.Event x) v w at s es e k = chose-by (roleOf x) v w es e k
@@ -155,7 +155,7 @@ revision-chosen st s P (b ∷ bs) r clean =
     let z = machine.scan crcByte (y .state) (y .store) (suc P) bs in
     let q = clean-onward (y .report) (suc P) (y .state) (y .store) (z .entries) clean (crc-keeps st s b r) in
     revision-chosen (y .state) (y .store) (suc P) bs (q .1) (q .0)
-    ∙ chose-noted (y .report) (st .crc .known .revision) (y .state .crc .known .revision) (suc P) (y .store) (z .entries) clean (crc-kept st s b r)
+    ∙ chose-noted (y .report) (st .crc .known .revision) (y .state .crc .known .revision) (suc P) (y .store) (z .entries) clean (crc-revision st s b r)
 
 -- ---- sealed frames
 

@@ -11,6 +11,7 @@ use lib.ListN.{length, take, drop, getD, drop-of-length-le}
 use lib.Seq.{take-all, drop-drop, drop-length}
 use Rattle.buffer.specs.Le.{numberAt}
 use Rattle.refusal.specs.Refusals.{Judged, judgedBy}
+use Rattle.refusal.proofs.Booleans.{both-left, both-right}
 use Rattle.banner.specs.declared.Features.{Features}
 use Rattle.banner.specs.Banner.{judgeOwn}
 use Rattle.crc32c.specs.Crc.{crcOf}
@@ -26,7 +27,7 @@ use Rattle.text.specs.Line.{Piece, codes}
 use Rattle.text.specs.Page.{Page, page}
 use Rattle.records.specs.declared.Step.{Step}
 use Rattle.records.specs.Records.{Did, isWhole, whole, print, prints, counted}
-use Rattle.records.proofs.Laws.{sized-good, first, second, whole-within, did-is}
+use Rattle.records.proofs.Laws.{sized-good, whole-within, did-is}
 use Rattle.build_cases.specs.Sealed.{answerLine, sealedLine}
 use Rattle.connection_cases.specs.declared.places.Layout.{Layout}
 use Rattle.connection_cases.specs.declared.places.Call.{Call}
@@ -66,8 +67,8 @@ lent-whole st s piece lent h = rw (take-all lent s h, drop-of-length-le s {i = l
 -- the switch's bytes stand in front of the calls
 pub try-fits : (l : Layout) (n : ℕ) → isTry l n ≡ true → (4294967040 ≤ n) × (n < 4294967040 + l .switches) × (tryAt l n + 48 ≤ countAt l)
 try-fits l n e =
-    let a = leb-true 4294967040 n (first (leb 4294967040 n) _ e) in
-    let b = ltb-true n (4294967040 + l .switches) (second (leb 4294967040 n) _ e) in
+    let a = leb-true 4294967040 n (both-left (leb 4294967040 n) _ e) in
+    let b = ltb-true n (4294967040 + l .switches) (both-right (leb 4294967040 n) _ e) in
     (a, b, omega arith)
 
 -- the line of the build, as code comes to it
@@ -169,8 +170,8 @@ module _ (room : ℕ) (l : Layout) (s : List ℕ) (e : isWhole (receiverSize roo
   -- the store's length
   pub receiver-store : numberAt 4 17 s ≤ room
   receiver-store =
-      let h = second (leb (l .switches) 8 && leb (callsOf l s) 4096) _ in-range in
-      leb-true (numberAt 4 17 s) room (first (leb (numberAt 4 17 s) room) _ (first (leb (numberAt 4 17 s) room && leb (streamOf l s) 131072) _ h))
+      let h = both-right (leb (l .switches) 8 && leb (callsOf l s) 4096) _ in-range in
+      leb-true (numberAt 4 17 s) room (both-left (leb (numberAt 4 17 s) room) _ (both-left (leb (numberAt 4 17 s) room && leb (streamOf l s) 131072) _ h))
 
   -- the switches are there
   pub switches-there : countAt l ≤ length s

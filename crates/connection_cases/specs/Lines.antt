@@ -4,7 +4,7 @@ use Prim.Native.Nat.{ℕ}
 use Rattle.refusal.specs.Refusals.{Judged, fine, refused}
 use Rattle.banner.specs.declared.Features.{Features}
 use Rattle.banner.specs.declared.Revision.{Revision}
-use Rattle.banner.specs.declared.Revision.the-variants.{Msgr20, Msgr21}
+use Rattle.banner.specs.Banner.{revisionNumber}
 use Rattle.preamble.specs.declared.Header.{Header}
 use Rattle.stream.specs.declared.Event.{Event}
 use Rattle.stream.specs.declared.Event.the-variants as event
@@ -18,10 +18,6 @@ use Rattle.records.specs.Records.{sumPieces, whyPieces}
 abbrev pub verdictLine : List ℕ → Judged → List Piece
 verdictLine letters fine = raw letters ∷ word " ok\n" ∷ []
 verdictLine letters (refused w) = (raw letters ∷ word " refused" ∷ whyPieces w) ++ (newline ∷ [])
-
-abbrev pub revisionNumber : Revision → ℕ
-revisionNumber Msgr20 = 0
-revisionNumber Msgr21 = 1
 
 abbrev pub fourPieces : List ℕ → ℕ → ℕ → ℕ → ℕ → List Piece
 fourPieces letters a b c d = raw letters ∷ number a ∷ number b ∷ number c ∷ number d ∷ []

@@ -16,11 +16,12 @@ use text::put_number;
 use text::put_word;
 ghost use mathlib.Core.Path.{_≡_};
 ghost use Rattle.refusal.specs.Refusals.{fine, refused, judgedBy};
+ghost use Rattle.banner.specs.Banner.{revisionNumber};
 ghost use Rattle.stream.specs.declared.Event.the-variants as event;
 ghost use Rattle.receiver.specs.declared.Report.the-variants as report;
 ghost use Rattle.text.specs.Page.{page, puts};
 ghost use Rattle.records.specs.Records.{print};
-ghost use Rattle.connection_cases.specs.Lines.{verdictLine, revisionNumber, fourPieces, tagPieces, lengthPieces, alignmentPieces, headerPieces, featurePieces, peerPieces, frameLine, eventLine, reportLine};
+ghost use Rattle.connection_cases.specs.Lines.{verdictLine, fourPieces, tagPieces, lengthPieces, alignmentPieces, headerPieces, featurePieces, peerPieces, frameLine, eventLine, reportLine};
 
 // A word, and a number for each of four segments.
 fn put_four(text: &mut [u8], at: usize, letters: &[u8], a: u32, b: u32, c: u32, d: u32) -> usize

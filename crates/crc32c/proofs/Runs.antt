@@ -6,8 +6,8 @@ use Prim.Native.Nat.{ℕ, zero, suc, _+_, _*_, _/_, _%_, _^_, _<_}
 use native.Mathlib.Omega.{arith}
 use lib.Bits.{xor-zero-r}
 use lib.ListN.{replicate, replicate-append-replicate}
-use Rattle.crc_halves.specs.Square.{square}
-use Rattle.crc_halves.proofs.Squares.{square-steps}
+use Rattle.crc_squares.specs.Square.{square}
+use Rattle.crc_squares.proofs.Squares.{square-steps}
 use Rattle.crc_steps.proofs.Linear.{steps-add, steps-none}
 use Rattle.crc32c.specs.Crc.{steps, crcByte, crcOf}
 use Rattle.crc32c.proofs.Laws.{crc-append}

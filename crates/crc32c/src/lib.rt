@@ -1,7 +1,7 @@
 // CRC32-C by tables, from any start value and with no complement at the end: four words at a time, and a run of zeros by halving its length.
 use buffer::u32_at;
-use crc_halves::root_of;
-use crc_halves::square_of;
+use crc_squares::root_of;
+use crc_squares::square_of;
 use crc_steps_32::steps_32;
 use crc_steps_64::steps_64;
 use crc_steps_128::steps_128;

@@ -1,4 +1,4 @@
-// Bit steps of CRC32-C from a byte, by a table, and what the tables of crc_steps_32, crc_steps_64, crc_steps_128 and crc_halves share.
+// Bit steps of CRC32-C from a byte, by a table, and what the tables of crc_steps_32, crc_steps_64, crc_steps_128 and crc_squares share.
 mod bytes;
 
 use bytes::TABLE;

@@ -22,7 +22,7 @@ use Rattle.session.specs.Calls.{freshSession}
 use Rattle.session.specs.Laws as session
 use Rattle.session.specs.Laws.{callOf, EveryCall}
 use Rattle.session.specs.History as history
-use Rattle.session.specs.History.{sessionBy, Kept, EveryHistory}
+use Rattle.session.specs.History.{sessionBy, Accounted, EveryHistory}
 use Rattle.delivery.specs.declared.Delivery.{Delivery}
 use Rattle.delivery.specs.declared.Asked.{Asked}
 use Rattle.delivery.specs.declared.Asked.the-variants as asked
@@ -227,17 +227,17 @@ every-release demand calls histories ks c =
     let e = each-of demand freshSession ks c in
     let p = all-play freshSession ks c e in
     let final : sessionAfterAll freshSession ks ≡ sessionBy freshSession (historyOf (causesOf ks)) = p .leads in
-    let kept : Kept (historyOf (causesOf ks)) = histories (historyOf (causesOf ks)) (played-chained freshSession (callsDue (causesOf ks))) in
+    let accounted : Accounted (historyOf (causesOf ks)) = histories (historyOf (causesOf ks)) (played-chained freshSession (callsDue (causesOf ks))) in
     record {
       received = received-of demand freshSession ks c;
       each = e;
       leaves = left-of calls freshSession ks c e (record { agreeing = calls .fresh; sized = refl });
       final = final;
-      kept = kept;
+      accounted = accounted;
       told = p .gives;
       starts = starts-of freshSession ks c;
       switches = switches-of demand freshSession ks c;
       released = λ before since h m q a.
           let d : callsDue (causesOf ks) ≡ callsDue before ++ (session.accept h ∷ callsDue since) = ap callsDue q ∙ due-append before (sends h ∷ since) in
-          rw (final, kept .holds, d) (sent-held freshSession (callsDue before) since h m a);
+          rw (final, accounted .holds, d) (sent-held freshSession (callsDue before) since h m a);
     }

@@ -28,7 +28,7 @@ use Rattle.session.specs.Calls.{message, heldOf, freshSession}
 use Rattle.session.specs.Laws as session
 use Rattle.session.specs.Laws.{callOf}
 use Rattle.session.specs.History as history
-use Rattle.session.specs.History.{sessionBy, Kept}
+use Rattle.session.specs.History.{sessionBy, Accounted}
 use Rattle.delivery.specs.declared.Delivery.{Delivery}
 use Rattle.delivery.specs.declared.Asked.{Asked}
 use Rattle.delivery.specs.declared.Asked.the-variants as asked
@@ -228,7 +228,7 @@ ReceivedOf (k ∷ ks) = AsSwitched (k .own) (k .stream) (k .store) (onConnection
 
 -- ---- WHY A MESSAGE IS NO LONGER HELD
 
--- an ack that the session refuses with 23 is a reason by this list too; `each` and `kept` say that it releases nothing
+-- an ack that the session refuses with 23 is a reason by this list too; `each` and `accounted` say that it releases nothing
 pub data Reason (m : ℕ) : Cause → Type 0 where
   -- the definition has a whole frame of one segment with tag 20 or 15, and the number in its body is the message's or a higher one
   acknowledged : (h : Header) (at n : ℕ) (s : List ℕ) → (h .tag ≡ 20) ⊎ (h .tag ≡ 15) → h .count ≡ 1 → bodyOf h s ≡ whole (oneNumberOf n) → m ≤ n
@@ -269,7 +269,7 @@ pub record Acknowledged (ks : List Connection) : Type 0 where
   -- so the session is where its own calls lead that the causes make due, in their order
   pub final : sessionAfterAll freshSession ks ≡ sessionBy freshSession (historyOf (causesOf ks))
   -- of these K13's claim holds: what is held is what they neither acknowledged nor dropped
-  pub kept : Kept (historyOf (causesOf ks))
+  pub accounted : Accounted (historyOf (causesOf ks))
   -- and the answers that the caller is told are their answers, in order, none left out
   pub told : toldOf ks ≡ reportsIn (historyOf (causesOf ks))
   -- each connection began as `connect` said, and was switched once at most, as `switch` said

@@ -17,7 +17,7 @@ use Rattle.stream.specs.declared.Event.the-variants.{Banner}
 use Rattle.stream.specs.Stream.{Trace, after, frames, payloadOf, peerOf, streamTrace, traceOf}
 use Rattle.ends.specs.Handed.{UpTo}
 use Rattle.buffer.proofs.Numbers.{number-append}
-use Rattle.ends.proofs.Concatenation.{joined, frames-go}
+use Rattle.ends.proofs.Concatenation.{joined, frames-concatenate}
 
 -- the banner at the front of a stream is there and fits our features
 pub record Met (own : Features) (F : List ℕ) : Type 0 where
@@ -124,7 +124,7 @@ follows-on own F X s r up =
     let u = rw e at up in
     let d : length (drop n F) ≡ length F - n = length-drop n F in
     let l : n + length (drop n F) ≡ length F = (let a = m .all in omega arith) in
-    let g = frames-go (length F) (spoken own F) n (drop n F) X s (omega arith) (rw l (u .1)) in
+    let g = frames-concatenate (length F) (spoken own F) n (drop n F) X s (omega arith) (rw l (u .1)) in
     let a = length-append F X in
     let a₂ = length-append (drop n F) X in
     let v : spoken own (F ++ X) ≡ spoken own F = ap (λ (q : Features). revisionOf (own .supported) (q .supported)) (more-peer own F X m) in
@@ -132,7 +132,7 @@ follows-on own F X s r up =
       ours = m .ours;
       follows = λ k hk.
           rw (more-payload own F X m, v, more-peer own F X m, drop-append-le n F X (m .all)) at e′
-          ∙ ap (after (Banner (peerOf F) (spoken own F)) n s) (g .goes (length (F ++ X)) k (omega arith) hk)
+          ∙ ap (after (Banner (peerOf F) (spoken own F)) n s) (g .joins (length (F ++ X)) k (omega arith) hk)
           ∙ rw (e, l, u .0);
       same = ap (λ (t : Trace). length (t .store)) e ∙ g .same;
     }

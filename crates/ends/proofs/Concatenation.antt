@@ -64,18 +64,18 @@ abbrev pub joined : Trace → Trace → Trace
 joined t u = record { entries = t .entries ++ u .entries; store = u .store }
 
 -- from byte P on: Y behind X, which ends where a frame does
-pub record Goes (f : ℕ) (r : Revision) (P : ℕ) (X Y s : List ℕ) : Type 0 where
-  pub goes : (g k : ℕ) → length (X ++ Y) ≤ g → length Y ≤ k → frames g r P (X ++ Y) s ≡ joined (frames f r P X s) (frames k r (P + length X) Y (frames f r P X s .store))
+pub record Concatenates (f : ℕ) (r : Revision) (P : ℕ) (X Y s : List ℕ) : Type 0 where
+  pub joins : (g k : ℕ) → length (X ++ Y) ≤ g → length Y ≤ k → frames g r P (X ++ Y) s ≡ joined (frames f r P X s) (frames k r (P + length X) Y (frames f r P X s .store))
   pub same : length (frames f r P X s .store) ≡ length s
 
-goes-none : (f : ℕ) (r : Revision) (P : ℕ) (Y s : List ℕ) → Goes f r P [] Y s
-goes-none f r P Y s = record {
-  goes = λ g k hg hk. rw (none f r P s, add-zero P) (fuel g k r P Y s hg hk);
+concatenates-none : (f : ℕ) (r : Revision) (P : ℕ) (Y s : List ℕ) → Concatenates f r P [] Y s
+concatenates-none f r P Y s = record {
+  joins = λ g k hg hk. rw (none f r P s, add-zero P) (fuel g k r P Y s hg hk);
   same = ap (λ (t : Trace). length (t .store)) (none f r P s);
 }
 
 abbrev Lower : ℕ → Type 0
-Lower f = (r : Revision) (P : ℕ) (X Y s : List ℕ) → length X ≤ f → FramesUpTo (P + length X) P (frames f r P X s .entries) → Goes f r P X Y s
+Lower f = (r : Revision) (P : ℕ) (X Y s : List ℕ) → length X ≤ f → FramesUpTo (P + length X) P (frames f r P X s .entries) → Concatenates f r P X Y s
 
 -- an early report goes before
 early-joined : (c : Bool) (P : ℕ) (X s : List ℕ) (t u : Trace) → joined (behindEarly c P X s t) u ≡ behindEarly c P X s (joined t u)
@@ -99,15 +99,15 @@ module _ (f : ℕ) (ih : Lower f) (r : Revision) (P : ℕ) (X Y s : List ℕ) (c
     (enough : length X ≤ suc f)
     (kept : length s′ ≡ length s)
     (up : FramesUpTo (P + length X) Q (frames f r Q X′ s′ .entries)) where
-  below : Goes f r Q X′ Y s′
+  below : Concatenates f r Q X′ Y s′
   below = ih r Q X′ Y s′ (omega arith) (rw place up)
 
   store-is : frames (suc f) r P X s .store ≡ frames f r Q X′ s′ .store
   store-is = ap (λ (t : Trace). t .store) gives ∙ early-store c P X s (after w Q s′ (frames f r Q X′ s′))
 
-  goes-on : (g k : ℕ) → length (X ++ Y) ≤ g → length Y ≤ k → frames g r P (X ++ Y) s ≡ joined (frames (suc f) r P X s) (frames k r (P + length X) Y (frames (suc f) r P X s .store))
-  goes-on zero k hg hk = (let a = length-append X Y in absurd (omega arith))
-  goes-on (suc g) k hg hk =
+  joins-on : (g k : ℕ) → length (X ++ Y) ≤ g → length Y ≤ k → frames g r P (X ++ Y) s ≡ joined (frames (suc f) r P X s) (frames k r (P + length X) Y (frames (suc f) r P X s .store))
+  joins-on zero k hg hk = (let a = length-append X Y in absurd (omega arith))
+  joins-on (suc g) k hg hk =
       let a = length-append X Y in
       let a′ = length-append X′ Y in
       let T : Trace = frames f r Q X′ s′ in
@@ -115,13 +115,13 @@ module _ (f : ℕ) (ih : Lower f) (r : Revision) (P : ℕ) (X Y s : List ℕ) (c
       let W : Trace = frames k r (P + length X) Y (frames (suc f) r P X s .store) in
       let e : U ≡ W = ap₂ (λ (n : ℕ) (t : List ℕ). frames k r n Y t) place (sym store-is) in
       gives-more g
-      ∙ ap (λ (t : Trace). behindEarly c P X s (after w Q s′ t)) (below .goes g k (omega arith) hk)
+      ∙ ap (λ (t : Trace). behindEarly c P X s (after w Q s′ t)) (below .joins g k (omega arith) hk)
       ∙ sym (early-joined c P X s (after w Q s′ T) U)
       ∙ ap₂ joined (sym gives) e
 
-  goes-step : Goes (suc f) r P X Y s
-  goes-step = record {
-    goes = goes-on;
+  concatenates-step : Concatenates (suc f) r P X Y s
+  concatenates-step = record {
+    joins = joins-on;
     same = ap length store-is ∙ below .same ∙ kept;
   }
 
@@ -143,39 +143,39 @@ module _ (f : ℕ) (ih : Lower f) (r : Revision) (P : ℕ) (X Y s : List ℕ) (e
     frame-less : 32 + length X′ ≤ length X
     frame-less = (let d = length-drop (32 + bodyLength r h) X in let d₁ = length-drop 32 X in omega arith)
 
-  goes-whole : Judges whole r X (length s) → FramesUpTo (P + length X) P (frames (suc f) r P X s .entries) → Goes (suc f) r P X Y s
-  goes-whole j up =
+  concatenates-whole : Judges whole r X (length s) → FramesUpTo (P + length X) P (frames (suc f) r P X s .entries) → Concatenates (suc f) r P X Y s
+  concatenates-whole j up =
       let t = total h in
       let c : length (segmentBytes r h (drop 32 X)) ≡ t = length-segments r h (drop 32 X) [] (j .long) in
       let e = frame-trace f P X s j in
-      goes-step f ih r P X Y s (isEarly r h) (Frame h) (P + wireLength r h) X′ (replaceFront (segmentBytes r h (drop 32 X)) s) e (λ g. frame-trace-more g P X Y s j)
+      concatenates-step f ih r P X Y s (isEarly r h) (Frame h) (P + wireLength r h) X′ (replaceFront (segmentBytes r h (drop 32 X)) s) e (λ g. frame-trace-more g P X Y s j)
       (frame-place (j .front) (j .long)) (frame-less (j .front) (j .long)) enough
       (length-replaceFront (segmentBytes r h (drop 32 X)) s (let a : total h ≤ length s = store-fits (accepted-preamble (take 32 X) (length s) (j .accepted) .store) in omega arith))
       (early-up (isEarly r h) (P + length X) P X s _ (rw e at up))
 
-  goes-dropped : Judges dropped r X (length s) → FramesUpTo (P + length X) P (frames (suc f) r P X s .entries) → Goes (suc f) r P X Y s
-  goes-dropped j up =
+  concatenates-dropped : Judges dropped r X (length s) → FramesUpTo (P + length X) P (frames (suc f) r P X s .entries) → Concatenates (suc f) r P X Y s
+  concatenates-dropped j up =
       let z : length {A = ℕ} (replicate (total h) 0) ≡ total h = length-replicate {A = ℕ} (total h) 0 in
       let e = frame-trace f P X s j in
-      goes-step f ih r P X Y s (isEarly r h) (Dropped h) (P + wireLength r h) X′ (zeroed h s) e (λ g. frame-trace-more g P X Y s j)
+      concatenates-step f ih r P X Y s (isEarly r h) (Dropped h) (P + wireLength r h) X′ (zeroed h s) e (λ g. frame-trace-more g P X Y s j)
       (frame-place (j .front) (j .long)) (frame-less (j .front) (j .long)) enough
       (length-replaceFront (replicate (total h) 0) s (let a : total h ≤ length s = store-fits (accepted-preamble (take 32 X) (length s) (j .accepted) .store) in omega arith))
       (early-up (isEarly r h) (P + length X) P X s _ (rw e at up))
 
-  goes-seen : Seen r P X s → FramesUpTo (P + length X) P (frames (suc f) r P X s .entries) → Goes (suc f) r P X Y s
-  goes-seen (nothing c t j e) up = at-once X refl
+  concatenates-seen : Seen r P X s → FramesUpTo (P + length X) P (frames (suc f) r P X s .entries) → Concatenates (suc f) r P X Y s
+  concatenates-seen (nothing c t j e) up = at-once X refl
     where
-      at-once : (Z : List ℕ) → X ≡ Z → Goes (suc f) r P X Y s
-      at-once [] z = rw z (goes-none (suc f) r P Y s)
+      at-once : (Z : List ℕ) → X ≡ Z → Concatenates (suc f) r P X Y s
+      at-once [] z = rw z (concatenates-none (suc f) r P Y s)
       at-once (b ∷ bs) z =
           let u : P ≡ P + length X = early-up c (P + length X) P X s (ended t) (rw (e f) at up) in
           let n : length X ≡ suc (length bs) = ap length z in
           absurd (omega arith)
-  goes-seen (refuses c n at t j e) up = absurd (early-up c (P + length X) P X s (refusedAt n at t) (rw (e f) at up))
-  goes-seen (hands j) up = goes-whole j up
-  goes-seen (drops j) up = goes-dropped j up
+  concatenates-seen (refuses c n at t j e) up = absurd (early-up c (P + length X) P X s (refusedAt n at t) (rw (e f) at up))
+  concatenates-seen (hands j) up = concatenates-whole j up
+  concatenates-seen (drops j) up = concatenates-dropped j up
 
-pub frames-go : (f : ℕ) → Lower f
-frames-go zero r P [] Y s enough up = goes-none zero r P Y s
-frames-go zero r P (b ∷ bs) Y s enough up = absurd (omega arith)
-frames-go (suc f) r P X Y s enough up = goes-seen f (frames-go f) r P X Y s enough (seen r P X s) up
+pub frames-concatenate : (f : ℕ) → Lower f
+frames-concatenate zero r P [] Y s enough up = concatenates-none zero r P Y s
+frames-concatenate zero r P (b ∷ bs) Y s enough up = absurd (omega arith)
+frames-concatenate (suc f) r P X Y s enough up = concatenates-seen f (frames-concatenate f) r P X Y s enough (seen r P X s) up

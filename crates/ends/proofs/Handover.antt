@@ -57,33 +57,33 @@ module _ (f : ℕ) (r : Revision) (P : ℕ) (X s : List ℕ) where
   behind-first : (is : Event → Bool) (c : Bool) (t : Trace) → firstIs isFirst (t .entries) ≡ false → frames (suc f) r P X s ≡ behindEarly c P X s t → firstIs is (behindFirst es) ≡ firstIs is (t .entries)
   behind-first is c t n e = ap (firstIs is) (behind-is c t n e)
 
-  by-first : Seen r P X s → firstIs isFirst es ≡ true → JudgesFirst r X (length s)
-  by-first (nothing c t j e) u = j (sym (first-is c (ended t) refl (e f)) ∙ u)
-  by-first (refuses c n at t j e) u = j (sym (first-is c (refusedAt n at t) refl (e f)) ∙ u)
-  by-first (hands j) u = judges-first X j (sym (first-is (isEarly r h) _ refl (frame-trace f P X s j)) ∙ u)
-  by-first (drops j) u = judges-first X j (sym (first-is (isEarly r h) _ refl (frame-trace f P X s j)) ∙ u)
+  first-judges : Seen r P X s → firstIs isFirst es ≡ true → JudgesFirst r X (length s)
+  first-judges (nothing c t j e) u = j (sym (first-is c (ended t) refl (e f)) ∙ u)
+  first-judges (refuses c n at t j e) u = j (sym (first-is c (refusedAt n at t) refl (e f)) ∙ u)
+  first-judges (hands j) u = judges-first X j (sym (first-is (isEarly r h) _ refl (frame-trace f P X s j)) ∙ u)
+  first-judges (drops j) u = judges-first X j (sym (first-is (isEarly r h) _ refl (frame-trace f P X s j)) ∙ u)
 
-  by-frame : Seen r P X s → firstIs isFrame (behindFirst es) ≡ true → Judges whole r X (length s)
-  by-frame (nothing c t j e) u = absurd (true≢false (sym u ∙ behind-first isFrame c (ended t) refl (e f)))
-  by-frame (refuses c n at t j e) u = absurd (true≢false (sym u ∙ behind-first isFrame c (refusedAt n at t) refl (e f)))
-  by-frame (hands j) u = j
-  by-frame (drops j) u = absurd (true≢false (sym u ∙ behind-first isFrame (isEarly r h) _ refl (frame-trace f P X s j)))
+  frame-judges : Seen r P X s → firstIs isFrame (behindFirst es) ≡ true → Judges whole r X (length s)
+  frame-judges (nothing c t j e) u = absurd (true≢false (sym u ∙ behind-first isFrame c (ended t) refl (e f)))
+  frame-judges (refuses c n at t j e) u = absurd (true≢false (sym u ∙ behind-first isFrame c (refusedAt n at t) refl (e f)))
+  frame-judges (hands j) u = j
+  frame-judges (drops j) u = absurd (true≢false (sym u ∙ behind-first isFrame (isEarly r h) _ refl (frame-trace f P X s j)))
 
-  by-drop : Seen r P X s → firstIs isDrop (behindFirst es) ≡ true → Judges dropped r X (length s)
-  by-drop (nothing c t j e) u = absurd (true≢false (sym u ∙ behind-first isDrop c (ended t) refl (e f)))
-  by-drop (refuses c n at t j e) u = absurd (true≢false (sym u ∙ behind-first isDrop c (refusedAt n at t) refl (e f)))
-  by-drop (hands j) u = absurd (true≢false (sym u ∙ behind-first isDrop (isEarly r h) _ refl (frame-trace f P X s j)))
-  by-drop (drops j) u = j
+  drop-judges : Seen r P X s → firstIs isDrop (behindFirst es) ≡ true → Judges dropped r X (length s)
+  drop-judges (nothing c t j e) u = absurd (true≢false (sym u ∙ behind-first isDrop c (ended t) refl (e f)))
+  drop-judges (refuses c n at t j e) u = absurd (true≢false (sym u ∙ behind-first isDrop c (refusedAt n at t) refl (e f)))
+  drop-judges (hands j) u = absurd (true≢false (sym u ∙ behind-first isDrop (isEarly r h) _ refl (frame-trace f P X s j)))
+  drop-judges (drops j) u = j
 
   pub exactly : Exactly r P X s es
   exactly = record {
-    first = (λ u. first-checked X (length s) r (by-first (seen r P X s) u), λ c. ap (λ (u : Trace). firstIs isFirst (u .entries)) (first-trace f P X s (checked-first X (length s) r c)));
-    firsts = λ u. (_, ap (λ (t : Trace). t .entries) (first-trace f P X s (by-first (seen r P X s) u)));
-    handed = (λ u. whole-checked X (length s) r (by-frame (seen r P X s) u), λ c. behind-first isFrame (isEarly r h) _ refl (frame-trace f P X s (checked-whole X (length s) r c)));
-    frames = λ u. (_, behind-is (isEarly r h) _ refl (frame-trace f P X s (by-frame (seen r P X s) u)));
-    spelled = λ b u z. written-so r X (length s) b (by-frame (seen r P X s) u) z;
-    dropped = (λ u. dropped-checked X (length s) r (by-drop (seen r P X s) u), λ c. behind-first isDrop (isEarly r h) _ refl (frame-trace f P X s (checked-dropped X (length s) r c)));
-    drops = λ u. (_, behind-is (isEarly r h) _ refl (frame-trace f P X s (by-drop (seen r P X s) u)));
+    first = (λ u. first-checked X (length s) r (first-judges (seen r P X s) u), λ c. ap (λ (u : Trace). firstIs isFirst (u .entries)) (first-trace f P X s (checked-first X (length s) r c)));
+    firsts = λ u. (_, ap (λ (t : Trace). t .entries) (first-trace f P X s (first-judges (seen r P X s) u)));
+    handed = (λ u. whole-checked X (length s) r (frame-judges (seen r P X s) u), λ c. behind-first isFrame (isEarly r h) _ refl (frame-trace f P X s (checked-whole X (length s) r c)));
+    frames = λ u. (_, behind-is (isEarly r h) _ refl (frame-trace f P X s (frame-judges (seen r P X s) u)));
+    spelled = λ b u z. written-so r X (length s) b (frame-judges (seen r P X s) u) z;
+    dropped = (λ u. dropped-checked X (length s) r (drop-judges (seen r P X s) u), λ c. behind-first isDrop (isEarly r h) _ refl (frame-trace f P X s (checked-dropped X (length s) r c)));
+    drops = λ u. (_, behind-is (isEarly r h) _ refl (frame-trace f P X s (drop-judges (seen r P X s) u)));
   }
 
 -- the same entries are exactly those of X with more bytes behind it, where all of its frame is there
@@ -127,8 +127,8 @@ reported own F B store cs ch l =
 
 module _ (own : Features) (front X store : List ℕ) (r : Revision) (up : UpTo r (length front) (traceOf own front store .entries)) where
   -- the definition's entries of what stands behind the front
-  goes-on : (Z : List ℕ) (all : List Entry) → all ≡ traceOf own (front ++ Z) store .entries → ExactlyBehind own front Z store r all
-  goes-on Z all e = record {
+  entries-behind : (Z : List ℕ) (all : List Entry) → all ≡ traceOf own (front ++ Z) store .entries → ExactlyBehind own front Z store r all
+  entries-behind Z all e = record {
     later = frames (suc (length Z)) r (length front) Z (traceOf own front store .store) .entries;
     entries = e ∙ ap (λ (t : Trace). t .entries) (follows-on own front Z store r up .follows (suc (length Z)) (omega arith));
     exactly = exactly (length Z) r (length front) Z (traceOf own front store .store);
@@ -136,7 +136,7 @@ module _ (own : Features) (front X store : List ℕ) (r : Revision) (up : UpTo r
 
   by-taken : (cs : List Call) → Chained (front ++ X) (started own) store 0 cs → length front ≤ takenBy 0 cs
       → ExactlyBehind own front (take (takenBy 0 cs - length front) X) store r (listOf (judgeOwn (own .supported) (own .required)) cs)
-  by-taken cs ch l = goes-on (take (takenBy 0 cs - length front) X) _ (reported own front X store cs ch l)
+  by-taken cs ch l = entries-behind (take (takenBy 0 cs - length front) X) _ (reported own front X store cs ch l)
 
   -- the bytes taken hold the whole frame
   by-frame-taken : (m : ℕ) (all : List Entry) → m ≤ length X → wireLength r (headerIn X) ≤ m → ExactlyBehind own front (take m X) store r all → ExactlyBehind own front X store r all
@@ -159,15 +159,15 @@ module _ (own : Features) (front X store : List ℕ) (r : Revision) (up : UpTo r
       let i = demand3 own (front ++ X) store cs ch .within in
       by-frame-taken (takenBy 0 cs - length front) _ (omega arith) (omega arith) (by-taken cs ch (omega arith))
   through cs ch (all-taken e) =
-      goes-on X _
+      entries-behind X _
       (demand3 own (front ++ X) store cs ch .reports
       ∙ ap (λ (l : List ℕ). traceOf own l store .entries) (ap (λ (k : ℕ). take k (front ++ X)) e ∙ take-all (length (front ++ X)) (front ++ X) (le-refl (length (front ++ X)))))
-  through cs ch (refused e) = goes-on X _ (demand3 own (front ++ X) store cs ch .whole e .0)
+  through cs ch (refused e) = entries-behind X _ (demand3 own (front ++ X) store cs ch .whole e .0)
 
 pub handed-over : HandedOver
 unfolding HandedOver
 handed-over own front X store r up = record {
-  defined = goes-on own front X store r up X _ refl;
+  defined = entries-behind own front X store r up X _ refl;
   taken = by-taken own front X store r up;
   reports = through own front X store r up;
 }

@@ -9,7 +9,7 @@ use lib.Seq.{take-at, drop-at, take-append-le, drop-append-le, length-take-le}
 use lib.Dec.{lit<, leb, eqb, ltb}
 use borrow.Author.Tests.{le-leb, leb-true, eq-eqb}
 use Rattle.buffer.specs.Splice.{replaceFront}
-use Rattle.buffer.specs.Le.{le, leOf, numberAt, Bytes}
+use Rattle.buffer.specs.Le.{le, leOf, numberAt, Bytes, words}
 use Rattle.buffer.proofs.Numbers.{leOf-le, number-append, bytes-take, bytes-drop, bytes-zeros}
 use Rattle.crc32c.proofs.Laws.{crc-lt}
 use Rattle.refusal.specs.declared.Refusal.the-variants as refusal
@@ -25,7 +25,7 @@ use Rattle.preamble.specs.Reading.{HeaderFits, laidOut, ReadsBack}
 use Rattle.preamble.proofs.Laws.{length-preamble}
 use Rattle.preamble.proofs.Back as preamble
 use Rattle.preamble.proofs.Headers.{some-segment}
-use Rattle.body.specs.Body.{segmentSum, cutInto, segments, field, restLength, words, lateByte, epilogue, firstSum, firstSumLength, bodyLength, wireLength, body, restSent, frameBytes}
+use Rattle.body.specs.Body.{segmentSum, cutInto, segments, field, restLength, lateByte, epilogue, firstSum, firstSumLength, bodyLength, wireLength, body, restSent, frameBytes}
 use Rattle.body.specs.End as end
 use Rattle.body.specs.End.{Ended, whole, dropped, compareFrom, unusedFrom, segmentBytes, stored, ending}
 use Rattle.body.proofs.Laws.{length-sent, length-first-sum, length-frame}

@@ -5,6 +5,7 @@ use mathlib.Core.List.{List, [], _∷_, _++_}
 use mathlib.Core.Bool.{Bool, true, false}
 use Prim.Native.Nat.{ℕ, _+_, _-_}
 use lib.ListN.{set, replicate}
+use Rattle.buffer.specs.Le.{words}
 use Rattle.crc32c.specs.Crc.{crcOf}
 use Rattle.refusal.specs.Refusals.{Judged, fine, refused, row}
 use Rattle.banner.specs.declared.Revision.{Revision}
@@ -13,7 +14,7 @@ use Rattle.banner.specs.Banner.{magic, bannerBytes, judgeOwn, judgeMagic, judge
 use Rattle.preamble.specs.declared.Header.{Header}
 use Rattle.preamble.specs.Layout.{total}
 use Rattle.preamble.specs.Judge.{segmentLimit, sumLimit, judgeFields, judgePreamble}
-use Rattle.body.specs.Body.{segmentStart, words, wireLength, frameBytes}
+use Rattle.body.specs.Body.{segmentStart, wireLength, frameBytes}
 use Rattle.body.specs.End.{Ended, whole, dropped, turnedAway, ending}
 use Rattle.builder.specs.Build.{Done, done, wrote, judgeFrame, judgeBanner, frameDone, bannerDone}
 use Rattle.builder.specs.Build as built

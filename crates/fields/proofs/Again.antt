@@ -8,14 +8,14 @@ use lib.Dec.{leb, ltb}
 use borrow.Author.Tests.{leb-true}
 use lib.ListN.{length, take, drop, length-drop}
 use lib.Seq.{take-add, drop-drop, length-take-le}
-use Rattle.buffer.specs.Le.{le, leOf, numberAt, Bytes}
+use Rattle.buffer.specs.Le.{le, leOf, numberAt, Bytes, words}
 use Rattle.buffer.proofs.Numbers.{bytes-take, bytes-drop, le-leOf, number-again}
 use Rattle.fields.specs.Layout.{Kind, num, neg, list, size, rest, plain, good, fault, past, stepOf}
-use Rattle.fields.specs.Field.{kindOf, words, wordsOf, fieldBytes, fieldAt}
+use Rattle.fields.specs.Field.{kindOf, wordsOf, fieldBytes, fieldAt}
 use Rattle.fields.proofs.Skips.{length-words}
 
 words-again : (n : ℕ) (t : List ℕ) → Bytes t → 4 * n ≤ length t → words (wordsOf n t) ≡ take (4 * n) t
-unfolding words wordsOf
+unfolding wordsOf
 words-again zero t h k = refl
 words-again (suc n) t h k =
     let e : 4 * suc n ≡ 4 + 4 * n = omega arith in

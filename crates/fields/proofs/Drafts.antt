@@ -10,10 +10,10 @@ use lib.Dec.{leb}
 use borrow.Author.Tests.{leb-true, leb-false}
 use lib.ListN.{length, take, getD, length-append}
 use lib.Seq.{take-all}
-use Rattle.buffer.specs.Le.{le}
+use Rattle.buffer.specs.Le.{le, words}
 use Rattle.preamble.specs.Judge.{segmentLimit}
 use Rattle.fields.specs.declared.Draft.{Draft}
-use Rattle.fields.specs.Field.{Field, number, negative, numbers, sized, opaque, fixed, fieldBytes, words, WordsFit, Fits}
+use Rattle.fields.specs.Field.{Field, number, negative, numbers, sized, opaque, fixed, fieldBytes, WordsFit, Fits}
 use Rattle.fields.specs.Writing.{sound, faultIn, capped, counted, putAt, Put, Appended}
 use Rattle.fields.proofs.Puts.{put-none, put-next}
 
@@ -101,7 +101,6 @@ pub appended-counted : {xs ys : List ℕ} {ok : Bool} {into k : ℕ} {p q r : Dr
 appended-counted {xs} {ys} f c h a b s i x y = record { fits = h; bytes = rw (b, ← s, ← i) (put-two (put-as a x) y) }
 
 words-more : (i : ℕ) (ns : List ℕ) → i < length ns → words (take (suc i) ns) ≡ words (take i ns) ++ le 4 (getD ns i 0)
-unfolding words
 words-more i [] h = absurd (not-suc-le-zero h)
 words-more zero (n ∷ ns) h = refl
 words-more (suc i) (n ∷ ns) h = ap (λ (t : List ℕ). le 4 n ++ t) (words-more i ns (le-of-suc-le-suc h))
@@ -130,7 +129,6 @@ one-more i ns h a b =
     }
 
 pub none-yet : (ns : List ℕ) {p q : Draft} (l : List ℕ) → q ≡ counted true 0 0 p → Sofar ns 0 p l q l
-unfolding words
 none-yet ns {p} l e = record { bytes = record { next = e; buffer = λ h. sym (put-none (p .len) l) }; fits = λ j h. absurd (not-suc-le-zero h) }
 
 pub all-words : (i : ℕ) (ns : List ℕ) {p q : Draft} {l m : List ℕ} → length ns ≤ i → i ≤ length ns → Sofar ns i p l q m → Put (words ns) true 0 p l q m × WordsFit ns

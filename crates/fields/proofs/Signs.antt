@@ -40,17 +40,18 @@ below z f t = rw (toZ-ofZ f) (mirrored z f (rw (toZ-ofZ f) at t))
 pub below-read : (z : ℤ) → SFits w32 z → ltZ (toZ w32 (ofZ w32 z)) (pos 0) ≡ true → Mirrored z (toZ w32 (ofZ w32 (negsuc 0 -ℤ toZ w32 (ofZ w32 z))))
 below-read z f t = let b = below z f t in rw (toZ-ofZ (b .fits)) b
 
-pub record Kept (z d : ℤ) : Type 0 where
+-- a number that is not below zero, as it is
+pub record NotNegative (z d : ℤ) : Type 0 where
   pub above : T (nonNeg d)
   pub small : natAbs d < 2147483648
   pub bits : natAbs d ≡ bitsOf z
 
-kept : (z : ℤ) → SFits w32 z → ltZ z (pos 0) ≡ false → Kept z z
-kept (pos n) f t = record { above = tt; small = f .sfits; bits = refl }
-kept (negsuc k) f t = absurd (let z : _≡_ {A = ℕ} 0 1 = cc in omega arith)
+not-negative : (z : ℤ) → SFits w32 z → ltZ z (pos 0) ≡ false → NotNegative z z
+not-negative (pos n) f t = record { above = tt; small = f .sfits; bits = refl }
+not-negative (negsuc k) f t = absurd (let z : _≡_ {A = ℕ} 0 1 = cc in omega arith)
 
-pub not-below : (z : ℤ) → SFits w32 z → ltZ (toZ w32 (ofZ w32 z)) (pos 0) ≡ false → Kept z (toZ w32 (ofZ w32 z))
-not-below z f t = rw (toZ-ofZ f) (kept z f (rw (toZ-ofZ f) at t))
+pub not-below : (z : ℤ) → SFits w32 z → ltZ (toZ w32 (ofZ w32 z)) (pos 0) ≡ false → NotNegative z (toZ w32 (ofZ w32 z))
+not-below z f t = rw (toZ-ofZ f) (not-negative z f (rw (toZ-ofZ f) at t))
 
 -- ---- from the bits to the number
 

@@ -3,7 +3,7 @@ use mathlib.Core.List.{List, [], _∷_, _++_}
 use Prim.Native.Nat.{ℕ, zero, suc, _+_, _-_, _^_, _<_}
 use lib.IntN.{ℤ, pos, negsuc}
 use lib.ListN.{length, take, drop, getD}
-use Rattle.buffer.specs.Le.{le, leOf, numberAt}
+use Rattle.buffer.specs.Le.{le, leOf, numberAt, words}
 use Rattle.fields.specs.declared.Span.{Span}
 use Rattle.fields.specs.declared.NumberList.{NumberList}
 use Rattle.fields.specs.Layout.{Kind, num, neg, list, size, rest, plain}
@@ -33,12 +33,7 @@ abbrev pub bitsOf : ℤ → ℕ
 bitsOf (pos n) = n
 bitsOf (negsuc n) = 4294967295 - n
 
--- 32-bit numbers, one behind the other
-unfoldable pub words : List ℕ → List ℕ
-words [] = []
-words (n ∷ ns) = le 4 n ++ words ns
-
--- so many of them at the front of a list of bytes
+-- so many 32-bit numbers at the front of a list of bytes
 unfoldable pub wordsOf : ℕ → List ℕ → List ℕ
 wordsOf zero t = []
 wordsOf (suc n) t = leOf (take 4 t) ∷ wordsOf n (drop 4 t)

@@ -10,10 +10,10 @@ ghost use mathlib.Core.Bool.{true, cond};
 ghost use Prim.Native.Nat.{ℕ, _+_, _-_, _≤_, _<_};
 ghost use lib.Dec.{ltb};
 ghost use lib.ListN.{length, getD};
-ghost use Rattle.buffer.specs.Le.{le};
+ghost use Rattle.buffer.specs.Le.{le, words};
 ghost use Rattle.preamble.specs.Judge.{segmentLimit};
 ghost use Rattle.fields.specs.Layout.{num, neg, list, size, rest, plain, good, stepOf};
-ghost use Rattle.fields.specs.Field.{bitsOf, words, WordsFit, number, negative, numbers, sized, opaque, fixed};
+ghost use Rattle.fields.specs.Field.{bitsOf, WordsFit, number, negative, numbers, sized, opaque, fixed};
 ghost use Rattle.fields.specs.Reading.{numbersIn, inU8, inU32, inU64, inList, inSpan, takeOf};
 ghost use Rattle.fields.specs.Writing.{capped, counted, empty, putAt, Put, Appended};
 

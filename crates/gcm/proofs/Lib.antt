@@ -1,4 +1,5 @@
 pub mod Answers
 pub mod Comparison
+pub mod InPlace
 pub mod Placing
 pub mod There

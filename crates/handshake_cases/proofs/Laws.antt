@@ -7,6 +7,7 @@ use native.Mathlib.Omega.{arith}
 use borrow.Author.Tests.{leb-true}
 use lib.Dec.{leb}
 use lib.ListN.{length, take, drop, getD}
+use Rattle.refusal.proofs.Booleans.{both-left, both-right}
 use Rattle.buffer.specs.Le.{numberAt}
 use Rattle.fields.specs.Field.{wordsOf}
 use Rattle.handshake.specs.declared.State.{State}
@@ -17,7 +18,7 @@ use Rattle.handshake.specs.Runs.{Side}
 use Rattle.handshake.specs.Pick.{pickOf}
 use Rattle.text.specs.Page.{Page}
 use Rattle.records.specs.Records.{Record, print, isWhole, badRecord, lineThen, readAll}
-use Rattle.records.proofs.Laws.{first, second, sized-good, words-take, Left, left-is, left-next}
+use Rattle.records.proofs.Laws.{sized-good, words-take, Left, left-is, left-next}
 use Rattle.handshake_cases.specs.Steps.{stepLine, sideOf, stepOf, stepGood, stepAt, stepsFrom, stepsRecord}
 use Rattle.handshake_cases.specs.Modes.{ownAt, modeSize, pickedOf}
 
@@ -38,7 +39,7 @@ module _ (s : List ℕ) (side : Side) (σ : State) (n i : ℕ) (h : 0 < n) where
 
 pub good-within : (s : List ℕ) (i : ℕ) → stepGood s i ≡ true → i + 2 ≤ length s
 unfolding stepGood
-good-within s i e = leb-true (i + 2) (length s) (first (leb (i + 2) (length s)) _ e)
+good-within s i e = leb-true (i + 2) (length s) (both-left (leb (i + 2) (length s)) _ e)
 
 -- a step is made
 pub steps-on : (s : List ℕ) (side : Side) (σ : State) (n i tag v : ℕ) {t : Step} {all : Record} {p q r : Page}
@@ -68,7 +69,7 @@ unfolding stepsRecord
 steps-good s side n e es en = rw (e, es, en)
 
 pub headed-long : (s : List ℕ) → headed s ≡ true → 4 ≤ length s
-headed-long s e = leb-true 4 (length s) (first (leb 4 (length s)) _ e)
+headed-long s e = leb-true 4 (length s) (both-left (leb 4 (length s)) _ e)
 
 -- ---- the record of modes
 
@@ -77,10 +78,10 @@ module _ (s : List ℕ) (e : isWhole (modeSize s) s ≡ true) where
   lists = sized-good (leb (getD s 1 0) 32 && leb (getD s (ownAt s) 0) 32) (ownAt s + 1 + 4 * getD s (ownAt s) 0) s e
 
   pub preferred-few : getD s 1 0 ≤ 32
-  preferred-few = leb-true (getD s 1 0) 32 (first (leb (getD s 1 0) 32) _ lists)
+  preferred-few = leb-true (getD s 1 0) 32 (both-left (leb (getD s 1 0) 32) _ lists)
 
   pub own-few : getD s (ownAt s) 0 ≤ 32
-  own-few = leb-true (getD s (ownAt s) 0) 32 (second (leb (getD s 1 0) 32) _ lists)
+  own-few = leb-true (getD s (ownAt s) 0) 32 (both-right (leb (getD s 1 0) 32) _ lists)
 
   pub mode-picked : (n m from : ℕ) (xs ys : List ℕ) {r : Picked}
       → n ≡ getD s 1 0

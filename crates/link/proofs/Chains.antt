@@ -39,7 +39,7 @@ module _ (w : Walk) (s piece text : List ℕ) (o : Received) (s′ : List ℕ) (
         taken = q;
         noted = n;
         within = omega (arith, m .within);
-        goes = λ live h. omega (arith, m .goes (w .taken + o .taken) s′ (sym (n .refused) ∙ live) h);
+        progress = λ live h. omega (arith, m .progress (w .taken + o .taken) s′ (sym (n .refused) ∙ live) h);
         frames-within = omega (arith, m .frames-within (w .taken + o .taken) (w .frames) s′, n .frames);
       }
 
@@ -144,8 +144,8 @@ module _ (w : Walk) (s bytes text : List ℕ) (at : ℕ) where
     pub step-few : at + (r .taken - w .taken) ≤ length bytes
     step-few = omega (arith, taken-few w s (drop at bytes) text ((at + n) - at) within r s₁ text₁ a)
 
-    pub step-goes : r .refused ≡ false → 0 < n → 0 < r .taken - w .taken
-    step-goes live g = omega (arith, a .goes live (omega (arith, length-take-le ((at + n) - at) (drop at bytes) within)))
+    pub step-progress : r .refused ≡ false → 0 < n → 0 < r .taken - w .taken
+    step-progress live g = omega (arith, a .progress live (omega (arith, length-take-le ((at + n) - at) (drop at bytes) within)))
 
     pub step-fits : Fits w (length bytes - at) → r .refused ≡ false → Fits r (length bytes - (at + (r .taken - w .taken)))
     step-fits f live = record {

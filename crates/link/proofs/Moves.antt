@@ -35,7 +35,7 @@ use Rattle.link.specs.Walks.{lastOf, framesOf, NotedEvent, reported, fra
 
 pub record Moves (piece : List ℕ) (o : Received) : Type 0 where
   pub within : o .taken ≤ length piece
-  pub goes : (at : ℕ) (s : List ℕ) → refusedIn (reported (o .report) at s) ≡ false → 0 < length piece → 0 < o .taken
+  pub progress : (at : ℕ) (s : List ℕ) → refusedIn (reported (o .report) at s) ≡ false → 0 < length piece → 0 < o .taken
   pub frames-within : (at k : ℕ) (s : List ℕ) → framesOf k (reported (o .report) at s) ≤ k + o .taken
 
 numbered-few : (k : ℕ) (e : Event) → numbered k e ≤ k + 1
@@ -59,14 +59,14 @@ module _ (piece : List ℕ) (o : Received) (within : o .taken ≤ length piece) 
   unfolding framesOf
   moves-refused st n s s′ r = record {
     within = within;
-    goes = λ at u e h. absurd (let f : true ≡ false = rw (r .report) at e in let z : _≡_ {A = ℕ} 0 1 = cc in omega arith);
+    progress = λ at u e h. absurd (let f : true ≡ false = rw (r .report) at e in let z : _≡_ {A = ℕ} 0 1 = cc in omega arith);
     frames-within = λ at k u. rw (r .report) (omega arith);
   }
 
   moves-running : (st : State) (s s′ : List ℕ) → Sound st s piece o s′ → Running st s → Moves piece o
   moves-running st s s′ x l = record {
     within = within;
-    goes = λ at u e h. x .progress l h;
+    progress = λ at u e h. x .progress l h;
     frames-within = λ at k u. by-length at k u (ltb 0 (length piece)) refl;
   }
     where

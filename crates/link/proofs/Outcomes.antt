@@ -15,7 +15,7 @@ use Rattle.buffer.proofs.Numbers.{number-drop}
 use Rattle.link.specs.declared.Walk.{Walk}
 use Rattle.link.specs.declared.Part.{Part}
 use Rattle.link.specs.declared.Part.the-variants.{Count, Table, Bodies, Ended}
-use Rattle.link.specs.declared.Outcome.the-variants.{Goes, Ends}
+use Rattle.link.specs.declared.Outcome.the-variants.{Next, Ends}
 use Rattle.link.specs.declared.Outcome.{Outcome}
 use Rattle.link.specs.declared.Link.{Link}
 use Rattle.link.specs.File.{sumOf}
@@ -33,7 +33,7 @@ module _ (b : List ℕ) where
     pub count-none : n ≤ 512 → n ≡ 0 → Ends false ≡ countOutcome b
     count-none g z = rw (le-ltb (length b) 2 h, ← e, le-ltb 512 n g, eq-eqb n 0 z)
 
-    pub count-some : n ≤ 512 → (n ≡ 0 → ⊥) → Goes Table n ≡ countOutcome b
+    pub count-some : n ≤ 512 → (n ≡ 0 → ⊥) → Next Table n ≡ countOutcome b
     count-some g z = rw (le-ltb (length b) 2 h, ← e, le-ltb 512 n g, ne-eqb n 0 z)
 
   module _ (n : ℕ) where
@@ -43,7 +43,7 @@ module _ (b : List ℕ) where
     pub table-none : 4 * n ≤ length b → (k : ℕ) → k ≡ sumOf n b → k ≡ 0 → Ends false ≡ tableOutcome n b
     table-none h k e z = rw (le-ltb (length b) (4 * n) h, ← e, eq-eqb k 0 z)
 
-    pub table-some : 4 * n ≤ length b → (k : ℕ) → k ≡ sumOf n b → (k ≡ 0 → ⊥) → Goes Bodies k ≡ tableOutcome n b
+    pub table-some : 4 * n ≤ length b → (k : ℕ) → k ≡ sumOf n b → (k ≡ 0 → ⊥) → Next Bodies k ≡ tableOutcome n b
     table-some h k e z = rw (le-ltb (length b) (4 * n) h, ← e, ne-eqb k 0 z)
 
 module _ (left n : ℕ) (refused : Bool) (live : refused ≡ false) where
@@ -53,7 +53,7 @@ module _ (left n : ℕ) (refused : Bool) (live : refused ≡ false) where
   pub bodies-all : min left 16384 ≤ n → left ≤ n → Ends false ≡ bodiesOutcome left n refused
   bodies-all h g = rw (live, le-ltb n (min left 16384) h, le-leb left n g)
 
-  pub bodies-more : min left 16384 ≤ n → n < left → Goes Bodies (left - n) ≡ bodiesOutcome left n refused
+  pub bodies-more : min left 16384 ≤ n → n < left → Next Bodies (left - n) ≡ bodiesOutcome left n refused
   bodies-more h g = rw (live, le-ltb n (min left 16384) h, lt-leb left n g)
 
 -- one more length of a table
@@ -112,23 +112,23 @@ abbrev pub remaining : Link → ℕ
 remaining l = remainingBy (l .part) (l .left)
 
 after-falls : (m : ℕ) (o : Outcome) (w : Walk) (r : Link) → r .left < 18446744073709551616 → r ≡ linkAfter o w
-    → ((p : Part) (left : ℕ) → o ≡ Goes p left → left < 18446744073709551616 → remainingBy p left < m) → 0 < m → remaining r < m
-after-falls m (Goes p left) w r h e f z =
+    → ((p : Part) (left : ℕ) → o ≡ Next p left → left < 18446744073709551616 → remainingBy p left < m) → 0 < m → remaining r < m
+after-falls m (Next p left) w r h e f z =
     let l : r .left ≡ left = ap (λ (x : Link). x .left) e in
     rw e (f p left refl (rw l at h))
 after-falls m (Ends bad) w r h e f z = rw e z
 
-three : (a b c : Bool) (q p : Part) (n left : ℕ) → cond a (Ends true) (cond b (Ends true) (cond c (Ends false) (Goes q n))) ≡ Goes p left → q ≡ p
+three : (a b c : Bool) (q p : Part) (n left : ℕ) → cond a (Ends true) (cond b (Ends true) (cond c (Ends false) (Next q n))) ≡ Next p left → q ≡ p
 three true b c q p n left e = absurd (let z : _≡_ {A = ℕ} 0 1 = cc in omega arith)
 three false true c q p n left e = absurd (let z : _≡_ {A = ℕ} 0 1 = cc in omega arith)
 three false false true q p n left e = absurd (let z : _≡_ {A = ℕ} 0 1 = cc in omega arith)
 three false false false q p n left e = cc
 
-two : (b c : Bool) (q p : Part) (n left : ℕ) → cond b (Ends true) (cond c (Ends false) (Goes q n)) ≡ Goes p left → q ≡ p
+two : (b c : Bool) (q p : Part) (n left : ℕ) → cond b (Ends true) (cond c (Ends false) (Next q n)) ≡ Next p left → q ≡ p
 two b c q p n left e = three false b c q p n left e
 
 bodies-fall : (left n : ℕ) (a b c : Bool) (p : Part) (m : ℕ) → ltb n (min left 16384) ≡ b → leb left n ≡ c → 0 < left
-    → cond a (Ends false) (cond b (Ends true) (cond c (Ends false) (Goes Bodies (left - n)))) ≡ Goes p m → remainingBy p m < left
+    → cond a (Ends false) (cond b (Ends true) (cond c (Ends false) (Next Bodies (left - n)))) ≡ Next p m → remainingBy p m < left
 bodies-fall left n true b c p m eb ec h e = absurd (let z : _≡_ {A = ℕ} 0 1 = cc in omega arith)
 bodies-fall left n false true c p m eb ec h e = absurd (let z : _≡_ {A = ℕ} 0 1 = cc in omega arith)
 bodies-fall left n false false true p m eb ec h e = absurd (let z : _≡_ {A = ℕ} 0 1 = cc in omega arith)

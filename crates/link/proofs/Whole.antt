@@ -30,7 +30,7 @@ use Rattle.link.specs.declared.Walk.{Walk}
 use Rattle.link.specs.declared.Part.{Part}
 use Rattle.link.specs.declared.Part.the-variants.{Count, Table, Bodies, Ended}
 use Rattle.link.specs.declared.Outcome.{Outcome}
-use Rattle.link.specs.declared.Outcome.the-variants.{Goes, Ends}
+use Rattle.link.specs.declared.Outcome.the-variants.{Next, Ends}
 use Rattle.link.specs.declared.Link.{Link}
 use Rattle.link.specs.Lines.{linesOf, End, ok, badFile, openEnd, endLine, endOf}
 use Rattle.link.specs.File.{countOf, sumOf, tableOf, lengthOf, behindTable, noTable, bodiesOf, isBad, ours, entriesOf, linkText}
@@ -245,8 +245,8 @@ module _ (law : EveryLine) (demand3 : Demand3) (file store : List ℕ) (bytes : 
             ends (t + 2) false (c .nothing) (x .settled) (rw (ep, eq, ez)) (omega (arith, t0))
             (ap (λ (e : End). textOf (endLine e)) (new-end false (c .new)) ∙ ok-text (table-there (omega (arith, l, ltb-false (length b) 2 ep)) (omega arith) (omega arith)) (no-length zero′))
         by-tests false ep false eq false ez =
-            let eo : countOutcome b ≡ Goes Table (numberAt 2 0 b) = rw (ep, eq, ez) in
-            settled-link (Stands (t + 2) s′ out) (Goes Table (numberAt 2 0 b)) (x .settled) eo (record {
+            let eo : countOutcome b ≡ Next Table (numberAt 2 0 b) = rw (ep, eq, ez) in
+            settled-link (Stands (t + 2) s′ out) (Next Table (numberAt 2 0 b)) (x .settled) eo (record {
               place = omega (arith, t0);
               counted = omega (arith, l, ltb-false (length b) 2 ep);
               count-within = omega (arith, n, ltb-false 512 (numberAt 2 0 b) eq);
@@ -290,8 +290,8 @@ module _ (law : EveryLine) (demand3 : Demand3) (file store : List ℕ) (bytes : 
             ends (t + 4 * m) false (c .nothing) (x .settled) (rw (ep, ez)) (omega (arith, em, c .place))
             (ap (λ (e : End). textOf (endLine e)) (new-end false (c .new)) ∙ ok-text (there ep) (sym sum ∙ eqb-true (sumOf m b) 0 ez))
         by-tests false ep false ez =
-            let eo : tableOutcome m b ≡ Goes Bodies (sumOf m b) = rw (ep, ez) in
-            settled-link (Stands (t + 4 * m) s′ out) (Goes Bodies (sumOf m b)) (x .settled) eo (record {
+            let eo : tableOutcome m b ≡ Next Bodies (sumOf m b) = rw (ep, ez) in
+            settled-link (Stands (t + 4 * m) s′ out) (Next Bodies (sumOf m b)) (x .settled) eo (record {
               table = there ep;
               place = omega (arith, em, t0, c .place);
               rest = omega (arith, sum, t0);
@@ -459,8 +459,8 @@ module _ (law : EveryLine) (demand3 : Demand3) (file store : List ℕ) (bytes : 
         more e f =
             let n : length b ≡ m = omega (arith, ltb-false (length b) m e, b-length) in
             let g = leb-false left (length b) f in
-            let eo : o ≡ Goes Bodies (left - length b) = rw (er, e, f) in
-            settled-link (Stands (t + m) s′ out) (Goes Bodies (left - length b)) (y .settled) eo (record {
+            let eo : o ≡ Next Bodies (left - length b) = rw (er, e, f) in
+            settled-link (Stands (t + m) s′ out) (Next Bodies (left - length b)) (y .settled) eo (record {
               table = k .table;
               place = omega (arith, k .place, whole′);
               rest = omega (arith, k .rest, whole′);

@@ -18,7 +18,7 @@ use Rattle.text.specs.Page.{Page, page, puts}
 use Rattle.text.specs.Law.{EveryLine}
 use Rattle.link.specs.declared.Walk.{Walk}
 use Rattle.link.specs.declared.Outcome.{Outcome}
-use Rattle.link.specs.declared.Outcome.the-variants.{Goes, Ends}
+use Rattle.link.specs.declared.Outcome.the-variants.{Next, Ends}
 use Rattle.link.specs.Lines.{bannerLine, roleLine, linesOf, End, ok, cut, refusedAt, badFile, endLine}
 use Rattle.link.specs.Walks.{endAt}
 use Rattle.link.specs.Reads.{lastPieces}
@@ -63,7 +63,7 @@ end-width (refusedAt r n) = omega arith
 end-width badFile = omega arith
 
 last-width : (o : Outcome) (w : Walk) → width (lastPieces o w) ≤ 109
-last-width (Goes p n) w = omega arith
+last-width (Next p n) w = omega arith
 last-width (Ends bad) w = end-width (endAt bad w)
 
 -- ---- how long the lines are between two bytes: a line has at most 109 bytes, and a frame 32 or more

@@ -13,7 +13,7 @@ use Rattle.link.specs.declared.Walk.{Walk}
 use Rattle.link.specs.declared.Part.{Part}
 use Rattle.link.specs.declared.Part.the-variants.{Count, Table, Bodies, Ended}
 use Rattle.link.specs.declared.Outcome.{Outcome}
-use Rattle.link.specs.declared.Outcome.the-variants.{Goes, Ends}
+use Rattle.link.specs.declared.Outcome.the-variants.{Next, Ends}
 use Rattle.link.specs.declared.Link.{Link}
 use Rattle.link.specs.Lines.{endLine}
 use Rattle.link.specs.File.{sumOf, ours}
@@ -45,29 +45,29 @@ abbrev pub countOutcome : List ℕ → Outcome
 countOutcome bytes =
     cond (ltb (length bytes) 2) (Ends true)
     (cond (ltb 512 (numberAt 2 0 bytes)) (Ends true)
-    (cond (eqb (numberAt 2 0 bytes) 0) (Ends false) (Goes Table (numberAt 2 0 bytes))))
+    (cond (eqb (numberAt 2 0 bytes) 0) (Ends false) (Next Table (numberAt 2 0 bytes))))
 
 abbrev pub tableOutcome : ℕ → List ℕ → Outcome
 tableOutcome n bytes =
     cond (ltb (length bytes) (4 * n)) (Ends true)
-    (cond (eqb (sumOf n bytes) 0) (Ends false) (Goes Bodies (sumOf n bytes)))
+    (cond (eqb (sumOf n bytes) 0) (Ends false) (Next Bodies (sumOf n bytes)))
 
 -- n bytes of the bodies came
 abbrev pub bodiesOutcome : ℕ → ℕ → Bool → Outcome
 bodiesOutcome left n refused =
     cond refused (Ends false)
     (cond (ltb n (min left 16384)) (Ends true)
-    (cond (leb left n) (Ends false) (Goes Bodies (left - n))))
+    (cond (leb left n) (Ends false) (Next Bodies (left - n))))
 
 abbrev pub filledTo : Walk → ℕ → Walk
 filledTo w filled = record { receiver = w .receiver; segments = w .segments; taken = w .taken; «entry_end» = w .«entry_end»; frames = w .frames; refused = w .refused; number = w .number; filled = filled }
 
 abbrev pub linkAfter : Outcome → Walk → Link
-linkAfter (Goes part left) w = linkAt part left w
+linkAfter (Next part left) w = linkAt part left w
 linkAfter (Ends bad) w = linkAt Ended 0 w
 
 abbrev pub lastPieces : Outcome → Walk → List Piece
-lastPieces (Goes part left) w = []
+lastPieces (Next part left) w = []
 lastPieces (Ends bad) w = endLine (endAt bad w)
 
 pub record Settled (o : Outcome) (w : Walk) (text : List ℕ) (r : Link) (text′ : List ℕ) : Type 0 where

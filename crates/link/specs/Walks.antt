@@ -71,7 +71,7 @@ pub record Advanced (w : Walk) (s piece text : List ℕ) (r : Walk) (s′ text�
   pub noted : Noted w (reported (received .report) (w .taken + received .taken) s′) text r text′
   -- no more than the piece is taken, and at least one byte of it, unless the stream is refused
   pub within : r .taken ≤ w .taken + length piece
-  pub goes : r .refused ≡ false → 0 < length piece → w .taken < r .taken
+  pub progress : r .refused ≡ false → 0 < length piece → w .taken < r .taken
   pub frames-within : r .frames + w .taken ≤ w .frames + r .taken
 
 -- ---- all bytes that are lent at a time

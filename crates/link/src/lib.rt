@@ -62,7 +62,7 @@ pub struct Link {
 
 // What follows bytes of the file: another part, of which so much is to come, or the end, where the file is bad or not.
 enum Outcome {
-    Goes(Part, u64),
+    Next(Part, u64),
     Ends(bool),
 }
 
@@ -117,7 +117,7 @@ fn count_outcome(bytes: &[u8]) -> Outcome
     if n == 0 {
         return Outcome::Ends(false);
     }
-    Outcome::Goes(Part::Table, n as u64)
+    Outcome::Next(Part::Table, n as u64)
 }
 
 fn wide(n: u32) -> u64
@@ -151,7 +151,7 @@ fn table_outcome(n: usize, bytes: &[u8]) -> Outcome
     if sum == 0 {
         return Outcome::Ends(false);
     }
-    Outcome::Goes(Part::Bodies, sum)
+    Outcome::Next(Part::Bodies, sum)
 }
 
 fn bodies_outcome(left: u64, n: usize, refused: bool) -> Outcome
@@ -166,7 +166,7 @@ fn bodies_outcome(left: u64, n: usize, refused: bool) -> Outcome
     if left <= n as u64 {
         return Outcome::Ends(false);
     }
-    Outcome::Goes(Part::Bodies, left - n as u64)
+    Outcome::Next(Part::Bodies, left - n as u64)
 }
 
 // Goes on, or writes the last line.
@@ -174,7 +174,7 @@ fn settle(outcome: Outcome, w: Walk, text: &mut [u8]) -> Link
     ensures { λ r. ⌜ Settled outcome w (now (text .entry)) r (now (text .exit)) ⌝ }
 {
     match outcome {
-        Outcome::Goes(part, left) => Link {
+        Outcome::Next(part, left) => Link {
             part: part,
             left: left,
             walk: w,

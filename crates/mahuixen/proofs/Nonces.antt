@@ -133,14 +133,14 @@ module _ (x : PlainSending) (b : PlainBuild) (h : PlainMeets x b) where
 
 -- ---- lists: the builds that wrote something are a list of builds, since the others spend nothing
 
-record Kept (x : PlainSending) (bs : List PlainBuild) : Type 0 where
+record BuildsThatWrote (x : PlainSending) (bs : List PlainBuild) : Type 0 where
   builds : List Build
   chained : Chained (sendingIn x) builds
   uses : builder.used (sendingIn x) builds ≡ used x bs
   after : builder.sendingAfter (sendingIn x) builds ≡ sendingIn (sendingAfter x bs)
 
-kept-one : (x : PlainSending) (b : PlainBuild) (bs : List PlainBuild) → PlainMeets x b → Kept (sendingBehind x b) bs → (t : Bool) → eqb (writtenBy b) 0 ≡ t → Kept x (b ∷ bs)
-kept-one x b bs h on true e =
+wrote-one : (x : PlainSending) (b : PlainBuild) (bs : List PlainBuild) → PlainMeets x b → BuildsThatWrote (sendingBehind x b) bs → (t : Bool) → eqb (writtenBy b) 0 ≡ t → BuildsThatWrote x (b ∷ bs)
+wrote-one x b bs h on true e =
     let k = unspent x b h (eqb-true (writtenBy b) 0 e) .0 in
     record {
       builds = on .builds;
@@ -148,7 +148,7 @@ kept-one x b bs h on true e =
       uses = rw e (ap (λ (s : Sending). builder.used s (on .builds)) (sym k) ∙ on .uses);
       after = ap (λ (s : Sending). builder.sendingAfter s (on .builds)) (sym k) ∙ on .after;
     }
-kept-one x b bs h on false e =
+wrote-one x b bs h on false e =
     let z : 0 < writtenBy b = omega (arith, eqb-false (writtenBy b) 0 e) in
     record {
       builds = buildOf (x .key) b ∷ on .builds;
@@ -157,9 +157,9 @@ kept-one x b bs h on false e =
       after = on .after;
     }
 
-kept : (x : PlainSending) (bs : List PlainBuild) → PlainBuilds x bs → Kept x bs
-kept x [] h = record { builds = []; chained = tt; uses = refl; after = refl }
-kept x (b ∷ bs) h = kept-one x b bs (h .0) (kept (sendingBehind x b) bs (h .1)) (eqb (writtenBy b) 0) refl
+builds-that-wrote : (x : PlainSending) (bs : List PlainBuild) → PlainBuilds x bs → BuildsThatWrote x bs
+builds-that-wrote x [] h = record { builds = []; chained = tt; uses = refl; after = refl }
+builds-that-wrote x (b ∷ bs) h = wrote-one x b bs (h .0) (builds-that-wrote (sendingBehind x b) bs (h .1)) (eqb (writtenBy b) 0) refl
 
 -- ---- what a switch hands out
 
@@ -204,12 +204,12 @@ used-one x b z =
 module _ (nonces : NoNonceTwice) (key nonce : List ℕ) (bs : List PlainBuild) (h : PlainBuilds (sendingWords (freshSending key nonce)) bs) where
   fresh-different : AllDifferent (used (sendingWords (freshSending key nonce)) bs)
   unfolding freshSending
-  fresh-different = let k = kept (sendingWords (freshSending key nonce)) bs h in subst AllDifferent (k .uses) (nonces .different key nonce (k .builds) (k .chained))
+  fresh-different = let k = builds-that-wrote (sendingWords (freshSending key nonce)) bs h in subst AllDifferent (k .uses) (nonces .different key nonce (k .builds) (k .chained))
 
   fresh-counted : spentOf (sendingIn (sendingAfter (sendingWords (freshSending key nonce)) bs)) ≡ length (used (sendingWords (freshSending key nonce)) bs)
   unfolding freshSending
   fresh-counted =
-      let k = kept (sendingWords (freshSending key nonce)) bs h in
+      let k = builds-that-wrote (sendingWords (freshSending key nonce)) bs h in
       ap spentOf (sym (k .after)) ∙ nonces .counted key nonce (k .builds) (k .chained) ∙ ap length (k .uses)
 
 pub nonces-in-c : NoNonceTwice → PlainNoNonceTwice

@@ -17,7 +17,7 @@ ghost use mathlib.Core.Path.{_≡_};
 ghost use mathlib.Core.Bool.{true, false};
 ghost use Rattle.crc32c.specs.Crc.{crcOf};
 ghost use Rattle.plain.specs.Words.{lowU32, features, written};
-ghost use Rattle.plain_connection.specs.Words.{laidOut, PlainBegun, handed, ReceivedBy, plainSending, switched, PlainSwitchedWith};
+ghost use Rattle.plain_connection.specs.Words.{plainConnection, PlainBegun, handed, ReceivedBy, plainSending, switched, PlainSwitchedWith};
 ghost use Rattle.plain_builder.specs.Words.{PlainBuiltBanner, PlainBuiltFrame};
 
 pub fn start(
@@ -31,7 +31,7 @@ pub fn start(
     supported: u64,
     required: u64,
 ) -> u64
-    ensures { λ r. ⌜ PlainBegun (features supported required) r (laidOut (now (link .exit)) (now (numbers .exit)) (now (block .exit)) (now (sealed .exit)) (now (first .exit)) (now (key .exit)) (now (nonce .exit))) ⌝ }
+    ensures { λ r. ⌜ PlainBegun (features supported required) r (plainConnection (now (link .exit)) (now (numbers .exit)) (now (block .exit)) (now (sealed .exit)) (now (first .exit)) (now (key .exit)) (now (nonce .exit))) ⌝ }
 {
     mahuixen_start_in(
         link,
@@ -58,7 +58,7 @@ pub fn receive(
     piece: &[u8],
     store: &mut [u8],
 ) -> u64
-    ensures { λ r. ⌜ ReceivedBy (laidOut (now (link .entry)) (now (numbers .entry)) (now (block .entry)) (now (sealed .entry)) (now (first .entry)) (now (key .entry)) (now (nonce .entry))) (now (store .entry)) (now (piece .entry)) r (handed (laidOut (now (link .exit)) (now (numbers .exit)) (now (block .exit)) (now (sealed .exit)) (now (first .exit)) (now (key .exit)) (now (nonce .exit))) (now (report .exit))) (now (store .exit)) ⌝ }
+    ensures { λ r. ⌜ ReceivedBy (plainConnection (now (link .entry)) (now (numbers .entry)) (now (block .entry)) (now (sealed .entry)) (now (first .entry)) (now (key .entry)) (now (nonce .entry))) (now (store .entry)) (now (piece .entry)) r (handed (plainConnection (now (link .exit)) (now (numbers .exit)) (now (block .exit)) (now (sealed .exit)) (now (first .exit)) (now (key .exit)) (now (nonce .exit))) (now (report .exit))) (now (store .exit)) ⌝ }
 {
     mahuixen_receive_in(
         link,
@@ -89,7 +89,7 @@ pub fn switch(
     sends_key: &mut [u8; 16],
     sends_nonce: &mut [u8; 12],
 ) -> u64
-    ensures { λ r. ⌜ PlainSwitchedWith (laidOut (now (link .entry)) (now (numbers .entry)) (now (block .entry)) (now (sealed .entry)) (now (first .entry)) (now (key .entry)) (now (nonce .entry))) (now (with .entry)) (now (receiving .entry)) (now (sending .entry)) (switched r (laidOut (now (link .exit)) (now (numbers .entry)) (now (block .entry)) (now (sealed .exit)) (now (first .exit)) (now (key .exit)) (now (nonce .exit))) (plainSending (now (sends .exit)) (now («sends_key» .exit)) (now («sends_nonce» .exit)))) ⌝ }
+    ensures { λ r. ⌜ PlainSwitchedWith (plainConnection (now (link .entry)) (now (numbers .entry)) (now (block .entry)) (now (sealed .entry)) (now (first .entry)) (now (key .entry)) (now (nonce .entry))) (now (with .entry)) (now (receiving .entry)) (now (sending .entry)) (switched r (plainConnection (now (link .exit)) (now (numbers .entry)) (now (block .entry)) (now (sealed .exit)) (now (first .exit)) (now (key .exit)) (now (nonce .exit))) (plainSending (now (sends .exit)) (now («sends_key» .exit)) (now («sends_nonce» .exit)))) ⌝ }
 {
     mahuixen_switch_in(
         link,

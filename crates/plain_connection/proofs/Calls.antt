@@ -9,6 +9,7 @@ use lib.Dec.{leb, eqb}
 use lib.ListN.{getD}
 use Rattle.refusal.specs.Refusals.{Judged, fine, refused, isFine}
 use Rattle.refusal.proofs.Booleans.{wrong, both-true, both-left, both-right}
+use Rattle.refusal.proofs.Judgements.{fine-is}
 use Rattle.banner.specs.declared.Features.{Features}
 use Rattle.stream.specs.declared.Event.the-variants as event
 use Rattle.receiver.specs.declared.Report.{Report}
@@ -383,10 +384,6 @@ module _ (p : PlainConnection) (key receiving sending : List ℕ) where
   refused-as-it-came : (j : Judged) → isFine j ≡ false → (switchedWords j p key receiving ≡ p) × (switchedState j (connectionOf p) key receiving ≡ connectionOf p)
   refused-as-it-came fine e = wrong (sym e)
   refused-as-it-came (refused n) e = (refl, refl)
-
-  fine-is : (j : Judged) → isFine j ≡ true → j ≡ fine
-  fine-is fine e = refl
-  fine-is (refused n) e = wrong e
 
   pub switch-refused : (n : ℕ) (s : Sending) (ws : List ℕ) → ws ≡ sendingNumbers s → isFine (judgeWords p) ≡ false → n ≡ numberOf (judgeWords p) → s ≡ switchedSending (judgeWords p) key sending
       → PlainSwitchedWith p key receiving sending (switched n p (plainSending ws (s .key) (s .nonce)))

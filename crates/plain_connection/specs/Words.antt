@@ -36,8 +36,8 @@ abbrev pub connected : ℕ → ℕ → PlainState → PlainSecure → PlainConne
 connected m r c x = record { mode = m; ready = r; crc = c; secure = x }
 
 -- as they lie in memory. Places of the first two words: 0 mode (0 crc, 1 secure), 1 the mark that a frame was just reported
-abbrev pub laidOut : List ℕ → List ℕ → List ℕ → List ℕ → List ℕ → List ℕ → List ℕ → PlainConnection
-laidOut link numbers block sealed first key nonce =
+abbrev pub plainConnection : List ℕ → List ℕ → List ℕ → List ℕ → List ℕ → List ℕ → List ℕ → PlainConnection
+plainConnection link numbers block sealed first key nonce =
     connected (getD link 0 0) (getD link 1 0) (plainState numbers block) (plainSecure sealed first key nonce)
 
 abbrev pub modeNumber : Mode → ℕ

@@ -31,7 +31,7 @@ ghost use Rattle.plain.specs.Words.{features};
 ghost use Rattle.plain_receiver.specs.Words as crc;
 ghost use Rattle.plain_connection.specs.Secure as secure;
 ghost use Rattle.plain_connection.specs.Secure.{plainSecure, SecureAnswered, SecureReceivedBy};
-ghost use Rattle.plain_connection.specs.Words.{laidOut, connectionOf, fits, handed, ReceivedBy, PlainBegun, plainSending, sendingNumbers, switched, judgeWords, PlainSwitchedWith, is26};
+ghost use Rattle.plain_connection.specs.Words.{plainConnection, connectionOf, fits, handed, ReceivedBy, PlainBegun, plainSending, sendingNumbers, switched, judgeWords, PlainSwitchedWith, is26};
 
 // ---- sealed frames
 
@@ -158,7 +158,7 @@ pub fn plain_receive(
     piece: &[u8],
     store: &mut [u8],
 ) -> u64
-    ensures { λ r. ⌜ ReceivedBy (laidOut (now (link .entry)) (now (numbers .entry)) (now (block .entry)) (now (sealed .entry)) (now (first .entry)) (now (key .entry)) (now (nonce .entry))) (now (store .entry)) (now (piece .entry)) r (handed (laidOut (now (link .exit)) (now (numbers .exit)) (now (block .exit)) (now (sealed .exit)) (now (first .exit)) (now (key .exit)) (now (nonce .exit))) (now (report .exit))) (now (store .exit)) ⌝ }
+    ensures { λ r. ⌜ ReceivedBy (plainConnection (now (link .entry)) (now (numbers .entry)) (now (block .entry)) (now (sealed .entry)) (now (first .entry)) (now (key .entry)) (now (nonce .entry))) (now (store .entry)) (now (piece .entry)) r (handed (plainConnection (now (link .exit)) (now (numbers .exit)) (now (block .exit)) (now (sealed .exit)) (now (first .exit)) (now (key .exit)) (now (nonce .exit))) (now (report .exit))) (now (store .exit)) ⌝ }
 {
     let mode = link[0];
     let ready = link[1];
@@ -188,7 +188,7 @@ pub fn plain_begin(
     supported: u64,
     required: u64,
 ) -> u64
-    ensures { λ r. ⌜ PlainBegun (features supported required) r (laidOut (now (link .exit)) (now (numbers .exit)) (now (block .exit)) (now (sealed .exit)) (now (first .exit)) (now (key .exit)) (now (nonce .exit))) ⌝ }
+    ensures { λ r. ⌜ PlainBegun (features supported required) r (plainConnection (now (link .exit)) (now (numbers .exit)) (now (block .exit)) (now (sealed .exit)) (now (first .exit)) (now (key .exit)) (now (nonce .exit))) ⌝ }
 {
     let o = begin(Features {
         supported: supported,
@@ -255,7 +255,7 @@ fn agrees(
     key: [u8; 16],
     nonce: [u8; 12],
 ) -> bool
-    ensures { λ r. ⌜ r ≡ (fits (laidOut link numbers block sealed first key nonce) && agrees (connectionOf (laidOut link numbers block sealed first key nonce))) ⌝ }
+    ensures { λ r. ⌜ r ≡ (fits (plainConnection link numbers block sealed first key nonce) && agrees (connectionOf (plainConnection link numbers block sealed first key nonce))) ⌝ }
 {
     if !is_usable(link[0], link[1], numbers[0], numbers[18]) {
         return false;
@@ -276,7 +276,7 @@ fn judge_words(
     key: [u8; 16],
     nonce: [u8; 12],
 ) -> Verdict
-    ensures { λ r. ⌜ judgedBy r ≡ judgeWords (laidOut link numbers block sealed first key nonce) ⌝ }
+    ensures { λ r. ⌜ judgedBy r ≡ judgeWords (plainConnection link numbers block sealed first key nonce) ⌝ }
 {
     let agree = agrees(link, numbers, block, sealed, first, key, nonce);
     let first_verdict = unless_ok(agree, Refusal::StateContradicts);
@@ -316,7 +316,7 @@ pub fn plain_switch(
     sends_key: &mut [u8; 16],
     sends_nonce: &mut [u8; 12],
 ) -> u64
-    ensures { λ r. ⌜ PlainSwitchedWith (laidOut (now (link .entry)) (now (numbers .entry)) (now (block .entry)) (now (sealed .entry)) (now (first .entry)) (now (key .entry)) (now (nonce .entry))) (now (with .entry)) (now (receiving .entry)) (now (sending .entry)) (switched r (laidOut (now (link .exit)) (now (numbers .entry)) (now (block .entry)) (now (sealed .exit)) (now (first .exit)) (now (key .exit)) (now (nonce .exit))) (plainSending (now (sends .exit)) (now («sends_key» .exit)) (now («sends_nonce» .exit)))) ⌝ }
+    ensures { λ r. ⌜ PlainSwitchedWith (plainConnection (now (link .entry)) (now (numbers .entry)) (now (block .entry)) (now (sealed .entry)) (now (first .entry)) (now (key .entry)) (now (nonce .entry))) (now (with .entry)) (now (receiving .entry)) (now (sending .entry)) (switched r (plainConnection (now (link .exit)) (now (numbers .entry)) (now (block .entry)) (now (sealed .exit)) (now (first .exit)) (now (key .exit)) (now (nonce .exit))) (plainSending (now (sends .exit)) (now («sends_key» .exit)) (now («sends_nonce» .exit)))) ⌝ }
 {
     let v = judge_words(*link, *numbers, *block, *sealed, *first, *key, *nonce);
     let s = sending_by(v, *with, *sending);

@@ -26,12 +26,12 @@ use Rattle.plain_delivery.specs.Words.{effectWords, PlainSettled, settle
 
 -- ---- what words ask
 
-pub by-frame : (q s : List ℕ) {h : Header} {a : Asked} → getD q 0 0 ≡ 2 → h ≡ headerAt 5 q → a ≡ askedByFrame h s → a ≡ askedByReport (reportOf q) s
-by-frame q s e f g =
+pub frame-asks : (q s : List ℕ) {h : Header} {a : Asked} → getD q 0 0 ≡ 2 → h ≡ headerAt 5 q → a ≡ askedByFrame h s → a ≡ askedByReport (reportOf q) s
+frame-asks q s e f g =
     g ∙ ap (λ (x : Header). askedByFrame x s) f ∙ subst (λ (n : ℕ). askedByFrame (headerAt 5 q) s ≡ askedByReport (reportAs n q) s) (sym e) refl
 
-pub by-others : (q s : List ℕ) → eqb (getD q 0 0) 2 ≡ false → asked.Nothing ≡ askedByReport (reportOf q) s
-by-others q s e = go (eqb (getD q 0 0) 0) (eqb (getD q 0 0) 1) (eqb (getD q 0 0) 2) (eqb (getD q 0 0) 3) (eqb (getD q 0 0) 4) e
+pub others-ask : (q s : List ℕ) → eqb (getD q 0 0) 2 ≡ false → asked.Nothing ≡ askedByReport (reportOf q) s
+others-ask q s e = go (eqb (getD q 0 0) 0) (eqb (getD q 0 0) 1) (eqb (getD q 0 0) 2) (eqb (getD q 0 0) 3) (eqb (getD q 0 0) 4) e
   where
     go : (a b f c d : Bool) → f ≡ false
         → asked.Nothing

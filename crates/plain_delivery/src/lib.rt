@@ -14,7 +14,7 @@ ghost use mathlib.Core.Path.{_≡_};
 ghost use Rattle.refusal.specs.Refusals.{row};
 ghost use Rattle.delivery.specs.Asked.{askedByReport, doneTo};
 ghost use Rattle.plain_receiver.specs.Words.{reportOf};
-ghost use Rattle.plain_connection.specs.Words.{laidOut, handed};
+ghost use Rattle.plain_connection.specs.Words.{plainConnection, handed};
 ghost use Rattle.plain_session.specs.Words.{plainSession, sessionOf, sessionNumbers, answering};
 ghost use Rattle.plain_delivery.specs.Words.{effectWords, settledWith, plainSettled, PlainDelivers};
 
@@ -99,7 +99,7 @@ pub fn plain_deliver(
     piece: &[u8],
     store: &mut [u8],
 ) -> u64
-    ensures { λ r. ⌜ PlainDelivers (laidOut (now (link .entry)) (now (numbers .entry)) (now (block .entry)) (now (sealed .entry)) (now (first .entry)) (now (key .entry)) (now (nonce .entry))) (plainSession (now (session .entry)) (now (handles .entry))) (now (store .entry)) (now (piece .entry)) r (handed (laidOut (now (link .exit)) (now (numbers .exit)) (now (block .exit)) (now (sealed .exit)) (now (first .exit)) (now (key .exit)) (now (nonce .exit))) (now (report .exit))) (settledWith (now (session .exit)) (now (handles .entry)) (now (effect .exit))) (now (store .exit)) ⌝ }
+    ensures { λ r. ⌜ PlainDelivers (plainConnection (now (link .entry)) (now (numbers .entry)) (now (block .entry)) (now (sealed .entry)) (now (first .entry)) (now (key .entry)) (now (nonce .entry))) (plainSession (now (session .entry)) (now (handles .entry))) (now (store .entry)) (now (piece .entry)) r (handed (plainConnection (now (link .exit)) (now (numbers .exit)) (now (block .exit)) (now (sealed .exit)) (now (first .exit)) (now (key .exit)) (now (nonce .exit))) (now (report .exit))) (settledWith (now (session .exit)) (now (handles .entry)) (now (effect .exit))) (now (store .exit)) ⌝ }
 {
     let kind = plain_receive(
         link,

@@ -6,7 +6,7 @@ use mathlib.Core.Bool.{Bool, true, false, not, cond}
 use native.Mathlib.Omega.{arith}
 use native.Mathlib.Nat.{add-zero, zero-add}
 use lib.ListN.{length, take, drop, replicate, length-append, length-drop, length-replicate, drop-of-length-le}
-use lib.Seq.{sets, take-all, take-nil, take-add, drop-drop, length-take-le}
+use lib.Seq.{sets, take-at, take-all, take-nil, take-add, drop-drop, length-take-le}
 use lib.Dec.{lit<, lit≤, ltb, eqb}
 use borrow.Author.Tests.{lt-ltb, le-ltb, ltb-true, ltb-false, le-leb, lt-leb, eqb-false, not-true}
 use Rattle.buffer.specs.Le.{numberAt}
@@ -28,7 +28,7 @@ use Rattle.receiver.specs.declared.Report.the-variants as report
 use Rattle.receiver.specs.State.{blank, hasFirstSum}
 use Rattle.receiver.specs.Step.{at, nextFrame, refusedState, silent, refuse, endFrame, beginEpilogue, beginRest, beginBody, reportFirst, behindFirstSum, withFirst, finish}
 use Rattle.receiver.proofs.Scan.{scan}
-use Rattle.receiver.proofs.Placed.{sets-front, sets-behind, take-sets, take-over, over-over}
+use Rattle.buffer.proofs.Sets.{sets-front, sets-behind, take-sets}
 use Rattle.buffer.proofs.Numbers.{number-take, number-drop}
 use Rattle.buffer.proofs.Parts.{over-longer}
 use Rattle.body.proofs.Ends.{no-length, has-length, ending-take, ending-none}
@@ -174,8 +174,8 @@ module _ (y : Known) (got : ℕ) (s : List ℕ) (Q : ℕ) (b : List ℕ) (next :
 -- the end of a body, by the store that its bytes are placed in
 end-same : (x : Ended) (h : Header) (at : ℕ) (s p : List ℕ) (next : List ℕ → Trace) → length p ≡ total h → closeTrace x h at (replaceFront p s) next ≡ atEnd x h at s p next
 end-same whole h at s p next e = refl
-end-same dropped h at s p next e = rw (over-over p (replicate (total h) 0) s (e ∙ sym (length-replicate (total h) 0)))
-end-same (turnedAway n) h at s p next e = rw (over-over p (replicate (total h) 0) s (e ∙ sym (length-replicate (total h) 0)))
+end-same dropped h at s p next e = rw (over-longer p (replicate (total h) 0) s (omega (arith, e, length-replicate {A = ℕ} (total h) 0)))
+end-same (turnedAway n) h at s p next e = rw (over-longer p (replicate (total h) 0) s (omega (arith, e, length-replicate {A = ℕ} (total h) 0)))
 
 -- a body behind segment 1's checksum
 abbrev restTrace : Revision → Header → ℕ → List ℕ → List ℕ → (List ℕ → Trace) → Trace
@@ -227,7 +227,7 @@ module _ (revision : Revision) (h : Header) (P : ℕ) (b s : List ℕ) (next : L
         (atEnd (ending revision h (drop (total h + firstSumLength revision h) b) p) h (P + wireLength revision h) s p next)
     same =
         let x = ending revision h (drop (total h + firstSumLength revision h) b) p in
-        rw (le-ltb (length d) l t, placed, behind, place, take-over p s (total h) lp) (rw (end-same x h (P + wireLength revision h) s p next lp))
+        rw (le-ltb (length d) l t, placed, behind, place, take-at p (drop (length p) s) (total h) lp) (rw (end-same x h (P + wireLength revision h) s p next lp))
 
     rest-full : fillTrace revision h (P + 32 + k) got d (replaceFront q s) next ≡ restTrace revision h P b s next
     rest-full = same ∙ go (ltb (length b) (bodyLength revision h)) refl
@@ -366,7 +366,7 @@ module _ (y : Known) (P : ℕ) (b s : List ℕ) (next : List ℕ → Trace)
             ∙ ap (λ (i : ℕ). numberAt 4 i b) (add-zero n₁)
 
         own-sum : segmentSum (take n₁ s₁) ≡ segmentSum f
-        own-sum = ap segmentSum (take-over f s n₁ lf)
+        own-sum = ap segmentSum (take-at f (drop (length f) s) n₁ lf)
 
         wrong-is : firstWrong (y .revision) h b ≡ not (eqb (numberAt 4 n₁ b) (segmentSum f))
         wrong-is = rw (nf, le-leb (n₁ + 4) (length b) (omega (arith, ld₁)))

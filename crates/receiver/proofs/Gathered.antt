@@ -9,7 +9,7 @@ use Rattle.receiver.specs.declared.Place.the-variants as place
 use Rattle.receiver.specs.State.{placeOf}
 use Rattle.receiver.specs.Step.{blockWith, storeWith, absorbed, stored, reached, size}
 use Rattle.receiver.proofs.Scan.{bare}
-use Rattle.receiver.proofs.Placed.{sets-append}
+use Rattle.buffer.proofs.Sets.{sets-append}
 use Rattle.receiver.proofs.Gathers.{Gathering, got-append}
 
 block-append : (p : Place) (got : ℕ) (b xs ys : List ℕ) → blockWith p (got + length xs) (blockWith p got b xs) ys ≡ blockWith p got b (xs ++ ys)

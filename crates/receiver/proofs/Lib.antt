@@ -4,13 +4,11 @@ pub mod Appended
 pub mod Machine
 pub mod Lists
 pub mod Scan
-pub mod Placed
 pub mod Gathers
 pub mod Gathered
 pub mod Stages
 pub mod Frames
 pub mod Streams
-pub mod Allowed
 pub mod Live
 pub mod Bounds
 pub mod Every

@@ -28,7 +28,7 @@ use Rattle.receiver.specs.State.{blank, noHeader, noRefusal}
 use Rattle.receiver.specs.Step.{Stepped, at, onlyOwn, refusedState, withPayload, withPeer, withRevision, withHeader, silent, unlessRefused, endBanner, beginBody, finish}
 use Rattle.receiver.proofs.Machine.{scan-none}
 use Rattle.receiver.proofs.Scan.{byteStep, scan}
-use Rattle.receiver.proofs.Placed.{sets-whole, take-sets}
+use Rattle.buffer.proofs.Sets.{sets-whole, take-sets}
 use Rattle.buffer.proofs.Numbers.{number-take, number-drop}
 use Rattle.receiver.proofs.Gathers.{traceBy}
 use Rattle.receiver.proofs.Stages.{run, short, full, gone}

@@ -21,11 +21,11 @@ abbrev met : Known
 met = withRevision (withPeer long (features 1 0)) Msgr21
 
 -- in a frame of segments of 1 and 2 bytes, and behind its first one
-abbrev inFrame : Known
-inFrame = withHeader met (sized 2 1 2 0 0)
+abbrev headerKnown : Known
+headerKnown = withHeader met (sized 2 1 2 0 0)
 
 abbrev behind : Known
-behind = withFirst inFrame
+behind = withFirst headerKnown
 
 unfoldable pub ownRows : List (Row Bool)
 ownRows =
@@ -57,18 +57,18 @@ bannerRows =
 unfoldable pub frameRows : List (Row Bool)
 frameRows =
     -- the header
-    agrees (at stage.First 0 inFrame) ⇒ true
+    agrees (at stage.First 0 headerKnown) ⇒ true
     ∷ agrees (at stage.First 0 (withHeader met (header 0 2 (segment 1 0) (segment 2 0) (segment 0 0) (segment 0 0)))) ⇒ false
-    ∷ agrees (at stage.Preamble 0 inFrame) ⇒ false
+    ∷ agrees (at stage.Preamble 0 headerKnown) ⇒ false
     -- segment 1 and its checksum: not where it is empty, and not in msgr2.0
-    ∷ agrees (at stage.FirstSum 0 inFrame) ⇒ true
+    ∷ agrees (at stage.FirstSum 0 headerKnown) ⇒ true
     ∷ agrees (at stage.FirstSum 0 (withHeader met (sized 2 0 2 0 0))) ⇒ false
     ∷ agrees (at stage.First 0 (withHeader (withRevision (withPeer long (features 0 0)) Msgr20) (sized 2 1 2 0 0))) ⇒ false
     -- the mark of an early report
     ∷ agrees (at stage.Rest 1 behind) ⇒ true
-    ∷ agrees (at stage.Rest 1 inFrame) ⇒ false
+    ∷ agrees (at stage.Rest 1 headerKnown) ⇒ false
     ∷ agrees (at stage.Epilogue 0 behind) ⇒ true
-    ∷ agrees (at stage.Epilogue 0 inFrame) ⇒ false
+    ∷ agrees (at stage.Epilogue 0 headerKnown) ⇒ false
     ∷ agrees (at stage.First 0 behind) ⇒ false
     ∷ agrees (at stage.Preamble 0 (withFirst met)) ⇒ false
     ∷ []
@@ -86,7 +86,7 @@ countRows =
     ∷ agrees (stateAt stage.Magic 1 (set blank 0 7) begun) ⇒ true
     ∷ agrees (stateAt stage.Magic 1 (set blank 1 7) begun) ⇒ false
     ∷ agrees (stateAt stage.Magic 1 (set blank 31 7) begun) ⇒ false
-    ∷ agrees (stateAt stage.First 0 (set blank 0 7) inFrame) ⇒ false
+    ∷ agrees (stateAt stage.First 0 (set blank 0 7) headerKnown) ⇒ false
     ∷ []
 
 unfoldable pub refusalRows : List (Row Bool)

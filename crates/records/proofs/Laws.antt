@@ -1,6 +1,6 @@
 -- Laws of records: buffers that count up, steps, records that are run as they are read, and lists of numbers.
 use mathlib.Core.Path.{_≡_, refl, sym, ap, _∙_}
-use mathlib.Core.Bool.{Bool, true, false, _&&_}
+use mathlib.Core.Bool.{Bool, true, false}
 use mathlib.Core.List.{List, [], _∷_, _++_, append-assoc}
 use Prim.Native.Nat.{ℕ, zero, suc, _+_, _%_, _≤_, _<_}
 use native.Mathlib.Nat.{not-suc-le-zero, le-of-suc-le-suc}
@@ -10,6 +10,7 @@ use borrow.Author.Tests.{leb-true}
 use lib.Dec.{ltb, leb}
 use lib.ListN.{length, take, drop, getD, set, length-append}
 use lib.Seq.{drop-cons, set-at, take-suc, take-suc-set}
+use Rattle.refusal.proofs.Booleans.{both-right}
 use Rattle.buffer.specs.Le.{leOf}
 use Rattle.fields.specs.Field.{wordsOf}
 use Rattle.text.specs.Line.{Piece}
@@ -33,12 +34,8 @@ counted-more l first i h =
 
 -- ---- steps
 
-pub second : (a b : Bool) → (a && b) ≡ true → b ≡ true
-second true b e = e
-second false b e = cc
-
 pub whole-within : (n : ℕ) (s : List ℕ) → isWhole n s ≡ true → n ≤ length s
-whole-within n s e = leb-true n (length s) (second (ltb 0 n) (leb n (length s)) e)
+whole-within n s e = leb-true n (length s) (both-right (ltb 0 n) (leb n (length s)) e)
 
 pub did-is : {d e : Record} {s before : List ℕ} {at : ℕ} {after : List ℕ} {r : Step} → d ≡ e → Did e s before at after r → Did d s before at after r
 did-is k d = rw k d
@@ -61,10 +58,6 @@ module _ (n : ℕ) (lines : List (List Piece)) {s before : List ℕ} {at : ℕ} 
 pub sized-good : (good : Bool) (n : ℕ) (s : List ℕ) → isWhole (sized good n) s ≡ true → good ≡ true
 sized-good true n s e = refl
 sized-good false n s e = cc
-
-pub first : (a b : Bool) → (a && b) ≡ true → a ≡ true
-first true b e = refl
-first false b e = e
 
 -- what is left of a record that is run as it is read: d from the page q on is all of it from the page p on
 pub record Left (all d : Record) (p q : Page) : Type 0 where

@@ -5,11 +5,16 @@ use mathlib.Core.List.{List, [], _∷_}
 use Rattle.refusal.specs.declared.Numbers.{Numbers}
 use Rattle.refusal.specs.declared.Refusal.{Refusal}
 use Rattle.refusal.specs.Refusals.{Judged, fine, refused, isFine, orElse, firstOf, unless}
+use Rattle.refusal.proofs.Booleans.{wrong}
 
 -- a judgement by its cases
 pub by-judgement : {A : Type 0} (j : Judged) → (j ≡ fine → A) → ((n : Numbers) → j ≡ refused n → A) → A
 by-judgement fine f r = f refl
 by-judgement (refused n) f r = r n refl
+
+pub fine-is : (j : Judged) → isFine j ≡ true → j ≡ fine
+fine-is fine e = refl
+fine-is (refused n) e = wrong e
 
 -- behind the last judgement nothing is wrong
 pub or-else-last : (j : Judged) → orElse j fine ≡ j

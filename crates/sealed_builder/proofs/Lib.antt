@@ -1,7 +1,6 @@
 pub mod Texts
-pub mod Seals
 pub mod Accepted
-pub mod Runs
+pub mod Different
 pub mod Once
 pub mod Eighteen
 pub mod Trip

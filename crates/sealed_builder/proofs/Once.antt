@@ -19,7 +19,8 @@ use Rattle.sealed_builder.specs.declared.Sending.{Sending}
 use Rattle.sealed_builder.specs.Build.{Done, done, spentOf, freshSending, sentMore, sentParts, judgeSealed, outcome, sealedDone}
 use Rattle.sealed_builder.specs.Nonces.{Build, Meets, Chained, usedIn, usedBy, used, sendingAfter, left, AllDifferent, SealedWith}
 use Rattle.sealed_builder.proofs.Accepted.{accepted, counted}
-use Rattle.sealed_builder.proofs.Runs.{run, length-run, run-of, run-on, all-different}
+use Rattle.secure.proofs.Runs.{run, length-run, run-of, run-on}
+use Rattle.sealed_builder.proofs.Different.{all-different}
 
 -- ---- as many nonces as parts
 

@@ -29,7 +29,7 @@ use Rattle.buffer.specs.Zeros.{allZero}
 use Rattle.secure.specs.Reading.{judgeNonce, judgePadding, judgeFirst, paddingOf, lateIn, byLateStatus, lastEnded}
 use Rattle.secure.proofs.Trip.{no-padding}
 use Rattle.sealed_receiver.specs.Step.{textOf}
-use Rattle.sealed_receiver.proofs.Lists.{zeros-append}
+use Rattle.buffer.proofs.Zeros.{zeros-append}
 use Rattle.sealed_receiver.proofs.Openings.{not-spent}
 use Rattle.sealed_receiver.proofs.Openings.{text-length}
 use Rattle.sealed_ends.specs.Handed.{textIn, Opens, firstBytes, firstIn, headerIn, restBytes, restIn, lastBytes, lastNonce, lastIn, lengthAt, placeAt, lateBy, ZerosAt, CheckedPreamble, CheckedSealed}

@@ -66,23 +66,23 @@ module _ (w : List State) where
 -- ---- sealed frames, and what follows them
 
 -- from byte P on: Y behind X, which ends where a frame does
-pub record Goes (f : ℕ) (w : List State) (nonce : List ℕ) (n P : ℕ) (X Y s : List ℕ) : Type 0 where
-  pub goes : (g k : ℕ) → length (X ++ Y) ≤ g → length Y ≤ k
+pub record Concatenates (f : ℕ) (w : List State) (nonce : List ℕ) (n P : ℕ) (X Y s : List ℕ) : Type 0 where
+  pub joins : (g k : ℕ) → length (X ++ Y) ≤ g → length Y ≤ k
       → frames g w nonce n P (X ++ Y) s
       ≡ joined (frames f w nonce n P X s)
       (frames k w (nonceAfter (partsIn (frames f w nonce n P X s .entries)) nonce) (n + partsIn (frames f w nonce n P X s .entries)) (P + length X) Y
       (frames f w nonce n P X s .store))
   pub same : length (frames f w nonce n P X s .store) ≡ length s
 
-goes-none : (f : ℕ) (w : List State) (nonce : List ℕ) (n P : ℕ) (Y s : List ℕ) → Goes f w nonce n P [] Y s
+concatenates-none : (f : ℕ) (w : List State) (nonce : List ℕ) (n P : ℕ) (Y s : List ℕ) → Concatenates f w nonce n P [] Y s
 unfolding nonceAfter
-goes-none f w nonce n P Y s = record {
-  goes = λ g k hg hk. rw (none f w nonce n P s, add-zero P, add-zero n) (fuel w g k nonce n P Y s hg hk);
+concatenates-none f w nonce n P Y s = record {
+  joins = λ g k hg hk. rw (none f w nonce n P s, add-zero P, add-zero n) (fuel w g k nonce n P Y s hg hk);
   same = ap (λ (t : Trace). length (t .store)) (none f w nonce n P s);
 }
 
 abbrev Lower : List State → ℕ → Type 0
-Lower w f = (nonce : List ℕ) (n P : ℕ) (X Y s : List ℕ) → length X ≤ f → FramesUpTo (P + length X) P (frames f w nonce n P X s .entries) → Goes f w nonce n P X Y s
+Lower w f = (nonce : List ℕ) (n P : ℕ) (X Y s : List ℕ) → length X ≤ f → FramesUpTo (P + length X) P (frames f w nonce n P X s .entries) → Concatenates f w nonce n P X Y s
 
 -- a frame or a drop, to byte Q, and what follows it
 module _ (w : List State) (f : ℕ) (ih : Lower w f) (nonce : List ℕ) (n P : ℕ) (X Y s : List ℕ) (v : Event) (Q : ℕ) (X′ s′ : List ℕ)
@@ -102,29 +102,29 @@ module _ (w : List State) (f : ℕ) (ih : Lower w f) (nonce : List ℕ) (n P : �
   abbrev T : Trace
   T = frames f w nonce′ n′ Q X′ s′
 
-  below : Goes f w nonce′ n′ Q X′ Y s′
+  below : Concatenates f w nonce′ n′ Q X′ Y s′
   below = ih nonce′ n′ Q X′ Y s′ (omega arith) (rw place up)
 
-  goes-on : (g k : ℕ) → length (X ++ Y) ≤ g → length Y ≤ k
+  joins-on : (g k : ℕ) → length (X ++ Y) ≤ g → length Y ≤ k
       → frames g w nonce n P (X ++ Y) s
       ≡ joined (frames (suc f) w nonce n P X s)
       (frames k w (nonceAfter (partsIn (frames (suc f) w nonce n P X s .entries)) nonce) (n + partsIn (frames (suc f) w nonce n P X s .entries)) (P + length X) Y
       (frames (suc f) w nonce n P X s .store))
-  goes-on zero k hg hk = (let a = length-append X Y in absurd (omega arith))
-  goes-on (suc g) k hg hk =
+  joins-on zero k hg hk = (let a = length-append X Y in absurd (omega arith))
+  joins-on (suc g) k hg hk =
       let a = length-append X Y in
       let a′ = length-append X′ Y in
       let m : ℕ = partsIn (T .entries) in
       let count : n′ + m ≡ n + (partsOf v + m) = omega arith in
       gives-more g
-      ∙ ap (after v Q s′) (below .goes g k (omega arith) hk)
+      ∙ ap (after v Q s′) (below .joins g k (omega arith) hk)
       ∙ ap₂ (λ (o : List ℕ) (c : ℕ). after v Q s′ (joined T (frames k w o c (Q + length X′) Y (T .store)))) (after-add (partsOf v) m nonce) count
       ∙ ap (λ (i : ℕ). after v Q s′ (joined T (frames k w (nonceAfter (partsOf v + m) nonce) (n + (partsOf v + m)) i Y (T .store)))) place
       ∙ ap (λ (t : Trace). joined t (frames k w (nonceAfter (partsIn (t .entries)) nonce) (n + partsIn (t .entries)) (P + length X) Y (t .store))) (sym gives)
 
-  goes-step : Goes (suc f) w nonce n P X Y s
-  goes-step = record {
-    goes = goes-on;
+  concatenates-step : Concatenates (suc f) w nonce n P X Y s
+  concatenates-step = record {
+    joins = joins-on;
     same = ap (λ (t : Trace). length (t .store)) gives ∙ below .same ∙ kept;
   }
 
@@ -142,8 +142,8 @@ module _ (w : List State) (f : ℕ) (ih : Lower w f) (nonce : List ℕ) (n P : �
     frame-less : firstLength + length X′ ≤ length X
     frame-less = (let d = length-drop (sealedLength h) X in let m = least h in omega arith)
 
-  goes-whole : JudgesAt whole w nonce n X (length s) → FramesUpTo (P + length X) P (frames (suc f) w nonce n P X s .entries) → Goes (suc f) w nonce n P X Y s
-  goes-whole j up =
+  concatenates-whole : JudgesAt whole w nonce n X (length s) → FramesUpTo (P + length X) P (frames (suc f) w nonce n P X s .entries) → Concatenates (suc f) w nonce n P X Y s
+  concatenates-whole j up =
       let p : List ℕ = segmentsIn w nonce h X in
       let zs : List ℕ = replicate (needed h - length p) 0 in
       let e = frame-trace w nonce n P X s f j in
@@ -153,31 +153,31 @@ module _ (w : List State) (f : ℕ) (ih : Lower w f) (nonce : List ℕ) (n P : �
       let short = segments-short h (firstIn w nonce X) (restIn w nonce h X) (lastIn w nonce h X) (first-length w nonce n X l₁ (g .first)) in
       let a : length (p ++ zs) ≡ length p + length zs = length-append p zs in
       let z : length zs ≡ needed h - length p = length-replicate (needed h - length p) 0 in
-      goes-step w f ih nonce n P X Y s (Frame h) (P + sealedLength h) X′ (holding h p s) e (λ k. frame-trace-more w nonce n P X Y s k j)
+      concatenates-step w f ih nonce n P X Y s (Frame h) (P + sealedLength h) X′ (holding h p s) e (λ k. frame-trace-more w nonce n P X Y s k j)
       (frame-place (j .long)) (frame-less (j .long)) enough (length-replaceFront (p ++ zs) s (omega arith)) (rw e at up)
 
-  goes-dropped : JudgesAt dropped w nonce n X (length s) → FramesUpTo (P + length X) P (frames (suc f) w nonce n P X s .entries) → Goes (suc f) w nonce n P X Y s
-  goes-dropped j up =
+  concatenates-dropped : JudgesAt dropped w nonce n X (length s) → FramesUpTo (P + length X) P (frames (suc f) w nonce n P X s .entries) → Concatenates (suc f) w nonce n P X Y s
+  concatenates-dropped j up =
       let e = frame-trace w nonce n P X s f j in
       let room : needed h ≤ length s = fits w nonce n X (length s) (j .judges .judged) in
       let z : length {A = ℕ} (replicate (needed h) 0) ≡ needed h = length-replicate {A = ℕ} (needed h) 0 in
-      goes-step w f ih nonce n P X Y s (Dropped h) (P + sealedLength h) X′ (zeroed h s) e (λ k. frame-trace-more w nonce n P X Y s k j)
+      concatenates-step w f ih nonce n P X Y s (Dropped h) (P + sealedLength h) X′ (zeroed h s) e (λ k. frame-trace-more w nonce n P X Y s k j)
       (frame-place (j .long)) (frame-less (j .long)) enough (length-replaceFront (replicate (needed h) 0) s (omega arith)) (rw e at up)
 
-  goes-seen : Seen w nonce n P X s → FramesUpTo (P + length X) P (frames (suc f) w nonce n P X s .entries) → Goes (suc f) w nonce n P X Y s
-  goes-seen (nothing t e) up = at-once X refl
+  concatenates-seen : Seen w nonce n P X s → FramesUpTo (P + length X) P (frames (suc f) w nonce n P X s .entries) → Concatenates (suc f) w nonce n P X Y s
+  concatenates-seen (nothing t e) up = at-once X refl
     where
-      at-once : (Z : List ℕ) → X ≡ Z → Goes (suc f) w nonce n P X Y s
-      at-once [] z = rw z (goes-none (suc f) w nonce n P Y s)
+      at-once : (Z : List ℕ) → X ≡ Z → Concatenates (suc f) w nonce n P X Y s
+      at-once [] z = rw z (concatenates-none (suc f) w nonce n P Y s)
       at-once (b ∷ bs) z =
           let u : P ≡ P + length X = rw (e f) at up in
           let k : length X ≡ suc (length bs) = ap length z in
           absurd (omega arith)
-  goes-seen (refuses m at t e) up = absurd (rw (e f) at up)
-  goes-seen (hands j) up = goes-whole j up
-  goes-seen (drops j) up = goes-dropped j up
+  concatenates-seen (refuses m at t e) up = absurd (rw (e f) at up)
+  concatenates-seen (hands j) up = concatenates-whole j up
+  concatenates-seen (drops j) up = concatenates-dropped j up
 
-pub frames-go : (w : List State) (f : ℕ) → Lower w f
-frames-go w zero nonce n P [] Y s enough up = goes-none zero w nonce n P Y s
-frames-go w zero nonce n P (b ∷ bs) Y s enough up = absurd (omega arith)
-frames-go w (suc f) nonce n P X Y s enough up = goes-seen w f (frames-go w f) nonce n P X Y s enough (seen w nonce n P X s) up
+pub frames-concatenate : (w : List State) (f : ℕ) → Lower w f
+frames-concatenate w zero nonce n P [] Y s enough up = concatenates-none zero w nonce n P Y s
+frames-concatenate w zero nonce n P (b ∷ bs) Y s enough up = absurd (omega arith)
+frames-concatenate w (suc f) nonce n P X Y s enough up = concatenates-seen w f (frames-concatenate w f) nonce n P X Y s enough (seen w nonce n P X s) up

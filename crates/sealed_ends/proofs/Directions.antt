@@ -11,7 +11,7 @@ use Rattle.sealed_builder.specs.declared.Sending.{Sending}
 use Rattle.sealed_builder.specs.Build.{Done, spentOf, freshSending, refusedSending, agrees, judgeEarlier, judgeSealed}
 use Rattle.builder.specs.Build.{turnedAway, answered}
 use Rattle.sealed_builder.specs.Nonces.{Build, Meets, Chained, used, sendingAfter, NoneIs, AllDifferent}
-use Rattle.sealed_builder.proofs.Runs.{run, length-run, after-next, counter, counter-after}
+use Rattle.secure.proofs.Runs.{run, length-run, after-next, counter, counter-after}
 use Rattle.sealed_builder.proofs.Once.{judged, came, when-refused, Line, line, different, counted-all, one-key}
 use Rattle.connection.specs.declared.State.{State}
 use Rattle.connection.specs.Step.{switchedSending}

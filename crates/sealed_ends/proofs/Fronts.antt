@@ -22,7 +22,7 @@ use Rattle.ends.specs.Handed.{isEarly, FramesUpToAt, FramesUpTo, UpTo}
 use Rattle.ends.specs.Handed as ends
 use Rattle.ends.proofs.Locality as crc-seen
 use Rattle.ends.proofs.Locality.{behindEarly}
-use Rattle.ends.proofs.Concatenation as crc-goes
+use Rattle.ends.proofs.Concatenation as crc-concatenation
 use Rattle.ends.proofs.Concatenation.{joined, early-up, early-store}
 use Rattle.ends.proofs.Banners.{spoken, met-trace, up-met, follows-on}
 use Rattle.connection.specs.Switched.{Switch, closes, spliced, traceWith}
@@ -32,7 +32,7 @@ use Rattle.connection.proofs.Scans.{LastCloses}
 use Rattle.connection.proofs.Splices.{closings, spliced-there}
 use Rattle.connection.proofs.Chain.{switched-demand3}
 use Rattle.sealed_ends.specs.Fronts.{framesIn, partsIn, Front, bytesIn, crcIn, sealedIn, switchIn, traceIn, spentIn, nextIn, Begins}
-use Rattle.sealed_ends.proofs.Concatenation.{frames-go}
+use Rattle.sealed_ends.proofs.Concatenation.{frames-concatenate}
 
 -- ---- entries up to a frame
 
@@ -79,7 +79,7 @@ module _ (f : ℕ) (ih : Lower f) (r : Revision) (P : ℕ) (X s : List ℕ) (c :
       at-once X′ refl (omega arith)
     where
       at-once : (Z : List ℕ) → X′ ≡ Z → length X′ ≡ 0 → LastCloses (after v Q s′ T .entries) (P + length X) (T .store)
-      at-once [] y l = rw (y, crc-goes.none f r Q s′) (closing, none-left (P + length X) Q (T .entries) up z, refl)
+      at-once [] y l = rw (y, crc-concatenation.none f r Q s′) (closing, none-left (P + length X) Q (T .entries) up z, refl)
       at-once (b ∷ bs) y l = (let q : length X′ ≡ suc (length bs) = ap length y in absurd (omega arith))
   later (suc k) z =
       last-cons _ (T .entries) (P + length X) (T .store) (rw place at (ih r Q X′ s′ enough (rw place up) (omega arith)))
@@ -118,7 +118,7 @@ module _ (f : ℕ) (ih : Lower f) (r : Revision) (P : ℕ) (X s : List ℕ) (eno
       (early-up (isEarly r (ends.headerIn X)) (P + length X) P X s _ (rw e at up))
 
 crc-last : (f : ℕ) → Lower f
-crc-last zero r P [] s enough up some = absurd (let z : 0 < 0 = rw (crc-goes.none zero r P s) at some in omega arith)
+crc-last zero r P [] s enough up some = absurd (let z : 0 < 0 = rw (crc-concatenation.none zero r P s) at some in omega arith)
 crc-last zero r P (b ∷ bs) s enough up some = absurd (omega arith)
 crc-last (suc f) r P X s enough up some = last-seen f (crc-last f) r P X s enough (crc-seen.seen r P X s) up some
 
@@ -181,20 +181,20 @@ module _ (own : Features) (store : List ℕ) (revision : Revision) (F : Front) (
   unfolding sealedTrace
   follows X k l =
       let Y : List ℕ = F .sealed in
-      let g = frames-go w (length Y) (F .nonce) 0 P Y X s₁ (le-refl (length Y)) (rw size (b .sealed)) in
+      let g = frames-concatenate w (length Y) (F .nonce) 0 P Y X s₁ (le-refl (length Y)) (rw size (b .sealed)) in
       let m : ℕ = partsIn (S .entries) in
       let U : ℕ → ℕ → Trace = λ c i. frames k w (nonceAfter m (F .nonce)) c i X (S .store) in
       let Z : Trace = U m (length (bytesIn F)) in
       ap (λ (x : List ℕ). traceWith (switchIn own store F) own x store) (append-assoc (F .crc) Y X)
       ∙ behind-switch (Y ++ X)
-      ∙ ap (λ (t : Trace). record { entries = es ++ t .entries; store = t .store }) (g .goes (length (Y ++ X)) k (le-refl (length (Y ++ X))) l ∙ ap₂ (λ (c i : ℕ). joined S (U c i)) (zero-add m) size)
+      ∙ ap (λ (t : Trace). record { entries = es ++ t .entries; store = t .store }) (g .joins (length (Y ++ X)) k (le-refl (length (Y ++ X))) l ∙ ap₂ (λ (c i : ℕ). joined S (U c i)) (zero-add m) size)
       ∙ ap (λ (l : List Entry). record { entries = l; store = Z .store }) (sym (append-assoc es (S .entries) (Z .entries)))
       ∙ ap (λ (t : Trace). joined t Z) (sym (behind-switch Y))
 
   pub same : length (sealedIn own store F .store) ≡ length store
   unfolding sealedTrace
   same =
-      frames-go w (length (F .sealed)) (F .nonce) 0 P (F .sealed) [] s₁ (le-refl (length (F .sealed))) (rw size (b .sealed)) .same
+      frames-concatenate w (length (F .sealed)) (F .nonce) 0 P (F .sealed) [] s₁ (le-refl (length (F .sealed))) (rw size (b .sealed)) .same
       ∙ follows-on own (F .crc) [] store revision (b .crc) .same
 
 -- ---- the reports of calls

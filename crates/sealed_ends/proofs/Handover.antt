@@ -35,30 +35,30 @@ module _ (f : ℕ) (w : List State) (nonce : List ℕ) (n P : ℕ) (X s : List �
   abbrev es : List Entry
   es = frames (suc f) w nonce n P X s .entries
 
-  by-frame : Seen w nonce n P X s → firstIs isFrame (frames (suc f) w nonce n P X s .entries) ≡ true → JudgesAt whole w nonce n X (length s)
-  by-frame (nothing t e) u = absurd (true≢false (sym u ∙ ap (λ (t : Trace). firstIs isFrame (t .entries)) (e f)))
-  by-frame (refuses m at t e) u = absurd (true≢false (sym u ∙ ap (λ (t : Trace). firstIs isFrame (t .entries)) (e f)))
-  by-frame (hands j) u = j
-  by-frame (drops j) u = absurd (true≢false (sym u ∙ ap (λ (t : Trace). firstIs isFrame (t .entries)) (frame-trace w nonce n P X s f j)))
+  frame-judges : Seen w nonce n P X s → firstIs isFrame (frames (suc f) w nonce n P X s .entries) ≡ true → JudgesAt whole w nonce n X (length s)
+  frame-judges (nothing t e) u = absurd (true≢false (sym u ∙ ap (λ (t : Trace). firstIs isFrame (t .entries)) (e f)))
+  frame-judges (refuses m at t e) u = absurd (true≢false (sym u ∙ ap (λ (t : Trace). firstIs isFrame (t .entries)) (e f)))
+  frame-judges (hands j) u = j
+  frame-judges (drops j) u = absurd (true≢false (sym u ∙ ap (λ (t : Trace). firstIs isFrame (t .entries)) (frame-trace w nonce n P X s f j)))
 
-  by-drop : Seen w nonce n P X s → firstIs isDrop (frames (suc f) w nonce n P X s .entries) ≡ true → JudgesAt dropped w nonce n X (length s)
-  by-drop (nothing t e) u = absurd (true≢false (sym u ∙ ap (λ (t : Trace). firstIs isDrop (t .entries)) (e f)))
-  by-drop (refuses m at t e) u = absurd (true≢false (sym u ∙ ap (λ (t : Trace). firstIs isDrop (t .entries)) (e f)))
-  by-drop (hands j) u = absurd (true≢false (sym u ∙ ap (λ (t : Trace). firstIs isDrop (t .entries)) (frame-trace w nonce n P X s f j)))
-  by-drop (drops j) u = j
+  drop-judges : Seen w nonce n P X s → firstIs isDrop (frames (suc f) w nonce n P X s .entries) ≡ true → JudgesAt dropped w nonce n X (length s)
+  drop-judges (nothing t e) u = absurd (true≢false (sym u ∙ ap (λ (t : Trace). firstIs isDrop (t .entries)) (e f)))
+  drop-judges (refuses m at t e) u = absurd (true≢false (sym u ∙ ap (λ (t : Trace). firstIs isDrop (t .entries)) (e f)))
+  drop-judges (hands j) u = absurd (true≢false (sym u ∙ ap (λ (t : Trace). firstIs isDrop (t .entries)) (frame-trace w nonce n P X s f j)))
+  drop-judges (drops j) u = j
 
   exactly : ExactlySealed w nonce n P X s (frames (suc f) w nonce n P X s .entries)
   exactly = record {
     handed = (
-      λ u. whole-checked w nonce n X (length s) (by-frame (seen w nonce n P X s) u),
+      λ u. whole-checked w nonce n X (length s) (frame-judges (seen w nonce n P X s) u),
       λ c. ap (λ (t : Trace). firstIs isFrame (t .entries)) (frame-trace w nonce n P X s f (checked-whole w nonce n X (length s) c)),
     );
-    frames = λ u. (_, ap (λ (t : Trace). t .entries) (frame-trace w nonce n P X s f (by-frame (seen w nonce n P X s) u)));
+    frames = λ u. (_, ap (λ (t : Trace). t .entries) (frame-trace w nonce n P X s f (frame-judges (seen w nonce n P X s) u)));
     dropped = (
-      λ u. dropped-checked w nonce n X (length s) (by-drop (seen w nonce n P X s) u),
+      λ u. dropped-checked w nonce n X (length s) (drop-judges (seen w nonce n P X s) u),
       λ c. ap (λ (t : Trace). firstIs isDrop (t .entries)) (frame-trace w nonce n P X s f (checked-dropped w nonce n X (length s) c)),
     );
-    drops = λ u. (_, ap (λ (t : Trace). t .entries) (frame-trace w nonce n P X s f (by-drop (seen w nonce n P X s) u)));
+    drops = λ u. (_, ap (λ (t : Trace). t .entries) (frame-trace w nonce n P X s f (drop-judges (seen w nonce n P X s) u)));
   }
 
 anywhere : (key nonce : List ℕ) (n P : ℕ) (X s : List ℕ) → ExactlySealed (keyExpansion key) nonce n P X s (sealedTrace key nonce n P X s .entries)
@@ -107,8 +107,8 @@ module _ (own : Features) (store : List ℕ) (r : Revision) (F : Front) (X : Lis
   sw = switchIn own store F
 
   -- the definition's entries of what stands behind the front
-  goes-on : (Z : List ℕ) (all : List Entry) → all ≡ traceWith (switchIn own store F) own (bytesIn F ++ Z) store .entries → SealedBehind own store F Z all
-  goes-on Z all e = record {
+  entries-behind : (Z : List ℕ) (all : List Entry) → all ≡ traceWith (switchIn own store F) own (bytesIn F ++ Z) store .entries → SealedBehind own store F Z all
+  entries-behind Z all e = record {
     later = frames (suc (length Z)) w nonce (spentIn own store F) P Z (sealedIn own store F .store) .entries;
     entries = e ∙ ap (λ (t : Trace). t .entries) (follows own store r F b Z (suc (length Z)) (omega arith));
     exactly = exactly (length Z) w nonce (spentIn own store F) P Z (sealedIn own store F .store);
@@ -116,7 +116,7 @@ module _ (own : Features) (store : List ℕ) (r : Revision) (F : Front) (X : Lis
 
   by-taken : (cs : List Call) → Chained (bytesIn F ++ X) (begun own) store 0 cs → switchBy 0 cs ≡ switchIn own store F → length (bytesIn F) ≤ takenBy 0 cs
       → SealedBehind own store F (take (takenBy 0 cs - length (bytesIn F)) X) (listOf (judgeOwn (own .supported) (own .required)) cs)
-  by-taken cs ch q l = goes-on (take (takenBy 0 cs - P) X) _ (reported own (bytesIn F) X store cs sw ch q l)
+  by-taken cs ch q l = entries-behind (take (takenBy 0 cs - P) X) _ (reported own (bytesIn F) X store cs sw ch q l)
 
   -- the bytes taken hold the whole frame
   by-frame-taken : (m : ℕ) (all : List Entry) → m ≤ length X → sealedLength (headerBehind own store F X) ≤ m → SealedBehind own store F (take m X) all → SealedBehind own store F X all
@@ -139,18 +139,18 @@ module _ (own : Features) (store : List ℕ) (r : Revision) (F : Front) (X : Lis
       let i = switched-demand3 own (bytesIn F ++ X) store cs ch .within in
       by-frame-taken (takenBy 0 cs - P) _ (omega arith) (omega arith) (by-taken cs ch q (omega arith))
   through cs ch q (all-taken e) =
-      goes-on X _
+      entries-behind X _
       (switched-demand3 own (bytesIn F ++ X) store cs ch .reports
       ∙ ap₂ (λ (x : Switch) (l : List ℕ). traceWith x own l store .entries) q
       (ap (λ (k : ℕ). take k (bytesIn F ++ X)) e ∙ take-all (length (bytesIn F ++ X)) (bytesIn F ++ X) (le-refl (length (bytesIn F ++ X)))))
   through cs ch q (refused e) =
-      goes-on X _ (switched-demand3 own (bytesIn F ++ X) store cs ch .whole e .0 ∙ ap (λ (x : Switch). traceWith x own (bytesIn F ++ X) store .entries) q)
+      entries-behind X _ (switched-demand3 own (bytesIn F ++ X) store cs ch .whole e .0 ∙ ap (λ (x : Switch). traceWith x own (bytesIn F ++ X) store .entries) q)
 
 pub handed-over : SealedHandedOver
 handed-over = record {
   anywhere = anywhere;
   behind = λ own store r F X b. record {
-    defined = goes-on own store r F X b X _ refl;
+    defined = entries-behind own store r F X b X _ refl;
     taken = by-taken own store r F X b;
     reports = through own store r F X b;
   };

@@ -35,7 +35,8 @@ use Rattle.sealed_receiver.specs.Step as step
 use Rattle.sealed_receiver.specs.Step.{at, knowing, switched, Stepped, silent, refuse, unlessRefused, judgeOpened, textOf, judgePart, partText, endFrame, beginLast, beginRest, behindFirst, behindRest, behindLast, finish, absorbed, stored, reached, size, onByte, neededBy, feed}
 use Rattle.sealed_receiver.proofs.Openings.{opened-next}
 use Rattle.sealed_builder.specs.Nonces.{AllDifferent}
-use Rattle.sealed_builder.proofs.Runs.{run, length-run, run-on, all-different}
+use Rattle.secure.proofs.Runs.{run, length-run, run-on}
+use Rattle.sealed_builder.proofs.Different.{all-different}
 use Rattle.connection.specs.declared.State.{State}
 use Rattle.connection.specs.declared.Received.{Received}
 use Rattle.connection.specs.declared.Mode.the-variants as mode
@@ -130,7 +131,7 @@ on-none y e = record { live = e; key = refl; nonce = refl; opened = sym (add-zer
 -- ---- one byte
 
 data Byte (r : Receiving) (os : List Opening) (x : Stepped) : Type 0 where
-  goes : (a : Ran r os) → On r (a .count) (x .state) → Byte r os x
+  stays-live : (a : Ran r os) → On r (a .count) (x .state) → Byte r os x
   stops : Ran r os → (n : Numbers) (t : List ℕ) → x ≡ refuse n t → Byte r os x
 
 one-opening : (r : Receiving) (bytes : List ℕ) → judgeNonce (openedOf r) ≡ fine → Ran r (openingBy fine r bytes)
@@ -142,7 +143,7 @@ module _ (r : Receiving) (bytes left : List ℕ) (next : List ℕ → Stepped) (
   by-kept : judgeNonce (openedOf r) ≡ fine → judgePart r bytes ≡ fine → (x : Stepped) → Keeps (openedMore r) x → Byte r (openingBy fine r bytes) x
   unfolding openedMore nonceAfter one-opening
   by-kept e j x (kept live q) =
-      goes (one-opening r bytes e) (record {
+      stays-live (one-opening r bytes e) (record {
         live = live;
         key = ap (λ (y : Receiving). y .key) q;
         nonce = ap (λ (y : Receiving). y .nonce) q;
@@ -173,7 +174,7 @@ finish-is stage.Refused b v s e = wrong (sym e)
 reached-byte : (c : Bool) (y : sealed.State) (s : List ℕ) → isRefused (y .position .stage) ≡ false → openedOf (y .known .receiving) ≤ allNonces
     → Byte (y .known .receiving) (openingAt c y s) (reached y s c)
 unfolding ran-none
-reached-byte true y s e l = goes (ran-none (y .known .receiving) l) (on-none y e)
+reached-byte true y s e l = stays-live (ran-none (y .known .receiving) l) (on-none y e)
 reached-byte false y s e l =
     let r = y .known .receiving in
     let h = y .known .header in
@@ -182,10 +183,10 @@ reached-byte false y s e l =
     subst (Byte r (openingBy (judgeNonce (openedOf r)) r bytes)) (sym (finish-is k (y .position .block) (y .known) s e))
     (part-byte r bytes (leftBy k h s) (λ text. behindBy k (openedMore r) h text s) (λ text. keeps-behind k (openedMore r) h text s) l)
 
-byte-goes : (st : sealed.State) (s : List ℕ) (b : ℕ) → isRefused (st .position .stage) ≡ false → openedOf (st .known .receiving) ≤ allNonces
+byte-opens : (st : sealed.State) (s : List ℕ) (b : ℕ) → isRefused (st .position .stage) ≡ false → openedOf (st .known .receiving) ≤ allNonces
     → Byte (st .known .receiving) (openingsOf st s b) (onByte st s b)
 unfolding openingsOf onByte
-byte-goes st s b e l = reached-byte (ltb (st .position .got + 1) (size st)) (absorbed st (b ∷ [])) (stored st s (b ∷ [])) e l
+byte-opens st s b e l = reached-byte (ltb (st .position .got + 1) (size st)) (absorbed st (b ∷ [])) (stored st s (b ∷ [])) e l
 
 -- what it comes to by the openings alone
 part-only : (r : Receiving) (bytes left : List ℕ) (next : List ℕ → Stepped) (by : List Opened → Stepped)
@@ -216,44 +217,44 @@ only st s b e = reached-only (ltb (st .position .got + 1) (size st)) (absorbed s
 
 -- ---- a piece
 
-data Went (r : Receiving) (os : List Opening) (y : sealed.State) : Type 0 where
-  further : (a : Ran r os) → On r (a .count) y → Went r os y
-  over : Ran r os → isRefused (y .position .stage) ≡ true → Went r os y
+data AfterOpenings (r : Receiving) (os : List Opening) (y : sealed.State) : Type 0 where
+  further : (a : Ran r os) → On r (a .count) y → AfterOpenings r os y
+  over : Ran r os → isRefused (y .position .stage) ≡ true → AfterOpenings r os y
 
-went-none : (y : sealed.State) → isRefused (y .position .stage) ≡ false → openedOf (y .known .receiving) ≤ allNonces → Went (y .known .receiving) [] y
+after-none : (y : sealed.State) → isRefused (y .position .stage) ≡ false → openedOf (y .known .receiving) ≤ allNonces → AfterOpenings (y .known .receiving) [] y
 unfolding ran-none
-went-none y e l = further (ran-none (y .known .receiving) l) (on-none y e)
+after-none y e l = further (ran-none (y .known .receiving) l) (on-none y e)
 
 -- behind openings that left x
-went-on : (r : Receiving) (os ps : List Opening) (x y : sealed.State) (a : Ran r os) → On r (a .count) x → Went (x .known .receiving) ps y → Went r (os ++ ps) y
+after-more : (r : Receiving) (os ps : List Opening) (x y : sealed.State) (a : Ran r os) → On r (a .count) x → AfterOpenings (x .known .receiving) ps y → AfterOpenings r (os ++ ps) y
 unfolding ran-two
-went-on r os ps x y a o (further b u) = further (ran-two r os ps x a o b) (on-two r (a .count) (b .count) x y o u)
-went-on r os ps x y a o (over b z) = over (ran-two r os ps x a o b) z
+after-more r os ps x y a o (further b u) = further (ran-two r os ps x a o b) (on-two r (a .count) (b .count) x y o u)
+after-more r os ps x y a o (over b z) = over (ran-two r os ps x a o b) z
 
 fewer : (r : Receiving) (os : List Opening) (x : sealed.State) (a : Ran r os) → On r (a .count) x → openedOf (x .known .receiving) ≤ allNonces
 fewer r os x a o = omega (arith, a .fits, o .opened)
 
 module _ (r : Receiving) (os : List Opening) (later : sealed.State → List ℕ → List Opening) (rest : sealed.State → List ℕ → step.Answer)
-    (ih : (y : sealed.State) (s : List ℕ) → isRefused (y .position .stage) ≡ false → openedOf (y .known .receiving) ≤ allNonces → Went (y .known .receiving) (later y s) (rest y s .received .state)) where
+    (ih : (y : sealed.State) (s : List ℕ) → isRefused (y .position .stage) ≡ false → openedOf (y .known .receiving) ≤ allNonces → AfterOpenings (y .known .receiving) (later y s) (rest y s .received .state)) where
   by-report : (p : Report) (x : Stepped) (a : Ran r os) → On r (a .count) (x .state)
-      → Went r (os ++ unlessReported p (later (x .state) (x .store))) (step.onward p 1 x (rest (x .state) (x .store)) .received .state)
+      → AfterOpenings r (os ++ unlessReported p (later (x .state) (x .store))) (step.onward p 1 x (rest (x .state) (x .store)) .received .state)
   by-report report.More x a o =
-      went-on r os (later (x .state) (x .store)) (x .state) (rest (x .state) (x .store) .received .state) a o (ih (x .state) (x .store) (o .live) (fewer r os (x .state) a o))
-  by-report (report.Event e) x a o = subst (λ (l : List Opening). Went r l (x .state)) (sym (append-nil os)) (further a o)
+      after-more r os (later (x .state) (x .store)) (x .state) (rest (x .state) (x .store) .received .state) a o (ih (x .state) (x .store) (o .live) (fewer r os (x .state) a o))
+  by-report (report.Event e) x a o = subst (λ (l : List Opening). AfterOpenings r l (x .state)) (sym (append-nil os)) (further a o)
 
   by-byte : (x : Stepped) → Byte r os x
-      → Went r (os ++ unlessReported (x .report) (later (x .state) (x .store))) (step.onward (x .report) 1 x (rest (x .state) (x .store)) .received .state)
-  by-byte x (goes a o) = by-report (x .report) x a o
+      → AfterOpenings r (os ++ unlessReported (x .report) (later (x .state) (x .store))) (step.onward (x .report) 1 x (rest (x .state) (x .store)) .received .state)
+  by-byte x (stays-live a o) = by-report (x .report) x a o
   by-byte x (stops a n t q) =
-      subst (λ (z : Stepped). Went r (os ++ unlessReported (z .report) (later (z .state) (z .store))) (step.onward (z .report) 1 z (rest (z .state) (z .store)) .received .state)) (sym q)
-      (subst (λ (l : List Opening). Went r l (step.refusedState n)) (sym (append-nil os)) (over a refl))
+      subst (λ (z : Stepped). AfterOpenings r (os ++ unlessReported (z .report) (later (z .state) (z .store))) (step.onward (z .report) 1 z (rest (z .state) (z .store)) .received .state)) (sym q)
+      (subst (λ (l : List Opening). AfterOpenings r l (step.refusedState n)) (sym (append-nil os)) (over a refl))
 
-feed-went : (st : sealed.State) (s bs : List ℕ) → isRefused (st .position .stage) ≡ false → openedOf (st .known .receiving) ≤ allNonces
-    → Went (st .known .receiving) (openingsIn st s bs) (feed st s bs .received .state)
+after-feed : (st : sealed.State) (s bs : List ℕ) → isRefused (st .position .stage) ≡ false → openedOf (st .known .receiving) ≤ allNonces
+    → AfterOpenings (st .known .receiving) (openingsIn st s bs) (feed st s bs .received .state)
 unfolding feed openingsIn
-feed-went st s [] e l = went-none st e l
-feed-went st s (b ∷ bs) e l =
-    by-byte (st .known .receiving) (openingsOf st s b) (λ y t. openingsIn y t bs) (λ y t. feed y t bs) (λ y t. feed-went y t bs) (onByte st s b) (byte-goes st s b e l)
+after-feed st s [] e l = after-none st e l
+after-feed st s (b ∷ bs) e l =
+    by-byte (st .known .receiving) (openingsOf st s b) (λ y t. openingsIn y t bs) (λ y t. feed y t bs) (λ y t. after-feed y t bs) (onByte st s b) (byte-opens st s b e l)
 
 -- ---- a call
 
@@ -269,20 +270,20 @@ module _ (st : sealed.State) (s piece : List ℕ) where
   abbrev opens : Bool → Bool → Bool → List Opening
   opens a r t = cond a (cond r [] (cond t [] (openingsIn st s piece))) []
 
-  call-went : isRefused (st .position .stage) ≡ false → openedOf (st .known .receiving) ≤ allNonces
-      → Went (st .known .receiving) (openingsOn st s piece) (step.answer st s piece .received .state)
+  after-call : isRefused (st .position .stage) ≡ false → openedOf (st .known .receiving) ≤ allNonces
+      → AfterOpenings (st .known .receiving) (openingsOn st s piece) (step.answer st s piece .received .state)
   unfolding step.answer
-  call-went e l =
-      subst (λ (r : Bool). Went (st .known .receiving) (opens (sealed-states.agrees st) r short) (answers (sealed-states.agrees st) r short .received .state)) (sym e)
+  after-call e l =
+      subst (λ (r : Bool). AfterOpenings (st .known .receiving) (opens (sealed-states.agrees st) r short) (answers (sealed-states.agrees st) r short .received .state)) (sym e)
       (go (sealed-states.agrees st) short)
     where
       short : Bool
       short = ltb (length s) (neededBy st)
 
-      go : (a t : Bool) → Went (st .known .receiving) (opens a false t) (answers a false t .received .state)
-      go false t = went-none st e l
+      go : (a t : Bool) → AfterOpenings (st .known .receiving) (opens a false t) (answers a false t .received .state)
+      go false t = after-none st e l
       go true true = over (ran-none (st .known .receiving) l) refl
-      go true false = feed-went st s piece e l
+      go true false = after-feed st s piece e l
 
   call-gone : isRefused (st .position .stage) ≡ true → (openingsOn st s piece ≡ []) × (isRefused (step.answer st s piece .received .state .position .stage) ≡ true)
   unfolding step.answer
@@ -331,12 +332,12 @@ module _ (st : State) (c : Lent) (z : Secured st) (a : Answered st (c .store) (c
   still-secured : Secured (c .received .state)
   still-secured = record { mode = ap (λ (y : State). y .mode) handed-back ∙ z .mode; ready = ap (λ (y : State). y .ready) handed-back ∙ z .ready }
 
-  secured-went : isRefused (st .secure .position .stage) ≡ false → openedOf (st .secure .known .receiving) ≤ allNonces
-      → Went (st .secure .known .receiving) (openingsBy st (c .store) (c .piece)) (c .received .state .secure)
-  secured-went e l =
-      subst (λ (y : sealed.State). Went (st .secure .known .receiving) (openingsBy st (c .store) (c .piece)) y) (sym (ap (λ (y : State). y .secure) handed-back))
-      (subst (λ (os : List Opening). Went (st .secure .known .receiving) os (step.answer (st .secure) (c .store) (c .piece) .received .state)) (sym (secure-answer st (c .store) (c .piece) z .1))
-      (call-went (st .secure) (c .store) (c .piece) e l))
+  after-secured : isRefused (st .secure .position .stage) ≡ false → openedOf (st .secure .known .receiving) ≤ allNonces
+      → AfterOpenings (st .secure .known .receiving) (openingsBy st (c .store) (c .piece)) (c .received .state .secure)
+  after-secured e l =
+      subst (λ (y : sealed.State). AfterOpenings (st .secure .known .receiving) (openingsBy st (c .store) (c .piece)) y) (sym (ap (λ (y : State). y .secure) handed-back))
+      (subst (λ (os : List Opening). AfterOpenings (st .secure .known .receiving) os (step.answer (st .secure) (c .store) (c .piece) .received .state)) (sym (secure-answer st (c .store) (c .piece) z .1))
+      (after-call (st .secure) (c .store) (c .piece) e l))
 
   secured-gone : isRefused (st .secure .position .stage) ≡ true → (openingsBy st (c .store) (c .piece) ≡ []) × (isRefused (c .received .state .secure .position .stage) ≡ true)
   secured-gone e =
@@ -357,50 +358,50 @@ gone-list st (switching c ∷ cs) z ch e =
     subst (λ (y : State). (openings y cs ≡ []) × (isRefused (stateAfter y cs .secure .position .stage) ≡ true)) (sym q)
     (gone-list st cs z (subst (λ (y : State). Handed y cs) q (ch .1)) e)
 
-by-went : (r : Receiving) (os ps : List Opening) (x y : sealed.State)
-    → (isRefused (x .position .stage) ≡ false → openedOf (x .known .receiving) ≤ allNonces → Went (x .known .receiving) ps y)
-    → (isRefused (x .position .stage) ≡ true → (ps ≡ []) × (isRefused (y .position .stage) ≡ true)) → Went r os x → Went r (os ++ ps) y
-by-went r os ps x y live gone (further a o) = went-on r os ps x y a o (live (o .live) (fewer r os x a o))
-by-went r os ps x y live gone (over a e) =
+by-after : (r : Receiving) (os ps : List Opening) (x y : sealed.State)
+    → (isRefused (x .position .stage) ≡ false → openedOf (x .known .receiving) ≤ allNonces → AfterOpenings (x .known .receiving) ps y)
+    → (isRefused (x .position .stage) ≡ true → (ps ≡ []) × (isRefused (y .position .stage) ≡ true)) → AfterOpenings r os x → AfterOpenings r (os ++ ps) y
+by-after r os ps x y live gone (further a o) = after-more r os ps x y a o (live (o .live) (fewer r os x a o))
+by-after r os ps x y live gone (over a e) =
     let g = gone e in
     over (subst (Ran r) (sym (ap (λ (l : List Opening). os ++ l) (g .0) ∙ append-nil os)) a) (g .1)
 
-went-list : (st : State) (cs : List AnyCall) → Secured st → Handed st cs → isRefused (st .secure .position .stage) ≡ false → openedOf (st .secure .known .receiving) ≤ allNonces
-    → Went (st .secure .known .receiving) (openings st cs) (stateAfter st cs .secure)
-went-list st [] z ch e l = went-none (st .secure) e l
-went-list st (taking c ∷ cs) z ch e l =
+after-list : (st : State) (cs : List AnyCall) → Secured st → Handed st cs → isRefused (st .secure .position .stage) ≡ false → openedOf (st .secure .known .receiving) ≤ allNonces
+    → AfterOpenings (st .secure .known .receiving) (openings st cs) (stateAfter st cs .secure)
+after-list st [] z ch e l = after-none (st .secure) e l
+after-list st (taking c ∷ cs) z ch e l =
     let z′ = still-secured st c z (ch .0) in
-    by-went (st .secure .known .receiving) (openingsBy st (c .store) (c .piece)) (openings (c .received .state) cs) (c .received .state .secure) (stateAfter (c .received .state) cs .secure)
-    (λ u v. went-list (c .received .state) cs z′ (ch .1) u v) (λ u. gone-list (c .received .state) cs z′ (ch .1) u) (secured-went st c z (ch .0) e l)
-went-list st (switching c ∷ cs) z ch e l =
+    by-after (st .secure .known .receiving) (openingsBy st (c .store) (c .piece)) (openings (c .received .state) cs) (c .received .state .secure) (stateAfter (c .received .state) cs .secure)
+    (λ u v. after-list (c .received .state) cs z′ (ch .1) u v) (λ u. gone-list (c .received .state) cs z′ (ch .1) u) (after-secured st c z (ch .0) e l)
+after-list st (switching c ∷ cs) z ch e l =
     let q = still st c (z .ready) (ch .0) in
-    subst (λ (y : State). Went (st .secure .known .receiving) (openings y cs) (stateAfter y cs .secure)) (sym q) (went-list st cs z (subst (λ (y : State). Handed y cs) q (ch .1)) e l)
+    subst (λ (y : State). AfterOpenings (st .secure .known .receiving) (openings y cs) (stateAfter y cs .secure)) (sym q) (after-list st cs z (subst (λ (y : State). Handed y cs) q (ch .1)) e l)
 
 -- from the switch on
-went-switch : (st : State) (c : Try) (cs : List AnyCall) → Made st c → Handed (c .switched .state) cs
-    → Went (freshReceiving (c .key) (c .receiving)) (openings (c .switched .state) cs) (stateAfter (c .switched .state) cs .secure)
+after-switch : (st : State) (c : Try) (cs : List AnyCall) → Made st c → Handed (c .switched .state) cs
+    → AfterOpenings (freshReceiving (c .key) (c .receiving)) (openings (c .switched .state) cs) (stateAfter (c .switched .state) cs .secure)
 unfolding switched freshReceiving
-went-switch st c cs m ch =
+after-switch st c cs m ch =
     let S : State = switchedState fine st (c .key) (c .receiving) in
     let w = m .switched in
     let q : c .switched .state ≡ S = w .state ∙ ap (λ (j : Judged). switchedState j st (c .key) (c .receiving)) (sym (w .verdict) ∙ m .verdict) in
     let z : Secured S = record { mode = refl; ready = refl } in
-    subst (λ (y : State). Went (freshReceiving (c .key) (c .receiving)) (openings y cs) (stateAfter y cs .secure)) (sym q)
-    (went-list S cs z (subst (λ (y : State). Handed y cs) q ch) refl (omega arith))
+    subst (λ (y : State). AfterOpenings (freshReceiving (c .key) (c .receiving)) (openings y cs) (stateAfter y cs .secure)) (sym q)
+    (after-list S cs z (subst (λ (y : State). Handed y cs) q ch) refl (omega arith))
 
-ran-of : {r : Receiving} {os : List Opening} {y : sealed.State} → Went r os y → Ran r os
+ran-of : {r : Receiving} {os : List Opening} {y : sealed.State} → AfterOpenings r os y → Ran r os
 ran-of (further a o) = a
 ran-of (over a e) = a
 
 pub from-switch : (st : State) (c : Try) (cs : List AnyCall) → Made st c → Handed (c .switched .state) cs → Ran (freshReceiving (c .key) (c .receiving)) (openings (c .switched .state) cs)
-from-switch st c cs m ch = ran-of (went-switch st c cs m ch)
+from-switch st c cs m ch = ran-of (after-switch st c cs m ch)
 
 -- as many as the state counts
 length-nonces : (os : List Opening) → length (noncesOf os) ≡ length os
 length-nonces [] = refl
 length-nonces (o ∷ os) = ap (λ (n : ℕ). suc n) (length-nonces os)
 
-count-of : {r : Receiving} {os : List Opening} {y : sealed.State} → Went r os y → isRefused (y .position .stage) ≡ false → openedOf (y .known .receiving) ≡ openedOf r + length os
+count-of : {r : Receiving} {os : List Opening} {y : sealed.State} → AfterOpenings r os y → isRefused (y .position .stage) ≡ false → openedOf (y .known .receiving) ≡ openedOf r + length os
 count-of {r} {os} (further a o) e =
     o .opened ∙ ap (λ (n : ℕ). openedOf r + n) (sym (length-run (a .count) (r .nonce)) ∙ sym (ap length (a .is)) ∙ length-nonces os)
 count-of (over a g) e = wrong (sym e ∙ g)
@@ -409,7 +410,7 @@ counted : (st : State) (c : Try) (cs : List AnyCall) → Made st c → Handed (c
     → isRefused (stateAfter (c .switched .state) cs .secure .position .stage) ≡ false
     → openedOf (stateAfter (c .switched .state) cs .secure .known .receiving) ≡ length (openings (c .switched .state) cs)
 unfolding freshReceiving
-counted st c cs m ch e = count-of (went-switch st c cs m ch) e ∙ omega arith
+counted st c cs m ch e = count-of (after-switch st c cs m ch) e ∙ omega arith
 
 different : (st : State) (c : Try) (cs : List AnyCall) → Made st c → Handed (c .switched .state) cs → AllDifferent (noncesOf (openings (c .switched .state) cs))
 unfolding freshReceiving

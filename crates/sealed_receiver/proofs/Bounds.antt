@@ -9,7 +9,7 @@ use Rattle.secure.specs.Layout.{noRest, noLast, restPart, lastPart}
 use Rattle.sealed_receiver.specs.declared.Stage.{Stage}
 use Rattle.sealed_receiver.specs.declared.Stage.the-variants as stage
 use Rattle.sealed_receiver.specs.State.{isFirst, inFrame, sizeOf, placeOf, needed}
-use Rattle.sealed_receiver.proofs.Rooms.{there, rest-size, rest-fits, last-size, last-fits}
+use Rattle.secure.proofs.Bounds.{there, rest-size, rest-fits, last-size, last-fits}
 
 -- those of a first part into the block
 pub block-room : (k : Stage) (h : Header) → isFirst k ≡ true → sizeOf k h ≤ 96

@@ -26,7 +26,7 @@ use Rattle.sealed_receiver.specs.declared.Known.{Known}
 use Rattle.sealed_receiver.specs.State.{openedMore}
 use Rattle.sealed_receiver.specs.Step.{Stepped, refuse, unlessRefused, judgePart, partText, beginRest, behindFirst, finish}
 use Rattle.sealed_receiver.proofs.Openings.{part-text-length}
-use Rattle.sealed_receiver.proofs.Rooms.{segments-fit}
+use Rattle.secure.proofs.Bounds.{segments-fit}
 
 -- ---- a frame within the limits fits into any store of 2 ^ 32 bytes
 

@@ -9,7 +9,7 @@ use lib.Seq.{sets}
 use Rattle.receiver.specs.declared.Report.{Report}
 use Rattle.receiver.specs.declared.Report.the-variants as report
 use Rattle.receiver.proofs.Machine as machine
-use Rattle.receiver.proofs.Placed.{sets-append}
+use Rattle.buffer.proofs.Sets.{sets-append}
 use Rattle.receiver.proofs.Gathers.{Gathering, got-append, byteStep}
 use Rattle.receiver.proofs.Feeding.{Lasting}
 use Rattle.sealed_receiver.specs.declared.State.{State}

@@ -24,9 +24,10 @@ use Rattle.sealed_receiver.specs.declared.Receiving.{Receiving}
 use Rattle.sealed_receiver.specs.declared.Known.{Known}
 use Rattle.sealed_receiver.specs.State.{openedMore}
 use Rattle.sealed_receiver.specs.Step.{Stepped, refuse, judgePart, partText, endFrame, behindLast, finish, ClosedUp}
-use Rattle.sealed_receiver.proofs.Lists.{splice-upto, splice-behind, zeros-append}
+use Rattle.buffer.proofs.Splices.{splice-upto, splice-behind}
+use Rattle.buffer.proofs.Zeros.{zeros-append}
 use Rattle.sealed_receiver.proofs.Regions.{end-same, after, after-length, after-before, after-behind, part-refused, part-opened}
-use Rattle.sealed_receiver.proofs.Rooms.{segments-fit, moves-fit, round-up, last-size, last-fits}
+use Rattle.secure.proofs.Bounds.{segments-fit, moves-fit, round-up, last-size, last-fits}
 
 -- ---- padded segments
 

@@ -1,5 +1,3 @@
-pub mod Lists
-pub mod Rooms
 pub mod Openings
 pub mod Regions
 pub mod FirstPart
@@ -10,5 +8,4 @@ pub mod Bounds
 pub mod Gathered
 pub mod FeedLoop
 pub mod Every
-pub mod Stores
 pub mod Traces

@@ -26,7 +26,8 @@ use Rattle.body.specs.End.{Ended, whole, dropped, turnedAway, lateOf}
 use Rattle.receiver.specs.declared.Report.{Report}
 use Rattle.receiver.specs.State.{noHeader}
 use Rattle.receiver.proofs.Zeros.{zeros-later, drop-sets}
-use Rattle.receiver.proofs.Allowed.{Allowed, AllowedEnd, allowed-fine, allowed-refused, allowed-cond, allowed-or, end-whole, end-dropped, end-turned, end-by}
+use Rattle.refusal.proofs.Allowed.{Allowed, allowed-fine, allowed-refused, allowed-cond, allowed-or}
+use Rattle.body.proofs.Allowed.{AllowedEnd, end-whole, end-dropped, end-turned, end-by}
 use Rattle.receiver.proofs.Machine as machine
 use Rattle.gcm.specs.Gcm.{Opened, plain, fail, opened}
 use Rattle.secure.specs.Layout.{allNonces, padding, noRest, noLast, lastLengths, restPart, lastPart}
@@ -41,7 +42,7 @@ use Rattle.sealed_receiver.specs.declared.Known.{Known}
 use Rattle.sealed_receiver.specs.declared.State.{State}
 use Rattle.sealed_receiver.specs.State.{isFirst, isRefused, inFrame, sizeOf, needed, openedOf, freshReceiving, openedMore, noReceiving, receivingRule, openedRule, headerRule, given, refusalRule, rules, countRule, blockRule, agreesAt, agrees}
 use Rattle.sealed_receiver.specs.Step.{blank, at, knowing, nextFrame, switched, refusedState, Stepped, silent, refuse, unlessRefused, judgeOpened, judgePart, partText, endFrame, beginLast, beginRest, behindFirst, behindRest, behindLast, sealedIn, finish, blockWith, storeWith, absorbed, stored, reached, size, chunk, onByte, Running}
-use Rattle.sealed_receiver.proofs.Rooms.{there, segments-fit, rest-beyond, pads-fit}
+use Rattle.secure.proofs.Bounds.{there, segments-fit, rest-beyond, pads-fit}
 use Rattle.sealed_receiver.proofs.Openings.{opened-next}
 use Rattle.sealed_receiver.proofs.FirstPart.{first-fits, first-header}
 use Rattle.sealed_receiver.proofs.LastPart.{payload-fits}

@@ -18,9 +18,9 @@ use Rattle.secure.specs.Layout.{needed}
 use Rattle.secure.specs.Reading.{zeroed, holding}
 use Rattle.sealed_receiver.specs.declared.Receiving.{Receiving}
 use Rattle.sealed_receiver.specs.Step.{Stepped, stepped, refuse, unlessRefused, judgePart, partText, nextFrame, endFrame}
-use Rattle.sealed_receiver.proofs.Lists.{splice-before, splice-from, splice-behind, splice-again, given-back}
+use Rattle.buffer.proofs.Splices.{splice-before, splice-from, splice-behind, splice-again, given-back}
 use Rattle.sealed_receiver.proofs.Openings.{part-text-length}
-use Rattle.sealed_receiver.proofs.Rooms.{segments-fit}
+use Rattle.secure.proofs.Bounds.{segments-fit}
 
 -- ---- what a frame's end leaves
 

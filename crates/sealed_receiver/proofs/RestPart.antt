@@ -24,9 +24,9 @@ use Rattle.sealed_receiver.specs.declared.Receiving.{Receiving}
 use Rattle.sealed_receiver.specs.declared.Known.{Known}
 use Rattle.sealed_receiver.specs.State.{openedMore}
 use Rattle.sealed_receiver.specs.Step.{Stepped, refuse, unlessRefused, silent, at, knowing, judgePart, partText, endFrame, beginLast, behindRest, finish}
-use Rattle.sealed_receiver.proofs.Lists.{only-zeros}
+use Rattle.buffer.proofs.Zeros.{only-zeros}
 use Rattle.sealed_receiver.proofs.Regions.{zeroed-same, after, after-length, after-behind, after-again, part-refused, part-opened}
-use Rattle.sealed_receiver.proofs.Rooms.{rest-beyond, rest-size, rest-fits, pads-fit}
+use Rattle.secure.proofs.Bounds.{rest-beyond, rest-size, rest-fits, pads-fit}
 
 -- a frame of one segment ends behind it
 pub whole-behind : (r : Receiving) (h : Header) (s : List ℕ) → judgeHeader h ≡ fine → noLast h ≡ true

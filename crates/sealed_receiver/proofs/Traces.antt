@@ -19,7 +19,7 @@ use Rattle.stream.specs.declared.Event.the-variants as event
 use Rattle.stream.specs.Stream.{Trace, ended, after}
 use Rattle.stream.specs.Stream as stream
 use Rattle.receiver.specs.declared.Report.the-variants as report
-use Rattle.receiver.proofs.Placed.{sets-whole, take-over}
+use Rattle.buffer.proofs.Sets.{sets-whole}
 use Rattle.receiver.proofs.Machine.{Silent, scan, scan-none, scan-silent}
 use Rattle.receiver.proofs.Gathers.{traceBy, run, byteStep, short, full}
 use Rattle.aes.specs.Aes.{keyExpansion}
@@ -31,11 +31,12 @@ use Rattle.sealed_receiver.specs.declared.Receiving.{Receiving}
 use Rattle.sealed_receiver.specs.declared.State.{State}
 use Rattle.sealed_receiver.specs.State.{openedOf, freshReceiving, openedMore}
 use Rattle.sealed_receiver.specs.Step.{blank, at, knowing, nextFrame, switched, refusedState, Stepped, unlessRefused, judgeOpened, textOf, judgePart, partText, endFrame, beginLast, beginRest, behindFirst, behindRest, behindLast, finish, stored}
-use Rattle.sealed_receiver.proofs.Rooms.{segments-fit, rest-beyond, rest-size, rest-fits, last-size, last-fits}
+use Rattle.secure.proofs.Bounds.{segments-fit, rest-beyond, rest-size, rest-fits, last-size, last-fits}
 use Rattle.sealed_receiver.proofs.Openings.{part-text-length, opened-next}
 use Rattle.sealed_receiver.proofs.FirstPart.{first-fits}
 use Rattle.sealed_receiver.proofs.Gathered.{bare, parts}
-use Rattle.sealed_receiver.proofs.Stores.{front-there, part-there, again, zeroed-over, holding-over}
+use Rattle.buffer.proofs.Splices.{splice-before, splice-at, splice-again}
+use Rattle.secure.proofs.Stores.{zeroed-over, holding-over}
 
 -- what the bytes from P on come to, from a state and a store, and from a step
 abbrev pub traced : State → List ℕ → ℕ → List ℕ → Trace
@@ -127,9 +128,9 @@ module _ (f : ℕ) (below : Below f) where
         let x = lastEnded h (partText r xs) in
         let u = unpadded (lastLengths h) (partText r xs) in
         ap₂ (λ (b z : List ℕ). unlessRefused (judgePart r b) z (behindLast (openedMore r) h (partText r b) (splice s n₁ xs)))
-        (part-there s xs n₁ k (lastPartLength h) (n ∙ sym (last-size h e))) (zeroed-over h s xs n₁ k m)
+        (splice-at s n₁ xs k (lastPartLength h) (n ∙ sym (last-size h e))) (zeroed-over h s xs n₁ k m)
         ∙ ap (unlessRefused (judgePart r xs) (zeroed h s))
-        (end-over x (openedMore r) h (take n₁ (splice s n₁ xs) ++ u) s xs n₁ k m ∙ ap (λ (p : List ℕ). endFrame x (openedMore r) h (p ++ u) s) (front-there s xs n₁ k ∙ stands))
+        (end-over x (openedMore r) h (take n₁ (splice s n₁ xs) ++ u) s xs n₁ k m ∙ ap (λ (p : List ℕ). endFrame x (openedMore r) h (p ++ u) s) (splice-before s n₁ xs k ∙ stands))
 
     -- all of it came
     last-whole : noLast h ≡ false → lastPart h ≤ length ys
@@ -224,7 +225,7 @@ module _ (f : ℕ) (below : Below f) where
         unfolding finish
         rest-finish =
             ap₂ (λ (b z : List ℕ). unlessRefused (judgePart r b) z (behindRest (openedMore r) h (partText r b) (splice inline inlineLength rs)))
-            (part-there inline rs inlineLength inline-room (restPartLength h) (rest-n ∙ sym (rest-size h e))) rest-zeroed
+            (splice-at inline inlineLength rs inline-room (restPartLength h) (rest-n ∙ sym (rest-size h e))) rest-zeroed
 
         -- an opened one, and what is behind it
         module _ (j : judgePart r rs ≡ fine) where
@@ -249,7 +250,7 @@ module _ (f : ℕ) (below : Below f) where
               let z = length-replicate {A = ℕ} (padding m₁ + 16) 0 in
               let k = rest-length in
               let n = rest-n in
-              again inline rs inlineLength inline-room (take m₁ text₁ ++ zeros₁) (omega (arith, a, z, k, n))
+              splice-again inline inlineLength rs (take m₁ text₁ ++ zeros₁) inline-room (omega (arith, a, z, k, n))
               ∙ ap (λ (i : ℕ). splice inline i (take m₁ text₁ ++ zeros₁)) (sym size₁)
               ∙ replaceFront-next s first (take m₁ text₁ ++ zeros₁)
               ∙ ap (λ (t : List ℕ). replaceFront t s) (sym (append-assoc first (take m₁ text₁) zeros₁))
@@ -306,7 +307,7 @@ module _ (f : ℕ) (below : Below f) where
         (cond c (ended (splice inline inlineLength ys)) (partTrace (keyExpansion (r .key)) (r .nonce) (openedOf r) rs (P + restPart h) (zeroed h s) behind₁))
     rest-by true c e q k =
         let l : length first ≤ length s = (let z = segments-fit h in omega (arith, z)) in
-        last-run r h P ys first inline (rw (length-replaceFront first s l) fits) (take-over first s (h .s1 .len) k) left
+        last-run r h P ys first inline (rw (length-replaceFront first s l) fits) (take-at first (drop (length first) s) (h .s1 .len) k) left
     rest-by false true e q k = rest-cut e k (ltb-true (length ys) (restPart h) q)
     rest-by false false e q k = rest-whole e k (ltb-false (length ys) (restPart h) q)
 

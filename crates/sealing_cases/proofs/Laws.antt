@@ -8,6 +8,7 @@ use borrow.Author.Tests.{leb-true}
 use lib.Dec.{leb}
 use lib.ListN.{length, take, drop, length-drop, drop-of-length-le}
 use lib.Seq.{length-take-le}
+use Rattle.refusal.proofs.Booleans.{both-left}
 use Rattle.buffer.specs.Le.{numberAt}
 use Rattle.buffer.specs.Splice.{overwrite}
 use Rattle.buffer.proofs.Parts.{overwrite-fits}
@@ -15,7 +16,7 @@ use Rattle.crc32c.specs.Crc.{crcOf}
 use Rattle.gcm.specs.declared.Outcome.{Outcome}
 use Rattle.gcm.specs.Calls.{Done, done, answered}
 use Rattle.records.specs.Records.{isWhole, allowed}
-use Rattle.records.proofs.Laws.{first, sized-good, whole-within}
+use Rattle.records.proofs.Laws.{sized-good, whole-within}
 use Rattle.sealing_cases.specs.Sealing.{answerLine, doneLine, sealingSize, keyOf, nonceOf, givenOf, bufferOf, doneBy, doneOf}
 
 -- n bytes from a place on, over as many
@@ -30,7 +31,7 @@ module _ (room : ℕ) (s : List ℕ) (e : isWhole (sealingSize room s) s ≡ tru
   given = sized-good (leb (numberAt 4 29 s) room && allowed (numberAt 4 34 s)) (38 + numberAt 4 34 s) s e
 
   pub sealing-buffer : numberAt 4 29 s ≤ room
-  sealing-buffer = leb-true (numberAt 4 29 s) room (first (leb (numberAt 4 29 s) room) _ given)
+  sealing-buffer = leb-true (numberAt 4 29 s) room (both-left (leb (numberAt 4 29 s) room) _ given)
 
   pub sealing-long : 38 ≤ length s
   sealing-long =

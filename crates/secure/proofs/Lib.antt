@@ -1,5 +1,9 @@
 pub mod Zeros
+pub mod Bounds
+pub mod Stores
 pub mod Counts
+pub mod Runs
 pub mod Opening
 pub mod Lengths
+pub mod Missing
 pub mod Trip

@@ -132,7 +132,7 @@ AllDifferent [] = Unit {0}
 AllDifferent (n ∷ ns) = NotAmong n ns × AllDifferent ns
 
 -- THE CLAIM, of the calls es on a fresh session
-pub record Kept (es : List Entry) : Type 0 where
+pub record Accounted (es : List Entry) : Type 0 where
   -- each report is the one that is due
   pub each : Each [] freshSession es
   -- numbers start at 1 and go up by one; none is given twice
@@ -148,4 +148,4 @@ pub record Kept (es : List Entry) : Type 0 where
   pub agreeing : agrees (sessionBy freshSession es) ≡ true
 
 unfoldable pub EveryHistory : Type 0
-EveryHistory = (es : List Entry) → Chained freshSession es → Kept es
+EveryHistory = (es : List Entry) → Chained freshSession es → Accounted es

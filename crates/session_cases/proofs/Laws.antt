@@ -7,6 +7,7 @@ use native.Mathlib.Omega.{arith}
 use borrow.Author.Tests.{leb-true, ne-eqb}
 use lib.Dec.{leb, eqb}
 use lib.ListN.{length, getD}
+use Rattle.refusal.proofs.Booleans.{both-left}
 use Rattle.buffer.specs.Le.{numberAt}
 use Rattle.session.specs.declared.Session.{Session}
 use Rattle.session.specs.declared.Outcome.{Outcome}
@@ -17,7 +18,7 @@ use Rattle.text.specs.Line.{codes}
 use Rattle.text.specs.Page.{Page, page, puts}
 use Rattle.text.proofs.Laws.{puts-append}
 use Rattle.records.specs.Records.{Record, print, badRecord, lineThen, readAll}
-use Rattle.records.proofs.Laws.{first, Left, left-is, left-next}
+use Rattle.records.proofs.Laws.{Left, left-is, left-next}
 use Rattle.session_cases.specs.declared.Called.{Called}
 use Rattle.session_cases.specs.Session.{heldPieces, resentPieces, heldLine, Answer, reported, answerOf, Reported, CallDid, valueAt, callGood, answerAt, callsFrom, sessionAfter, sessionRecord}
 
@@ -93,7 +94,7 @@ module _ (s : List ℕ) (σ : Session) (n i : ℕ) (h : 0 < n) where
 
 pub good-within : (s : List ℕ) (i : ℕ) → callGood s i ≡ true → i + 9 ≤ length s
 unfolding callGood
-good-within s i e = leb-true (i + 9) (length s) (first (leb (i + 9) (length s)) _ e)
+good-within s i e = leb-true (i + 9) (length s) (both-left (leb (i + 9) (length s)) _ e)
 
 -- a call is made
 pub calls-on : (s : List ℕ) (σ : Session) (n i k v : ℕ) {all : Record} {p : Page} {before : List ℕ} {at : ℕ} {after : List ℕ} {r : Called}
@@ -122,4 +123,4 @@ unfolding sessionRecord
 session-good s σ n e es en = rw (e, es, en)
 
 pub headed-long : (s : List ℕ) → headed s ≡ true → 11 ≤ length s
-headed-long s e = leb-true 11 (length s) (first (leb 11 (length s)) _ e)
+headed-long s e = leb-true 11 (length s) (both-left (leb 11 (length s)) _ e)

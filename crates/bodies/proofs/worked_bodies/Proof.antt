@@ -1,7 +1,7 @@
 use mathlib.Core.Path.{refl}
 use Rattle.buffer.specs.Le.{numberAt}
 use Rattle.fields.specs.Layout.{stepOf}
-use Rattle.fields.specs.Field.{words, wordsOf}
+use Rattle.fields.specs.Field.{wordsOf}
 use Rattle.bodies.specs.Table.{layoutIn}
 use Rattle.bodies.specs.Read.{settled, readBody}
 use Rattle.bodies.specs.Write.{kindsOf, bytesOf, writeAs, writeBody}
@@ -13,7 +13,7 @@ use Rattle.bodies.proofs.worked_bodies.Tie as tie
 
 -- each body computes
 table : Worked
-unfolding Worked readings placings writings helloBody authRequestBody badMethodBody moreBody authDoneBody identBody reconnectBody oneNumberBody resetBody stampBody tagBody bodyOf layoutIn settled readBody kindsOf bytesOf writeAs writeBody stepOf numberAt words wordsOf
+unfolding Worked readings placings writings helloBody authRequestBody badMethodBody moreBody authDoneBody identBody reconnectBody oneNumberBody resetBody stampBody tagBody bodyOf layoutIn settled readBody kindsOf bytesOf writeAs writeBody stepOf numberAt wordsOf
 table = (
   (refl, (refl, (refl, (refl, (refl, (refl, (refl, (refl, (refl, (refl, (refl, (refl, (refl, (refl, (refl, (refl, (refl, (refl, (refl, (refl, (refl, (refl, (refl, (refl, (refl, (refl, (refl, (refl, (refl, (refl, (refl, (refl, (refl, (refl, (refl, (refl, (refl, (refl, (refl, (refl, (refl, (refl, (refl, (refl, (refl, (refl, (refl, (refl, (refl, (refl, (refl, (refl, (refl, (refl, (refl, (refl, (refl, (refl, (refl, (refl, (refl, (refl, (refl, (refl, (refl, (refl, (refl, (refl, (refl, (refl, (refl, (refl, (refl, (refl, (refl, (refl, (refl, tt))))))))))))))))))))))))))))))))))))))))))))))))))))))))))))))))))))))))))))),
   (refl, (refl, (refl, (refl, (refl, (refl, (refl, (refl, (refl, (refl, (refl, (refl, (refl, (refl, (refl, (refl, (refl, (refl, (refl, (refl, (refl, (refl, (refl, (refl, (refl, (refl, tt)))))))))))))))))))))))))),

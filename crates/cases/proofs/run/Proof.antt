@@ -18,8 +18,8 @@ no-builds-requires c κs = search needs
 loop-holds : tie.Need-loop-holds Inv-loop μ-loop
 loop-holds c = (omega arith, refl, refl, refl)
 
-turn-requires : tie.Need-turn-requires Inv-loop μ-loop
-turn-requires c κs = omega arith
+run-one-requires : tie.Need-run-one-requires Inv-loop μ-loop
+run-one-requires c κs = omega arith
 
 loop-less : tie.Need-loop-less Inv-loop μ-loop
 loop-less c = omega arith
@@ -27,7 +27,7 @@ loop-less c = omega arith
 loop-again : tie.Need-loop-again Inv-loop μ-loop
 loop-again c =
     let i = c .before .before .before .before .before .before .before .before .before .before .before .before .loop .inv in
-    (omega (arith, c .before .before .before .before .before .before .turn .ensures .0), c .before .before .before .before .before .before .turn .kept .0 ∙ i .1, c .before .before .before .before .before .before .turn .kept .1 .0 ∙ i .2, c .before .before .before .before .before .before .turn .kept .1 .1 .0 ∙ i .3)
+    (omega (arith, c .before .before .before .before .before .before .run-one .ensures .0), c .before .before .before .before .before .before .run-one .kept .0 ∙ i .1, c .before .before .before .before .before .before .run-one .kept .1 .0 ∙ i .2, c .before .before .before .before .before .before .run-one .kept .1 .1 .0 ∙ i .3)
 
 part-requires : tie.Need-part-requires Inv-loop μ-loop
 part-requires c κs = search needs
@@ -55,7 +55,7 @@ run-spec =
     μ-loop
     no-builds-requires
     loop-holds
-    turn-requires
+    run-one-requires
     loop-less
     loop-again
     part-requires

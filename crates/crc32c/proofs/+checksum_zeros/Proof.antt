@@ -9,8 +9,8 @@ use Rattle.crc32c.proofs.checksum_zeros.Reads as checksum-zeros
 use Rattle.crc32c.proofs.checksum_zeros.Kinds as checksum-zeros-kinds
 use Rattle.crc32c.proofs.+checksum_zeros.Lts-checksum_zeros as checksum-zeros-lts
 use Rattle.crc32c.proofs.fewer_steps.Reads as fewer-steps-reads
-use Rattle.crc_halves.proofs.root_of.Reads as root-of-reads
-use Rattle.crc_halves.proofs.square_of.Reads as square-of-reads
+use Rattle.crc_squares.proofs.root_of.Reads as root-of-reads
+use Rattle.crc_squares.proofs.square_of.Reads as square-of-reads
 use Rattle.crc32c.proofs.+checksum_zeros.{statement}
 use Rattle.crc32c.proofs.+checksum_zeros.Tie.{close}
 

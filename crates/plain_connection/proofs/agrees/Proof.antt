@@ -2,7 +2,7 @@ use mathlib.Core.Path.{sym, _∙_}
 use borrow.Author.Tests.{not-true, not-false}
 use Rattle.plain_receiver.specs.Words.{plainState}
 use Rattle.plain_connection.specs.Secure.{plainSecure}
-use Rattle.plain_connection.specs.Words.{laidOut}
+use Rattle.plain_connection.specs.Words.{plainConnection}
 use Rattle.plain_connection.proofs.Agreeing.{disagrees, crc-agrees-given, secure-agrees-given}
 use borrow.Author.Needs.{needs}
 use Rattle.plain_connection.proofs.agrees.Statement.{statement}
@@ -12,7 +12,7 @@ returns : tie.Need-returns
 returns c =
     let z = c .before .before .args in
     let u = c .before .is-usable in
-    disagrees (laidOut (z .t1) (z .t2) (z .block) (z .sealed) (z .first) (z .key) (z .nonce)) (sym (u .ensures) ∙ not-true (u .result) (c .if1 .taken))
+    disagrees (plainConnection (z .t1) (z .t2) (z .block) (z .sealed) (z .first) (z .key) (z .nonce)) (sym (u .ensures) ∙ not-true (u .result) (c .if1 .taken))
 
 returns-2 : tie.Need-returns-2
 returns-2 c =

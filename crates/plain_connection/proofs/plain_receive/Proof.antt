@@ -6,7 +6,7 @@ use denote.Ref.{now}
 use borrow.Author.Tests.{not-true, not-false}
 use Rattle.plain_receiver.specs.Words.{plainState}
 use Rattle.plain_connection.specs.Secure.{plainSecure}
-use Rattle.plain_connection.specs.Words.{connected, laidOut}
+use Rattle.plain_connection.specs.Words.{connected, plainConnection}
 use Rattle.plain_connection.proofs.Calls.{unusable, is-usable, crc-given, secure-given}
 use borrow.Author.Needs.{needs}
 use Rattle.plain_connection.proofs.plain_receive.Statement.{statement}
@@ -16,7 +16,7 @@ returns : tie.Need-returns
 returns c =
     let z = c .before .before .before .before .before .before .before .before .before .args in
     let u = c .before .before .is-usable in
-    let p = laidOut (now (z .link)) (now (z .numbers)) (now (z .block)) (now (z .sealed)) (now (z .first)) (now (z .key)) (now (z .nonce)) in
+    let p = plainConnection (now (z .link)) (now (z .numbers)) (now (z .block)) (now (z .sealed)) (now (z .first)) (now (z .key)) (now (z .nonce)) in
     record {
       kind = sym (ap (λ (l : List ℕ). getD l 0 0) (c .contradicts .ensures));
       answered = unusable p (now (z .store)) (now (z .piece)) _ (sym (u .ensures) ∙ not-true (u .result) (c .before .if1 .taken)) (c .contradicts .ensures);

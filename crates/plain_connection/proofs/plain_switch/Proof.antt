@@ -4,7 +4,7 @@ use borrow.Author.Tests.{not-true, not-false}
 use Rattle.refusal.specs.Refusals.{Judged, isFine}
 use Rattle.connection.specs.Step.{switchedSending}
 use Rattle.plain_receiver.specs.Words.{numberOf}
-use Rattle.plain_connection.specs.Words.{laidOut}
+use Rattle.plain_connection.specs.Words.{plainConnection}
 use Rattle.plain_connection.proofs.Calls.{switch-refused, switch-made}
 use borrow.Author.Needs.{needs}
 use Rattle.plain_connection.proofs.plain_switch.Statement.{statement}
@@ -13,7 +13,7 @@ use Rattle.plain_connection.proofs.plain_switch.Tie as tie
 returns : tie.Need-returns
 returns c =
     let z = c .before .before .before .before .before .before .before .before .before .before .before .before .before .before .before .before .before .args in
-    let p = laidOut (now (z .link)) (now (z .numbers)) (now (z .block)) (now (z .sealed)) (now (z .first)) (now (z .key)) (now (z .nonce)) in
+    let p = plainConnection (now (z .link)) (now (z .numbers)) (now (z .block)) (now (z .sealed)) (now (z .first)) (now (z .key)) (now (z .nonce)) in
     let v = c .before .before .before .before .before .before .before .before .before .judge-words in
     let s = c .before .before .before .before .before .before .sending-by in
     let f = c .before .is-fine in
@@ -24,7 +24,7 @@ returns c =
 returns-2 : tie.Need-returns-2
 returns-2 c =
     let z = c .before .before .before .before .before .before .before .before .before .before .before .before .before .before .before .before .before .before .before .before .before .before .before .before .before .before .args in
-    let p = laidOut (now (z .link)) (now (z .numbers)) (now (z .block)) (now (z .sealed)) (now (z .first)) (now (z .key)) (now (z .nonce)) in
+    let p = plainConnection (now (z .link)) (now (z .numbers)) (now (z .block)) (now (z .sealed)) (now (z .first)) (now (z .key)) (now (z .nonce)) in
     let v = c .before .before .before .before .before .before .before .before .before .before .before .before .before .before .before .before .before .before .judge-words in
     let s = c .before .before .before .before .before .before .before .before .before .before .before .before .before .before .before .sending-by in
     let f = c .before .before .before .before .before .before .before .before .before .before .is-fine in

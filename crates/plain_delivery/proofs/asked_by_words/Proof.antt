@@ -1,5 +1,5 @@
 use borrow.Author.Tests.{ne-eqb}
-use Rattle.plain_delivery.proofs.Laws.{by-frame, by-others}
+use Rattle.plain_delivery.proofs.Laws.{frame-asks, others-ask}
 use borrow.Author.Needs.{needs}
 use Rattle.plain_delivery.proofs.asked_by_words.Statement.{statement}
 use Rattle.plain_delivery.proofs.asked_by_words.Tie as tie
@@ -7,10 +7,10 @@ use Rattle.plain_delivery.proofs.asked_by_words.Tie as tie
 returns : tie.Need-returns
 returns c =
     let z = c .before .before .before .before .before .before .before .before .before .before .before .before .before .before .before .args in
-    by-frame (z .q .now) (z .store .now) (c .before .before .before .before .before .before .before .before .before .before .before .before .if1 .taken) (c .before .header-of .ensures) (c .asked-by-frame .ensures)
+    frame-asks (z .q .now) (z .store .now) (c .before .before .before .before .before .before .before .before .before .before .before .before .if1 .taken) (c .before .header-of .ensures) (c .asked-by-frame .ensures)
 
 returns-2 : tie.Need-returns-2
-returns-2 c = by-others (c .before .before .before .args .q .now) (c .before .before .before .args .store .now) (ne-eqb _ _ (c .if1 .left))
+returns-2 c = others-ask (c .before .before .before .args .q .now) (c .before .before .before .args .store .now) (ne-eqb _ _ (c .if1 .left))
 
 pub asked-by-words-spec : {M : Type 1} → statement M
 asked-by-words-spec =

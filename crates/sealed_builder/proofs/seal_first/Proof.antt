@@ -1,7 +1,7 @@
 use native.Mathlib.Omega.{arith}
 use Rattle.secure.specs.Layout.{firstText}
 use Rattle.secure.proofs.Lengths.{length-first-text}
-use Rattle.sealed_builder.proofs.Seals.{sealed-laid}
+use Rattle.gcm.proofs.InPlace.{sealed-laid}
 use borrow.Author.Needs.{needs}
 use Rattle.sealed_builder.proofs.seal_first.Statement.{statement}
 use Rattle.sealed_builder.proofs.seal_first.Tie as tie

@@ -1,7 +1,7 @@
 use mathlib.Core.Path.{sym}
 use Prim.Native.Nat.{_+_}
 use lib.Seq.{length-take-le}
-use Rattle.sealed_builder.proofs.Seals.{sealed-part}
+use Rattle.gcm.proofs.InPlace.{sealed-part}
 use borrow.Author.Needs.{needs}
 use Rattle.sealed_builder.proofs.seal_front.Statement.{statement}
 use Rattle.sealed_builder.proofs.seal_front.Tie as tie

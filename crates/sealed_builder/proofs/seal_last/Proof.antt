@@ -10,7 +10,9 @@ use Rattle.body.specs.Body.{lateByte, restSent}
 use Rattle.body.proofs.Laws.{length-sent}
 use Rattle.secure.specs.Layout.{noLast, lastText, lastPart}
 use Rattle.secure.proofs.Lengths.{length-last-text}
-use Rattle.sealed_builder.proofs.Seals.{sealed-laid, last-none, last-there, last-length}
+use Rattle.gcm.proofs.InPlace.{sealed-laid}
+use Rattle.secure.proofs.Missing.{last-none, last-there}
+use Rattle.secure.proofs.Bounds.{last-size}
 use borrow.Author.Needs.{needs}
 use Rattle.sealed_builder.proofs.seal_last.Statement.{statement}
 use Rattle.sealed_builder.proofs.seal_last.Tie as tie
@@ -22,31 +24,31 @@ returns c =
 sub-n : tie.Need-sub-n
 sub-n c =
     let there : noLast (c .before .before .before .before .before .args .h) ≡ false = sym (c .before .before .no-last .ensures) ∙ c .before .if1 .left in
-    let n : c .last-part-length .result ≡ lastPart (c .before .before .before .before .before .args .h) = c .last-part-length .ensures .0 ∙ last-length (c .before .before .before .before .before .args .h) there in
+    let n : c .last-part-length .result ≡ lastPart (c .before .before .before .before .before .args .h) = c .last-part-length .ensures .0 ∙ last-size (c .before .before .before .before .before .args .h) there in
     omega arith
 
 put-last-requires : tie.Need-put-last-requires
 put-last-requires c κs =
     let there : noLast (c .before .before .before .before .before .before .args .h) ≡ false = sym (c .before .before .before .no-last .ensures) ∙ c .before .before .if1 .left in
-    (c .before .before .before .before .before .before .pre .0, omega (arith, last-length (c .before .before .before .before .before .before .args .h) there, c .before .before .before .before .before .before .pre .1))
+    (c .before .before .before .before .before .before .pre .0, omega (arith, last-size (c .before .before .before .before .before .before .args .h) there, c .before .before .before .before .before .before .pre .1))
 
 seal-front-requires : tie.Need-seal-front-requires
 seal-front-requires c κs =
     let there : noLast (c .before .before .before .before .before .before .before .before .before .before .args .h) ≡ false = sym (c .before .before .before .before .before .before .before .no-last .ensures) ∙ c .before .before .before .before .before .before .if1 .left in
-    let n : c .before .before .before .before .before .last-part-length .result ≡ lastPart (c .before .before .before .before .before .before .before .before .before .before .args .h) = c .before .before .before .before .before .last-part-length .ensures .0 ∙ last-length (c .before .before .before .before .before .before .before .before .before .before .args .h) there in
-    (omega (arith, last-length (c .before .before .before .before .before .before .before .before .before .before .args .h) there, c .before .before .before .before .before .before .before .before .before .before .pre .1, c .before .before .before .put-last .kept .0), omega (arith, c .before .before .before .before .before .last-part-length .ensures .1))
+    let n : c .before .before .before .before .before .last-part-length .result ≡ lastPart (c .before .before .before .before .before .before .before .before .before .before .args .h) = c .before .before .before .before .before .last-part-length .ensures .0 ∙ last-size (c .before .before .before .before .before .before .before .before .before .before .args .h) there in
+    (omega (arith, last-size (c .before .before .before .before .before .before .before .before .before .before .args .h) there, c .before .before .before .before .before .before .before .before .before .before .pre .1, c .before .before .before .put-last .kept .0), omega (arith, c .before .before .before .before .before .last-part-length .ensures .1))
 
 returns-2 : tie.Need-returns-2
 returns-2 c =
     let g = c .before .before .before .before .before .before .before .before .before .before .before .before .before .args in
     let there : noLast (c .before .before .before .before .before .before .before .before .before .before .before .before .before .args .h) ≡ false = sym (c .before .before .before .before .before .before .before .before .before .before .no-last .ensures) ∙ c .before .before .before .before .before .before .before .before .before .if1 .left in
-    let n : c .before .before .before .before .before .before .before .before .last-part-length .result ≡ lastPart (c .before .before .before .before .before .before .before .before .before .before .before .before .before .args .h) = c .before .before .before .before .before .before .before .before .last-part-length .ensures .0 ∙ last-length (c .before .before .before .before .before .before .before .before .before .before .before .before .before .args .h) there in
+    let n : c .before .before .before .before .before .before .before .before .last-part-length .result ≡ lastPart (c .before .before .before .before .before .before .before .before .before .before .before .before .before .args .h) = c .before .before .before .before .before .before .before .before .last-part-length .ensures .0 ∙ last-size (c .before .before .before .before .before .before .before .before .before .before .before .before .before .args .h) there in
     let bytes : List ℕ = restSent (g .abort) (g .rest .now) in
     let text : List ℕ = lastText (g .h) (lateByte Msgr21 (g .abort)) bytes in
     let len : length text + 16 ≡ lastPart (g .h) = length-last-text (g .h) (lateByte Msgr21 (g .abort)) bytes (length-sent (g .abort) (g .rest .now) ∙ c .before .before .before .before .before .before .before .before .before .before .before .before .before .pre .0) in
     last-there (g .w .now) (g .nonce) (g .h) text (g .out .now) (c .before .before .seal-front .last .0) there
     (sealed-laid (g .w .now) (g .nonce) text (g .out .now) (c .before .before .before .before .before .before .put-last .last .0) (c .before .before .seal-front .last .0) (c .before .before .before .before .before .before .before .before .last-part-length .result - 16)
-    (omega arith) (omega (arith, last-length (g .h) there, c .before .before .before .before .before .before .before .before .before .before .before .before .before .pre .1)) (c .before .before .before .before .before .before .put-last .ensures) (c .before .before .seal-front .ensures))
+    (omega arith) (omega (arith, last-size (g .h) there, c .before .before .before .before .before .before .before .before .before .before .before .before .before .pre .1)) (c .before .before .before .before .before .before .put-last .ensures) (c .before .before .seal-front .ensures))
 
 pub seal-last-spec : {M : Type 1} → statement M
 seal-last-spec =

@@ -11,7 +11,8 @@ use Rattle.banner.specs.declared.Revision.the-variants.{Msgr21}
 use Rattle.body.specs.Body.{lateByte, restSent}
 use Rattle.secure.specs.Layout.{padding, roundUp, noRest, noLast, unlessNone, restText, lastText, partsFrom, sealedParts}
 use Rattle.secure.proofs.Lengths.{length-padded}
-use Rattle.sealed_builder.proofs.Seals.{rest-none, rest-there, rest-length}
+use Rattle.secure.proofs.Missing.{rest-none, rest-there}
+use Rattle.secure.proofs.Bounds.{rest-size}
 use borrow.Author.Needs.{needs}
 use Rattle.sealed_builder.proofs.seal_later.Statement.{statement}
 use Rattle.sealed_builder.proofs.seal_later.Tie as tie
@@ -29,19 +30,19 @@ seal-rest-requires : tie.Need-seal-rest-requires
 seal-rest-requires c κs =
     let there : noRest (c .before .before .before .before .before .before .before .before .args .h) ≡ false = sym (c .before .before .before .before .no-rest .ensures) ∙ c .before .before .before .if1 .left in
     let size : roundUp (length (c .before .before .before .before .before .before .before .before .args .first .now) - 48) ≡ roundUp (c .before .before .before .before .before .before .before .before .args .h .s1 .len - 48) = ap (λ (k : ℕ). roundUp (k - 48)) (c .before .before .before .before .before .before .before .before .pre .0) in
-    (omega (arith, rest-length (c .before .before .before .before .before .before .before .before .args .h) there, c .before .before .before .before .before .before .before .before .pre .3), c .before .before .before .before .before .before .before .before .pre .1)
+    (omega (arith, rest-size (c .before .before .before .before .before .before .before .before .args .h) there, c .before .before .before .before .before .before .before .before .pre .3), c .before .before .before .before .before .before .before .before .pre .1)
 
 sub-seal-last : tie.Need-sub-seal-last
 sub-seal-last c =
     let there : noRest (c .before .before .before .before .before .before .before .before .before .before .before .args .h) ≡ false = sym (c .before .before .before .before .before .before .before .no-rest .ensures) ∙ c .before .before .before .before .before .before .if1 .left in
     let size : roundUp (length (c .before .before .before .before .before .before .before .before .before .before .before .args .first .now) - 48) ≡ roundUp (c .before .before .before .before .before .before .before .before .before .before .before .args .h .s1 .len - 48) = ap (λ (k : ℕ). roundUp (k - 48)) (c .before .before .before .before .before .before .before .before .before .before .before .pre .0) in
-    omega (arith, rest-length (c .before .before .before .before .before .before .before .before .before .before .before .args .h) there, c .before .before .before .before .before .before .before .before .before .before .before .pre .3, c .before .before .before .before .before .padding .ensures .0, c .before .before .seal-rest .kept .0)
+    omega (arith, rest-size (c .before .before .before .before .before .before .before .before .before .before .before .args .h) there, c .before .before .before .before .before .before .before .before .before .before .before .pre .3, c .before .before .before .before .before .padding .ensures .0, c .before .before .seal-rest .kept .0)
 
 part-seal-last-start : tie.Need-part-seal-last-start
 part-seal-last-start c =
     let there : noRest (c .before .before .before .before .before .before .before .before .before .before .before .args .h) ≡ false = sym (c .before .before .before .before .before .before .before .no-rest .ensures) ∙ c .before .before .before .before .before .before .if1 .left in
     let size : roundUp (length (c .before .before .before .before .before .before .before .before .before .before .before .args .first .now) - 48) ≡ roundUp (c .before .before .before .before .before .before .before .before .before .before .before .args .h .s1 .len - 48) = ap (λ (k : ℕ). roundUp (k - 48)) (c .before .before .before .before .before .before .before .before .before .before .before .pre .0) in
-    omega (arith, rest-length (c .before .before .before .before .before .before .before .before .before .before .before .args .h) there, c .before .before .before .before .before .before .before .before .before .before .before .pre .3, c .before .before .before .before .before .padding .ensures .0, c .before .before .seal-rest .kept .0)
+    omega (arith, rest-size (c .before .before .before .before .before .before .before .before .before .before .before .args .h) there, c .before .before .before .before .before .before .before .before .before .before .before .pre .3, c .before .before .before .before .before .padding .ensures .0, c .before .before .seal-rest .kept .0)
 
 seal-last-requires-2 : tie.Need-seal-last-requires-2
 seal-last-requires-2 c κs =
@@ -49,7 +50,7 @@ seal-last-requires-2 c κs =
     let size : roundUp (length (c .before .before .before .before .before .before .before .before .before .before .before .before .args .first .now) - 48) ≡ roundUp (c .before .before .before .before .before .before .before .before .before .before .before .before .args .h .s1 .len - 48) = ap (λ (k : ℕ). roundUp (k - 48)) (c .before .before .before .before .before .before .before .before .before .before .before .before .pre .0) in
     let l₁ : List ℕ = c .before .before .before .seal-rest .last .0 in
     let a : ℕ = length (c .before .before .before .before .before .before .before .before .before .before .before .before .args .first .now) - 48 + c .before .before .before .before .before .before .padding .result + 16 in
-    (c .before .before .before .before .before .before .before .before .before .before .before .before .pre .2, omega (arith, rest-length (c .before .before .before .before .before .before .before .before .before .before .before .before .args .h) there, c .before .before .before .before .before .before .before .before .before .before .before .before .pre .3, c .before .before .before .before .before .before .padding .ensures .0, c .before .before .before .seal-rest .kept .0, length-rest l₁ a))
+    (c .before .before .before .before .before .before .before .before .before .before .before .before .pre .2, omega (arith, rest-size (c .before .before .before .before .before .before .before .before .before .before .before .before .args .h) there, c .before .before .before .before .before .before .before .before .before .before .before .before .pre .3, c .before .before .before .before .before .before .padding .ensures .0, c .before .before .before .seal-rest .kept .0, length-rest l₁ a))
 
 returns-2 : tie.Need-returns-2
 returns-2 c =

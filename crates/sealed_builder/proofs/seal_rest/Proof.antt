@@ -6,7 +6,7 @@ use lib.ListN.{length, drop, length-drop}
 use Rattle.buffer.specs.Splice.{replaceFront}
 use Rattle.secure.specs.Layout.{padding, roundUp, padded, restText}
 use Rattle.secure.proofs.Lengths.{length-padded}
-use Rattle.sealed_builder.proofs.Seals.{sealed-laid}
+use Rattle.gcm.proofs.InPlace.{sealed-laid}
 use borrow.Author.Needs.{needs}
 use Rattle.sealed_builder.proofs.seal_rest.Statement.{statement}
 use Rattle.sealed_builder.proofs.seal_rest.Tie as tie

@@ -1,6 +1,6 @@
 use mathlib.Core.Path.{refl}
 use native.Mathlib.Omega.{arith}
-use Rattle.receiver.proofs.Placed.{part-put}
+use Rattle.buffer.proofs.Sets.{part-put}
 use borrow.Author.Needs.{needs}
 use Rattle.receiver.proofs.pieces.fill.Statement.{statement}
 use Rattle.receiver.proofs.pieces.fill.Tie as tie

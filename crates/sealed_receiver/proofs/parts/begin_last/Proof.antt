@@ -1,7 +1,7 @@
 use mathlib.Core.Path.{_∙_, sym}
 use Rattle.preamble.specs.Judge.{judgeHeader}
 use Rattle.sealed_receiver.proofs.RestPart.{whole-behind}
-use Rattle.sealed_receiver.proofs.Rooms.{fine-is}
+use Rattle.refusal.proofs.Judgements.{fine-is}
 use borrow.Author.Needs.{needs}
 use Rattle.sealed_receiver.proofs.parts.begin_last.Statement.{statement}
 use Rattle.sealed_receiver.proofs.parts.begin_last.Tie as tie

@@ -5,7 +5,7 @@ use Rattle.body.specs.End.{dropped, turnedAway, endedAs}
 use Rattle.secure.specs.Layout.{lastPart}
 use Rattle.secure.specs.Reading.{lastEnded}
 use Rattle.sealed_receiver.proofs.LastPart.{last-whole, last-ends}
-use Rattle.sealed_receiver.proofs.Rooms.{last-size}
+use Rattle.secure.proofs.Bounds.{last-size}
 use borrow.Author.Needs.{needs}
 use Rattle.sealed_receiver.proofs.parts.behind_last.Statement.{statement}
 use Rattle.sealed_receiver.proofs.parts.behind_last.Tie as tie

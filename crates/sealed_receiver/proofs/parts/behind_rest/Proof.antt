@@ -4,7 +4,7 @@ use lib.ListN.{take, drop}
 use native.Mathlib.Omega.{arith}
 use Rattle.buffer.specs.Zeros.{allZero}
 use Rattle.sealed_receiver.proofs.RestPart.{rest-padded, rest-unpadded}
-use Rattle.sealed_receiver.proofs.Rooms.{rest-beyond, pads-fit}
+use Rattle.secure.proofs.Bounds.{rest-beyond, pads-fit}
 use borrow.Author.Needs.{needs}
 use Rattle.sealed_receiver.proofs.parts.behind_rest.Statement.{statement}
 use Rattle.sealed_receiver.proofs.parts.behind_rest.Tie as tie

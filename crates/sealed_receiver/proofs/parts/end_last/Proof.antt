@@ -7,7 +7,7 @@ use Rattle.refusal.specs.Refusals.{fine, judgedBy}
 use Rattle.secure.specs.Layout.{noLast, lastPart, lastPartLength}
 use Rattle.sealed_receiver.specs.Step as step
 use Rattle.sealed_receiver.proofs.LastPart.{last-left, last-refused, last-opened}
-use Rattle.sealed_receiver.proofs.Rooms.{there, last-size, last-fits}
+use Rattle.secure.proofs.Bounds.{there, last-size, last-fits}
 use borrow.Author.Needs.{needs}
 use Rattle.sealed_receiver.proofs.parts.end_last.Statement.{statement}
 use Rattle.sealed_receiver.proofs.parts.end_last.Tie as tie

@@ -7,7 +7,7 @@ use Rattle.refusal.specs.Refusals.{fine, judgedBy}
 use Rattle.secure.specs.Layout.{noRest, restPart, restPartLength}
 use Rattle.sealed_receiver.specs.Step as step
 use Rattle.sealed_receiver.proofs.RestPart.{rest-left, rest-refused, rest-opened}
-use Rattle.sealed_receiver.proofs.Rooms.{there, rest-size, rest-fits}
+use Rattle.secure.proofs.Bounds.{there, rest-size, rest-fits}
 use borrow.Author.Needs.{needs}
 use Rattle.sealed_receiver.proofs.parts.end_rest.Statement.{statement}
 use Rattle.sealed_receiver.proofs.parts.end_rest.Tie as tie

@@ -7,7 +7,7 @@ use Rattle.receiver.specs.declared.Report.the-variants as report
 use Rattle.sealed_receiver.specs.declared.State.{State}
 use Rattle.sealed_receiver.specs.Step as step
 use Rattle.sealed_receiver.proofs.Regions.{zeros-behind}
-use Rattle.sealed_receiver.proofs.Rooms.{segments-fit}
+use Rattle.secure.proofs.Bounds.{segments-fit}
 use borrow.Author.Needs.{needs}
 use Rattle.sealed_receiver.proofs.parts.end_whole.Statement.{statement}
 use Rattle.sealed_receiver.proofs.parts.end_whole.Tie as tie

@@ -3,7 +3,7 @@ use Prim.Native.Nat.{_+_, _-_, _≤_}
 use native.Mathlib.Omega.{arith}
 use lib.ListN.{length, drop, getD, length-set}
 use lib.Seq.{paste, paste-zero}
-use Rattle.sealed_receiver.proofs.Lists.{moved-more, moved-all}
+use Rattle.buffer.proofs.Splices.{moved-more, moved-all}
 use Rattle.sealed_receiver.proofs.parts.move_down.Statement.{statement}
 use Rattle.sealed_receiver.proofs.parts.move_down.Tie as tie
 

@@ -1,4 +1,4 @@
-use Rattle.receiver.proofs.Placed.{block-put}
+use Rattle.buffer.proofs.Sets.{array-put}
 use lib.ListN.{length}
 use native.Mathlib.Omega.{arith}
 use mathlib.Core.Path.{_≡_}
@@ -17,7 +17,7 @@ returns c =
     let z = c .before .before .before .before .before in
     let first = c .before .before .before .if1 .taken in
     let n : length (z .args .block) ≡ 96 = z .good .1 .0 .1 .0 .1 in
-    rw first (block-put (z .args .block) (z .args .bytes .now) (c .before .put .last .0) (z .args .at) 96 n (c .before .put .ensures) (z .pre first))
+    rw first (array-put (z .args .block) (z .args .bytes .now) (c .before .put .last .0) (z .args .at) 96 n (c .before .put .ensures) (z .pre first))
 
 pub fill-block-spec : {M : Type 1} → statement M
 fill-block-spec =

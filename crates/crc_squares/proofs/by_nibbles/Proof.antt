@@ -1,0 +1,75 @@
+use mathlib.Core.Path.{_≡_, ap, _∙_}
+use Prim.Native.Nat.{ℕ, _+_, _*_, _-_, _≤_}
+use native.Mathlib.Nat.{add-zero}
+use native.Mathlib.Omega.{arith}
+use borrow.Author.Needs.{needs}
+use lib.Bits.{bitAnd, bitXor, mask-lt}
+use Rattle.crc_squares.specs.Table.{rootOrSquareAt, nibbles}
+use Rattle.crc_squares.proofs.Nibbles.{nibbles-end, nibbles-next}
+use Rattle.crc_squares.proofs.Rules.{placed-at}
+use Rattle.crc_squares.proofs.by_nibbles.Statement.{statement}
+use Rattle.crc_squares.proofs.by_nibbles.Tie as tie
+
+abbrev Inv-loop : tie.InvT-loop
+Inv-loop first x r₀ rest₀ j₀ r rest j = (j ≤ 8) × (bitXor r (nibbles rootOrSquareAt (first + j) (8 - j) rest) ≡ nibbles rootOrSquareAt first 8 x)
+
+abbrev μ-loop : tie.MeasureT-loop
+μ-loop first x r₀ rest₀ j₀ r rest j = 8 - j
+
+loop-holds : tie.Need-loop-holds Inv-loop μ-loop
+loop-holds c =
+    let a = c .args in
+    (omega arith, ap (λ (p : ℕ). nibbles rootOrSquareAt p 8 (a .x)) (add-zero (a .first)))
+
+add-place : tie.Need-add-place Inv-loop μ-loop
+add-place c = search needs
+
+mul-place : tie.Need-mul-place Inv-loop μ-loop
+mul-place c = search needs
+
+add-place-2 : tie.Need-add-place-2 Inv-loop μ-loop
+add-place-2 c = omega (arith, mask-lt (c .before .loop .rest) 4)
+
+place-requires : tie.Need-place-requires Inv-loop μ-loop
+place-requires c κs = search needs
+
+entry-requires : tie.Need-entry-requires Inv-loop μ-loop
+entry-requires c κs = search needs
+
+add-j : tie.Need-add-j Inv-loop μ-loop
+add-j c = search needs
+
+loop-less : tie.Need-loop-less Inv-loop μ-loop
+loop-less c = search needs
+
+loop-again : tie.Need-loop-again Inv-loop μ-loop
+loop-again c =
+    let p = c .before in
+    let l = p .before .before .loop in
+    let a = p .before .before .before .args in
+    let i : ℕ = (a .first + l .j) * 16 + bitAnd (l .rest) 15 in
+    let e = c .entry .ensures ∙ placed-at (p .place .result) i (omega (arith, mask-lt (l .rest) 4)) (p .place .ensures) in
+    (search needs, nibbles-next rootOrSquareAt (l .r) (c .entry .result) (l .rest) (a .first) (l .j) (omega arith) e ∙ l .inv .1)
+
+returns : tie.Need-returns Inv-loop μ-loop
+returns c =
+    let l = c .before .loop in
+    let a = c .before .before .args in
+    nibbles-end rootOrSquareAt (l .r) (l .rest) (a .first + l .j) (l .j) (omega arith) ∙ l .inv .1
+
+pub by-nibbles-spec : {M : Type 1} → statement M
+by-nibbles-spec =
+    tie.close
+    (tie.spec
+    Inv-loop
+    μ-loop
+    loop-holds
+    add-place
+    mul-place
+    add-place-2
+    place-requires
+    entry-requires
+    add-j
+    loop-less
+    loop-again
+    returns)
