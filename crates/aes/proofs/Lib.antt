@@ -1,3 +1,4 @@
+pub mod Computed
 pub mod Counters
 pub mod Keys
 pub mod Packing

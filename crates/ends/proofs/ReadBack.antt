@@ -21,7 +21,7 @@ use Rattle.preamble.specs.declared.Header.{Header}
 use Rattle.preamble.specs.declared.Preamble.{Preamble}
 use Rattle.preamble.specs.Layout.{total, preambleBytes}
 use Rattle.preamble.specs.Judge.{headerOf, preambleOf, judgeChecksum, judgeShape, judgeTag, judgeLimits, judgeHeader, judgeFields, judgePreamble}
-use Rattle.preamble.specs.Reading.{HeaderFits, laidOut, ReadsBack}
+use Rattle.preamble.specs.Reading.{HeaderFits, builtPreamble, ReadsBack}
 use Rattle.preamble.proofs.Laws.{length-preamble}
 use Rattle.preamble.proofs.Back as preamble
 use Rattle.preamble.proofs.Headers.{some-segment}
@@ -86,7 +86,7 @@ number-mid first rest last v n e lt =
 
 -- ---- the preamble
 
-fields-fine : (h : Header) (n : ℕ) → judgeHeader h ≡ fine → total h ≤ n → judgeFields (laidOut h) n ≡ fine
+fields-fine : (h : Header) (n : ℕ) → judgeHeader h ≡ fine → total h ≤ n → judgeFields (builtPreamble h) n ≡ fine
 unfolding judgeHeader judgeFields
 fields-fine h n e l =
     let f = all-fine (judgeShape h ∷ judgeTag (h .tag) ∷ judgeLimits h ∷ []) e in

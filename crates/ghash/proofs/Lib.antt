@@ -1,4 +1,5 @@
 pub mod Blocks
+pub mod Computed
 pub mod Entries
 pub mod Linear
 pub mod Words

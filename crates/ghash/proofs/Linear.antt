@@ -157,7 +157,7 @@ spread-double m =
     ∙ ap (λ (x : ℕ). bitXor x (m * 2))
     (scaled 1 (bitXor (m * 128) (m * 64)) (m * 32) ∙ ap₂ bitXor (scaled 1 (m * 128) (m * 64) ∙ ap₂ bitXor p q) r)
 
-steps-zero : (n : ℕ) → steps n 0 ≡ 0
+pub steps-zero : (n : ℕ) → steps n 0 ≡ 0
 unfolding steps step
 steps-zero zero = refl
 steps-zero (suc n) = steps-zero n

@@ -11,7 +11,7 @@ use Rattle.refusal.specs.Refusals.{fine}
 use Rattle.preamble.specs.declared.Header.{Header}
 use Rattle.preamble.specs.Layout.{preambleFront, preambleBytes}
 use Rattle.preamble.specs.Judge.{preambleOf, judgeChecksum}
-use Rattle.preamble.specs.Reading.{HeaderFits, ReadsBack, laidOut}
+use Rattle.preamble.specs.Reading.{HeaderFits, ReadsBack, builtPreamble}
 use Rattle.preamble.proofs.Laws.{header-back, front-crc-lt}
 
 whole : (h : Header) (rest : List ℕ) → preambleBytes h ++ rest ≡ preambleFront h ++ (le 4 (crcOf 0 (preambleFront h)) ++ rest)
@@ -39,7 +39,7 @@ module _ (h : Header) (rest : List ℕ) (f : HeaderFits h) where
   unfolding numberAt
   sum-back = rw behind-28 (leOf-le 4 (crcOf 0 (preambleFront h)) (front-crc-lt h f))
 
-  fields : preambleOf (preambleFront h ++ (le 4 (crcOf 0 (preambleFront h)) ++ rest)) ≡ laidOut h
+  fields : preambleOf (preambleFront h ++ (le 4 (crcOf 0 (preambleFront h)) ++ rest)) ≡ builtPreamble h
   fields =
       let tail : List ℕ = le 4 (crcOf 0 (preambleFront h)) ++ rest in
       simp (header-back h tail f, zero-26 h tail, zero-27 h tail, sum-back)

@@ -23,13 +23,13 @@ pub record HeaderFits (h : Header) : Type 0 where
   pub s3 : SegmentFits (h .s3)
   pub s4 : SegmentFits (h .s4)
 
--- what a laid-out preamble's fields are
-abbrev pub laidOut : Header → Preamble
-laidOut h = record { header = h; flags = 0; reserved = 0; checksum = crcOf 0 (preambleFront h) }
+-- the fields of the preamble that is built of a header
+abbrev pub builtPreamble : Header → Preamble
+builtPreamble h = record { header = h; flags = 0; reserved = 0; checksum = crcOf 0 (preambleFront h) }
 
--- READING WHAT WAS LAID OUT gives it back, and its checksum holds, whatever follows
+-- READING WHAT WAS BUILT gives it back, and its checksum holds, whatever follows
 pub record ReadBack (h : Header) (rest : List ℕ) : Type 0 where
-  pub fields : preambleOf (preambleBytes h ++ rest) ≡ laidOut h
+  pub fields : preambleOf (preambleBytes h ++ rest) ≡ builtPreamble h
   pub checked : judgeChecksum (preambleBytes h ++ rest) ≡ fine
 
 unfoldable pub ReadsBack : Type 0

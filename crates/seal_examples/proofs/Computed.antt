@@ -3,22 +3,30 @@ use mathlib.Core.Bool.{cond}
 use mathlib.Core.List.{List, [], _∷_, _++_}
 use Prim.Native.Nat.{ℕ}
 use lib.Bits.{bitXor}
-use lib.ListN.{drop}
+use lib.ListN.{drop, getD}
 use mathlib.Core.Path.{_≡_, refl, ap, ap₂, _∙_}
 use Rattle.sbox.specs.Sbox.{xtime, mulBits, power, inverse, affine, sbox}
-use Rattle.aes.specs.Aes.{State, columnAt, stateOf, subColumn, subBytes, shiftRows, mixed, mixColumn, mixColumns, addColumn, addRoundKey, rcon, rotWord, firstWord, following, nextKey, roundKey, roundKeys, keyExpansion, rounds, cipher}
+use Rattle.aes.specs.Aes.{State, columnAt, stateOf, subColumn, subBytes, shiftRows, mixed, mixColumn, mixColumns, addColumn, addRoundKey, rcon, rotWord, firstWord, following, nextKey, roundKey, roundKeys, keyExpansion, cipher}
 use Rattle.aes.specs.Counter.{counterBlock, streamBlock, byteOf, streamByte, gctrFrom, gctr}
+use Rattle.aes.proofs.Computed.{sub, mix, cipherBy, keysBy, cipher-is, keys-are}
 use Rattle.ghash.specs.Ghash.{step, mulFrom, quadAt, blockAt, ghashFrom, ghash}
 use Rattle.gcm.specs.Gcm.{plain, fail, columnNumber, blockNumber, blockBytes, hashKey, tagOf, sealedBy, sealed, sameAs, tagFits, openedBy, opened}
 use Rattle.seal_examples.specs.Examples.{key, input, output, lastKey, zeros, emptySealed, blockSealed, emptyWrong, Fips197, Gcm, Orders}
 
+-- the round keys of a key, and a block by them, in the form that computes fast
+abbrev keysOf : List ℕ → List State
+keysOf k = keysBy sub 11 1 (stateOf k)
+
+encrypted : (k : List ℕ) (s : State) → cipher (keyExpansion k) s ≡ cipherBy sub mix (keysOf k) s
+encrypted k s = ap (λ (w : List State). cipher w s) (keys-are k) ∙ cipher-is (keysOf k) s
+
 last-key : roundKey 10 (stateOf key) ≡ stateOf lastKey
-unfolding xtime mulBits power inverse affine sbox columnAt stateOf subColumn addColumn rcon rotWord firstWord following nextKey roundKey
-last-key = refl
+unfolding xtime columnAt stateOf addColumn rotWord following roundKeys keyExpansion
+last-key = ap (λ (ks : List State). getD ks 10 []) (keys-are key) ∙ refl
 
 block : cipher (keyExpansion key) (stateOf input) ≡ stateOf output
-unfolding xtime mulBits power inverse affine sbox columnAt stateOf subColumn subBytes shiftRows mixed mixColumn mixColumns addColumn addRoundKey rcon rotWord firstWord following nextKey roundKey roundKeys keyExpansion rounds cipher
-block = refl
+unfolding xtime columnAt stateOf shiftRows addColumn addRoundKey rotWord following
+block = encrypted key (stateOf input) ∙ refl
 
 pub fips : Fips197
 unfolding xtime mulBits power inverse affine sbox columnAt stateOf subColumn subBytes shiftRows mixed mixColumn mixColumns addColumn addRoundKey rcon rotWord firstWord following nextKey roundKey
@@ -41,8 +49,8 @@ w : List State
 w = keyExpansion (zeros 16)
 
 hash-key : hashKey w ≡ 0x66e94bd4ef8a2c3b884cfa59ca342b2e
-unfolding w xtime mulBits power inverse affine sbox columnAt stateOf subColumn subBytes shiftRows mixed mixColumn mixColumns addColumn addRoundKey rcon rotWord firstWord following nextKey roundKey roundKeys keyExpansion rounds cipher columnNumber blockNumber hashKey
-hash-key = refl
+unfolding w xtime columnAt stateOf shiftRows addColumn addRoundKey rotWord following columnNumber blockNumber hashKey
+hash-key = ap blockNumber (encrypted (zeros 16) (stateOf (zeros 16))) ∙ refl
 
 first : List ℕ
 first = 0x58 ∷ 0xe2 ∷ 0xfc ∷ 0xce ∷ 0xfa ∷ 0x7e ∷ 0x30 ∷ 0x61 ∷ 0x36 ∷ 0x7f ∷ 0x1d ∷ 0x57 ∷ 0xa4 ∷ 0xe7 ∷ 0x45 ∷ 0x5a ∷ []
@@ -51,12 +59,12 @@ second : List ℕ
 second = 0x03 ∷ 0x88 ∷ 0xda ∷ 0xce ∷ 0x60 ∷ 0xb6 ∷ 0xa3 ∷ 0x92 ∷ 0xf3 ∷ 0x28 ∷ 0xc2 ∷ 0xb9 ∷ 0x71 ∷ 0xb2 ∷ 0xfe ∷ 0x78 ∷ []
 
 first-block : streamBlock w (zeros 12) 1 ≡ stateOf first
-unfolding w first xtime mulBits power inverse affine sbox columnAt stateOf subColumn subBytes shiftRows mixed mixColumn mixColumns addColumn addRoundKey rcon rotWord firstWord following nextKey roundKey roundKeys keyExpansion rounds cipher counterBlock streamBlock
-first-block = refl
+unfolding w first xtime columnAt stateOf shiftRows addColumn addRoundKey rotWord following counterBlock streamBlock
+first-block = encrypted (zeros 16) (counterBlock (zeros 12) 1) ∙ refl
 
 second-block : streamBlock w (zeros 12) 2 ≡ stateOf second
-unfolding w second xtime mulBits power inverse affine sbox columnAt stateOf subColumn subBytes shiftRows mixed mixColumn mixColumns addColumn addRoundKey rcon rotWord firstWord following nextKey roundKey roundKeys keyExpansion rounds cipher counterBlock streamBlock
-second-block = refl
+unfolding w second xtime columnAt stateOf shiftRows addColumn addRoundKey rotWord following counterBlock streamBlock
+second-block = encrypted (zeros 16) (counterBlock (zeros 12) 2) ∙ refl
 
 -- the tag of a masked text, from the two
 tagged : List ℕ → ℕ → State → List ℕ

@@ -1,11 +1,14 @@
--- The cipher computed, block by block: the round keys, the hash key, and the blocks that mask each part.
+-- The cipher computed: the round keys, the hash key, and the blocks that mask the parts of each nonce.
 use mathlib.Core.List.{List, [], _∷_}
-use mathlib.Core.Path.{_≡_, refl}
-use Rattle.sbox.specs.Sbox.{xtime, mulBits, power, inverse, affine, sbox}
-use Rattle.aes.specs.Aes.{State, columnAt, stateOf, subColumn, subBytes, shiftRows, mixed, mixColumn, mixColumns, addColumn, addRoundKey, rcon, rotWord, firstWord, following, nextKey, roundKey, roundKeys, keyExpansion, rounds, cipher}
+use mathlib.Core.Path.{_≡_, refl, ap, fun-ext, _∙_}
+use Prim.Native.Nat.{ℕ, zero, suc}
+use lib.ListN.{replicate}
+use Rattle.sbox.specs.Sbox.{xtime}
+use Rattle.aes.specs.Aes.{State, columnAt, stateOf, shiftRows, addColumn, addRoundKey, rotWord, following, keyExpansion}
 use Rattle.aes.specs.Counter.{counterBlock, streamBlock}
 use Rattle.gcm.specs.Gcm.{columnNumber, blockNumber, hashKey}
 use Rattle.secure_examples.specs.Parts.{key, nonce0, nonce1, nonce2}
+use Rattle.aes.proofs.Computed.{sub, mix, cipherBy, cipher-is, keys-are}
 
 abbrev pub w : List State
 w =
@@ -23,69 +26,79 @@ w =
     ∷ []
 
 pub keys : keyExpansion key ≡ w
-unfolding xtime mulBits power inverse affine sbox columnAt stateOf subColumn addColumn rcon rotWord firstWord following nextKey roundKey roundKeys keyExpansion
-keys = refl
+unfolding xtime columnAt stateOf addColumn rotWord following
+keys = keys-are key ∙ refl
 
-pub hash-key : hashKey w ≡ 0xeda330f90eecd16c003e5fb09bcff358
-unfolding xtime mulBits power inverse affine sbox columnAt stateOf subColumn subBytes shiftRows mixed mixColumn mixColumns addColumn addRoundKey rounds cipher columnNumber blockNumber hashKey
-hash-key = refl
+abbrev pub h : ℕ
+h = 0xeda330f90eecd16c003e5fb09bcff358
 
-pub block0-1 : streamBlock w nonce0 1 ≡ (0xdc ∷ 0x0a ∷ 0x9b ∷ 0x00 ∷ []) ∷ (0x92 ∷ 0x05 ∷ 0x02 ∷ 0xfe ∷ []) ∷ (0xa8 ∷ 0x25 ∷ 0x80 ∷ 0xce ∷ []) ∷ (0x8a ∷ 0xc6 ∷ 0x94 ∷ 0xe3 ∷ []) ∷ []
-unfolding xtime mulBits power inverse affine sbox columnAt stateOf subColumn subBytes shiftRows mixed mixColumn mixColumns addColumn addRoundKey rounds cipher counterBlock streamBlock
-block0-1 = refl
+pub hash-key : hashKey w ≡ h
+unfolding columnAt stateOf shiftRows addColumn addRoundKey columnNumber blockNumber hashKey
+hash-key = ap blockNumber (cipher-is w (stateOf (replicate 16 0))) ∙ refl
 
-pub block0-2 : streamBlock w nonce0 2 ≡ (0x1a ∷ 0xba ∷ 0xb8 ∷ 0x5a ∷ []) ∷ (0x31 ∷ 0xf1 ∷ 0x0c ∷ 0xed ∷ []) ∷ (0xe6 ∷ 0x37 ∷ 0xaf ∷ 0xd3 ∷ []) ∷ (0xed ∷ 0x53 ∷ 0x34 ∷ 0x4b ∷ []) ∷ []
-unfolding xtime mulBits power inverse affine sbox columnAt stateOf subColumn subBytes shiftRows mixed mixColumn mixColumns addColumn addRoundKey rounds cipher counterBlock streamBlock
-block0-2 = refl
+-- ---- blocks looked up: number 1 and those behind it in a table, any other as it is defined
 
-pub block0-3 : streamBlock w nonce0 3 ≡ (0x04 ∷ 0xde ∷ 0xfa ∷ 0x30 ∷ []) ∷ (0x4d ∷ 0x2a ∷ 0x66 ∷ 0xe8 ∷ []) ∷ (0x96 ∷ 0x14 ∷ 0x6d ∷ 0x8c ∷ []) ∷ (0xe1 ∷ 0x74 ∷ 0x5f ∷ 0x64 ∷ []) ∷ []
-unfolding xtime mulBits power inverse affine sbox columnAt stateOf subColumn subBytes shiftRows mixed mixColumn mixColumns addColumn addRoundKey rounds cipher counterBlock streamBlock
-block0-3 = refl
+abbrev listed : ℕ → (ℕ → State) → List State
+listed zero f = []
+listed (suc n) f = f zero ∷ listed n (λ i. f (suc i))
 
-pub block0-4 : streamBlock w nonce0 4 ≡ (0x8b ∷ 0x79 ∷ 0x53 ∷ 0x34 ∷ []) ∷ (0xc8 ∷ 0xcd ∷ 0xc6 ∷ 0x3f ∷ []) ∷ (0x84 ∷ 0x26 ∷ 0xc1 ∷ 0x21 ∷ []) ∷ (0x1c ∷ 0xa3 ∷ 0xde ∷ 0x42 ∷ []) ∷ []
-unfolding xtime mulBits power inverse affine sbox columnAt stateOf subColumn subBytes shiftRows mixed mixColumn mixColumns addColumn addRoundKey rounds cipher counterBlock streamBlock
-block0-4 = refl
+abbrev found : (ℕ → State) → List State → ℕ → State
+found f [] i = f i
+found f (s ∷ ss) zero = s
+found f (s ∷ ss) (suc i) = found (λ j. f (suc j)) ss i
 
-pub block0-5 : streamBlock w nonce0 5 ≡ (0xb6 ∷ 0x0b ∷ 0x2c ∷ 0xca ∷ []) ∷ (0x00 ∷ 0x1f ∷ 0xac ∷ 0xb0 ∷ []) ∷ (0x56 ∷ 0xcb ∷ 0x53 ∷ 0x37 ∷ []) ∷ (0x57 ∷ 0xe1 ∷ 0x75 ∷ 0xa6 ∷ []) ∷ []
-unfolding xtime mulBits power inverse affine sbox columnAt stateOf subColumn subBytes shiftRows mixed mixColumn mixColumns addColumn addRoundKey rounds cipher counterBlock streamBlock
-block0-5 = refl
+found-is : (f : ℕ → State) (n i : ℕ) → f i ≡ found f (listed n f) i
+found-is f zero i = refl
+found-is f (suc n) zero = refl
+found-is f (suc n) (suc i) = found-is (λ j. f (suc j)) n i
 
-pub block0-6 : streamBlock w nonce0 6 ≡ (0x76 ∷ 0xe4 ∷ 0x82 ∷ 0x87 ∷ []) ∷ (0x73 ∷ 0xcf ∷ 0xc1 ∷ 0xdd ∷ []) ∷ (0xc2 ∷ 0x76 ∷ 0xd0 ∷ 0x08 ∷ []) ∷ (0xd5 ∷ 0x9f ∷ 0x73 ∷ 0xd7 ∷ []) ∷ []
-unfolding xtime mulBits power inverse affine sbox columnAt stateOf subColumn subBytes shiftRows mixed mixColumn mixColumns addColumn addRoundKey rounds cipher counterBlock streamBlock
-block0-6 = refl
+abbrev pub block : List ℕ → List State → ℕ → State
+block nonce t zero = streamBlock w nonce zero
+block nonce t (suc i) = found (λ j. streamBlock w nonce (suc j)) t i
 
-pub block1-1 : streamBlock w nonce1 1 ≡ (0x9b ∷ 0xd6 ∷ 0xb2 ∷ 0xf5 ∷ []) ∷ (0x26 ∷ 0xc7 ∷ 0xda ∷ 0x2b ∷ []) ∷ (0x41 ∷ 0x52 ∷ 0x8a ∷ 0x1a ∷ []) ∷ (0x74 ∷ 0xec ∷ 0x87 ∷ 0x5e ∷ []) ∷ []
-unfolding xtime mulBits power inverse affine sbox columnAt stateOf subColumn subBytes shiftRows mixed mixColumn mixColumns addColumn addRoundKey rounds cipher counterBlock streamBlock
-block1-1 = refl
+blocks : (nonce : List ℕ) (t : List State) (n : ℕ) → listed n (λ j. cipherBy sub mix w (counterBlock nonce (suc j))) ≡ t → (i : ℕ) → streamBlock w nonce i ≡ block nonce t i
+unfolding streamBlock
+blocks nonce t n e zero = refl
+blocks nonce t n e (suc i) =
+    found-is (λ j. streamBlock w nonce (suc j)) n i
+    ∙ ap (λ (ss : List State). found (λ j. streamBlock w nonce (suc j)) ss i)
+    (ap (listed n) (fun-ext (λ j. cipher-is w (counterBlock nonce (suc j)))) ∙ e)
 
-pub block1-2 : streamBlock w nonce1 2 ≡ (0xc2 ∷ 0x07 ∷ 0xf1 ∷ 0x99 ∷ []) ∷ (0xee ∷ 0x9c ∷ 0x06 ∷ 0x59 ∷ []) ∷ (0xc8 ∷ 0xbb ∷ 0x15 ∷ 0xf2 ∷ []) ∷ (0xf3 ∷ 0x34 ∷ 0x36 ∷ 0x92 ∷ []) ∷ []
-unfolding xtime mulBits power inverse affine sbox columnAt stateOf subColumn subBytes shiftRows mixed mixColumn mixColumns addColumn addRoundKey rounds cipher counterBlock streamBlock
-block1-2 = refl
+abbrev pub table0 : List State
+table0 =
+    ((0xdc ∷ 0x0a ∷ 0x9b ∷ 0x00 ∷ []) ∷ (0x92 ∷ 0x05 ∷ 0x02 ∷ 0xfe ∷ []) ∷ (0xa8 ∷ 0x25 ∷ 0x80 ∷ 0xce ∷ []) ∷ (0x8a ∷ 0xc6 ∷ 0x94 ∷ 0xe3 ∷ []) ∷ [])
+    ∷ ((0x1a ∷ 0xba ∷ 0xb8 ∷ 0x5a ∷ []) ∷ (0x31 ∷ 0xf1 ∷ 0x0c ∷ 0xed ∷ []) ∷ (0xe6 ∷ 0x37 ∷ 0xaf ∷ 0xd3 ∷ []) ∷ (0xed ∷ 0x53 ∷ 0x34 ∷ 0x4b ∷ []) ∷ [])
+    ∷ ((0x04 ∷ 0xde ∷ 0xfa ∷ 0x30 ∷ []) ∷ (0x4d ∷ 0x2a ∷ 0x66 ∷ 0xe8 ∷ []) ∷ (0x96 ∷ 0x14 ∷ 0x6d ∷ 0x8c ∷ []) ∷ (0xe1 ∷ 0x74 ∷ 0x5f ∷ 0x64 ∷ []) ∷ [])
+    ∷ ((0x8b ∷ 0x79 ∷ 0x53 ∷ 0x34 ∷ []) ∷ (0xc8 ∷ 0xcd ∷ 0xc6 ∷ 0x3f ∷ []) ∷ (0x84 ∷ 0x26 ∷ 0xc1 ∷ 0x21 ∷ []) ∷ (0x1c ∷ 0xa3 ∷ 0xde ∷ 0x42 ∷ []) ∷ [])
+    ∷ ((0xb6 ∷ 0x0b ∷ 0x2c ∷ 0xca ∷ []) ∷ (0x00 ∷ 0x1f ∷ 0xac ∷ 0xb0 ∷ []) ∷ (0x56 ∷ 0xcb ∷ 0x53 ∷ 0x37 ∷ []) ∷ (0x57 ∷ 0xe1 ∷ 0x75 ∷ 0xa6 ∷ []) ∷ [])
+    ∷ ((0x76 ∷ 0xe4 ∷ 0x82 ∷ 0x87 ∷ []) ∷ (0x73 ∷ 0xcf ∷ 0xc1 ∷ 0xdd ∷ []) ∷ (0xc2 ∷ 0x76 ∷ 0xd0 ∷ 0x08 ∷ []) ∷ (0xd5 ∷ 0x9f ∷ 0x73 ∷ 0xd7 ∷ []) ∷ [])
+    ∷ []
 
-pub block1-3 : streamBlock w nonce1 3 ≡ (0xaa ∷ 0x35 ∷ 0x33 ∷ 0x55 ∷ []) ∷ (0x46 ∷ 0xbb ∷ 0x4e ∷ 0x71 ∷ []) ∷ (0x64 ∷ 0xc3 ∷ 0x89 ∷ 0xab ∷ []) ∷ (0x1e ∷ 0x79 ∷ 0xb6 ∷ 0xa6 ∷ []) ∷ []
-unfolding xtime mulBits power inverse affine sbox columnAt stateOf subColumn subBytes shiftRows mixed mixColumn mixColumns addColumn addRoundKey rounds cipher counterBlock streamBlock
-block1-3 = refl
+pub blocks0 : streamBlock w nonce0 ≡ block nonce0 table0
+unfolding columnAt counterBlock shiftRows addColumn addRoundKey
+blocks0 = fun-ext (blocks nonce0 table0 6 refl)
 
-pub block1-4 : streamBlock w nonce1 4 ≡ (0x9d ∷ 0xe7 ∷ 0xbc ∷ 0x7f ∷ []) ∷ (0x3d ∷ 0x8e ∷ 0x80 ∷ 0xcc ∷ []) ∷ (0x7f ∷ 0x02 ∷ 0x07 ∷ 0x9d ∷ []) ∷ (0x38 ∷ 0xb3 ∷ 0xc7 ∷ 0x04 ∷ []) ∷ []
-unfolding xtime mulBits power inverse affine sbox columnAt stateOf subColumn subBytes shiftRows mixed mixColumn mixColumns addColumn addRoundKey rounds cipher counterBlock streamBlock
-block1-4 = refl
+abbrev pub table1 : List State
+table1 =
+    ((0x9b ∷ 0xd6 ∷ 0xb2 ∷ 0xf5 ∷ []) ∷ (0x26 ∷ 0xc7 ∷ 0xda ∷ 0x2b ∷ []) ∷ (0x41 ∷ 0x52 ∷ 0x8a ∷ 0x1a ∷ []) ∷ (0x74 ∷ 0xec ∷ 0x87 ∷ 0x5e ∷ []) ∷ [])
+    ∷ ((0xc2 ∷ 0x07 ∷ 0xf1 ∷ 0x99 ∷ []) ∷ (0xee ∷ 0x9c ∷ 0x06 ∷ 0x59 ∷ []) ∷ (0xc8 ∷ 0xbb ∷ 0x15 ∷ 0xf2 ∷ []) ∷ (0xf3 ∷ 0x34 ∷ 0x36 ∷ 0x92 ∷ []) ∷ [])
+    ∷ ((0xaa ∷ 0x35 ∷ 0x33 ∷ 0x55 ∷ []) ∷ (0x46 ∷ 0xbb ∷ 0x4e ∷ 0x71 ∷ []) ∷ (0x64 ∷ 0xc3 ∷ 0x89 ∷ 0xab ∷ []) ∷ (0x1e ∷ 0x79 ∷ 0xb6 ∷ 0xa6 ∷ []) ∷ [])
+    ∷ ((0x9d ∷ 0xe7 ∷ 0xbc ∷ 0x7f ∷ []) ∷ (0x3d ∷ 0x8e ∷ 0x80 ∷ 0xcc ∷ []) ∷ (0x7f ∷ 0x02 ∷ 0x07 ∷ 0x9d ∷ []) ∷ (0x38 ∷ 0xb3 ∷ 0xc7 ∷ 0x04 ∷ []) ∷ [])
+    ∷ ((0x8c ∷ 0x30 ∷ 0x01 ∷ 0xfc ∷ []) ∷ (0x21 ∷ 0x09 ∷ 0x6d ∷ 0x0c ∷ []) ∷ (0xbd ∷ 0xe1 ∷ 0x01 ∷ 0x5d ∷ []) ∷ (0x3d ∷ 0xb9 ∷ 0x2f ∷ 0xcf ∷ []) ∷ [])
+    ∷ ((0xdc ∷ 0x25 ∷ 0x00 ∷ 0x83 ∷ []) ∷ (0x7d ∷ 0xe1 ∷ 0xe5 ∷ 0x0f ∷ []) ∷ (0x16 ∷ 0x95 ∷ 0x0f ∷ 0xa3 ∷ []) ∷ (0x3f ∷ 0x0b ∷ 0xb2 ∷ 0x91 ∷ []) ∷ [])
+    ∷ []
 
-pub block1-5 : streamBlock w nonce1 5 ≡ (0x8c ∷ 0x30 ∷ 0x01 ∷ 0xfc ∷ []) ∷ (0x21 ∷ 0x09 ∷ 0x6d ∷ 0x0c ∷ []) ∷ (0xbd ∷ 0xe1 ∷ 0x01 ∷ 0x5d ∷ []) ∷ (0x3d ∷ 0xb9 ∷ 0x2f ∷ 0xcf ∷ []) ∷ []
-unfolding xtime mulBits power inverse affine sbox columnAt stateOf subColumn subBytes shiftRows mixed mixColumn mixColumns addColumn addRoundKey rounds cipher counterBlock streamBlock
-block1-5 = refl
+pub blocks1 : streamBlock w nonce1 ≡ block nonce1 table1
+unfolding columnAt counterBlock shiftRows addColumn addRoundKey
+blocks1 = fun-ext (blocks nonce1 table1 6 refl)
 
-pub block1-6 : streamBlock w nonce1 6 ≡ (0xdc ∷ 0x25 ∷ 0x00 ∷ 0x83 ∷ []) ∷ (0x7d ∷ 0xe1 ∷ 0xe5 ∷ 0x0f ∷ []) ∷ (0x16 ∷ 0x95 ∷ 0x0f ∷ 0xa3 ∷ []) ∷ (0x3f ∷ 0x0b ∷ 0xb2 ∷ 0x91 ∷ []) ∷ []
-unfolding xtime mulBits power inverse affine sbox columnAt stateOf subColumn subBytes shiftRows mixed mixColumn mixColumns addColumn addRoundKey rounds cipher counterBlock streamBlock
-block1-6 = refl
+abbrev pub table2 : List State
+table2 =
+    ((0xa6 ∷ 0x97 ∷ 0x0c ∷ 0xa7 ∷ []) ∷ (0xf5 ∷ 0xb6 ∷ 0x4a ∷ 0xbc ∷ []) ∷ (0x9c ∷ 0x03 ∷ 0x1d ∷ 0xa1 ∷ []) ∷ (0x9a ∷ 0xd8 ∷ 0xb4 ∷ 0xc4 ∷ []) ∷ [])
+    ∷ ((0xdb ∷ 0x4f ∷ 0x1f ∷ 0xf3 ∷ []) ∷ (0xac ∷ 0x54 ∷ 0x8e ∷ 0x20 ∷ []) ∷ (0x29 ∷ 0x27 ∷ 0xaf ∷ 0x3c ∷ []) ∷ (0x7c ∷ 0x0e ∷ 0x43 ∷ 0x9e ∷ []) ∷ [])
+    ∷ ((0x7f ∷ 0xd7 ∷ 0xd7 ∷ 0x59 ∷ []) ∷ (0x02 ∷ 0xda ∷ 0x0e ∷ 0x59 ∷ []) ∷ (0xf2 ∷ 0x58 ∷ 0x53 ∷ 0x13 ∷ []) ∷ (0x09 ∷ 0x84 ∷ 0x70 ∷ 0x61 ∷ []) ∷ [])
+    ∷ []
 
-pub block2-1 : streamBlock w nonce2 1 ≡ (0xa6 ∷ 0x97 ∷ 0x0c ∷ 0xa7 ∷ []) ∷ (0xf5 ∷ 0xb6 ∷ 0x4a ∷ 0xbc ∷ []) ∷ (0x9c ∷ 0x03 ∷ 0x1d ∷ 0xa1 ∷ []) ∷ (0x9a ∷ 0xd8 ∷ 0xb4 ∷ 0xc4 ∷ []) ∷ []
-unfolding xtime mulBits power inverse affine sbox columnAt stateOf subColumn subBytes shiftRows mixed mixColumn mixColumns addColumn addRoundKey rounds cipher counterBlock streamBlock
-block2-1 = refl
-
-pub block2-2 : streamBlock w nonce2 2 ≡ (0xdb ∷ 0x4f ∷ 0x1f ∷ 0xf3 ∷ []) ∷ (0xac ∷ 0x54 ∷ 0x8e ∷ 0x20 ∷ []) ∷ (0x29 ∷ 0x27 ∷ 0xaf ∷ 0x3c ∷ []) ∷ (0x7c ∷ 0x0e ∷ 0x43 ∷ 0x9e ∷ []) ∷ []
-unfolding xtime mulBits power inverse affine sbox columnAt stateOf subColumn subBytes shiftRows mixed mixColumn mixColumns addColumn addRoundKey rounds cipher counterBlock streamBlock
-block2-2 = refl
-
-pub block2-3 : streamBlock w nonce2 3 ≡ (0x7f ∷ 0xd7 ∷ 0xd7 ∷ 0x59 ∷ []) ∷ (0x02 ∷ 0xda ∷ 0x0e ∷ 0x59 ∷ []) ∷ (0xf2 ∷ 0x58 ∷ 0x53 ∷ 0x13 ∷ []) ∷ (0x09 ∷ 0x84 ∷ 0x70 ∷ 0x61 ∷ []) ∷ []
-unfolding xtime mulBits power inverse affine sbox columnAt stateOf subColumn subBytes shiftRows mixed mixColumn mixColumns addColumn addRoundKey rounds cipher counterBlock streamBlock
-block2-3 = refl
+pub blocks2 : streamBlock w nonce2 ≡ block nonce2 table2
+unfolding columnAt counterBlock shiftRows addColumn addRoundKey
+blocks2 = fun-ext (blocks nonce2 table2 3 refl)

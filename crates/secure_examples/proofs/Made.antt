@@ -1,7 +1,8 @@
 -- Layout, sending states and builds computed.
 use mathlib.Core.Bool.{true, false}
-use mathlib.Core.List.{[], _∷_, _++_}
-use mathlib.Core.Path.{_≡_, refl, ap}
+use mathlib.Core.List.{List, [], _∷_, _++_}
+use mathlib.Core.Path.{_≡_, refl, ap, ap₂}
+use Prim.Native.Nat.{ℕ}
 use lib.ListN.{replicate}
 use Rattle.buffer.specs.Le.{numberAt}
 use Rattle.crc32c.specs.Crc.{crcOf, steps, step}
@@ -10,13 +11,15 @@ use Rattle.preamble.specs.Layout.{preambleFront, preambleBytes}
 use Rattle.preamble.specs.Judge.{shapeFault, limitFault, judgeHeader}
 use Rattle.stream.specs.Rows.{Holds}
 use Rattle.aes.specs.Aes.{keyExpansion}
+use Rattle.ghash.specs.Ghash.{quadAt, blockAt}
+use Rattle.gcm.specs.Gcm.{columnNumber, blockNumber, blockBytes, sameAs}
 use Rattle.builder.specs.Build.{wrote, turnedAway}
-use Rattle.secure.specs.Layout.{nextNonce, nonceAfter, sealedLength, partCount, needed, firstText, lastText, laterTexts, texts, sealedFrame}
+use Rattle.secure.specs.Layout.{nextNonce, nonceAfter, sealedLength, partCount, needed, firstText, lastText, laterTexts, texts, Part, sealedParts, frameParts, sealedFrame}
 use Rattle.sealed_builder.specs.Build.{done, outcome, sendingState, freshSending, refusedSending, agrees, sentMore, judgeEarlier, judgeSealed, sealedDone}
 use Rattle.secure_examples.specs.Parts.{key, nonce0, nonce1, two0, none0, two1, two2, aborted2}
 use Rattle.secure_examples.specs.Examples.{seg1, seg2, two, none}
 use Rattle.secure_examples.specs.Builds.{sending, nonce3, buffer, lengthRows, nonceRows, textRows, sealedRows, agreeRows, spendRows, orderRows, buildRows}
-use Rattle.secure_examples.proofs.Seals.{sealed-two0, sealed-none0, sealed-two1, sealed-two2, sealed-aborted2}
+use Rattle.secure_examples.proofs.Seals.{sealing, sealed-by}
 use Rattle.secure_examples.proofs.Rows.{held}
 
 pub lengthRows-hold : Holds lengthRows
@@ -33,17 +36,25 @@ textRows-hold = refl
 
 -- ---- sealed
 
+abbrev partsBy : List Part → List ℕ
+partsBy [] = []
+partsBy (p ∷ ps) = sealing (p .nonce) (p .text) ++ partsBy ps
+
+parts-by : (ps : List Part) → sealedParts (keyExpansion key) ps ≡ partsBy ps
+parts-by [] = refl
+parts-by (p ∷ ps) = ap₂ _++_ (sealed-by (p .nonce) (p .text)) (parts-by ps)
+
 whole-frame : sealedFrame (keyExpansion key) nonce0 two false (seg1 ++ seg2) ≡ two0 ++ two1 ++ two2
-unfolding numberAt crcOf steps step preambleFront preambleBytes nextNonce firstText lastText laterTexts texts sealedFrame
-whole-frame = rw (sealed-two0, sealed-two1, sealed-two2)
+unfolding quadAt blockAt columnNumber blockNumber blockBytes sameAs numberAt crcOf steps step preambleFront preambleBytes nextNonce firstText lastText laterTexts texts sealedFrame
+whole-frame = parts-by (frameParts nonce0 two false (seg1 ++ seg2))
 
 aborted-frame : sealedFrame (keyExpansion key) nonce0 two true (seg1 ++ seg2) ≡ two0 ++ two1 ++ aborted2
-unfolding numberAt crcOf steps step preambleFront preambleBytes nextNonce firstText lastText laterTexts texts sealedFrame
-aborted-frame = rw (sealed-two0, sealed-two1, sealed-aborted2)
+unfolding quadAt blockAt columnNumber blockNumber blockBytes sameAs numberAt crcOf steps step preambleFront preambleBytes nextNonce firstText lastText laterTexts texts sealedFrame
+aborted-frame = parts-by (frameParts nonce0 two true (seg1 ++ seg2))
 
 empty-frame : sealedFrame (keyExpansion key) nonce0 none false [] ≡ none0
-unfolding numberAt crcOf steps step preambleFront preambleBytes nextNonce firstText lastText laterTexts texts sealedFrame
-empty-frame = rw sealed-none0
+unfolding quadAt blockAt columnNumber blockNumber blockBytes sameAs numberAt crcOf steps step preambleFront preambleBytes nextNonce firstText lastText laterTexts texts sealedFrame
+empty-frame = parts-by (frameParts nonce0 none false [])
 
 pub sealedRows-hold : Holds sealedRows
 unfolding sealedRows
