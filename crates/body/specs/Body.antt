@@ -1,7 +1,7 @@
 -- The bytes behind a preamble, and whole frames (000, "msgr2.0-crc mode", "msgr2.1-crc mode"; 01, "Checksums", "Bodies").
 use mathlib.Core.List.{List, [], _∷_, _++_}
 use mathlib.Core.Bool.{Bool, true, false, cond}
-use Prim.Native.Nat.{ℕ, suc, _+_}
+use Prim.Native.Nat.{ℕ, suc, _+_, _-_, _*_}
 use lib.ListN.{length, take, drop, replicate}
 use lib.Dec.{leb, eqb}
 use Rattle.buffer.specs.Le.{le, words}
@@ -67,10 +67,13 @@ abbrev pub noEpilogue : Revision → Header → Bool
 noEpilogue Msgr20 h = false
 noEpilogue Msgr21 h = leb (h .count) 1
 
--- the late byte, and four bytes for each checksum
+-- how many checksums an epilogue holds, and its length: the late byte, and four bytes for each
+abbrev pub epilogueSums : Revision → ℕ
+epilogueSums revision = 5 - epilogueFrom revision
+
 abbrev pub epilogueLength : Revision → Header → ℕ
-epilogueLength Msgr20 h = 17
-epilogueLength Msgr21 h = cond (noEpilogue Msgr21 h) 0 13
+epilogueLength Msgr20 h = 1 + 4 * epilogueSums Msgr20
+epilogueLength Msgr21 h = cond (noEpilogue Msgr21 h) 0 (1 + 4 * epilogueSums Msgr21)
 
 abbrev pub bodyLength : Revision → Header → ℕ
 bodyLength revision h = total h + firstSumLength revision h + epilogueLength revision h

@@ -1,7 +1,7 @@
 -- The end of a body (01, "Bodies", "Order at the end of a body", refusals 11 and 12; 02, K8 and K10).
 use mathlib.Core.List.{List, [], _∷_, _++_}
 use mathlib.Core.Bool.{cond, _||_}
-use Prim.Native.Nat.{ℕ, suc, _+_, _%_}
+use Prim.Native.Nat.{ℕ, zero, suc, _+_, _%_}
 use lib.ListN.{take, drop, getD}
 use lib.Dec.{leb, ltb, eqb}
 use Rattle.buffer.specs.Le.{numberAt}
@@ -15,7 +15,7 @@ use Rattle.body.specs.declared.Ending.{Ending}
 use Rattle.body.specs.declared.Ending.the-variants as ends
 use Rattle.body.specs.declared.Late.{Late}
 use Rattle.body.specs.declared.Late.the-variants as late
-use Rattle.body.specs.Body.{segmentSum, restLength, segments, epilogueFrom, inEpilogue, firstSumLength, noEpilogue}
+use Rattle.body.specs.Body.{segmentSum, restLength, segments, epilogueFrom, inEpilogue, firstSumLength, noEpilogue, epilogueSums}
 
 -- late_flags: bit 0 set means aborted. late_status: one of two code words in the low four bits; the high four are not looked at
 abbrev pub lateOf : Revision → ℕ → Late
@@ -32,10 +32,14 @@ pub data Ended : Type 0 where
 abbrev pub segmentBytes : Revision → Header → List ℕ → List ℕ
 segmentBytes revision h b = take (h .s1 .len) b ++ take (restLength h) (drop (h .s1 .len + firstSumLength revision h) b)
 
--- the checksum fields that an epilogue e holds
+-- n checksum fields of an epilogue e, one behind the other
+abbrev pub sumsAt : ℕ → ℕ → List ℕ → List ℕ
+sumsAt zero at e = []
+sumsAt (suc n) at e = numberAt 4 at e ∷ sumsAt n (at + 4) e
+
+-- those that it holds, behind the late byte
 abbrev pub stored : Revision → List ℕ → List ℕ
-stored Msgr20 e = numberAt 4 1 e ∷ numberAt 4 5 e ∷ numberAt 4 9 e ∷ numberAt 4 13 e ∷ []
-stored Msgr21 e = numberAt 4 1 e ∷ numberAt 4 5 e ∷ numberAt 4 9 e ∷ []
+stored revision e = sumsAt (epilogueSums revision) 1 e
 
 -- segments from number k on, of which those that are used are compared with their stored checksums, lowest first
 abbrev pub compareFrom : ℕ → ℕ → List ℕ → List (List ℕ) → Judged

@@ -82,9 +82,12 @@ pub fn no_epilogue(revision: Revision, h: Header) -> bool
 pub fn epilogue_length(revision: Revision, h: Header) -> usize
     ensures { λ r. ⌜ (r ≡ epilogueLength revision h) × (r ≤ 17) ⌝ }
 {
+    if no_epilogue(revision, h) {
+        return 0;
+    }
     match revision {
         Revision::Msgr20 => 17,
-        Revision::Msgr21 => { if h.count <= 1 { 0 } else { 13 } }
+        Revision::Msgr21 => 13,
     }
 }
 

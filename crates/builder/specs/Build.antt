@@ -42,10 +42,11 @@ judgeFrame revision h abort source space queued =
     ∷ judgeRoom (wireLength revision h) space queued
     ∷ [])
 
--- THE ORDER for a banner: 16, 14
+-- the magic and the payload's length, and the two numbers of features
 abbrev pub bannerLength : ℕ
-bannerLength = 26
+bannerLength = 10 + 16
 
+-- THE ORDER for a banner: 16, 14
 unfoldable pub judgeBanner : ℕ → ℕ → ℕ → ℕ → Judged
 judgeBanner supported required space queued = firstOf (judgeOwn supported required ∷ judgeRoom bannerLength space queued ∷ [])
 

@@ -124,8 +124,9 @@ sealedFrame w nonce h abort source = sealedParts w (frameParts nonce h abort sou
 
 -- ---- lengths, with the tags, and how many parts there are
 
+-- the preamble, the inline bytes, the tag
 abbrev pub firstLength : ℕ
-firstLength = 96
+firstLength = 32 + inlineLength + 16
 
 abbrev pub restPart : Header → ℕ
 restPart h = roundUp (h .s1 .len - inlineLength) + 16

@@ -104,14 +104,18 @@ frames (suc f) revision P rest store =
 abbrev pub payloadOf : List ℕ → ℕ
 payloadOf stream = numberAt 2 8 stream
 
+-- the byte behind the banner
+abbrev pub framesStart : List ℕ → ℕ
+framesStart stream = 10 + payloadOf stream
+
 abbrev pub peerOf : List ℕ → Features
 peerOf stream = featuresOf (take 16 (drop 10 stream))
 
 abbrev pub bannerTrace : Features → List ℕ → List ℕ → Trace
 bannerTrace own stream store =
-    unlessRefused (judgeFeatures (own .supported) (own .required) (peerOf stream .supported) (peerOf stream .required)) (10 + payloadOf stream) store
-    (after (Banner (peerOf stream) (revisionOf (own .supported) (peerOf stream .supported))) (10 + payloadOf stream) store
-    (frames (length stream) (revisionOf (own .supported) (peerOf stream .supported)) (10 + payloadOf stream) (drop (10 + payloadOf stream) stream) store))
+    unlessRefused (judgeFeatures (own .supported) (own .required) (peerOf stream .supported) (peerOf stream .required)) (framesStart stream) store
+    (after (Banner (peerOf stream) (revisionOf (own .supported) (peerOf stream .supported))) (framesStart stream) store
+    (frames (length stream) (revisionOf (own .supported) (peerOf stream .supported)) (framesStart stream) (drop (framesStart stream) stream) store))
 
 unfoldable pub streamTrace : Features → List ℕ → List ℕ → Trace
 streamTrace own stream store =
@@ -119,7 +123,7 @@ streamTrace own stream store =
     (unlessRefused (judgeMagic (take 8 stream)) 8 store
     (cond (ltb (length stream) 10) (ended store)
     (unlessRefused (judgeLength (payloadOf stream)) 10 store
-    (cond (ltb (length stream) (10 + payloadOf stream)) (ended store) (bannerTrace own stream store)))))
+    (cond (ltb (length stream) (framesStart stream)) (ended store) (bannerTrace own stream store)))))
 
 -- after a start refused with 16 the list is empty and the store stays
 abbrev pub byOwn : Judged → Trace → List ℕ → Trace
