@@ -3,3 +3,4 @@ pub mod Checksums
 pub mod Ends
 pub mod Laws
 pub mod Spelling
+pub mod Fields

@@ -5,7 +5,7 @@ use Prim.Native.Nat.{ℕ, zero, suc, _+_, _-_, _≤_}
 use native.Mathlib.Nat.{le-refl, zero-add, suc-add, add-assoc}
 use native.Mathlib.Omega.{arith}
 use lib.ListN.{length, take, drop, length-append, length-take, length-drop, drop-of-length-le}
-use lib.Seq.{take-nil, take-all, take-at, drop-at, drop-append-add, drop-drop, length-take-le}
+use lib.Seq.{take-nil, take-all, take-at, drop-at, drop-append-add, drop-drop, length-take-le, drop-append-le}
 use Rattle.buffer.specs.Splice.{replaceFront, overwrite, splice}
 
 -- what a list holds again once the part from i on, lent whole, has come back as ys
@@ -89,3 +89,26 @@ splice-next l i xs ys h =
     ap (λ (t : List ℕ). t ++ ys ++ drop (n + length ys) (p ++ r)) (take-at p r n e)
     ∙ ap (λ (t : List ℕ). p ++ ys ++ t) (sym (drop-drop (length ys) n (p ++ r)) ∙ ap (drop (length ys)) (drop-at p r n e) ∙ drop-drop (length ys) n l)
     ∙ simp (append-assoc, length-append, add-assoc)
+
+-- the bytes that stand behind the queued ones
+pub written : (buf : List ℕ) (queued : ℕ) (xs : List ℕ) (n : ℕ) → length xs ≡ n → queued ≤ length buf → take n (drop queued (splice buf queued xs)) ≡ xs
+written buf queued xs n e h =
+    let t = length-take-le queued buf h in
+    let a = length-append (take queued buf) xs in
+    ap (take n) (drop-append-le queued (take queued buf ++ xs) (drop (queued + length xs) buf) (omega arith) ∙ ap (λ (l : List ℕ). l ++ drop (queued + length xs) buf) (drop-at (take queued buf) xs queued t))
+    ∙ take-at xs (drop (queued + length xs) buf) n e
+
+-- what stands from q on, and behind it what was put at Q
+pub put-behind : (buf : List ℕ) (q Q : ℕ) (A : List ℕ) → q ≤ Q → Q + length A ≤ length buf
+    → take (Q + length A - q) (drop q (splice buf Q A)) ≡ take (Q - q) (drop q buf) ++ A
+put-behind buf q Q A h l =
+    let R : List ℕ = drop (Q + length A) buf in
+    let t : length (take Q buf) ≡ Q = length-take-le Q buf (omega arith) in
+    let a = length-append (take Q buf) A in
+    let e : q + (Q - q) ≡ Q = omega arith in
+    let front : drop q (take Q buf) ≡ take (Q - q) (drop q buf) = ap (λ (k : ℕ). drop q (take k buf)) (sym e) ∙ drop-take q (Q - q) buf in
+    let d : length (drop q (take Q buf)) ≡ Q - q = (let z = length-drop q (take Q buf) in omega arith) in
+    let n : length (drop q (take Q buf) ++ A) ≡ Q + length A - q = (let z = length-append (drop q (take Q buf)) A in omega arith) in
+    ap (take (Q + length A - q)) (drop-append-le q (take Q buf ++ A) R (omega arith) ∙ ap (λ (x : List ℕ). x ++ R) (drop-append-le q (take Q buf) A (omega arith)))
+    ∙ take-at (drop q (take Q buf) ++ A) R (Q + length A - q) n
+    ∙ ap (λ (x : List ℕ). x ++ A) front

@@ -55,6 +55,11 @@ pub data Answer : Type 0 where
   wrote : ℕ → Answer
   turnedAway : Numbers → Answer
 
+-- how many bytes it says were written
+abbrev pub countIn : Answer → ℕ
+countIn (wrote n) = n
+countIn (turnedAway r) = 0
+
 pub record Done : Type 0 where
   pub answer : Answer
   pub buffer : List ℕ

@@ -36,7 +36,6 @@ use Rattle.secure.specs.Layout.{noRest, noLast, inlineLength, lastLengths, firs
 use Rattle.secure.specs.Reading.{judgePadding, judgeFirst, unpadded, lastEnded, zeroed}
 use Rattle.sealed_receiver.specs.declared.Stage as sealed-stage
 use Rattle.sealed_receiver.specs.declared.Stage.the-variants as stage
-use Rattle.sealed_receiver.specs.declared.Receiving.{Receiving}
 use Rattle.sealed_receiver.specs.declared.Known as sealed-known
 use Rattle.sealed_receiver.specs.declared.State as sealed-state
 use Rattle.sealed_receiver.specs.State as sealed-states
@@ -83,27 +82,30 @@ module _ (ready : Bool) (c : crc-state.State) where
   judged-counts fine s n x f = f
   judged-counts (refused m) s n x f = tt
 
-  frame-counts : (e : Ended) (r : Receiving) (h : Header) (p s : List ℕ) (n : ℕ) → n ≡ sealedLength h → CountsStep n (sealed.endFrame e r h p s)
-  frame-counts whole r h p s n e = e ∙ sym (add-zero (sealedLength h))
-  frame-counts dropped r h p s n e = e ∙ sym (add-zero (sealedLength h))
-  frame-counts (turnedAway m) r h p s n e = tt
+  frame-counts : (e : Ended) (v : sealed-known.Known) (p s : List ℕ) (n : ℕ) → n ≡ sealedLength (v .header) → CountsStep n (sealed.endFrame e v p s)
+  frame-counts whole v p s n e = e ∙ sym (add-zero (sealedLength (v .header)))
+  frame-counts dropped v p s n e = e ∙ sym (add-zero (sealedLength (v .header)))
+  frame-counts (turnedAway m) v p s n e = tt
 
-  module _ (r : Receiving) (h : Header) (s : List ℕ) (n : ℕ) where
-    last-counts : n ≡ firstLength + restPartLength h → CountsStep n (sealed.beginLast r h s)
+  module _ (v : sealed-known.Known) (s : List ℕ) (n : ℕ) where
+    abbrev h : Header
+    h = v .header
+
+    last-counts : n ≡ firstLength + restPartLength h → CountsStep n (sealed.beginLast v s)
     unfolding sealedLength
     last-counts e = go (noLast h) refl
       where
         go : (b : Bool) → noLast h ≡ b
-            → CountsStep n (cond b (sealed.endFrame whole r h (take (h .s1 .len) s) s) (sealed.silent (sealed.at stage.Last (sealed.knowing r h)) s))
+            → CountsStep n (cond b (sealed.endFrame whole v (take (h .s1 .len) s) s) (sealed.silent (sealed.at stage.Last v) s))
         go true q =
             let z : lastPartLength h ≡ 0 = rw q in
-            frame-counts whole r h (take (h .s1 .len) s) s n (omega (arith, e, z))
+            frame-counts whole v (take (h .s1 .len) s) s n (omega (arith, e, z))
         go false q = e ∙ sym (add-zero (firstLength + restPartLength h))
 
-    rest-counts : n ≡ firstLength → CountsStep n (sealed.beginRest r h s)
+    rest-counts : n ≡ firstLength → CountsStep n (sealed.beginRest v s)
     rest-counts e = go (noRest h) refl
       where
-        go : (b : Bool) → noRest h ≡ b → CountsStep n (cond b (sealed.beginLast r h s) (sealed.silent (sealed.at stage.Rest (sealed.knowing r h)) s))
+        go : (b : Bool) → noRest h ≡ b → CountsStep n (cond b (sealed.beginLast v s) (sealed.silent (sealed.at stage.Rest v) s))
         go true q =
             let z : restPartLength h ≡ 0 = rw q in
             last-counts (omega (arith, e, z))
@@ -114,21 +116,21 @@ module _ (ready : Bool) (c : crc-state.State) where
   unfolding sealed.finish sealed.behindFirst sealed.behindRest sealed.behindLast sealedLength
   finish-counts stage.First b v s o =
       judged-counts (sealed.judgePart (v .receiving) b) s 96 _
-      (let text = sealed.partText (v .receiving) b in judged-counts (judgeFirst text (length s)) s 96 _ (rest-counts (sealed-states.openedMore (v .receiving)) (headerOf text) _ 96 refl))
+      (let text = sealed.partText (v .receiving) b in judged-counts (judgeFirst text (length s)) s 96 _ (rest-counts (sealed.withHeader (sealed.withOpened v) (headerOf text)) _ 96 refl))
   finish-counts stage.Rest b v s o =
       let h = v .header in
       let bytes = sealed.sealedIn stage.Rest h s in
       let n = firstLength + restPartLength h in
       let text = sealed.partText (v .receiving) bytes in
       judged-counts (sealed.judgePart (v .receiving) bytes) (zeroed h s) n _
-      (judged-counts (judgePadding (drop (h .s1 .len - inlineLength) text)) (zeroed h s) n _ (last-counts (sealed-states.openedMore (v .receiving)) h _ n refl))
+      (judged-counts (judgePadding (drop (h .s1 .len - inlineLength) text)) (zeroed h s) n _ (last-counts (sealed.withOpened v) _ n refl))
   finish-counts stage.Last b v s o =
       let h = v .header in
       let bytes = sealed.sealedIn stage.Last h s in
       let n = firstLength + restPartLength h + lastPartLength h in
       let text = sealed.partText (v .receiving) bytes in
       judged-counts (sealed.judgePart (v .receiving) bytes) (zeroed h s) n _
-      (frame-counts (lastEnded h text) (sealed-states.openedMore (v .receiving)) h (take (h .s1 .len) s ++ unpadded (lastLengths h) text) s n refl)
+      (frame-counts (lastEnded h text) (sealed.withOpened v) (take (h .s1 .len) s ++ unpadded (lastLengths h) text) s n refl)
   finish-counts stage.Refused b v s o = wrong (sym o)
 
   byte-counts : (x : sealed-state.State) (s : List ℕ) (b : ℕ) → sealed.Running x s → CountsStep (unfinished (within x) + 1) (sealed.onByte x s b)

@@ -12,7 +12,7 @@ use borrow.Author.Tests.{leb-true, leb-false}
 use Rattle.buffer.proofs.Parts.{drop-take}
 use Rattle.refusal.specs.declared.Numbers.{Numbers}
 use Rattle.refusal.specs.declared.Refusal.the-variants as refusal
-use Rattle.refusal.specs.Refusals.{Judged, fine, refused, unless}
+use Rattle.refusal.specs.Refusals.{Judged, fine, refused, unless, noRefusal}
 use Rattle.refusal.proofs.Booleans.{wrong, both-left, both-right}
 use Rattle.refusal.proofs.Judgements.{all-fine, passed}
 use Rattle.banner.specs.declared.Features.{Features}
@@ -22,7 +22,7 @@ use Rattle.stream.specs.Stream.{Entry, Trace, ended, traceOf}
 use Rattle.receiver.specs.declared.Report.{Report}
 use Rattle.receiver.specs.declared.Report.the-variants as report
 use Rattle.receiver.specs.declared.Stage.the-variants as stage
-use Rattle.receiver.specs.State.{rank, noRefusal, isMsgr21}
+use Rattle.receiver.specs.State.{rank, isMsgr21}
 use Rattle.receiver.specs.Step as crc
 use Rattle.receiver.specs.Calls.{pieceAt, passing, entered, dueTaken, dueReport, refusedIn}
 use Rattle.receiver.proofs.Entries.{Behind, noted}
@@ -35,12 +35,12 @@ use Rattle.sealed_receiver.proofs.Live.{switched-running}
 use Rattle.secure.specs.Reading.{sealedTrace}
 use Rattle.connection.specs.declared.State.{State}
 use Rattle.connection.specs.declared.Mode.the-variants as mode
-use Rattle.connection.specs.Switched.{Switch, none, behind, closes, spliced, traceWith, closesAt, choseMsgr21, behindFrame, maySwitch}
+use Rattle.connection.specs.Switched.{Switch, none, behind, closes, spliced, traceWith, closesAt, choseMsgr21, behindFrame, maySwitch, framesIn}
 use Rattle.connection.specs.Step.{isSecure, noSecure, begun, agrees, mayBeSwitched, judgeSwitch, switchedState}
 use Rattle.connection.specs.Calls.{Piece, Try, Call, Chained, takenBy, stateBy, storeBy, reportedBy, counted, switchBy, Each, Repeats, OneMade, Tries, AsSwitched, SwitchedDemand3}
 use Rattle.connection.proofs.Machines.{crcByte, secureByte, crcSide, secureSide, CrcRunning, SecureRunning, CrcGone, before}
 use Rattle.connection.proofs.Scans.{trace, crc-trace, secure-trace, LastCloses, Just, ready-just, ready-closes, revision-chosen}
-use Rattle.connection.proofs.Splices.{closings, spliced-there, AllBy, skipped, ahead-only, takes-some, lent-nothing}
+use Rattle.connection.proofs.Splices.{spliced-there, AllBy, skipped, ahead-only, takes-some, lent-nothing}
 use Rattle.connection.proofs.Parted.{runs, refuses, crc-agrees, secure-agrees, Fed, takenOf, stateOf, storeOf, reportedOf, EachOf, reportedThen, countedBy, Unmade, Made, Parted, unmade, made, parted}
 use Rattle.connection.proofs.Tried.{tries-answered}
 
@@ -57,17 +57,17 @@ reported-then t (c ∷ ps) fs e =
     let t′ = t + c .received .taken in
     entered-append (c .received .report) t′ (c .store) (reportedThen t′ ps fs) (reportedOf t′ ps) fs e (reported-then t′ ps fs)
 
-counted-entered : (k n : ℕ) (r : Report) (t : ℕ) (s : List ℕ) (es : List Entry) → refusedIn (entered r t s es) ≡ false → (refusedIn es ≡ false → n ≡ counted k r + closings es) → n ≡ k + closings (entered r t s es)
+counted-entered : (k n : ℕ) (r : Report) (t : ℕ) (s : List ℕ) (es : List Entry) → refusedIn (entered r t s es) ≡ false → (refusedIn es ≡ false → n ≡ counted k r + framesIn es) → n ≡ k + framesIn (entered r t s es)
 counted-entered k n report.More t s es e f = f e
 counted-entered k n (report.Event w) t s es e f =
     let p = clean-here w (refusedIn (passing w es (λ m. []))) e in
     rw p (f (rw p at e) ∙ go (closes w))
   where
-    go : (b : Bool) → cond b (suc k) k + closings es ≡ k + cond b (suc (closings es)) (closings es)
+    go : (b : Bool) → cond b (suc k) k + framesIn es ≡ k + cond b (suc (framesIn es)) (framesIn es)
     go true = omega arith
     go false = refl
 
-counted-closings : (k t : ℕ) (ps : List Piece) → refusedIn (reportedOf t ps) ≡ false → countedBy k ps ≡ k + closings (reportedOf t ps)
+counted-closings : (k t : ℕ) (ps : List Piece) → refusedIn (reportedOf t ps) ≡ false → countedBy k ps ≡ k + framesIn (reportedOf t ps)
 counted-closings k t [] e = sym (add-zero k)
 counted-closings k t (c ∷ ps) e =
     let t′ = t + c .received .taken in
@@ -320,8 +320,8 @@ module _ (own : Features) (store : List ℕ) (ok : judgeOwn (own .supported) (ow
         subst (λ (n : ℕ). AllBy n es) l
         (subst (λ (y : Scanned State). AllBy (0 + length (take t₁ stream)) (y .entries)) (scanned₀ stream ps (x .fed)) (scan-by crcByte start store 0 (take t₁ stream)))
 
-    number₁ : countedBy 0 ps ≡ closings es
-    number₁ = counted-closings 0 0 ps clean₁ ∙ zero-add (closings es)
+    number₁ : countedBy 0 ps ≡ framesIn es
+    number₁ = counted-closings 0 0 ps clean₁ ∙ zero-add (framesIn es)
 
     -- any bytes that begin as these do
     module _ (bytes : List ℕ) (alike : take t₁ bytes ≡ take t₁ stream) (long : t₁ ≤ length bytes) where

@@ -10,14 +10,13 @@ use lib.Seq.{take-take}
 use lib.Dec.{leb, eqb}
 use borrow.Author.Tests.{leb-true, le-leb, lt-leb}
 use Rattle.buffer.proofs.Parts.{drop-take}
-use Rattle.refusal.specs.Refusals.{Judged, fine, refused}
+use Rattle.refusal.specs.Refusals.{Judged, fine, refused, noRefusal}
 use Rattle.banner.specs.declared.Features.{Features}
 use Rattle.banner.specs.Banner.{judgeOwn}
 use Rattle.stream.specs.Stream.{Entry, Trace, byOwn, streamTrace, traceOf}
 use Rattle.receiver.specs.declared.Report.{Report}
 use Rattle.receiver.specs.declared.Report.the-variants as report
 use Rattle.receiver.specs.declared.Stage.the-variants as stage
-use Rattle.receiver.specs.State.{noRefusal}
 use Rattle.receiver.specs.Step.{at, onlyOwn}
 use Rattle.receiver.proofs.Entries.{noted, Behind}
 use Rattle.receiver.proofs.Machine.{Stepped, scan, scan-behind}

@@ -10,7 +10,7 @@ use borrow.Author.Tests.{eqb-true, ltb-true, ltb-false}
 use Rattle.refusal.specs.declared.Numbers.{Numbers}
 use Rattle.refusal.specs.declared.Refusal.the-variants as refusal
 use Rattle.refusal.specs.Refusals.{Judged, fine, refused, numbersOf, unless}
-use Rattle.refusal.proofs.Booleans.{wrong, both-left, both-right}
+use Rattle.refusal.proofs.Booleans.{wrong, both-left, both-right, second-false}
 use Rattle.banner.specs.declared.Features.{Features}
 use Rattle.stream.specs.declared.Event.the-variants as event
 use Rattle.receiver.specs.declared.Report.{Report}
@@ -23,6 +23,7 @@ use Rattle.receiver.proofs.Machine.{Machine, After, feed, feed-after}
 use Rattle.receiver.proofs.Machine as machine
 use Rattle.receiver.proofs.Live as crc-live
 use Rattle.receiver.proofs.Every as crc-every
+use Rattle.receiver.specs.Step.{contradiction}
 use Rattle.sealed_receiver.specs.declared.State as sealed-state
 use Rattle.sealed_receiver.specs.State as sealed-states
 use Rattle.sealed_receiver.specs.Step as sealed
@@ -36,7 +37,7 @@ use Rattle.connection.specs.declared.Received.{Received}
 use Rattle.connection.specs.declared.Switched.{Switched}
 use Rattle.connection.specs.Step.{readyRule, agreesInUse, agrees, begun, Answer, answered, byCrc, bySecure, answer, Answered, mayBeSwitched, judgeSwitch, switchedState, SwitchedWith}
 use Rattle.connection.specs.Calls.{Piece, SwitchedDemand3}
-use Rattle.connection.specs.Every.{contradiction, refusedInUse, neededInUse, shortStore, stopped, Running, Refuses, Sound, SoundSwitch}
+use Rattle.connection.specs.Every.{refusedInUse, neededInUse, shortStore, stopped, Running, Refuses, Sound, SoundSwitch}
 use Rattle.connection.proofs.Machines.{crcSide, secureSide, CrcRunning, CrcGone, SecureRunning, SecureGone, before, crc-answer, secure-answer}
 use Rattle.connection.proofs.Parted.{Stands, runs, refuses, next-stands, crc-agrees, secure-agrees, judged-27, unless-number}
 use Rattle.connection.proofs.Laws.{by-rule}
@@ -149,10 +150,6 @@ module _ (s piece : List ℕ) where
   crc-contradicting : (c : crc-state.State) → crc-states.agrees c ≡ false → crc.answer c s piece ≡ crc.refuseUnchanged c contradiction s
   unfolding crc.answer
   crc-contradicting c e = rw e
-
-  second-false : (a b : Bool) → (a && b) ≡ false → a ≡ true → b ≡ false
-  second-false true b e q = e
-  second-false false b e q = wrong q
 
   in-use-not : (st : State) → agrees st ≡ false → readyRule st ≡ true → agreesInUse st ≡ false
   unfolding agrees

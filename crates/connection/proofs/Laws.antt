@@ -1,7 +1,7 @@
 -- What the calls return, one law a return, over plain values.
 use mathlib.Core.List.{List}
-use mathlib.Core.Path.{_≡_, refl, sym, ap, _∙_}
-use mathlib.Core.Bool.{Bool, true, false, not, cond, _&&_}
+use mathlib.Core.Path.{_≡_, sym, ap, _∙_}
+use mathlib.Core.Bool.{Bool, true, false, cond, _&&_}
 use Prim.Native.Nat.{ℕ}
 use Rattle.refusal.specs.declared.Numbers.{Numbers}
 use Rattle.refusal.specs.declared.Refusal.the-variants as refusal
@@ -62,11 +62,3 @@ pub switch-judged : (st : State) → orElse (unless (readyRule st && agreesInUse
 unfolding judgeSwitch agrees
 switch-judged st =
     ap (orElse (unless (readyRule st && agreesInUse st) refusal.StateContradicts)) (sym (or-else-last (unless (mayBeSwitched st) refusal.SwitchRefused)))
-
-pub negated : (b : Bool) → not b ≡ true → b ≡ false
-negated true e = sym e
-negated false e = refl
-
-pub affirmed : (b : Bool) → not b ≡ false → b ≡ true
-affirmed true e = refl
-affirmed false e = sym e

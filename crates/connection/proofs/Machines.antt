@@ -11,7 +11,7 @@ use borrow.Author.Tests.{le-ltb, ne-eqb, not-true}
 use Rattle.refusal.specs.declared.Numbers.{Numbers}
 use Rattle.refusal.specs.declared.Refusal.the-variants as refusal
 use Rattle.refusal.specs.Refusals.{Judged, fine, refused, numbersOf}
-use Rattle.refusal.proofs.Booleans.{wrong, both-left}
+use Rattle.refusal.proofs.Booleans.{wrong, both-left, or-false, and-false}
 use Rattle.buffer.specs.Le.{numberAt}
 use Rattle.banner.specs.declared.Revision.{Revision}
 use Rattle.banner.specs.Banner.{judgeFeatures, judgeMagic, judgeLength, revisionOf, featuresOf}
@@ -216,14 +216,6 @@ crcLifted st a = record {
   report = a .received .report;
   store = a .store;
 }
-
-pub or-false : (a b : Bool) → b ≡ false → (a || b) ≡ a
-or-false true b e = refl
-or-false false b e = e
-
-pub and-false : (a : Bool) → (a && false) ≡ false
-and-false true = refl
-and-false false = refl
 
 -- a report behind the first byte does not ask what was before
 later-ready : (a : Bool) (n : ℕ) (r : Report) → readyAfter a (1 + n) r ≡ readyAfter false n r

@@ -7,19 +7,19 @@ use native.Mathlib.Omega.{arith}
 use native.Mathlib.Numerals.{add-one}
 use lib.ListN.{length}
 use borrow.Author.Tests.{eq-eqb, ne-eqb}
-use Rattle.refusal.specs.Refusals.{fine}
-use Rattle.refusal.proofs.Booleans.{wrong}
+use Rattle.refusal.specs.Refusals.{fine, byJudgement, noRefusal}
+use Rattle.refusal.proofs.Booleans.{wrong, or-false, and-false}
 use Rattle.banner.specs.declared.Features.{Features}
 use Rattle.banner.specs.declared.Revision.{Revision}
 use Rattle.banner.specs.declared.Revision.the-variants.{Msgr20, Msgr21}
 use Rattle.banner.specs.Banner.{judgeOwn}
-use Rattle.stream.specs.Events.{Role, bannerEnd, firstEnd, frameEnd, streamEnd, roleOf, judgeRole, byJudgement}
+use Rattle.stream.specs.Events.{Role, bannerEnd, firstEnd, frameEnd, streamEnd, roleOf, judgeRole}
 use Rattle.stream.specs.Stream.{Entry, Trace, traceOf}
 use Rattle.receiver.specs.declared.Report.{Report}
 use Rattle.receiver.specs.declared.Report.the-variants as report
 use Rattle.receiver.specs.declared.Stage.the-variants as stage
 use Rattle.receiver.specs.declared.State as crc-state
-use Rattle.receiver.specs.State.{noRefusal, isMsgr21}
+use Rattle.receiver.specs.State.{isMsgr21}
 use Rattle.receiver.specs.Step as crc
 use Rattle.receiver.specs.Calls.{refusedIn}
 use Rattle.receiver.proofs.Entries.{noted}
@@ -37,7 +37,7 @@ use Rattle.secure.specs.Reading.{sealedTrace}
 use Rattle.connection.specs.declared.State.{State}
 use Rattle.connection.specs.Switched.{closes, closesAt, choosesMsgr21, choseMsgr21}
 use Rattle.connection.specs.Step.{closing}
-use Rattle.connection.proofs.Machines.{crcByte, secureByte, CrcRunning, CrcGone, RevisionAfterRole, RevisionAfter, crc-keeps, crc-revision, or-false, and-false}
+use Rattle.connection.proofs.Machines.{crcByte, secureByte, CrcRunning, CrcGone, RevisionAfterRole, RevisionAfter, crc-keeps, crc-revision}
 
 abbrev pub trace : {A : Type 0} → Scanned A → Trace
 trace c = record { entries = c .entries; store = c .store }

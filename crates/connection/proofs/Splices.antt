@@ -13,20 +13,15 @@ use Rattle.receiver.specs.declared.Report.the-variants as report
 use Rattle.receiver.specs.Calls.{dueTaken, dueReport, passing, refusedIn}
 use Rattle.receiver.proofs.Entries.{Behind}
 use Rattle.receiver.proofs.Appended.{clean-here, clean-behind}
-use Rattle.connection.specs.Switched.{closes, entered, spliced}
+use Rattle.connection.specs.Switched.{closes, entered, spliced, framesIn}
 use Rattle.connection.proofs.Scans.{LastCloses}
 
--- how many frames and drops there are
-abbrev pub closings : List Entry → ℕ
-closings [] = 0
-closings (e ∷ es) = cond (closes (e .event)) (suc (closings es)) (closings es)
-
-some-closing : (es : List Entry) (t : ℕ) (s : List ℕ) → LastCloses es t s → 0 < closings es
+some-closing : (es : List Entry) (t : ℕ) (s : List ℕ) → LastCloses es t s → 0 < framesIn es
 some-closing [] t s l = absurd l
 some-closing (e ∷ []) t s l = rw (l .0) (omega arith)
 some-closing (e ∷ f ∷ es) t s l = go (closes (e .event)) (some-closing (f ∷ es) t s l)
   where
-    go : (b : Bool) → 0 < closings (f ∷ es) → 0 < cond b (suc (closings (f ∷ es))) (closings (f ∷ es))
+    go : (b : Bool) → 0 < framesIn (f ∷ es) → 0 < cond b (suc (framesIn (f ∷ es))) (framesIn (f ∷ es))
     go true h = omega arith
     go false h = h
 
@@ -35,16 +30,16 @@ module _ (next : ℕ → List ℕ → Trace) (later : List Entry) (store : List 
   put es t s = record { entries = es ++ next t s .entries; store = next t s .store }
 
   -- the splice is behind the entries up to a frame, by their number of frames
-  pub spliced-there : (es : List Entry) (t : ℕ) (s : List ℕ) → LastCloses es t s → spliced (closings es) next (es ++ later) store ≡ put es t s
+  pub spliced-there : (es : List Entry) (t : ℕ) (s : List ℕ) → LastCloses es t s → spliced (framesIn es) next (es ++ later) store ≡ put es t s
   unfolding spliced
   spliced-there [] t s l = absurd l
   spliced-there (e ∷ []) t s l = rw (l .0) (ap₂ (λ (a : ℕ) (u : List ℕ). entered e (next a u)) (l .1) (l .2))
-  spliced-there (e ∷ f ∷ es) t s l = go (closes (e .event)) (closings (f ∷ es)) refl (some-closing (f ∷ es) t s l) (spliced-there (f ∷ es) t s l)
+  spliced-there (e ∷ f ∷ es) t s l = go (closes (e .event)) (framesIn (f ∷ es)) refl (some-closing (f ∷ es) t s l) (spliced-there (f ∷ es) t s l)
     where
-      go : (b : Bool) (n : ℕ) → closings (f ∷ es) ≡ n → 0 < n → spliced (closings (f ∷ es)) next (f ∷ es ++ later) store ≡ put (f ∷ es) t s
+      go : (b : Bool) (n : ℕ) → framesIn (f ∷ es) ≡ n → 0 < n → spliced (framesIn (f ∷ es)) next (f ∷ es ++ later) store ≡ put (f ∷ es) t s
           → entered e (cond (b && eqb (cond b (suc n) n) 1) (next (e .at) (e .store)) (spliced (cond b (cond b (suc n) n - 1) (cond b (suc n) n)) next (f ∷ es ++ later) store)) ≡ put (e ∷ f ∷ es) t s
       go true n q h ih =
-          let k : suc n - 1 ≡ closings (f ∷ es) = omega arith in
+          let k : suc n - 1 ≡ framesIn (f ∷ es) = omega arith in
           rw (ne-eqb (suc n) 1 (λ z. absurd (omega arith)), k) (ap (entered e) ih)
       go false n q h ih = rw (← q) (ap (entered e) ih)
 

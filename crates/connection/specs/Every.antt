@@ -20,6 +20,7 @@ use Rattle.receiver.specs.State as plain
 use Rattle.receiver.specs.Step as plain-step
 use Rattle.receiver.specs.Calls.{passing}
 use Rattle.receiver.specs.Every as plain-every
+use Rattle.receiver.specs.Step.{contradiction}
 use Rattle.secure.specs.Layout.{firstLength, restPartLength, sealedLength}
 use Rattle.sealed_receiver.specs.declared.Stage.{Stage}
 use Rattle.sealed_receiver.specs.declared.Stage.the-variants as stage
@@ -34,10 +35,6 @@ use Rattle.connection.specs.declared.Switched.{Switched}
 use Rattle.connection.specs.declared.Begun.{Begun}
 use Rattle.connection.specs.Step.{isSecure, begun, agrees, Answered, SwitchedWith, BegunWith}
 use Rattle.connection.specs.Calls.{Try}
-
--- 26
-abbrev pub contradiction : Numbers
-contradiction = numbersOf refusal.StateContradicts
 
 -- ---- the part in use
 

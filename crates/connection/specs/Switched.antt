@@ -2,7 +2,7 @@
 -- definition as it stood, and behind it those of sealed frames. No receiver, no state and no call is in sight.
 use mathlib.Core.List.{List, [], _∷_}
 use mathlib.Core.Bool.{Bool, true, false, cond, _&&_, _||_}
-use Prim.Native.Nat.{ℕ, _-_}
+use Prim.Native.Nat.{ℕ, suc, _-_}
 use lib.ListN.{take, drop}
 use lib.Dec.{eqb}
 use Rattle.banner.specs.declared.Features.{Features}
@@ -31,6 +31,11 @@ abbrev pub traceWith : Switch → Features → List ℕ → List ℕ → Trace
 traceWith none own stream store = traceOf own stream store
 traceWith (behind n key nonce) own stream store =
     spliced n (λ at s. sealedTrace key nonce 0 at (drop at stream) s) (traceOf own stream store .entries) (traceOf own stream store .store)
+
+-- how many frames and drops there are
+abbrev pub framesIn : List Entry → ℕ
+framesIn [] = 0
+framesIn (e ∷ es) = cond (closes (e .event)) (suc (framesIn es)) (framesIn es)
 
 -- ---- where a switch may be made (02, K4): after a reported or dropped frame, before any byte of the next, on a stream of msgr2.1
 

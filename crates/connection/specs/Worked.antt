@@ -3,7 +3,7 @@ use mathlib.Core.Bool.{Bool, true, false}
 use mathlib.Core.List.{List, [], _∷_, _++_}
 use Prim.Native.Nat.{ℕ, _+_}
 use lib.ListN.{take, replicate}
-use Rattle.refusal.specs.Refusals.{Judged, fine, refused, row}
+use Rattle.refusal.specs.Refusals.{Judged, fine, refused, row, noRefusal}
 use Rattle.banner.specs.declared.Revision.{Revision}
 use Rattle.banner.specs.declared.Revision.the-variants.{Msgr20, Msgr21}
 use Rattle.stream.specs.declared.Event.the-variants.{Banner, First, Frame, Dropped, Refused}
@@ -13,7 +13,7 @@ use Rattle.receiver.specs.declared.Known.{Known}
 use Rattle.receiver.specs.declared.State as crc-state
 use Rattle.receiver.specs.declared.Stage.the-variants as stage
 use Rattle.receiver.specs.declared.Report.the-variants as report
-use Rattle.receiver.specs.State.{noHeader, noRefusal}
+use Rattle.receiver.specs.State.{noHeader}
 use Rattle.receiver.specs.Step as crc
 use Rattle.sealed_receiver.specs.declared.Stage.the-variants as part
 use Rattle.sealed_receiver.specs.State.{freshReceiving}

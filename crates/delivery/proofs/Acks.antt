@@ -1,15 +1,11 @@
 -- Acknowledgements that are sealed with any key and nonce: what is opened is read, and nothing else is.
 use mathlib.Core.Path.{_≡_, refl, sym, ap, ap₂, subst, _∙_}
 use mathlib.Core.List.{List, [], _∷_, _++_, map}
-use mathlib.Core.Bool.{Bool, true, false, cond, _&&_, true≢false}
-use Prim.Native.Nat.{ℕ, zero, suc, _+_, _-_, _<_}
+use Prim.Native.Nat.{ℕ, _+_, _-_, _<_}
 use native.Mathlib.Omega.{arith}
 use native.Mathlib.Nat.{le-refl}
 use lib.ListN.{length, take, drop, length-append, length-take}
-use lib.Seq.{take-all, take-at, drop-at, drop-length}
-use lib.Dec.{leb, eqb}
-use borrow.Author.Tests.{eqb-true, lt-ltb}
-use Rattle.refusal.proofs.Booleans.{both-left, both-right}
+use lib.Seq.{take-all, drop-length}
 use Rattle.buffer.specs.Le.{numberAt}
 use Rattle.crc32c.specs.Crc.{crcOf, steps, step}
 use Rattle.banner.specs.Bits.{missing, lowestBit, bitCount}
@@ -17,20 +13,20 @@ use Rattle.banner.specs.Banner.{bannerBytes, judgeFeatures}
 use Rattle.preamble.specs.Judge.{shapeFault, limitFault, headerOf, judgeFields, judgePreamble}
 use Rattle.body.specs.End.{ending}
 use Rattle.stream.specs.Stream as stream
-use Rattle.stream.specs.Stream.{Entry, Trace, ended, unlessRefused, streamTrace, traceOf}
-use Rattle.aes.specs.Aes.{State, keyExpansion}
-use Rattle.aes.specs.Counter.{gctr}
+use Rattle.stream.specs.Stream.{Entry, Trace, unlessRefused, streamTrace, traceOf}
+use Rattle.aes.specs.Aes.{keyExpansion}
 use Rattle.aes.proofs.Counters.{gctr-length}
-use Rattle.gcm.specs.Gcm.{Opened, plain, fail, tagOf, sameAs, tagFits, openedBy}
+use Rattle.gcm.specs.Gcm.{Opened, plain, fail, tagOf, openedBy}
 use Rattle.gcm.proofs.Placing.{sealed-length}
 use Rattle.gcm.proofs.There.{lists}
+use Rattle.gcm.proofs.Opened.{not-opened}
 use Rattle.secure.specs.Layout.{nextNonce, needed}
 use Rattle.secure.specs.Reading.{judgeFirst, byOpening, restTrace, frames, sealedTrace}
-use Rattle.secure.proofs.Opening.{read-first}
-use Rattle.connection.specs.Switched.{behind, spliced}
+use Rattle.secure.proofs.Opening.{read-first, short}
+use Rattle.connection.specs.Switched.{behind, spliced, framesIn}
 use Rattle.connection.specs.Calls.{SwitchedDemand3}
 use Rattle.connection.proofs.Scans.{LastCloses}
-use Rattle.connection.proofs.Splices.{closings, spliced-there}
+use Rattle.connection.proofs.Splices.{spliced-there}
 use Rattle.fields.specs.Layout.{stepOf}
 use Rattle.bodies.specs.Table.{layoutIn}
 use Rattle.bodies.specs.Read.{settled, readBody}
@@ -45,15 +41,6 @@ use Rattle.delivery.proofs.Quiet.{Quiet, releases-nothing}
 use Rattle.delivery.proofs.Played.{all-played}
 
 -- ---- parts
-
--- less than a first part
-pub short : (key nonce : List ℕ) (P : ℕ) (s bytes : List ℕ) → length bytes < 96 → sealedTrace key nonce 0 P bytes s ≡ ended s
-unfolding sealedTrace frames
-short key nonce P s bytes h = go (length bytes)
-  where
-    go : (f : ℕ) → frames f (keyExpansion key) nonce 0 P bytes s ≡ ended s
-    go zero = refl
-    go (suc f) = rw (lt-ltb (length bytes) 96 h)
 
 -- what a first part that is all there is leads to, by what it opens to
 abbrev part : List ℕ → List ℕ → ℕ → List ℕ → Opened → Trace
@@ -72,34 +59,6 @@ one-part key nonce P s bytes o l e =
     ∙ read-first (keyExpansion key) nonce 0 P bytes o 95 s (ap (openedBy (keyExpansion key) nonce) all ∙ e)
     ∙ rw (l, none)
 
--- masked bytes with another tag do not open
-same-bytes : (xs ys : List ℕ) → sameAs xs ys ≡ true → ys ≡ xs
-unfolding sameAs
-same-bytes [] [] e = refl
-same-bytes [] (y ∷ ys) e = absurd (true≢false (sym e))
-same-bytes (x ∷ xs) [] e = absurd (true≢false (sym e))
-same-bytes (x ∷ xs) (y ∷ ys) e = ap₂ _∷_ (sym (eqb-true x y (both-left (eqb x y) (sameAs xs ys) e))) (same-bytes xs ys (both-right (eqb x y) (sameAs xs ys) e))
-
-neither : (x : Bool) (o : Opened) → cond (x && false) o fail ≡ fail
-neither true o = refl
-neither false o = refl
-
-not-opened : (w : List State) (nonce text tag : List ℕ) → length tag ≡ 16 → (tag ≡ tagOf w nonce (gctr w nonce text) → ⊥) → openedBy w nonce (gctr w nonce text ++ tag) ≡ fail
-unfolding openedBy tagFits
-not-opened w nonce text tag k differs = go (sameAs (tagOf w nonce (gctr w nonce text)) tag) refl
-  where
-    go : (b : Bool) → sameAs (tagOf w nonce (gctr w nonce text)) tag ≡ b → openedBy w nonce (gctr w nonce text ++ tag) ≡ fail
-    go true e = absurd (differs (same-bytes (tagOf w nonce (gctr w nonce text)) tag e))
-    go false e =
-        let m = gctr w nonce text in
-        let l : length (m ++ tag) - 16 ≡ length m = (let h = length-append m tag in omega (arith, h)) in
-        let t : tagFits w nonce (length (m ++ tag) - 16) (m ++ tag) ≡ false =
-        ap (λ (n : ℕ). tagFits w nonce n (m ++ tag)) l
-        ∙ ap₂ (λ (x y : List ℕ). sameAs (tagOf w nonce x) y) (take-at m tag (length m) refl) (drop-at m tag (length m) refl)
-        ∙ e in
-        ap (λ (b : Bool). cond (leb 16 (length (m ++ tag)) && b) (plain (gctr w nonce (take (length (m ++ tag) - 16) (m ++ tag)))) fail) t
-        ∙ neither (leb 16 (length (m ++ tag))) (plain (gctr w nonce (take (length (m ++ tag) - 16) (m ++ tag))))
-
 -- ---- behind the message
 
 abbrev sofar : Trace
@@ -109,7 +68,7 @@ last : LastCloses (sofar .entries) 106 (sofar .store)
 unfolding numberAt crcOf steps step missing lowestBit bitCount judgeFeatures shapeFault limitFault headerOf judgeFields judgePreamble ending stream.frames streamTrace traceOf
 last = (refl, refl, refl)
 
-one-frame : closings (sofar .entries) ≡ 1
+one-frame : framesIn (sofar .entries) ≡ 1
 unfolding numberAt crcOf steps step missing lowestBit bitCount judgeFeatures shapeFault limitFault headerOf judgeFields judgePreamble ending stream.frames streamTrace traceOf
 one-frame = refl
 

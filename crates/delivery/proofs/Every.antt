@@ -17,6 +17,7 @@ use Rattle.session.specs.declared.Outcome.{Outcome}
 use Rattle.session.specs.Calls.{places, agrees}
 use Rattle.session.specs.Laws as session
 use Rattle.session.specs.Laws.{callOf}
+use Rattle.session.proofs.Releases.{Good, call-keeps}
 use Rattle.delivery.specs.declared.Delivery.{Delivery}
 use Rattle.delivery.specs.declared.Asked.{Asked}
 use Rattle.delivery.specs.declared.Asked.the-variants as asked
@@ -27,7 +28,7 @@ use Rattle.delivery.specs.declared.Sent.{Sent}
 use Rattle.delivery.specs.Asked.{byBody, bodyOf, askedByFrame, askedBy, askedByReport, settled, doneTo, receivedBy, Delivers, Called}
 use Rattle.delivery.specs.Calls.{Cause, hands, Leaves}
 use Rattle.delivery.specs.Every.{speaks, turnedAway, reportedCause, Untouched, Sound, SoundSent, EveryCall}
-use Rattle.delivery.proofs.Leaves.{Good, call-keeps, by-call, asked-left}
+use Rattle.delivery.proofs.Leaves.{by-call, asked-left}
 
 -- what speaks of nothing asks for nothing
 asks-none : (q : Report) (s : List ℕ) → speaks q ≡ false → askedByReport q s ≡ asked.Nothing

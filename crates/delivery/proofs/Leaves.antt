@@ -1,20 +1,15 @@
 -- A message leaves the table at its reason's own call: from what the session promises of every single call.
 use mathlib.Core.Path.{_≡_, refl, sym, ap, subst, _∙_}
 use mathlib.Core.Logic.{_⊎_, inl, inr}
-use mathlib.Core.List.{List, [], _∷_, map, List·Memᴰ, List·Memᴰ·head, List·Memᴰ·tail, Memᴰ·append-left}
-use mathlib.Core.Bool.{Bool, true, false, cond, true≢false}
+use mathlib.Core.List.{List, [], _∷_, map, List·Memᴰ}
+use mathlib.Core.Bool.{Bool, true, false}
 use Prim.Native.Nat.{ℕ, _+_}
-use lib.ListN.{length}
-use lib.Dec.{leb, ltb}
-use borrow.Author.Tests.{leb-false, lt-ltb}
 use Rattle.stream.specs.Stream.{Entry}
 use Rattle.session.specs.declared.Session.{Session}
-use Rattle.session.specs.declared.Message.{Message}
-use Rattle.session.specs.declared.Report.{Report}
-use Rattle.session.specs.declared.Report.the-variants as report
-use Rattle.session.specs.Calls.{places, heldOf, agrees}
+use Rattle.session.specs.Calls.{heldOf}
 use Rattle.session.specs.Laws as session
-use Rattle.session.specs.Laws.{callOf, eventOf, above, after, EveryCall}
+use Rattle.session.specs.Laws.{callOf, EveryCall}
+use Rattle.session.proofs.Releases.{releases, oneReleases, Good, call-good, call-keeps}
 use Rattle.delivery.specs.declared.Delivery.{Delivery}
 use Rattle.delivery.specs.declared.Asked.{Asked}
 use Rattle.delivery.specs.declared.Asked.the-variants as asked
@@ -22,59 +17,16 @@ use Rattle.delivery.specs.declared.Settled.{Settled}
 use Rattle.delivery.specs.Asked.{askedBy, settled, doneTo}
 use Rattle.delivery.specs.Calls.{Call, piece, tried, accepted, handed, Chained, sessionAfter, Connection, Connects, added, Cause, hands, receives, callsAsked, callsBy, Does, nothing, one, Each, EachOf, Covered, Leaves, LeavesIn, LeavesOf}
 use Rattle.delivery.specs.Calls as calls
-use Rattle.delivery.proofs.Reasons.{releases, oneReleases, reason}
-
--- ---- a call of the session keeps what it does not release
-
-mem-above : (x : Message) (n : ℕ) (ms : List Message) → leb (x .number) n ≡ false → List·Memᴰ x ms → List·Memᴰ x (above n ms)
-unfolding above
-mem-above x n (y ∷ ms) e (List·Memᴰ·head p) =
-    let l : ltb n (y .number) ≡ true = rw p at (lt-ltb n (x .number) (leb-false (x .number) n e)) in
-    rw l (List·Memᴰ·head p)
-mem-above x n (y ∷ ms) e (List·Memᴰ·tail k) = go (ltb n (y .number)) (mem-above x n ms e k)
-  where
-    go : (b : Bool) → List·Memᴰ x (above n ms) → List·Memᴰ x (cond b (y ∷ above n ms) (above n ms))
-    go true i = List·Memᴰ·tail i
-    go false i = i
-
-keeps : (c : session.Call) (r : Report) (ms : List Message) (x : Message) → releases (x .number) c ≡ false → List·Memᴰ x ms → List·Memᴰ x (after (eventOf c r) ms)
-keeps (session.accept h) (report.Accepted n) ms x e k = Memᴰ·append-left _ k
-keeps (session.accept h) report.Done ms x e k = k
-keeps (session.accept h) (report.Resend n) ms x e k = k
-keeps (session.accept h) (report.Refused n) ms x e k = k
-keeps (session.ack n) (report.Accepted i) ms x e k = mem-above x n ms e k
-keeps (session.ack n) report.Done ms x e k = mem-above x n ms e k
-keeps (session.ack n) (report.Resend i) ms x e k = mem-above x n ms e k
-keeps (session.ack n) (report.Refused i) ms x e k = k
-keeps (session.reconnect n) (report.Accepted i) ms x e k = mem-above x n ms e k
-keeps (session.reconnect n) report.Done ms x e k = mem-above x n ms e k
-keeps (session.reconnect n) (report.Resend i) ms x e k = mem-above x n ms e k
-keeps (session.reconnect n) (report.Refused i) ms x e k = k
-keeps (session.reset true) r ms x e k = absurd (true≢false e)
-keeps (session.reset false) r ms x e k = k
-
--- of a session that agrees with itself and has its places
-pub record Good (s : Session) : Type 0 where
-  pub agreeing : agrees s ≡ true
-  pub sized : length (s .handles) ≡ places
+use Rattle.delivery.proofs.Reasons.{reason}
 
 module _ (every : EveryCall) where
-  call-good : (s : Session) (c : session.Call) → Good s → Good (callOf s c .session)
-  call-good s c g =
-      let o = every .each s c (g .sized) in
-      record { agreeing = o .agreeing (g .agreeing); sized = o .sized }
-
-  pub call-keeps : (s : Session) (c : session.Call) (x : Message) → Good s → releases (x .number) c ≡ false → List·Memᴰ x (heldOf s) → List·Memᴰ x (heldOf (callOf s c .session))
-  call-keeps s c x g e k =
-      subst (λ (ms : List Message). List·Memᴰ x ms) (sym (every .each s c (g .sized) .table (g .agreeing))) (keeps c (callOf s c .report) (heldOf s) x e k)
-
   -- a cause that makes one call due
   pub by-call : (s : Session) (c : session.Call) (w : Cause) → callsBy w ≡ c ∷ [] → Good s → Leaves s (callOf s c .session) (w ∷ [])
   by-call s c w q g x k = go (releases (x .number) c) refl
     where
       go : (b : Bool) → releases (x .number) c ≡ b → List·Memᴰ x (heldOf (callOf s c .session)) ⊎ Covered (x .number) (w ∷ [])
       go true e = inr (calls.here (reason (x .number) w (ap (oneReleases (x .number)) q ∙ rw e)))
-      go false e = inl (call-keeps s c x g e k)
+      go false e = inl (call-keeps every s c x g e k)
 
   pub record Left (s s′ : Session) (causes : List Cause) : Type 0 where
     pub leaves : Leaves s s′ causes
@@ -82,9 +34,9 @@ module _ (every : EveryCall) where
 
   pub asked-left : (s : Session) (e : Entry) (a : Asked) → askedBy (e .event) (e .store) ≡ a → Good s → Left s (doneTo s a .session) (receives e ∷ [])
   asked-left s e asked.Nothing q g = record { leaves = λ x k. inl k; good = g }
-  asked-left s e (asked.Ack n) q g = record { leaves = by-call s (session.ack n) (receives e) (ap callsAsked q) g; good = call-good s (session.ack n) g }
-  asked-left s e (asked.Reconnect n) q g = record { leaves = by-call s (session.reconnect n) (receives e) (ap callsAsked q) g; good = call-good s (session.reconnect n) g }
-  asked-left s e (asked.Reset full) q g = record { leaves = by-call s (session.reset full) (receives e) (ap callsAsked q) g; good = call-good s (session.reset full) g }
+  asked-left s e (asked.Ack n) q g = record { leaves = by-call s (session.ack n) (receives e) (ap callsAsked q) g; good = call-good every s (session.ack n) g }
+  asked-left s e (asked.Reconnect n) q g = record { leaves = by-call s (session.reconnect n) (receives e) (ap callsAsked q) g; good = call-good every s (session.reconnect n) g }
+  asked-left s e (asked.Reset full) q g = record { leaves = by-call s (session.reset full) (receives e) (ap callsAsked q) g; good = call-good every s (session.reset full) g }
   asked-left s e (asked.Malformed n) q g = record { leaves = λ x k. inl k; good = g }
 
   does-left : (s : Session) (t′ : ℕ) (d : Settled) (es : List Entry) → Does s t′ d es → Good s → Left s (d .session) (map receives es)
@@ -109,14 +61,14 @@ module _ (every : EveryCall) where
       record { leaves = ((λ x m. inl (subst (λ (y : Session). List·Memᴰ x (heldOf y)) q m)), i .leaves); good = i .good }
   left-run k st s t (accepted h r ∷ cs) ch e g =
       let q : callOf (st .session) (session.accept h) .session ≡ r .state .session = sym (ap (λ (o : Delivery). o .session) (ch .0 .state)) in
-      let i = left-run k (r .state) s t cs (ch .1) e (subst (λ (x : Session). Good x) q (call-good (st .session) (session.accept h) g)) in
+      let i = left-run k (r .state) s t cs (ch .1) e (subst (λ (x : Session). Good x) q (call-good every (st .session) (session.accept h) g)) in
       record {
-        leaves = ((λ x m. inl (subst (λ (y : Session). List·Memᴰ x (heldOf y)) q (call-keeps (st .session) (session.accept h) x g refl m))), i .leaves);
+        leaves = ((λ x m. inl (subst (λ (y : Session). List·Memᴰ x (heldOf y)) q (call-keeps every (st .session) (session.accept h) x g refl m))), i .leaves);
         good = i .good;
       }
   left-run k st s t (handed n r ∷ cs) ch e g =
       let q : callOf (st .session) (session.ack n) .session ≡ r .state .session = sym (ap (λ (o : Delivery). o .session) (ch .0 .state)) in
-      let i = left-run k (r .state) s t cs (ch .1) e (subst (λ (x : Session). Good x) q (call-good (st .session) (session.ack n) g)) in
+      let i = left-run k (r .state) s t cs (ch .1) e (subst (λ (x : Session). Good x) q (call-good every (st .session) (session.ack n) g)) in
       record { leaves = (subst (λ (y : Session). Leaves (st .session) y (hands n ∷ [])) q (by-call (st .session) (session.ack n) (hands n) refl g), i .leaves); good = i .good }
 
   pub left-of : (s : Session) (ks : List Connection) → Connects s ks → EachOf s ks → Good s → LeavesOf s ks

@@ -1,7 +1,7 @@
 -- Why a message is no longer held: from the fate that K13's claim gives it, back to the cause.
 use mathlib.Core.Path.{_≡_, refl, sym, ap, subst, _∙_}
 use mathlib.Core.Logic.{_⊎_, inl, inr}
-use mathlib.Core.List.{List, [], _∷_, _++_, List·Memᴰ, List·Memᴰ·head, List·Memᴰ·tail}
+use mathlib.Core.List.{List, [], _∷_, _++_, List·Memᴰ}
 use mathlib.Core.Bool.{Bool, true, false, cond, true≢false, _||_}
 use Prim.Native.Nat.{ℕ}
 use lib.ListN.{length, take}
@@ -22,13 +22,12 @@ use Rattle.stream.specs.declared.Event.the-variants as event
 use Rattle.stream.specs.Stream.{entry}
 use Rattle.stream.proofs.Events.{by-frame}
 use Rattle.session.specs.declared.Session.{Session}
-use Rattle.session.specs.declared.Message.{Message}
-use Rattle.session.specs.declared.Report.{Report}
 use Rattle.session.specs.declared.Report.the-variants as report
 use Rattle.session.specs.Calls.{message}
 use Rattle.session.specs.Laws as session
 use Rattle.session.specs.Laws.{callOf, eventOf}
-use Rattle.session.specs.History.{isHeld, fateOf, same, withFate, eventsOf, sessionBy}
+use Rattle.session.specs.History.{isHeld, fateOf, withFate, eventsOf, sessionBy}
+use Rattle.session.proofs.Releases.{releases, oneReleases, stays, among}
 use Rattle.delivery.specs.declared.Asked.{Asked}
 use Rattle.delivery.specs.declared.Asked.the-variants as asked
 use Rattle.delivery.specs.Asked.{asking, byBody, bodyOf, askedByFrame, askedBy}
@@ -117,18 +116,6 @@ module _ (h : Header) (s : List ℕ) where
 
 -- ---- reasons
 
--- whether a call of the session releases the message m
-abbrev pub releases : ℕ → session.Call → Bool
-releases m (session.accept h) = false
-releases m (session.ack n) = leb m n
-releases m (session.reconnect n) = leb m n
-releases m (session.reset full) = full
-
--- one of some calls does
-abbrev pub oneReleases : ℕ → List session.Call → Bool
-oneReleases m [] = false
-oneReleases m (c ∷ cs) = cond (releases m c) true (oneReleases m cs)
-
 either-way : (b : Bool) → cond b true false ≡ true → b ≡ true
 either-way true e = refl
 either-way false e = e
@@ -153,24 +140,6 @@ reason m (receives e) i =
     i
 
 -- ---- fates
-
--- a call that does not release the message leaves its fate to the later ones
-stays : (m : ℕ) (c : session.Call) (r : Report) (es : List session.Event) → releases m c ≡ false → fateOf m (eventOf c r ∷ es) ≡ fateOf m es
-unfolding fateOf
-stays m (session.accept h) (report.Accepted n) es e = refl
-stays m (session.accept h) report.Done es e = refl
-stays m (session.accept h) (report.Resend n) es e = refl
-stays m (session.accept h) (report.Refused n) es e = refl
-stays m (session.ack n) (report.Accepted k) es e = rw e
-stays m (session.ack n) report.Done es e = rw e
-stays m (session.ack n) (report.Resend k) es e = rw e
-stays m (session.ack n) (report.Refused k) es e = refl
-stays m (session.reconnect n) (report.Accepted k) es e = rw e
-stays m (session.reconnect n) report.Done es e = rw e
-stays m (session.reconnect n) (report.Resend k) es e = rw e
-stays m (session.reconnect n) (report.Refused k) es e = refl
-stays m (session.reset true) r es e = absurd (true≢false e)
-stays m (session.reset false) r es e = refl
 
 abbrev pub eventsFrom : Session → List session.Call → List session.Event
 eventsFrom s cs = eventsOf (played s cs)
@@ -201,19 +170,6 @@ held-or-covered m (c ∷ cs) s = go (oneReleases m (callsBy c)) refl (held-or-co
     go false e (inr k) = inr (calls.later k)
 
 -- ---- and so it is among those held
-
-among : (x : Message) (es fs : List session.Event) → fateOf (x .number) fs ≡ isHeld → List·Memᴰ x (withFate isHeld (es ++ (session.accepted x ∷ fs)))
-unfolding withFate
-among x [] fs e = rw e (List·Memᴰ·head refl)
-among x (session.accepted y ∷ es) fs e = go (same isHeld (fateOf (y .number) (es ++ (session.accepted x ∷ fs)))) (among x es fs e)
-  where
-    go : (b : Bool) → List·Memᴰ x (withFate isHeld (es ++ (session.accepted x ∷ fs)))
-        → List·Memᴰ x (cond b (y ∷ withFate isHeld (es ++ (session.accepted x ∷ fs))) (withFate isHeld (es ++ (session.accepted x ∷ fs))))
-    go true k = List·Memᴰ·tail k
-    go false k = k
-among x (session.acknowledged n ∷ es) fs e = among x es fs e
-among x (session.dropped ∷ es) fs e = among x es fs e
-among x (session.nothing ∷ es) fs e = among x es fs e
 
 pub events-append : (s : Session) (cs ds : List session.Call) → eventsFrom s (cs ++ ds) ≡ eventsFrom s cs ++ eventsFrom (afterCalls s cs) ds
 events-append s [] ds = refl

@@ -11,11 +11,11 @@ use Rattle.preamble.specs.declared.Header.{Header}
 use Rattle.fields.specs.Field.{number}
 use Rattle.bodies.specs.Read.{Answer, whole}
 use Rattle.stream.specs.Stream.{Entry}
+use Rattle.session.proofs.Releases.{oneReleases}
 use Rattle.delivery.specs.declared.Asked.{Asked}
 use Rattle.delivery.specs.declared.Asked.the-variants as asked
 use Rattle.delivery.specs.Asked.{forSession, asking, byBody, bodyOf, askedByFrame}
 use Rattle.delivery.specs.Calls.{Cause, receives, callsAsked, callsBy, Reason, acknowledged, dropped, handedIn, Covered, here, later}
-use Rattle.delivery.proofs.Reasons.{oneReleases}
 use Rattle.delivery.proofs.Quiet.{Quiet}
 
 -- a whole body of one number, with one of the session's tags, asks what the tag says

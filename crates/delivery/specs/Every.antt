@@ -9,8 +9,9 @@ use Rattle.stream.specs.Events.{isFrame, roleOf}
 use Rattle.stream.specs.Stream.{entry}
 use Rattle.receiver.specs.declared.Report.{Report}
 use Rattle.receiver.specs.declared.Report.the-variants as report
+use Rattle.receiver.specs.Step.{contradiction}
 use Rattle.connection.specs.Step.{agrees}
-use Rattle.connection.specs.Every.{contradiction, Refuses}
+use Rattle.connection.specs.Every.{Refuses}
 use Rattle.session.specs.declared.Report.the-variants as answer
 use Rattle.session.specs.Calls as session
 use Rattle.session.specs.Calls.{places}

@@ -11,12 +11,12 @@ use borrow.Author.Tests.{le-ltb, ltb-false}
 use Rattle.refusal.specs.Refusals.{Judged, fine, refused}
 use Rattle.banner.specs.declared.Features.{Features}
 use Rattle.banner.specs.declared.Revision.{Revision}
-use Rattle.banner.specs.Banner.{judgeOwn, judgeMagic, judgeLength, judgeFeatures, revisionOf, featuresOf}
+use Rattle.banner.specs.Banner.{judgeOwn, judgeMagic, judgeLength, judgeFeatures, revisionOf}
 use Rattle.banner.proofs.Lengths.{long-enough}
 use Rattle.stream.specs.declared.Event.the-variants.{Banner}
 use Rattle.stream.specs.Stream.{Trace, after, frames, payloadOf, peerOf, streamTrace, traceOf}
+use Rattle.stream.proofs.Laws.{more-payload, more-peer}
 use Rattle.ends.specs.Handed.{UpTo}
-use Rattle.buffer.proofs.Numbers.{number-append}
 use Rattle.ends.proofs.Concatenation.{joined, frames-concatenate}
 
 -- the banner at the front of a stream is there and fits our features
@@ -38,16 +38,11 @@ unfolding traceOf streamTrace
 met-trace own F s m =
     rw (m .ours, le-ltb (length F) 8 (m .eight), m .magic, le-ltb (length F) 10 (m .ten), m .payload, le-ltb (length F) (10 + payloadOf F) (m .all), m .features)
 
+pub met-long : (own : Features) (F : List ℕ) → Met own F → 26 ≤ length F
+met-long own F m = let a = m .all in let l = long-enough (payloadOf F) (m .payload) in omega arith
+
 -- the same with more bytes behind it
 module _ (own : Features) (F X : List ℕ) (m : Met own F) where
-  pub more-payload : payloadOf (F ++ X) ≡ payloadOf F
-  more-payload = number-append 2 8 F X (m .ten)
-
-  pub more-peer : peerOf (F ++ X) ≡ peerOf F
-  more-peer =
-      let d = length-drop 10 F in
-      ap featuresOf (ap (take 16) (drop-append-le 10 F X (m .ten)) ∙ take-append-le 16 (drop 10 F) X (let a = m .all in let l = long-enough (payloadOf F) (m .payload) in omega arith))
-
   pub met-more : Met own (F ++ X)
   met-more =
       let a = length-append F X in
@@ -56,9 +51,9 @@ module _ (own : Features) (F X : List ℕ) (m : Met own F) where
         eight = (let e = m .eight in omega arith);
         magic = rw (take-append-le 8 F X (m .eight)) (m .magic);
         ten = (let e = m .ten in omega arith);
-        payload = rw more-payload (m .payload);
-        all = rw more-payload (let e = m .all in omega arith);
-        features = ap (λ (q : Features). judgeFeatures (own .supported) (own .required) (q .supported) (q .required)) more-peer ∙ m .features;
+        payload = rw (more-payload F X (m .ten)) (m .payload);
+        all = rw (more-payload F X (m .ten)) (let e = m .all in omega arith);
+        features = ap (λ (q : Features). judgeFeatures (own .supported) (own .required) (q .supported) (q .required)) (more-peer F X (met-long own F m)) ∙ m .features;
       }
 
 -- a list that goes up to the end of a frame begins with such a banner
@@ -127,11 +122,11 @@ follows-on own F X s r up =
     let g = frames-concatenate (length F) (spoken own F) n (drop n F) X s (omega arith) (rw l (u .1)) in
     let a = length-append F X in
     let a₂ = length-append (drop n F) X in
-    let v : spoken own (F ++ X) ≡ spoken own F = ap (λ (q : Features). revisionOf (own .supported) (q .supported)) (more-peer own F X m) in
+    let v : spoken own (F ++ X) ≡ spoken own F = ap (λ (q : Features). revisionOf (own .supported) (q .supported)) (more-peer F X (met-long own F m)) in
     record {
       ours = m .ours;
       follows = λ k hk.
-          rw (more-payload own F X m, v, more-peer own F X m, drop-append-le n F X (m .all)) at e′
+          rw (more-payload F X (m .ten), v, more-peer F X (met-long own F m), drop-append-le n F X (m .all)) at e′
           ∙ ap (after (Banner (peerOf F) (spoken own F)) n s) (g .joins (length (F ++ X)) k (omega arith) hk)
           ∙ rw (e, l, u .0);
       same = ap (λ (t : Trace). length (t .store)) e ∙ g .same;

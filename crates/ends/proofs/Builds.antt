@@ -6,7 +6,6 @@ use mathlib.Core.Bool.{Bool, true, false, true≢false}
 use native.Mathlib.Omega.{arith}
 use native.Mathlib.Nat.{add-zero}
 use lib.ListN.{length, take, drop, length-append, take-append-drop}
-use lib.Seq.{take-at, drop-at, drop-append-le, length-take-le}
 use Rattle.buffer.specs.Splice.{splice}
 use Rattle.buffer.proofs.Parts.{length-splice, splice-next}
 use Rattle.refusal.specs.Refusals.{Judged, fine, refused}
@@ -16,7 +15,7 @@ use Rattle.banner.specs.Banner.{bannerBytes, judgeOwn}
 use Rattle.body.specs.Body.{frameBytes, wireLength}
 use Rattle.body.proofs.Laws.{length-frame}
 use Rattle.builder.specs.declared.Built.the-variants as built
-use Rattle.builder.specs.Build.{judgeRoom, judgeFrame, judgeBanner, bannerLength, Answer, wrote, turnedAway, Done, done, outcome, frameDone, bannerDone, BuiltBanner}
+use Rattle.builder.specs.Build.{judgeRoom, judgeFrame, judgeBanner, bannerLength, Answer, wrote, turnedAway, Done, done, outcome, frameDone, bannerDone, BuiltBanner, countIn}
 use Rattle.builder.proofs.Accepted.{Accepted, accepted, banner-fits}
 use Rattle.ends.specs.Trip.{Build, Accepts}
 use Rattle.ends.specs.Ends.{Queued, bufferBy, queuedBy}
@@ -32,11 +31,6 @@ record Wrote (j : Judged) (n : ℕ) (buf : List ℕ) (queued : ℕ) (xs : List �
   judged : j ≡ fine
   count : w ≡ n
   buffer : after ≡ splice buf queued xs
-
--- the count in an answer
-abbrev countIn : Answer → ℕ
-countIn (wrote n) = n
-countIn (turnedAway r) = 0
 
 was-written : (j : Judged) (n : ℕ) (buf : List ℕ) (queued : ℕ) (xs : List ℕ) (w : ℕ) (after : List ℕ) → done (wrote w) after ≡ outcome j n buf queued xs → Wrote j n buf queued xs w after
 unfolding isWrote
@@ -65,14 +59,6 @@ appended r buf queued b p =
       buffer = w .buffer;
       room = (let e = w .count in let k = a .fits in omega arith);
     }
-
--- the bytes that stand behind the queued ones
-pub written : (buf : List ℕ) (queued : ℕ) (xs : List ℕ) (n : ℕ) → length xs ≡ n → queued ≤ length buf → take n (drop queued (splice buf queued xs)) ≡ xs
-written buf queued xs n e h =
-    let t = length-take-le queued buf h in
-    let a = length-append (take queued buf) xs in
-    ap (take n) (drop-append-le queued (take queued buf ++ xs) (drop (queued + length xs) buf) (omega arith) ∙ ap (λ (l : List ℕ). l ++ drop (queued + length xs) buf) (drop-at (take queued buf) xs queued t))
-    ∙ take-at xs (drop (queued + length xs) buf) n e
 
 -- ---- builds one behind the other
 

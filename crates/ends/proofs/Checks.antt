@@ -30,6 +30,7 @@ use Rattle.buffer.proofs.Numbers.{number-take, number-drop}
 use Rattle.ends.specs.Handed.{headerIn, segmentOf, latePlace, sumPlace, lateIn, isCompared, unusedField, flagsFine, Spelled, CheckedPreamble, Checked, CheckedFirst}
 use Rattle.ends.proofs.Locality.{Judges, JudgesFirst}
 use Rattle.body.proofs.Checksums.{every-sum, all-sums, every-unused, all-unused}
+use Rattle.body.proofs.Fields.{at20, at21}
 
 -- ---- the preamble
 
@@ -103,43 +104,30 @@ module _ (h : Header) (e p : List ℕ) where
   abbrev segments : List (List ℕ)
   segments = cutInto (h .s1 .len ∷ h .s2 .len ∷ h .s3 .len ∷ h .s4 .len ∷ []) p
 
-  at20 : (k : ℕ) → k < 4 → getD (stored Msgr20 e) k 0 ≡ numberAt 4 (1 + k * 4) e
-  at20 zero l = refl
-  at20 (suc zero) l = refl
-  at20 (suc (suc zero)) l = refl
-  at20 (suc (suc (suc zero))) l = refl
-  at20 (suc (suc (suc (suc k)))) l = absurd (omega arith)
-
-  at21 : (k : ℕ) → k < 3 → getD (stored Msgr21 e) k 0 ≡ numberAt 4 (1 + k * 4) e
-  at21 zero l = refl
-  at21 (suc zero) l = refl
-  at21 (suc (suc zero)) l = refl
-  at21 (suc (suc (suc k))) l = absurd (omega arith)
-
   sums20 : end.compared Msgr20 h e p ≡ fine → (k : ℕ) → k < 4 → ltb k (h .count) ≡ true → numberAt 4 (1 + k * 4) e ≡ segmentSum (getD segments k [])
-  sums20 f k l u = sym (at20 k l) ∙ every-sum (h .count) 1 (stored Msgr20 e) segments f k l (let t = ltb-true k (h .count) u in omega arith)
+  sums20 f k l u = sym (at20 e k l) ∙ every-sum (h .count) 1 (stored Msgr20 e) segments f k l (let t = ltb-true k (h .count) u in omega arith)
 
   back20 : ((k : ℕ) → k < 4 → ltb k (h .count) ≡ true → numberAt 4 (1 + k * 4) e ≡ segmentSum (getD segments k [])) → end.compared Msgr20 h e p ≡ fine
-  back20 f = all-sums (h .count) 1 (stored Msgr20 e) segments (λ k l u. at20 k l ∙ f k l (lt-ltb k (h .count) (omega arith)))
+  back20 f = all-sums (h .count) 1 (stored Msgr20 e) segments (λ k l u. at20 e k l ∙ f k l (lt-ltb k (h .count) (omega arith)))
 
   sums21 : end.compared Msgr21 h e p ≡ fine → (k : ℕ) → suc k < 4 → ltb (suc k) (h .count) ≡ true → numberAt 4 (1 + k * 4) e ≡ segmentSum (getD segments (suc k) [])
   sums21 f k l u =
       let l′ : k < 3 = omega arith in
-      sym (at21 k l′) ∙ every-sum (h .count) 2 (stored Msgr21 e) (drop 1 segments) f k l′ (let t = ltb-true (suc k) (h .count) u in omega arith)
+      sym (at21 e k l′) ∙ every-sum (h .count) 2 (stored Msgr21 e) (drop 1 segments) f k l′ (let t = ltb-true (suc k) (h .count) u in omega arith)
 
   back21 : ((k : ℕ) → suc k < 4 → ltb (suc k) (h .count) ≡ true → numberAt 4 (1 + k * 4) e ≡ segmentSum (getD segments (suc k) [])) → end.compared Msgr21 h e p ≡ fine
   back21 f =
       all-sums (h .count) 2 (stored Msgr21 e) (drop 1 segments)
-      (λ k l u. let l′ : k < 3 = l in at21 k l ∙ f k (omega arith) (lt-ltb (suc k) (h .count) (omega arith)))
+      (λ k l u. let l′ : k < 3 = l in at21 e k l ∙ f k (omega arith) (lt-ltb (suc k) (h .count) (omega arith)))
 
   -- and the fields of unused segments
   unused20 : unusedFrom (h .count) 1 (stored Msgr20 e) ≡ fine → (k : ℕ) → k < 4 → leb (h .count) k ≡ true → numberAt 4 (1 + k * 4) e ≡ 0
-  unused20 f k l u = sym (at20 k l) ∙ every-unused (h .count) 1 (stored Msgr20 e) f k l (let t = leb-true (h .count) k u in omega arith)
+  unused20 f k l u = sym (at20 e k l) ∙ every-unused (h .count) 1 (stored Msgr20 e) f k l (let t = leb-true (h .count) k u in omega arith)
 
   unused21 : unusedFrom (h .count) 2 (stored Msgr21 e) ≡ fine → (k : ℕ) → suc k < 4 → leb (h .count) (suc k) ≡ true → numberAt 4 (1 + k * 4) e ≡ 0
   unused21 f k l u =
       let l′ : k < 3 = omega arith in
-      sym (at21 k l′) ∙ every-unused (h .count) 2 (stored Msgr21 e) f k l′ (let t = leb-true (h .count) (suc k) u in omega arith)
+      sym (at21 e k l′) ∙ every-unused (h .count) 2 (stored Msgr21 e) f k l′ (let t = leb-true (h .count) (suc k) u in omega arith)
 
 -- ---- segment 1's own checksum
 
@@ -212,13 +200,13 @@ module _ (X : List ℕ) (n : ℕ) where
   spelling-back Msgr20 s c =
       let e : List ℕ = epilogue Msgr20 in
       ap₂ orElse
-      (all-unused (h .count) 1 (stored Msgr20 e) (λ k l u. at20 h e (segmentBytes Msgr20 h b) k l ∙ number-drop 4 (1 + k * 4) (latePlace Msgr20 h) b ∙ s .unused k l (le-leb (h .count) k (omega arith))))
+      (all-unused (h .count) 1 (stored Msgr20 e) (λ k l u. at20 e k l ∙ number-drop 4 (1 + k * 4) (latePlace Msgr20 h) b ∙ s .unused k l (le-leb (h .count) k (omega arith))))
       (ap (λ (t : Bool). unless t (refusal.NonCanonical 0)) (ap (flagsFine Msgr20) (late-byte Msgr20) ∙ s .flags))
   spelling-back Msgr21 s c =
       let e : List ℕ = epilogue Msgr21 in
       ap (λ (j : Judged). orElse j fine)
       (all-unused (h .count) 2 (stored Msgr21 e)
-      (λ k l u. at21 h e (segmentBytes Msgr21 h b) k l ∙ number-drop 4 (1 + k * 4) (latePlace Msgr21 h) b ∙ s .unused (suc k) (let l′ : k < 3 = l in omega arith) (ap₂ _&&_ (ap not c) (le-leb (h .count) (suc k) (omega arith)))))
+      (λ k l u. at21 e k l ∙ number-drop 4 (1 + k * 4) (latePlace Msgr21 h) b ∙ s .unused (suc k) (let l′ : k < 3 = l in omega arith) (ap₂ _&&_ (ap not c) (le-leb (h .count) (suc k) (omega arith)))))
 
   -- segment 1's checksum, which both kinds of frame compare
   first-sum : {x : Ended} → Judges x Msgr21 X n → not (eqb (h .s1 .len) 0) ≡ true → numberAt 4 (h .s1 .len) b ≡ segmentSum (segmentOf Msgr21 h 0 X)

@@ -13,26 +13,16 @@ use Rattle.preamble.specs.declared.Header.{Header}
 use Rattle.preamble.specs.Layout.{total}
 use Rattle.preamble.proofs.Laws.{accepted-preamble, store-fits}
 use Rattle.body.specs.Body.{bodyLength, wireLength}
-use Rattle.body.specs.End.{Ended, whole, dropped, turnedAway, segmentBytes}
+use Rattle.body.specs.End.{Ended, whole, dropped, segmentBytes}
 use Rattle.stream.specs.declared.Event.{Event}
 use Rattle.stream.specs.declared.Event.the-variants.{Frame, Dropped}
-use Rattle.stream.specs.Stream.{Trace, ended, after, refusedAt, zeroed, atEnd, frames}
+use Rattle.stream.specs.Stream.{Trace, ended, after, refusedAt, zeroed, frames}
+use Rattle.stream.proofs.Laws.{none, at-end}
 use Rattle.ends.specs.Handed.{headerIn, isEarly, FramesUpTo}
 use Rattle.body.proofs.Ends.{length-segments}
 use Rattle.ends.proofs.Locality.{Judges, behindEarly, frame-trace, frame-trace-more, Seen, nothing, refuses, hands, drops, seen}
 
 -- ---- how many frames there may be does not matter, as long as it is enough
-
-pub none : (f : ℕ) (r : Revision) (P : ℕ) (s : List ℕ) → frames f r P [] s ≡ ended s
-unfolding frames
-none zero r P s = refl
-none (suc f) r P s = refl
-
--- the end of a frame, by its continuation
-at-end : (x : Ended) (h : Header) (at : ℕ) (s p : List ℕ) (next next′ : List ℕ → Trace) → ((t : List ℕ) → next t ≡ next′ t) → atEnd x h at s p next ≡ atEnd x h at s p next′
-at-end whole h at s p next next′ e = ap (after _ at (replaceFront p s)) (e (replaceFront p s))
-at-end dropped h at s p next next′ e = ap (after _ at (zeroed h s)) (e (zeroed h s))
-at-end (turnedAway n) h at s p next next′ e = refl
 
 -- the bytes behind the first frame
 behind : (r : Revision) (X : List ℕ) (f : ℕ) → 32 ≤ length X → length X ≤ suc f → length (drop (32 + bodyLength r (headerIn X)) X) ≤ f

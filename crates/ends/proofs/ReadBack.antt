@@ -1,33 +1,31 @@
 -- A built frame is read back: its judgements come to a frame, or to a drop where it was built aborted.
 use Prim.Native.Nat.{ℕ, suc, _+_, _-_, _^_, _≤_, _<_}
-use mathlib.Core.List.{List, [], _∷_, _++_, append-nil}
+use mathlib.Core.List.{List, [], _∷_, _++_}
 use mathlib.Core.Path.{_≡_, refl, sym, ap, ap₂, _∙_}
 use mathlib.Core.Bool.{Bool, true, false, not, cond, true≢false}
 use native.Mathlib.Omega.{arith}
 use lib.ListN.{length, take, drop, length-append, length-drop, take-append-drop, drop-of-length-le}
 use lib.Seq.{take-at, drop-at, take-append-le, drop-append-le, length-take-le}
-use lib.Dec.{lit<, leb, eqb, ltb}
-use borrow.Author.Tests.{le-leb, leb-true, eq-eqb}
+use lib.Dec.{leb, eqb, ltb}
+use borrow.Author.Tests.{leb-true, eq-eqb}
 use Rattle.buffer.specs.Splice.{replaceFront}
 use Rattle.buffer.specs.Le.{le, leOf, numberAt, Bytes, words}
 use Rattle.buffer.proofs.Numbers.{leOf-le, number-append, bytes-take, bytes-drop, bytes-zeros}
-use Rattle.crc32c.proofs.Laws.{crc-lt}
 use Rattle.refusal.specs.declared.Refusal.the-variants as refusal
 use Rattle.refusal.specs.Refusals.{Judged, fine, orElse, unless}
-use Rattle.refusal.proofs.Judgements.{all-fine, passed}
+use Rattle.refusal.proofs.Judgements.{passed}
 use Rattle.banner.specs.declared.Revision.{Revision}
 use Rattle.banner.specs.declared.Revision.the-variants.{Msgr20, Msgr21}
 use Rattle.preamble.specs.declared.Header.{Header}
-use Rattle.preamble.specs.declared.Preamble.{Preamble}
 use Rattle.preamble.specs.Layout.{total, preambleBytes}
-use Rattle.preamble.specs.Judge.{headerOf, preambleOf, judgeChecksum, judgeShape, judgeTag, judgeLimits, judgeHeader, judgeFields, judgePreamble}
-use Rattle.preamble.specs.Reading.{HeaderFits, builtPreamble, ReadsBack}
+use Rattle.preamble.specs.Judge.{headerOf, judgeHeader}
+use Rattle.preamble.specs.Reading.{HeaderFits}
 use Rattle.preamble.proofs.Laws.{length-preamble}
-use Rattle.preamble.proofs.Back as preamble
 use Rattle.preamble.proofs.Headers.{some-segment}
+use Rattle.preamble.proofs.Back.{front-back}
 use Rattle.body.specs.Body.{segmentSum, cutInto, segments, field, restLength, lateByte, epilogue, firstSum, firstSumLength, bodyLength, wireLength, body, restSent, frameBytes}
 use Rattle.body.specs.End as end
-use Rattle.body.specs.End.{Ended, whole, dropped, compareFrom, unusedFrom, segmentBytes, stored, ending}
+use Rattle.body.specs.End.{Ended, whole, dropped, compareFrom, unusedFrom, segmentBytes, ending}
 use Rattle.body.proofs.Laws.{length-sent, length-first-sum, length-frame}
 use Rattle.builder.specs.Build.{judgeAbort}
 use Rattle.builder.proofs.Accepted.{Accepted}
@@ -36,17 +34,8 @@ use Rattle.stream.specs.Stream.{Trace, after, reportedFirst, zeroed, firstSumEn
 use Rattle.ends.specs.Handed.{isEarly}
 use Rattle.ends.proofs.Locality.{Judges, frame-trace-more}
 use Rattle.body.proofs.Checksums.{same-sums, same-unused}
+use Rattle.body.proofs.Fields.{sum-lt, field-lt, stored20, stored21}
 use Rattle.ends.proofs.Checks.{first-fine}
-
-sum-lt : {l : List ℕ} → Bytes l → segmentSum l < 2 ^ 32
-sum-lt {l} h = crc-lt 0xFFFFFFFF l (lit< tt) (h .at)
-
-field-lt : (count k : ℕ) {l : List ℕ} → Bytes l → field count k l < 2 ^ 32
-field-lt count k {l} h = go (leb k count)
-  where
-    go : (c : Bool) → cond c (segmentSum l) 0 < 2 ^ 32
-    go true = sum-lt h
-    go false = lit< tt
 
 -- ---- segment 1, what stands behind it in msgr2.1, the rest, the epilogue
 
@@ -84,29 +73,6 @@ number-mid first rest last v n e lt =
     ∙ ap (λ (t : List ℕ). leOf (take 4 t)) (drop-at first m n e)
     ∙ leOf-le 4 v lt
 
--- ---- the preamble
-
-fields-fine : (h : Header) (n : ℕ) → judgeHeader h ≡ fine → total h ≤ n → judgeFields (builtPreamble h) n ≡ fine
-unfolding judgeHeader judgeFields
-fields-fine h n e l =
-    let f = all-fine (judgeShape h ∷ judgeTag (h .tag) ∷ judgeLimits h ∷ []) e in
-    rw (f .0, f .1 .0, f .1 .1 .0, le-leb (total h) n l)
-
-record Front (h : Header) (n : ℕ) : Type 0 where
-  header : headerOf (preambleBytes h) ≡ h
-  accepted : judgePreamble (preambleBytes h) n ≡ fine
-
-front-back : (h : Header) (n : ℕ) → HeaderFits h → judgeHeader h ≡ fine → total h ≤ n → Front h n
-unfolding ReadsBack judgePreamble
-front-back h n f e l =
-    let b = preamble.reads-back h [] f in
-    let a = sym (append-nil (preambleBytes h)) in
-    let fields = ap preambleOf a ∙ b .fields in
-    record {
-      header = ap (λ (p : Preamble). p .header) fields;
-      accepted = ap₂ orElse (ap judgeChecksum a ∙ b .checked) (ap (λ (p : Preamble). judgeFields p n) fields) ∙ fields-fine h n e l;
-    }
-
 -- an aborted frame of msgr2.1 has more than one segment
 only-whole : (h : Header) (abort : Bool) → judgeHeader h ≡ fine → judgeAbort Msgr21 (h .count) abort ≡ fine → leb (h .count) 1 ≡ true → abort ≡ false
 only-whole h false e a c = refl
@@ -115,16 +81,6 @@ only-whole h true e a c =
     let m = some-segment h e in
     let one : eqb (h .count) 1 ≡ true = eq-eqb (h .count) 1 (omega arith) in
     absurd (true≢false (sym (passed (not (eqb (h .count) 1)) refusal.AbortOneSegment a) ∙ ap not one))
-
--- ---- an epilogue's fields
-
-stored20 : (late a b c d : ℕ) → a < 2 ^ 32 → b < 2 ^ 32 → c < 2 ^ 32 → d < 2 ^ 32 → stored Msgr20 (late ∷ words (a ∷ b ∷ c ∷ d ∷ [])) ≡ a ∷ b ∷ c ∷ d ∷ []
-unfolding numberAt
-stored20 late a b c d la lb lc ld = rw (leOf-le 4 a la, leOf-le 4 b lb, leOf-le 4 c lc, leOf-le 4 d ld)
-
-stored21 : (late b c d : ℕ) → b < 2 ^ 32 → c < 2 ^ 32 → d < 2 ^ 32 → stored Msgr21 (late ∷ words (b ∷ c ∷ d ∷ [])) ≡ b ∷ c ∷ d ∷ []
-unfolding numberAt
-stored21 late b c d lb lc ld = rw (leOf-le 4 b lb, leOf-le 4 c lc, leOf-le 4 d ld)
 
 abbrev ends-as : Bool → Ended
 ends-as abort = cond abort dropped whole

@@ -11,7 +11,7 @@ use borrow.Author.Tests.{ltb-true}
 use Rattle.buffer.specs.Le.{numberAt}
 use Rattle.buffer.proofs.Numbers.{leOf-le}
 use Rattle.buffer.specs.Splice.{replaceFront, splice}
-use Rattle.buffer.proofs.Parts.{length-replaceFront, length-splice, splice-next}
+use Rattle.buffer.proofs.Parts.{length-replaceFront, length-splice, splice-next, written}
 use Rattle.refusal.specs.declared.Refusal.the-variants as refusal
 use Rattle.refusal.specs.Refusals.{fine}
 use Rattle.refusal.proofs.Judgements.{passed}
@@ -24,6 +24,7 @@ use Rattle.body.specs.Body.{frameBytes, wireLength}
 use Rattle.stream.specs.declared.Event.the-variants.{Banner, First}
 use Rattle.stream.specs.Stream.{Entry, entry, Trace, after, reportedFirst, zeroed, firstSumEnd, payloadOf, peerOf, frames, traceOf}
 use Rattle.stream.proofs.Sums.{least}
+use Rattle.stream.proofs.Laws.{more-payload, more-peer}
 use Rattle.refusal.proofs.Booleans.{both-left, both-right}
 use Rattle.receiver.specs.Calls.{takenBy}
 use Rattle.builder.specs.Build.{bannerLength}
@@ -31,10 +32,10 @@ use Rattle.ends.specs.Handed.{isEarly}
 use Rattle.ends.specs.Trip.{Build, Accepts, bytesOf, eventOf, storeAfter, entriesOf, RoundTrip}
 use Rattle.ends.specs.Ends.{Queued, bufferBy, queuedBy, Link, Linked, sentBy, Fitting, allEntries, storeAfterAll, TwoEnds}
 use Rattle.ends.proofs.Concatenation.{fuel}
-use Rattle.ends.proofs.Banners.{Met, met-trace, more-payload, more-peer, met-more, follows-on}
+use Rattle.ends.proofs.Banners.{Met, met-trace, met-long, met-more, follows-on}
 use Rattle.ends.proofs.Handover.{reported}
 use Rattle.ends.proofs.ReadBack.{built-trace}
-use Rattle.ends.proofs.Builds.{appended, written, allBytes, queued-up, bannered}
+use Rattle.ends.proofs.Builds.{appended, allBytes, queued-up, bannered}
 
 -- one build, and what follows it
 build-entries : (f k : ℕ) (r : Revision) (P : ℕ) (buf : List ℕ) (queued : ℕ) (b : Build) (Y s : List ℕ) → Accepts r buf queued b → total (b .header) ≤ length s → length Y ≤ f → length Y ≤ k
@@ -157,8 +158,8 @@ banner-trace : (own f : Features) (Y s : List ℕ) → judgeOwn (own .supported)
 banner-trace own f Y s ours e fit =
     let B : List ℕ = bannerBytes (f .supported) (f .required) in
     let m = met own f ours e fit in
-    let p : peerOf (B ++ Y) ≡ f = more-peer own B Y m ∙ peer-back f e in
-    let n : payloadOf (B ++ Y) ≡ 16 = more-payload own B Y m ∙ payload-back f in
+    let p : peerOf (B ++ Y) ≡ f = more-peer B Y (met-long own B m) ∙ peer-back f e in
+    let n : payloadOf (B ++ Y) ≡ 16 = more-payload B Y (m .ten) ∙ payload-back f in
     met-trace own (B ++ Y) s (met-more own B Y m)
     ∙ ap₂ (λ (q : Features) (k : ℕ). after (Banner q (revisionOf (own .supported) (q .supported))) (10 + k) s (frames (length (B ++ Y)) (revisionOf (own .supported) (q .supported)) (10 + k) (drop (10 + k) (B ++ Y)) s)) p n
 

@@ -3,3 +3,4 @@ pub mod Comparison
 pub mod InPlace
 pub mod Placing
 pub mod There
+pub mod Opened

@@ -14,6 +14,7 @@ use Rattle.buffer.proofs.Numbers.{number-take, word-read, bytes-take, bytes-dro
 use Rattle.buffer.proofs.Turn.{take-min}
 use Rattle.buffer.proofs.Parts.{drop-take}
 use Rattle.refusal.specs.Refusals.{Judged, fine}
+use Rattle.refusal.proofs.Booleans.{either-left, either-right}
 use Rattle.banner.specs.Bits.{missing}
 use Rattle.banner.specs.Banner.{judgeOwn}
 use Rattle.stream.specs.Stream.{Entry, streamTrace, traceOf}
@@ -25,7 +26,7 @@ use Rattle.receiver.proofs.Appended.{refused-append, taken-append, state-append
 use Rattle.text.specs.Line.{Piece, textOf}
 use Rattle.text.specs.Page.{page, puts}
 use Rattle.text.specs.Law.{EveryLine}
-use Rattle.text.proofs.Laws.{puts-append}
+use Rattle.text.proofs.Laws.{puts-append, text-append, text-of}
 use Rattle.link.specs.declared.Walk.{Walk}
 use Rattle.link.specs.declared.Part.{Part}
 use Rattle.link.specs.declared.Part.the-variants.{Count, Table, Bodies, Ended}
@@ -39,7 +40,7 @@ use Rattle.link.specs.Reads.{newWalk, begun, wantedBy, wantedOf, countOu
 use Rattle.link.specs.Links.{Read, Reading, linkBy, writtenBy, askedBy, Checked, EveryLink}
 use Rattle.link.proofs.Counts.{last-append, frames-append, lines-append, end-append}
 use Rattle.link.proofs.Ends.{at-refused, at-bad, at-open}
-use Rattle.link.proofs.Widths.{text-append, text-of, roomy, roomy-last}
+use Rattle.link.proofs.Widths.{roomy, roomy-last}
 
 own-fine : judgeOwn 1 0 ≡ fine
 unfolding missing
@@ -53,13 +54,6 @@ no-entries store = refl
 end-open : (bad : Bool) (n p : ℕ) (es : List Entry) → refusedIn es ≡ false → endOf bad n p es ≡ openEnd bad n (lastOf p es)
 unfolding endOf
 end-open bad n p es h = ap (endOf bad n p) (sym (append-nil es)) ∙ end-append bad n p es [] h
-
-either-left : (a b : Bool) → a ≡ true → (a || b) ≡ true
-either-left a b e = rw e
-
-either-right : (a b : Bool) → b ≡ true → (a || b) ≡ true
-either-right true b e = refl
-either-right false b e = e
 
 -- a list, as far as it goes, taken again
 take-again : (m : ℕ) (l : List ℕ) → take (length (take m l)) l ≡ take m l

@@ -1,51 +1,25 @@
 -- How long the lines of a read are at most.
-use mathlib.Core.Path.{_≡_, refl, sym, ap, _∙_}
+use mathlib.Core.Path.{_≡_}
 use mathlib.Core.Bool.{Bool, true, false, cond, true≢false}
-use mathlib.Core.List.{List, [], _∷_, _++_, append-assoc}
+use mathlib.Core.List.{List, [], _∷_, _++_}
 use Prim.Native.Nat.{ℕ, _+_, _-_, _*_, _≤_}
 use native.Mathlib.Omega.{arith}
-use lib.ListN.{length, take, drop}
-use lib.Seq.{take-at}
+use Rattle.refusal.specs.Refusals.{byJudgement}
 use Rattle.banner.specs.declared.Revision.{Revision}
-use Rattle.stream.specs.Events.{isFrame, Role, bannerEnd, firstEnd, frameEnd, streamEnd, roleOf, isFrameEnd, judgeRole, byJudgement}
+use Rattle.stream.specs.Events.{isFrame, Role, bannerEnd, firstEnd, frameEnd, streamEnd, roleOf, isFrameEnd, judgeRole}
 use Rattle.stream.specs.Stream.{Entry}
 use Rattle.stream.specs.Adds.{Adds, AddsUp}
 use Rattle.stream.proofs.Events.{by-adds, by-front}
 use Rattle.receiver.specs.Calls.{Call, takenBy, reportedBy, refusedIn}
 use Rattle.receiver.proofs.Appended.{adds-behind, Between, taken-more, reported-between}
-use Rattle.text.specs.Line.{Piece, textOf, bytesOf, width}
-use Rattle.text.specs.Page.{Page, page, puts}
-use Rattle.text.specs.Law.{EveryLine}
+use Rattle.text.specs.Line.{Piece, width}
+use Rattle.text.proofs.Laws.{width-append}
 use Rattle.link.specs.declared.Walk.{Walk}
 use Rattle.link.specs.declared.Outcome.{Outcome}
 use Rattle.link.specs.declared.Outcome.the-variants.{Next, Ends}
 use Rattle.link.specs.Lines.{bannerLine, roleLine, linesOf, End, ok, cut, refusedAt, badFile, endLine}
 use Rattle.link.specs.Walks.{endAt}
 use Rattle.link.specs.Reads.{lastPieces}
-
--- ---- texts
-
-pub text-append : (xs ys : List Piece) → textOf (xs ++ ys) ≡ textOf xs ++ textOf ys
-unfolding textOf
-text-append [] ys = refl
-text-append (x ∷ xs) ys = rw (text-append xs ys) (sym (append-assoc (bytesOf x) (textOf xs) (textOf ys)))
-
-width-append : (xs ys : List Piece) → width (xs ++ ys) ≡ width xs + width ys
-width-append [] ys = omega arith
-width-append (x ∷ xs) ys = omega (arith, width-append xs ys)
-
-split : (a b : List ℕ) (i j : ℕ) → page a i ≡ page b j → take i a ≡ take j b
-unfolding page
-split a b i j q = ap (λ (p : Page). take (p .at) (p .bytes)) q
-
--- with room, all of it is there
-pub text-of : EveryLine → (xs : List Piece) (lent text : List ℕ) (k : ℕ) → width xs ≤ 65536 → 65536 ≤ length lent → page text k ≡ puts xs (page lent 0) → take k text ≡ textOf xs
-text-of law xs lent text k h g e =
-    let n = length (textOf xs) in
-    let w : 0 + n ≤ length lent = omega (arith, law .within xs) in
-    let q : page text k ≡ page (textOf xs ++ drop (0 + n) lent) (0 + n) = e ∙ law .text xs (page lent 0) ∙ law .whole (textOf xs) lent 0 w in
-    split text (textOf xs ++ drop (0 + n) lent) k (0 + n) q
-    ∙ take-at (textOf xs) (drop (0 + n) lent) (0 + n) (omega arith)
 
 -- ---- widths
 

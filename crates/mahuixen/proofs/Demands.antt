@@ -7,7 +7,7 @@ use native.Mathlib.Omega.{arith}
 use Rattle.refusal.specs.declared.Numbers.{Numbers}
 use Rattle.refusal.specs.declared.Refusal.the-variants.{StateContradicts}
 use Rattle.refusal.specs.Refusals.{numbersOf}
-use Rattle.refusal.proofs.Booleans.{both-left}
+use Rattle.refusal.proofs.Booleans.{and-false}
 use Rattle.banner.specs.declared.Features.{Features}
 use Rattle.builder.specs.declared.Built.the-variants as built
 use Rattle.builder.specs.Build as build
@@ -23,9 +23,10 @@ use Rattle.connection.specs.declared.Mode.{Mode}
 use Rattle.connection.specs.declared.Mode.the-variants as mode
 use Rattle.connection.specs.declared.State.{State}
 use Rattle.connection.specs.declared.Received.{Received}
-use Rattle.connection.specs.Step.{begun, readyRule, agreesInUse, agrees, Answer, answer, Answered}
+use Rattle.connection.specs.Step.{begun, readyRule, agrees, Answer, answer, Answered}
 use Rattle.connection.specs.Every as connection
 use Rattle.connection.specs.Every.{Sound}
+use Rattle.connection.proofs.Every.{rule-of}
 use Rattle.ends.specs.Handed.{HandedOver}
 use Rattle.ends.specs.Trip.{Build, Accepts, bytesOf, RoundTrip}
 use Rattle.ends.specs.Ends.{Queued, Link, Linked, sentBy, TwoEnds}
@@ -48,10 +49,6 @@ started-crc : (own : Features) → (begun own .mode ≡ mode.Crc) × ((readyRule
 unfolding begun
 started-crc own = (refl, (refl, refl))
 
-ready-of : (st : State) → agrees st ≡ true → readyRule st ≡ true
-unfolding agrees
-ready-of st e = both-left (readyRule st) (agreesInUse st) e
-
 as-one : {r : Received} {st : State} {n : ℕ} {e : Report} → r .state ≡ st → r .taken ≡ n → r .report ≡ e → r ≡ record { state = st; taken = n; report = e }
 as-one p q u = rw (← p, ← q, ← u)
 
@@ -62,10 +59,6 @@ next-again p st = go (st .mode)
     go : (m : Mode) → following m (following m p st) st ≡ following m p st
     go mode.Crc = refl
     go mode.Secure = refl
-
-and-false : (b : Bool) → (b && false) ≡ false
-and-false true = refl
-and-false false = refl
 
 module _ (every : connection.EveryCall) where
   sound-of : (st : State) (s piece : List ℕ) (r : Received) (s′ : List ℕ) → Answered st s piece r s′ → Sound st s piece r s′
@@ -103,12 +96,12 @@ module _ (every : connection.EveryCall) where
       → (n : Numbers) → fits p ≡ true → agrees (connectionOf p) ≡ true → (t : ℕ) → r .report ≡ reportWords t (report.Event (event.Refused n))
       → (s₂ piece₂ : List ℕ) (i₂ : ℕ) (r₂ : PlainReceived) (s₃ : List ℕ) → ReceivedBy (r .state) s₂ piece₂ i₂ r₂ s₃ → PlainRefuses (r .state) n s₂ i₂ r₂ s₃
   stays p s piece i r s′ h n k g t e s₂ piece₂ i₂ r₂ s₃ h₂ =
-      let first : r ≡ plainly p (answer (connectionOf p) s piece) .received = received-is p s piece i r s′ h k (ready-of (connectionOf p) g) in
+      let first : r ≡ plainly p (answer (connectionOf p) s piece) .received = received-is p s piece i r s′ h k (rule-of (connectionOf p) g) in
       let x : Received = answer (connectionOf p) s piece .received in
       let v = sound-of (connectionOf p) s piece x (answer (connectionOf p) s piece .store) (record { received = refl; store = refl }) in
       let told : x .report ≡ report.Event (event.Refused n) = refused-back (x .taken) t (x .report) n (sym (ap (λ (y : PlainReceived). y .report) first) ∙ e) in
       let b = h .answered .back k in
-      let q : readyRule (connectionOf (r .state)) ≡ true = ap readyRule (b .state) ∙ ready-of (x .state) (v .agreeing g) in
+      let q : readyRule (connectionOf (r .state)) ≡ true = ap readyRule (b .state) ∙ rule-of (x .state) (v .agreeing g) in
       let z : Answer = answer (x .state) s₂ piece₂ in
       let y = v .stays n g told s₂ piece₂ (z .received) (z .store) (record { received = refl; store = refl }) in
       let again : r₂ ≡ handed (next (r .state) (x .state)) (reportWords 0 (report.Event (event.Refused n))) =

@@ -16,17 +16,18 @@ use Rattle.aes.specs.Aes.{keyExpansion}
 use Rattle.builder.specs.declared.Built.the-variants as built
 use Rattle.builder.specs.Build.{wrote}
 use Rattle.secure.specs.Layout.{allNonces, noncesOf, sealedParts, partCount, sealedLength}
+use Rattle.secure.proofs.Lengths.{positive}
 use Rattle.sealed_builder.specs.declared.Sending.{Sending}
 use Rattle.sealed_builder.specs.Build as sealed
 use Rattle.sealed_builder.specs.Build.{spentOf, freshSending, refusedSending, sentMore, judgeEarlier, judgeSealed, Done, done, outcome, sealedDone}
 use Rattle.sealed_builder.specs.Nonces as builder
 use Rattle.sealed_builder.specs.Nonces.{Build, Meets, Chained, AllDifferent, NoNonceTwice}
+use Rattle.receiver.specs.Step.{contradiction}
 use Rattle.connection.specs.Step.{agrees, mayBeSwitched, judgeSwitch, switchedSending}
-use Rattle.connection.specs.Every.{contradiction}
 use Rattle.plain.specs.declared.Written.{Written}
 use Rattle.plain.specs.Words.{within, plainRefused, headerAt, headerLimits}
+use Rattle.plain.proofs.Back.{mark-back}
 use Rattle.plain_receiver.specs.Words.{numberOf}
-use Rattle.plain_receiver.proofs.Back.{mark-back}
 use Rattle.plain_connection.specs.Words.{PlainConnection, connectionOf, fits, PlainSending, sendingWords, PlainSwitched, judgeWords, PlainSwitchedWith}
 use Rattle.plain_sealed.specs.Words.{sendingOf, sendingNumbers, PlainSealed, sealedWith, inPlain, plainSealed}
 use Rattle.mahuixen.specs.Nonces.{PlainBuild, writtenBy, PlainMeets, sendingBehind, PlainBuilds, sendingAfter, sendingIn, buildOf, partsOf, usedBy, used, inFields, TooFew, PlainNoNonceTwice}
@@ -36,10 +37,6 @@ use Rattle.mahuixen.proofs.Switches.{by-words}
 
 sending-back : (s : Sending) → sendingOf (sendingNumbers s) (s .key) (s .nonce) ≡ s
 sending-back s = ap₂ (sealed.sendingState (s .key) (s .nonce) (s .spent)) (mark-back (s .exhausted)) (mark-back (s .refused))
-
-positive : (h : Header) → 0 < sealedLength h
-unfolding sealedLength
-positive h = omega arith
 
 same-numbers : {m n : Numbers} → plainRefused m ≡ plainRefused n → m ≡ n
 same-numbers e = ap (λ (w : Written). row (getD (w .refusal) 0 0) (getD (w .refusal) 1 0) (getD (w .refusal) 2 0) (getD (w .refusal) 3 0)) e

@@ -7,8 +7,8 @@ use Rattle.refusal.specs.Refusals.{Judged, fine, refused}
 use Rattle.refusal.proofs.Booleans.{wrong}
 use Rattle.banner.specs.declared.Revision.{Revision}
 use Rattle.sealed_builder.specs.Build.{freshSending}
+use Rattle.receiver.specs.Step.{contradiction}
 use Rattle.connection.specs.Step.{judgeSwitch, switchedState, switchedSending, SwitchedWith}
-use Rattle.connection.specs.Every.{contradiction}
 use Rattle.sealed_ends.specs.Handed.{SealedHandedOver}
 use Rattle.sealed_ends.specs.Trip.{Accepts, bytesOf, SealedRoundTrip}
 use Rattle.sealed_ends.specs.Fronts.{bytesIn}

@@ -15,7 +15,7 @@ use Rattle.stream.specs.Stream.{entry}
 use Rattle.secure.specs.Layout.{allNonces, partCount, needed}
 use Rattle.secure.specs.Reading.{sealedTrace}
 use Rattle.sealed_builder.specs.Build.{freshSending}
-use Rattle.sealed_builder.specs.Nonces.{Build}
+use Rattle.sealed_builder.specs.Nonces.{Build, sendingAfter}
 use Rattle.connection.specs.Switched.{behind}
 use Rattle.connection.specs.Step.{switchedState}
 use Rattle.connection.specs.Calls.{Try, takenBy, listOf, switchBy}
@@ -23,7 +23,7 @@ use Rattle.ends.specs.Ends.{Link, Fitting, allEntries}
 use Rattle.sealed_ends.specs.Fronts.{Front, bytesIn, sealedIn, switchIn, traceIn, spentIn, nextIn, Begins}
 use Rattle.sealed_ends.specs.Handed.{SealedBehind, Through}
 use Rattle.sealed_ends.specs.Trip.{bytesOf, eventOf, storeAfter}
-use Rattle.sealed_ends.specs.Ends.{SwitchedLink, bufferAt, queuedAt, sentBy, switchedAt, storeAt, sendingBy, partsBy, FittingSealed, sealedEntries, storeAfterSealed}
+use Rattle.sealed_ends.specs.Ends.{SwitchedLink, bufferAt, queuedAt, sentBy, switchedAt, storeAt, partsBy, FittingSealed, sealedEntries, storeAfterSealed}
 use Rattle.plain.specs.Words.{revisionOf, headerAt}
 use Rattle.plain_connection.specs.Words.{PlainConnection, connectionOf, PlainBegun, PlainSending, PlainSwitched, PlainSwitchedWith}
 use Rattle.mahuixen.specs.Calls.{PlainCall, PlainChained}
@@ -121,5 +121,5 @@ pub record PlainSealedDemand2 : Type 0 where
       ≡ entry (Banner (l .crc .features) (banner.revisionOf (own .supported) (l .crc .features .supported))) bannerLength store
       ∷ (allEntries (banner.revisionOf (own .supported) (l .crc .features .supported)) bannerLength store (l .crc .builds)
       ++ (sealedEntries (switchedAt (linkOf l)) (storeAt (linkOf l) store) (linkOf l .builds)
-      ++ sealedTrace (l .key) (sendingBy (freshSending (l .key) (l .sending)) (linkOf l .builds) .nonce) (partsBy (linkOf l .builds)) (length (sentBy (linkOf l)))
+      ++ sealedTrace (l .key) (sendingAfter (freshSending (l .key) (l .sending)) (linkOf l .builds) .nonce) (partsBy (linkOf l .builds)) (length (sentBy (linkOf l)))
       (take (takenBy 0 cs - length (sentBy (linkOf l))) later) (storeAfterSealed (linkOf l .builds) (storeAt (linkOf l) store)) .entries)))

@@ -7,10 +7,11 @@ use Rattle.refusal.specs.Refusals.{judgedBy}
 use Rattle.banner.specs.declared.Features.{Features}
 use Rattle.banner.specs.Banner.{judgeOwn}
 use Rattle.sealed_builder.specs.Build.{refusedSending}
+use Rattle.receiver.specs.Step.{contradiction}
 use Rattle.connection.specs.declared.Switched.{Switched}
 use Rattle.connection.specs.Step.{begun, SwitchedWith}
 use Rattle.connection.specs.Calls.{Call, Chained, listOf, switchBy}
-use Rattle.connection.specs.Every.{contradiction, SoundSwitch}
+use Rattle.connection.specs.Every.{SoundSwitch}
 use Rattle.sealed_ends.specs.Adds.{AddsWith}
 use Rattle.plain_connection.specs.Words.{PlainConnection, connectionOf, fits, PlainBegun, sendingWords, PlainSwitched, switched, switchedBy, PlainSwitchedWith}
 use Rattle.mahuixen.specs.Calls.{PlainCall, PlainChained, plainCalls}

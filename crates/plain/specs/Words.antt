@@ -6,7 +6,7 @@ use Prim.Native.Nat.{ℕ, suc, _+_, _%_, _≤_}
 use lib.Dec.{leb, eqb}
 use lib.ListN.{getD}
 use Rattle.refusal.specs.declared.Numbers.{Numbers}
-use Rattle.refusal.specs.Refusals.{row}
+use Rattle.refusal.specs.Refusals.{row, noRefusal}
 use Rattle.banner.specs.declared.Features.{Features}
 use Rattle.banner.specs.declared.Revision.{Revision}
 use Rattle.banner.specs.declared.Revision.the-variants.{Msgr20, Msgr21}
@@ -74,7 +74,7 @@ abbrev pub written : ℕ → List ℕ → Written
 written n r = record { written = n; refusal = r }
 
 abbrev pub plainWrote : ℕ → Written
-plainWrote n = written n (refusalWords (row 0 0 0 0))
+plainWrote n = written n (refusalWords noRefusal)
 
 abbrev pub plainRefused : Numbers → Written
 plainRefused n = written 0 (refusalWords n)

@@ -9,7 +9,7 @@ use lib.Dec.{eqb, leb}
 use lib.ListN.{length, getD}
 use Rattle.refusal.specs.declared.Numbers.{Numbers}
 use Rattle.refusal.specs.declared.Refusal.the-variants.{StateContradicts}
-use Rattle.refusal.specs.Refusals.{row, numbersOf}
+use Rattle.refusal.specs.Refusals.{numbersOf, noRefusal}
 use Rattle.fields.specs.declared.Span.{Span}
 use Rattle.fields.specs.declared.NumberList.{NumberList}
 use Rattle.bodies.specs.declared.Ident.{Ident}
@@ -40,9 +40,6 @@ nothing = 0 ∷ 0 ∷ []
 abbrev pub saying : ℕ → List ℕ → List ℕ → List ℕ → List ℕ → Numbers → List ℕ
 saying kind ns first second bytes n = kind ∷ (ns ++ (first ++ (second ++ (bytes ++ refusalWords n))))
 
-abbrev pub none : Numbers
-none = row 0 0 0 0
-
 -- up to two numbers, and zeros
 abbrev pub two : ℕ → ℕ → List ℕ
 two a b = a ∷ b ∷ 0 ∷ 0 ∷ 0 ∷ 0 ∷ 0 ∷ []
@@ -55,16 +52,16 @@ reconnectNumbers n k = n ∷ k .client ∷ k .server ∷ k .global ∷ k .connec
 
 -- THE WORDS OF A BODY
 abbrev pub bodyWords : Body → List ℕ
-bodyWords (body.Hello entity address) = saying 1 (two entity 0) nothing nothing (spanWords address) none
-bodyWords (body.AuthRequest method modes payload) = saying 2 (two method 0) (listWords modes) nothing (spanWords payload) none
-bodyWords (body.BadMethod method error methods modes) = saying 3 (two method error) (listWords methods) (listWords modes) nothing none
-bodyWords (body.More payload) = saying 4 (two 0 0) nothing nothing (spanWords payload) none
-bodyWords (body.AuthDone id mode payload) = saying 5 (two id mode) nothing nothing (spanWords payload) none
-bodyWords (body.Identity n block i) = saying 6 (identNumbers n i) nothing nothing (spanWords block) none
-bodyWords (body.Resume n block k) = saying 7 (reconnectNumbers n k) nothing nothing (spanWords block) none
-bodyWords (body.Number n) = saying 8 (two n 0) nothing nothing nothing none
-bodyWords (body.Reset full) = saying 9 (two full 0) nothing nothing nothing none
-bodyWords (body.Stamp p) = saying 10 (two 0 0) nothing nothing (spanWords p) none
+bodyWords (body.Hello entity address) = saying 1 (two entity 0) nothing nothing (spanWords address) noRefusal
+bodyWords (body.AuthRequest method modes payload) = saying 2 (two method 0) (listWords modes) nothing (spanWords payload) noRefusal
+bodyWords (body.BadMethod method error methods modes) = saying 3 (two method error) (listWords methods) (listWords modes) nothing noRefusal
+bodyWords (body.More payload) = saying 4 (two 0 0) nothing nothing (spanWords payload) noRefusal
+bodyWords (body.AuthDone id mode payload) = saying 5 (two id mode) nothing nothing (spanWords payload) noRefusal
+bodyWords (body.Identity n block i) = saying 6 (identNumbers n i) nothing nothing (spanWords block) noRefusal
+bodyWords (body.Resume n block k) = saying 7 (reconnectNumbers n k) nothing nothing (spanWords block) noRefusal
+bodyWords (body.Number n) = saying 8 (two n 0) nothing nothing nothing noRefusal
+bodyWords (body.Reset full) = saying 9 (two full 0) nothing nothing nothing noRefusal
+bodyWords (body.Stamp p) = saying 10 (two 0 0) nothing nothing (spanWords p) noRefusal
 bodyWords (body.Refused r) = saying 0 (two 0 0) nothing nothing nothing (numbersOf r)
 
 -- WHAT READING COMES TO: 26 where a tag has more than 8 bits

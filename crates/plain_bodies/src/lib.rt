@@ -14,16 +14,17 @@ use refusal::Numbers;
 use refusal::Refusal;
 use refusal::in_numbers;
 ghost use mathlib.Core.Path.{_≡_};
+ghost use Rattle.refusal.specs.Refusals.{noRefusal};
 ghost use Rattle.bodies.specs.Write.{outcomeOf};
 ghost use Rattle.plain.specs.Words.{lowU8, lowU32, written};
 ghost use Rattle.plain_bodies.specs.Worked.{Worked};
-ghost use Rattle.plain_bodies.specs.Words.{spanWords, listWords, nothing, saying, none, two, identNumbers, reconnectNumbers, bodyWords, plainBody, PlainReads, identAt, reconnectAt, requestWith, requestOf, fits, plainOutcome, PlainWrites};
+ghost use Rattle.plain_bodies.specs.Words.{spanWords, listWords, nothing, saying, two, identNumbers, reconnectNumbers, bodyWords, plainBody, PlainReads, identAt, reconnectAt, requestWith, requestOf, fits, plainOutcome, PlainWrites};
 
 // ---- reading
 
 // The error of a bad method is its 32 bits.
 fn says_bad_method(method: u64, error: u64, methods: NumberList, modes: NumberList) -> [u64; 18]
-    ensures { λ r. ⌜ r ≡ saying 3 (two method error) (listWords methods) (listWords modes) nothing none ⌝ }
+    ensures { λ r. ⌜ r ≡ saying 3 (two method error) (listWords methods) (listWords modes) nothing noRefusal ⌝ }
 {
     [
         3,
@@ -48,7 +49,7 @@ fn says_bad_method(method: u64, error: u64, methods: NumberList, modes: NumberLi
 }
 
 fn says_auth_request(method: u64, modes: NumberList, payload: Span) -> [u64; 18]
-    ensures { λ r. ⌜ r ≡ saying 2 (two method 0) (listWords modes) nothing (spanWords payload) none ⌝ }
+    ensures { λ r. ⌜ r ≡ saying 2 (two method 0) (listWords modes) nothing (spanWords payload) noRefusal ⌝ }
 {
     [
         2,
@@ -73,13 +74,13 @@ fn says_auth_request(method: u64, modes: NumberList, payload: Span) -> [u64; 18]
 }
 
 fn says_number(kind: u64, n: u64) -> [u64; 18]
-    ensures { λ r. ⌜ r ≡ saying kind (two n 0) nothing nothing nothing none ⌝ }
+    ensures { λ r. ⌜ r ≡ saying kind (two n 0) nothing nothing nothing noRefusal ⌝ }
 {
     [kind, n, 0, 0, 0, 0, 0, 0, 0, 0, 0, 0, 0, 0, 0, 0, 0, 0]
 }
 
 fn says_bytes(kind: u64, a: u64, b: u64, bytes: Span) -> [u64; 18]
-    ensures { λ r. ⌜ r ≡ saying kind (two a b) nothing nothing (spanWords bytes) none ⌝ }
+    ensures { λ r. ⌜ r ≡ saying kind (two a b) nothing nothing (spanWords bytes) noRefusal ⌝ }
 {
     [
         kind,
@@ -104,7 +105,7 @@ fn says_bytes(kind: u64, a: u64, b: u64, bytes: Span) -> [u64; 18]
 }
 
 fn says_ident(n: u64, block: Span, i: Ident) -> [u64; 18]
-    ensures { λ r. ⌜ r ≡ saying 6 (identNumbers n i) nothing nothing (spanWords block) none ⌝ }
+    ensures { λ r. ⌜ r ≡ saying 6 (identNumbers n i) nothing nothing (spanWords block) noRefusal ⌝ }
 {
     [
         6,
@@ -129,7 +130,7 @@ fn says_ident(n: u64, block: Span, i: Ident) -> [u64; 18]
 }
 
 fn says_reconnect(n: u64, block: Span, k: Reconnect) -> [u64; 18]
-    ensures { λ r. ⌜ r ≡ saying 7 (reconnectNumbers n k) nothing nothing (spanWords block) none ⌝ }
+    ensures { λ r. ⌜ r ≡ saying 7 (reconnectNumbers n k) nothing nothing (spanWords block) noRefusal ⌝ }
 {
     [
         7,

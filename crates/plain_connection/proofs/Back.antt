@@ -13,7 +13,7 @@ use Rattle.sealed_receiver.specs.State.{receivingState}
 use Rattle.plain.specs.Words.{maxU8, lowU8, headerLimits}
 use Rattle.plain.proofs.Limits.{tested, joined}
 use Rattle.plain.proofs.Headers.{small8}
-use Rattle.plain_receiver.proofs.Back.{mark-back, mark-known, header-in}
+use Rattle.plain.proofs.Back.{mark-back, mark-known, header-in}
 use Rattle.plain_connection.specs.Secure.{stageNumber, stageOf, secureOf, secureNumbers, withBytes, plainOf, secureLimits, fits, Typed, PlainOf}
 
 stage-back : (s : Stage) → stageOf (stageNumber s) ≡ s

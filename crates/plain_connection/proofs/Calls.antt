@@ -27,13 +27,15 @@ use Rattle.connection.specs.declared.Received.{Received}
 use Rattle.connection.specs.Step.{isSecure, begun, readyAfter, readyRule, Answer, byCrc, bySecure, answer, judgeSwitch, switchedState, switchedSending}
 use Rattle.connection.proofs.Laws.{contradicted, mode-is}
 use Rattle.plain.specs.Words.{markNumber, markOf}
+use Rattle.plain.proofs.Back.{mark-back, mark-known, mark-number-back}
 use Rattle.plain_receiver.specs.Words as crc
+use Rattle.plain_receiver.proofs.Answers as crc-answers
 use Rattle.plain_receiver.specs.Words.{PlainState, stageOf, stateOf, reportWords, reportOf, numberOf}
-use Rattle.plain_receiver.proofs.Back.{mark-back, mark-number-back, mark-known}
 use Rattle.plain_receiver.proofs.Answers.{answer-within, answer-beyond}
+use Rattle.plain_sealed.specs.Words.{sendingNumbers}
 use Rattle.plain_connection.specs.Secure as secure
 use Rattle.plain_connection.specs.Secure.{PlainSecure, secureOf, SecureReceived, SecureAnswered}
-use Rattle.plain_connection.specs.Words.{PlainConnection, connected, connectionOf, fits, StandsFor, PlainOf, PlainReceived, handed, PlainAnswer, plainly, contradicts, plainAnswer, PlainAnswered, ReceivedBy, PlainSending, plainSending, sendingNumbers, sendingWords, switched, switchedWords, judgeWords, plainSwitch, PlainSwitchedWith}
+use Rattle.plain_connection.specs.Words.{PlainConnection, connected, connectionOf, fits, StandsFor, PlainOf, PlainReceived, handed, PlainAnswer, plainly, contradicts, plainAnswer, PlainAnswered, ReceivedBy, PlainSending, plainSending, sendingWords, switched, switchedWords, judgeWords, plainSwitch, PlainSwitchedWith}
 use Rattle.plain_connection.proofs.Answers.{beyond, within}
 
 -- ---- words of the two modes
@@ -185,7 +187,7 @@ joined : {m m′ r r′ : ℕ} {c c′ : PlainState} {x x′ : PlainSecure} {q q
 joined e f g h i = rw (e, f, g, h, i)
 
 module _ (ready : ℕ) (c : PlainState) (x : PlainSecure) (s piece : List ℕ) (o : crc.PlainReceived) (s′ : List ℕ) (r : ℕ)
-    (l : ready ≤ 1) (h : crc.PlainAnswered c s piece o s′) (m : r ≡ markAfter ready (crc.takenIn o) (crc.kindIn o)) where
+    (l : ready ≤ 1) (h : crc.PlainAnswered c s piece o s′) (m : r ≡ markAfter ready (crc-answers.takenIn o) (crc.kindIn o)) where
   abbrev crcWords : PlainConnection
   crcWords = connected 0 ready c x
 
@@ -199,8 +201,8 @@ module _ (ready : ℕ) (c : PlainState) (x : PlainSecure) (s piece : List ℕ) (
   crc-mark f =
       let t = crcAnswer .received .taken in
       let u = crcAnswer .received .report in
-      let e : markAfter ready (crc.takenIn o) (crc.kindIn o) ≡ markAfter ready (getD (reportWords t u) 1 0) (getD (reportWords t u) 0 0) =
-      ap (λ (y : crc.PlainReceived). markAfter ready (crc.takenIn y) (crc.kindIn y)) (crc-told f) in
+      let e : markAfter ready (crc-answers.takenIn o) (crc.kindIn o) ≡ markAfter ready (getD (reportWords t u) 1 0) (getD (reportWords t u) 0 0) =
+      ap (λ (y : crc.PlainReceived). markAfter ready (crc-answers.takenIn y) (crc.kindIn y)) (crc-told f) in
       m ∙ e ∙ ap (λ (y : ℕ). markAfter ready y (getD (reportWords t u) 0 0)) (taken-word t u) ∙ mark-after ready t u l
 
   crc-answered : readyRule (connectionOf crcWords) ≡ true → crc.fits (c .numbers) ≡ true → PlainAnswered crcWords s piece (handed (connected 0 r (o .state) x) (o .report)) s′
@@ -228,7 +230,7 @@ module _ (ready : ℕ) (c : PlainState) (x : PlainSecure) (s piece : List ℕ) (
   crc-beyond f =
       let e = answer-beyond c s piece f in
       let t : o ≡ crc.contradicts c = h .received ∙ ap (λ (y : crc.PlainAnswer). y .received) e in
-      let u : r ≡ ready = m ∙ ap (λ (y : crc.PlainReceived). markAfter ready (crc.takenIn y) (crc.kindIn y)) t in
+      let u : r ≡ ready = m ∙ ap (λ (y : crc.PlainReceived). markAfter ready (crc-answers.takenIn y) (crc.kindIn y)) t in
       let g : fits crcWords ≡ false = crc-fits ready c x l ∙ f in
       let v : s′ ≡ s = h .store ∙ ap (λ (y : crc.PlainAnswer). y .store) e in
       let z : handed (connected 0 r (o .state) x) (o .report) ≡ handed crcWords (contradicts crcWords .report) =
@@ -325,11 +327,11 @@ module _ (link : List ℕ) (c : PlainState) (x : PlainSecure) (s piece : List �
   both = connected (getD link 0 0) (getD link 1 0) c x
 
   pub crc-given : (n : ℕ) (o : crc.PlainReceived) (s′ : List ℕ) (r : ℕ) → getD link 0 0 ≡ 0 → Usable both → crc.ReceivedBy c s piece n o s′
-      → r ≡ markAfter (getD link 1 0) (crc.takenIn o) n → ReceivedBy both s piece n (handed (connected 0 r (o .state) x) (o .report)) s′
+      → r ≡ markAfter (getD link 1 0) (crc-answers.takenIn o) n → ReceivedBy both s piece n (handed (connected 0 r (o .state) x) (o .report)) s′
   crc-given n o s′ r e h a m =
       let ready = getD link 1 0 in
       let q : readyRule (connectionOf (connected 0 ready c x)) ≡ true = subst (λ (y : ℕ). readyRule (connectionOf (connected y ready c x)) ≡ true) e (h .rule) in
-      let k : r ≡ markAfter ready (crc.takenIn o) (crc.kindIn o) = m ∙ ap (markAfter ready (crc.takenIn o)) (a .kind) in
+      let k : r ≡ markAfter ready (crc-answers.takenIn o) (crc.kindIn o) = m ∙ ap (markAfter ready (crc-answers.takenIn o)) (a .kind) in
       record {
         kind = a .kind;
         answered = subst (λ (y : ℕ). PlainAnswered (connected y ready c x) s piece (handed (connected 0 r (o .state) x) (o .report)) s′) (sym e) (crc-call ready c x s piece o s′ r (h .ready) (a .answered) k q);

@@ -1,12 +1,13 @@
 -- The calls of the receiving side of a connection over words: a mode and a mark, and the words of its two parts. A call promises the words of what `answer`, `begun` and
 -- `judgeSwitch` of the connection say. The part that is not in use is not looked at, and is handed back as it came.
 use mathlib.Core.Path.{_≡_}
-use mathlib.Core.List.{List, [], _∷_}
+use mathlib.Core.List.{List}
 use mathlib.Core.Bool.{Bool, true, cond, _&&_}
 use Prim.Native.Nat.{ℕ}
 use lib.Dec.{leb, eqb}
 use lib.ListN.{getD}
-use Rattle.refusal.specs.Refusals.{Judged, fine, refused}
+use Rattle.refusal.specs.declared.Refusal.the-variants as refusal
+use Rattle.refusal.specs.Refusals.{Judged, fine, refused, refusalNumber}
 use Rattle.banner.specs.declared.Features.{Features}
 use Rattle.banner.specs.Banner.{judgeOwn}
 use Rattle.stream.specs.declared.Event.the-variants as event
@@ -21,6 +22,7 @@ use Rattle.connection.specs.Step.{begun, readyRule, Answer, answer, judgeSwitch
 use Rattle.plain.specs.Words.{markNumber, markOf}
 use Rattle.plain_receiver.specs.Words as crc
 use Rattle.plain_receiver.specs.Words.{PlainState, plainState, stateOf, reportWords, reportOf, numberOf}
+use Rattle.plain_sealed.specs.Words.{sendingNumbers}
 use Rattle.plain_connection.specs.Secure as secure
 use Rattle.plain_connection.specs.Secure.{PlainSecure, plainSecure, secureOf}
 
@@ -148,9 +150,6 @@ pub record PlainSending : Type 0 where
 abbrev pub plainSending : List ℕ → List ℕ → List ℕ → PlainSending
 plainSending ws k n = record { numbers = ws; key = k; nonce = n }
 
-abbrev pub sendingNumbers : Sending → List ℕ
-sendingNumbers s = markNumber (s .exhausted) ∷ markNumber (s .refused) ∷ s .spent ∷ []
-
 abbrev pub sendingWords : Sending → PlainSending
 sendingWords s = plainSending (sendingNumbers s) (s .key) (s .nonce)
 
@@ -187,4 +186,4 @@ pub record PlainSwitchedWith (p : PlainConnection) (key receiving sending : List
 
 -- the words of a report of 26
 abbrev pub is26 : List ℕ → Bool
-is26 q = eqb (getD q 0 0) 4 && (eqb (getD q 15 0) 26 && (eqb (getD q 16 0) 0 && (eqb (getD q 17 0) 0 && eqb (getD q 18 0) 0)))
+is26 q = eqb (getD q 0 0) 4 && (eqb (getD q 15 0) (refusalNumber refusal.StateContradicts) && (eqb (getD q 16 0) 0 && (eqb (getD q 17 0) 0 && eqb (getD q 18 0) 0)))

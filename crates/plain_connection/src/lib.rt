@@ -29,9 +29,10 @@ ghost use Rattle.sealed_receiver.specs.State as sealed-states;
 ghost use Rattle.connection.specs.Step.{agrees, switchedSending};
 ghost use Rattle.plain.specs.Words.{features};
 ghost use Rattle.plain_receiver.specs.Words as crc;
+ghost use Rattle.plain_sealed.specs.Words.{sendingNumbers};
 ghost use Rattle.plain_connection.specs.Secure as secure;
 ghost use Rattle.plain_connection.specs.Secure.{plainSecure, SecureAnswered, SecureReceivedBy};
-ghost use Rattle.plain_connection.specs.Words.{plainConnection, connectionOf, fits, handed, ReceivedBy, PlainBegun, plainSending, sendingNumbers, switched, judgeWords, PlainSwitchedWith, is26};
+ghost use Rattle.plain_connection.specs.Words.{plainConnection, connectionOf, fits, handed, ReceivedBy, PlainBegun, plainSending, switched, judgeWords, PlainSwitchedWith, is26};
 
 // ---- sealed frames
 

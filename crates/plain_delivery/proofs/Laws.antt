@@ -4,9 +4,9 @@ use mathlib.Core.List.{List, [], _∷_}
 use mathlib.Core.Bool.{Bool, true, false, cond, true≢false}
 use Prim.Native.Nat.{ℕ}
 use native.Mathlib.Omega.{arith}
-use lib.Dec.{eqb, leb}
+use lib.Dec.{eqb}
 use lib.ListN.{length, getD}
-use Rattle.refusal.specs.Refusals.{Judged, fine, refused, row}
+use Rattle.refusal.specs.Refusals.{noRefusal}
 use Rattle.preamble.specs.declared.Header.{Header}
 use Rattle.stream.specs.declared.Event.the-variants as event
 use Rattle.receiver.specs.declared.Report as receiver
@@ -14,7 +14,8 @@ use Rattle.receiver.specs.declared.Report.the-variants as report
 use Rattle.session.specs.declared.Session.{Session}
 use Rattle.session.specs.declared.Report.{Report}
 use Rattle.session.specs.declared.Report.the-variants as answer
-use Rattle.session.specs.Calls.{heldOf, judgeState, judgeAck, outcome, refusing, unlessRefused, acked, cleared, ackOf, reconnectOf, resetOf}
+use Rattle.session.specs.Calls.{heldOf, judgeState, judgeAck, acked, cleared, ackOf, reconnectOf, resetOf}
+use Rattle.session.proofs.Releases.{kept, acked-keeps, cleared-keeps}
 use Rattle.delivery.specs.declared.Asked.{Asked}
 use Rattle.delivery.specs.declared.Asked.the-variants as asked
 use Rattle.delivery.specs.declared.Settled.{Settled}
@@ -51,21 +52,6 @@ others-ask q s e = go (eqb (getD q 0 0) 0) (eqb (getD q 0 0) 1) (eqb (getD q 0 0
 
 -- ---- what is done: no frame changes a handle
 
-kept : (s t : Session) (j : Judged) (r : Report) → t .handles ≡ s .handles → unlessRefused j (refusing s) (outcome t r) .session .handles ≡ s .handles
-kept s t fine r h = h
-kept s t (refused n) r h = refl
-
-acked-keeps : (s : Session) (n : ℕ) → acked s n .handles ≡ s .handles
-acked-keeps s n = go (leb n (s .released))
-  where
-    go : (b : Bool) → cond b s (record { handles = s .handles; released = n; last = s .last }) .handles ≡ s .handles
-    go true = refl
-    go false = refl
-
-cleared-keeps : (s : Session) (full : Bool) → cleared s full .handles ≡ s .handles
-cleared-keeps s true = refl
-cleared-keeps s false = refl
-
 handles-kept : (s : Session) (a : Asked) → doneTo s a .session .handles ≡ s .handles
 unfolding ackOf reconnectOf resetOf
 handles-kept s asked.Nothing = refl
@@ -81,7 +67,7 @@ two-words (a ∷ b ∷ []) h = refl
 two-words (a ∷ b ∷ d ∷ ws) h = absurd (omega arith)
 
 module _ (ws hs : List ℕ) (a : Asked) where
-  pub nothing-done : {e : List ℕ} → length ws ≡ 2 → a ≡ asked.Nothing → e ≡ answering 0 0 (row 0 0 0 0)
+  pub nothing-done : {e : List ℕ} → length ws ≡ 2 → a ≡ asked.Nothing → e ≡ answering 0 0 noRefusal
       → settledWith ws hs e ≡ plainSettled (doneTo (sessionOf (plainSession ws hs)) a)
   nothing-done {e = e} h f g =
       ap (λ (x : List ℕ). settledWith x hs e) (two-words ws h)

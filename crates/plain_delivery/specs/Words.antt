@@ -3,7 +3,7 @@
 use mathlib.Core.Path.{_≡_}
 use mathlib.Core.List.{List}
 use Prim.Native.Nat.{ℕ}
-use Rattle.refusal.specs.Refusals.{row}
+use Rattle.refusal.specs.Refusals.{noRefusal}
 use Rattle.delivery.specs.declared.Effect.{Effect}
 use Rattle.delivery.specs.declared.Effect.the-variants as effect
 use Rattle.delivery.specs.declared.Settled.{Settled}
@@ -12,7 +12,7 @@ use Rattle.plain_session.specs.Words.{PlainSession, plainSession, sessionOf, pl
 use Rattle.plain_connection.specs.Words.{PlainConnection, PlainReceived, reportBy, ReceivedBy}
 
 abbrev pub effectWords : Effect → List ℕ
-effectWords effect.Nothing = answering 0 0 (row 0 0 0 0)
+effectWords effect.Nothing = answering 0 0 noRefusal
 effectWords (effect.Malformed n) = answering 5 0 n
 effectWords (effect.Answer r) = answerWords r
 

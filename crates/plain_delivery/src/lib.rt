@@ -1,7 +1,6 @@
 // The joined call over words: a piece is received, and what it completes is done to the session.
 use delivery::Asked;
 use delivery::Effect;
-use delivery::Settled;
 use delivery::asked_by_frame;
 use delivery::settle;
 use plain::header_of;
@@ -11,7 +10,7 @@ use plain_session::answering;
 use plain_session::session_numbers;
 use plain_session::session_of;
 ghost use mathlib.Core.Path.{_≡_};
-ghost use Rattle.refusal.specs.Refusals.{row};
+ghost use Rattle.refusal.specs.Refusals.{noRefusal};
 ghost use Rattle.delivery.specs.Asked.{askedByReport, doneTo};
 ghost use Rattle.plain_receiver.specs.Words.{reportOf};
 ghost use Rattle.plain_connection.specs.Words.{plainConnection, handed};
@@ -25,7 +24,7 @@ struct Done {
 }
 
 fn no_effect() -> [u64; 6]
-    ensures { λ r. ⌜ r ≡ answering 0 0 (row 0 0 0 0) ⌝ }
+    ensures { λ r. ⌜ r ≡ answering 0 0 noRefusal ⌝ }
 {
     [0, 0, 0, 0, 0, 0]
 }

@@ -6,7 +6,7 @@ use Prim.Native.Nat.{ℕ}
 use lib.Dec.{eqb, leb}
 use lib.ListN.{getD}
 use Rattle.refusal.specs.declared.Refusal.the-variants.{StateContradicts}
-use Rattle.refusal.specs.Refusals.{row, numbersOf}
+use Rattle.refusal.specs.Refusals.{numbersOf, noRefusal}
 use Rattle.handshake.specs.declared.State.{State}
 use Rattle.handshake.specs.declared.State.the-variants as state
 use Rattle.handshake.specs.declared.Verdict.{Verdict}
@@ -53,7 +53,7 @@ abbrev pub stepWith : ℕ → List ℕ → PlainStep
 stepWith s r = record { state = s; refusal = r }
 
 abbrev pub reportWords : Report → List ℕ
-reportWords report.Taken = refusalWords (row 0 0 0 0)
+reportWords report.Taken = refusalWords noRefusal
 reportWords (report.Refused n) = refusalWords n
 
 abbrev pub plainStep : Step → PlainStep

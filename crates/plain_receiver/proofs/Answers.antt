@@ -4,6 +4,7 @@ use mathlib.Core.List.{List}
 use mathlib.Core.Bool.{true, false}
 use Prim.Native.Nat.{ℕ}
 use native.Mathlib.Omega.{arith}
+use lib.ListN.{getD}
 use Rattle.receiver.specs.declared.State.{State}
 use Rattle.receiver.specs.declared.Received.{Received}
 use Rattle.receiver.specs.Step.{answer, Answered}
@@ -41,3 +42,7 @@ answered p s piece ws r s′ st o e d h w t =
       back = λ _. subst (λ (x : State). PlainOf x (plainState ws (o .state .position .block))) g w;
       tells = rw e (t .back ∙ ap (λ (x : Received). x .report) f);
     }
+
+-- the bytes taken, by the words of a report
+abbrev pub takenIn : PlainReceived → ℕ
+takenIn o = getD (o .report) 1 0

@@ -1,6 +1,6 @@
 -- States read back from their words, words from the state that they stand for, and reports.
 use mathlib.Core.Path.{_≡_, refl, sym, ap, _∙_}
-use mathlib.Core.Bool.{Bool, true, false, cond}
+use mathlib.Core.Bool.{Bool, true, cond}
 use mathlib.Core.List.{List, [], _∷_}
 use Prim.Native.Nat.{ℕ, zero, suc, _+_, _≤_, _<_}
 use native.Mathlib.Omega.{arith}
@@ -8,7 +8,6 @@ use lib.Dec.{lit<, eqb}
 use lib.ListN.{length, getD, set, drop, drop-of-length-le}
 use lib.Seq.{drop-cons}
 use Rattle.banner.specs.declared.Revision.{Revision}
-use Rattle.banner.specs.declared.Revision.the-variants.{Msgr20, Msgr21}
 use Rattle.stream.specs.declared.Event.the-variants as event
 use Rattle.receiver.specs.declared.Stage.{Stage}
 use Rattle.receiver.specs.declared.Stage.the-variants as stage
@@ -20,9 +19,10 @@ use Rattle.receiver.specs.Step.{stateAt}
 use Rattle.preamble.specs.declared.Header.{Header}
 use Rattle.refusal.specs.declared.Numbers.{Numbers}
 use Rattle.refusal.specs.Refusals.{row}
-use Rattle.plain.specs.Words.{Within, maxU8, revisionNumber, revisionOf, markNumber, markOf, lowU8, lowU16, lowU32, headerWords, headerAt, headerLimits}
+use Rattle.plain.specs.Words.{maxU8, lowU8, lowU16, lowU32, headerLimits}
 use Rattle.plain.proofs.Limits.{facts, tested, bound, joined}
 use Rattle.plain.proofs.Headers.{small8, small16, small32, header-typed, header-back}
+use Rattle.plain.proofs.Back.{revision-back, mark-back, revision-known, mark-known, revision-number-back, mark-number-back, header-in, refusal-in}
 use Rattle.plain_receiver.specs.Words.{PlainState, plainState, stageOf, knownOf, stateOf, stateNumbers, plainOf, stateLimits, fits, Typed, PlainOf, reportWords, reportOf, ReportTyped, ReportOf, ReadsBack}
 
 -- ---- numbers of one
@@ -40,14 +40,6 @@ stage-back stage.Rest = refl
 stage-back stage.Epilogue = refl
 stage-back stage.Refused = refl
 
-pub revision-back : (v : Revision) → revisionOf (revisionNumber v) ≡ v
-revision-back Msgr20 = refl
-revision-back Msgr21 = refl
-
-pub mark-back : (b : Bool) → markOf (markNumber b) ≡ b
-mark-back true = refl
-mark-back false = refl
-
 stage-known : (s : Stage) → rank s ≤ 9
 stage-known stage.Magic = omega arith
 stage-known stage.Length = omega arith
@@ -59,14 +51,6 @@ stage-known stage.FirstSum = omega arith
 stage-known stage.Rest = omega arith
 stage-known stage.Epilogue = omega arith
 stage-known stage.Refused = omega arith
-
-pub revision-known : (v : Revision) → revisionNumber v ≤ 1
-revision-known Msgr20 = omega arith
-revision-known Msgr21 = omega arith
-
-pub mark-known : (b : Bool) → markNumber b ≤ 1
-mark-known true = omega arith
-mark-known false = omega arith
 
 -- ---- a state from its words
 
@@ -140,18 +124,6 @@ stage-number-back (suc (suc (suc (suc (suc (suc (suc (suc (suc n))))))))) h =
     let e : n ≡ 0 = omega arith in
     rw e
 
-revision-number-back : (n : ℕ) → n ≤ 1 → revisionNumber (revisionOf n) ≡ n
-revision-number-back zero h = refl
-revision-number-back (suc n) h =
-    let e : n ≡ 0 = omega arith in
-    rw e
-
-pub mark-number-back : (n : ℕ) → n ≤ 1 → markNumber (markOf n) ≡ n
-mark-number-back zero h = refl
-mark-number-back (suc n) h =
-    let e : n ≡ 0 = omega arith in
-    rw e
-
 module _ (ws block : List ℕ) (e : fits ws ≡ true) where
   limit : (k : ℕ) → k < length stateLimits → getD ws (k + 0) 0 ≤ getD stateLimits k 0
   limit = bound stateLimits 0 ws (facts stateLimits 0 ws e)
@@ -196,12 +168,6 @@ unfolding stateNumbers stateOf
 counted ws block to size e = ap (λ (l : List ℕ). set l 18 to) (spelt 23 0 ws size ∙ sym (words-spelled ws block e))
 
 -- ---- a report from its words
-
-pub header-in : (h : Header) → Within headerLimits 0 (headerWords h) → headerAt 0 (headerWords h) ≡ h
-header-in h w = header-back h (header-typed h w)
-
-pub refusal-in : (n : Numbers) → n .number ≤ 255 → row (lowU8 (n .number)) (n .first) (n .second) (n .third) ≡ n
-refusal-in n h = rw (small8 (n .number) (omega arith))
 
 pub report-back : (t : ℕ) (r : Report) → ReportTyped r → reportOf (reportWords t r) ≡ r
 report-back t report.More h = refl

@@ -6,7 +6,7 @@ use Prim.Native.Nat.{ℕ, _≤_}
 use lib.Dec.{eqb}
 use lib.ListN.{length, getD}
 use Rattle.refusal.specs.declared.Numbers.{Numbers}
-use Rattle.refusal.specs.Refusals.{Judged, fine, refused}
+use Rattle.refusal.specs.Refusals.{Judged, fine, refused, noRefusal}
 use Rattle.banner.specs.declared.Features.{Features}
 use Rattle.banner.specs.declared.Revision.{Revision}
 use Rattle.preamble.specs.declared.Header.{Header}
@@ -20,7 +20,7 @@ use Rattle.receiver.specs.declared.State.{State}
 use Rattle.receiver.specs.declared.Report.{Report}
 use Rattle.receiver.specs.declared.Report.the-variants as report
 use Rattle.receiver.specs.declared.Received.{Received}
-use Rattle.receiver.specs.State.{rank, noFeatures, noHeader, noRefusal}
+use Rattle.receiver.specs.State.{rank, noFeatures, noHeader}
 use Rattle.receiver.specs.Step.{stateAt, Answer, answer, contradiction}
 use Rattle.plain.specs.Words.{within, Within, maxU8, maxU16, lowU16, revisionNumber, revisionOf, markNumber, markOf, features, refusalWords, refusalAt, headerWords, headerAt, headerLimits}
 
@@ -174,9 +174,6 @@ handed ws b r = record { state = plainState ws b; report = r }
 
 abbrev pub kindIn : PlainReceived → ℕ
 kindIn o = getD (o .report) 0 0
-
-abbrev pub takenIn : PlainReceived → ℕ
-takenIn o = getD (o .report) 1 0
 
 abbrev pub plainReceived : Received → PlainReceived
 plainReceived r = record { state = plainOf (r .state); report = reportWords (r .taken) (r .report) }

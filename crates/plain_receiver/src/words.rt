@@ -13,6 +13,7 @@ use receiver::Known;
 use receiver::Report;
 use receiver::Stage;
 use receiver::State;
+use receiver::states::rank;
 use refusal::Numbers;
 use refusal::Refusal;
 use refusal::Verdict;
@@ -22,8 +23,8 @@ ghost use mathlib.Core.Path.{_≡_};
 ghost use mathlib.Core.List.{List};
 ghost use Prim.Native.Nat.{ℕ, _≤_};
 ghost use lib.ListN.{length};
-ghost use Rattle.refusal.specs.Refusals.{judgedBy};
-ghost use Rattle.receiver.specs.State.{rank, noFeatures, noHeader, noRefusal};
+ghost use Rattle.refusal.specs.Refusals.{judgedBy, noRefusal};
+ghost use Rattle.receiver.specs.State.{noFeatures, noHeader};
 ghost use Rattle.stream.specs.declared.Event.the-variants as event;
 ghost use Rattle.stream.specs.Events.{roleOf};
 ghost use Rattle.receiver.specs.declared.Report.the-variants as report;
@@ -31,23 +32,6 @@ ghost use Rattle.receiver.specs.declared.Stage.{Stage};
 ghost use Rattle.receiver.specs.Step.{stateAt, contradiction};
 ghost use Rattle.plain.specs.Words.{Within, maxU8, headerWords, headerLimits};
 ghost use Rattle.plain_receiver.specs.Words.{plainState, stageOf, knownWith, knownOf, numbersWith, fits, Typed, PlainOf, reporting, eventWords, reportWords, RoleTyped, ReportOf, numberOf};
-
-fn stage_number(stage: Stage) -> u64
-    ensures { λ r. ⌜ r ≡ rank stage ⌝ }
-{
-    match stage {
-        Stage::Magic => 0,
-        Stage::Length => 1,
-        Stage::Payload => 2,
-        Stage::Skip => 3,
-        Stage::Preamble => 4,
-        Stage::First => 5,
-        Stage::FirstSum => 6,
-        Stage::Rest => 7,
-        Stage::Epilogue => 8,
-        Stage::Refused => 9,
-    }
-}
 
 pub fn stage_of(n: u64) -> Stage
     ensures { λ r. ⌜ r ≡ stageOf n ⌝ }
@@ -188,7 +172,7 @@ pub fn numbers_of(stage: Stage, got: usize, known: Known) -> [u64; 23]
     typed_known(known);
     let revision = known.revision;
     numbers_with(
-        stage_number(stage),
+        rank(stage) as u64,
         revision_number(revision),
         mark_number(known.first),
         got,

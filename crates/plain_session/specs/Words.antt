@@ -6,7 +6,7 @@ use Prim.Native.Nat.{ℕ}
 use lib.Dec.{eqb}
 use lib.ListN.{getD}
 use Rattle.refusal.specs.declared.Numbers.{Numbers}
-use Rattle.refusal.specs.Refusals.{row}
+use Rattle.refusal.specs.Refusals.{noRefusal}
 use Rattle.session.specs.declared.Session.{Session}
 use Rattle.session.specs.declared.Report.{Report}
 use Rattle.session.specs.declared.Report.the-variants as report
@@ -41,9 +41,9 @@ abbrev pub answering : ℕ → ℕ → Numbers → List ℕ
 answering kind n r = kind ∷ n ∷ refusalWords r
 
 abbrev pub answerWords : Report → List ℕ
-answerWords report.Done = answering 1 0 (row 0 0 0 0)
-answerWords (report.Accepted n) = answering 2 n (row 0 0 0 0)
-answerWords (report.Resend n) = answering 3 n (row 0 0 0 0)
+answerWords report.Done = answering 1 0 noRefusal
+answerWords (report.Accepted n) = answering 2 n noRefusal
+answerWords (report.Resend n) = answering 3 n noRefusal
 answerWords (report.Refused r) = answering 4 0 r
 
 -- ---- THE PROMISE OF A CALL: the session and the answer that its outcome says

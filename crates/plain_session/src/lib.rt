@@ -11,9 +11,9 @@ use session::held_at;
 use session::reconnect;
 use session::reset;
 ghost use mathlib.Core.Path.{_≡_};
+ghost use Rattle.refusal.specs.Refusals.{noRefusal};
 ghost use Rattle.session.specs.Calls.{freshSession};
 ghost use Rattle.session.specs.Laws.{callOf};
-ghost use Rattle.refusal.specs.Refusals.{row};
 ghost use Rattle.plain_session.specs.Words.{plainSession, sessionOf, sessionNumbers, plainOf, answering, answerWords, outcomeWith, plainOutcome, callBy, PlainCalled, heldWith, plainHeld, PlainFound};
 
 // The words of a session and of an answer.
@@ -52,7 +52,7 @@ pub fn answering(kind: u64, n: u64, r: Numbers) -> [u64; 6]
 }
 
 fn told_number(kind: u64, n: u64) -> [u64; 6]
-    ensures { λ a. ⌜ a ≡ answering kind n (row 0 0 0 0) ⌝ }
+    ensures { λ a. ⌜ a ≡ answering kind n noRefusal ⌝ }
 {
     [kind, n, 0, 0, 0, 0]
 }

@@ -1,18 +1,20 @@
 -- Reading what was laid out.
-use mathlib.Core.Path.{_≡_, refl, ap, _∙_}
-use mathlib.Core.List.{List, _++_, append-assoc}
-use Prim.Native.Nat.{ℕ}
-use borrow.Author.Tests.{eq-eqb}
+use mathlib.Core.Path.{_≡_, refl, ap, _∙_, sym, ap₂}
+use mathlib.Core.List.{List, _++_, append-assoc, [], _∷_, append-nil}
+use Prim.Native.Nat.{ℕ, _≤_}
+use borrow.Author.Tests.{eq-eqb, le-leb}
 use lib.ListN.{take, drop, getD}
 use Rattle.buffer.specs.Le.{le, numberAt}
 use Rattle.buffer.proofs.Numbers.{leOf-le}
 use Rattle.crc32c.specs.Crc.{crcOf}
-use Rattle.refusal.specs.Refusals.{fine}
+use Rattle.refusal.specs.Refusals.{fine, orElse}
+use Rattle.refusal.proofs.Judgements.{all-fine}
 use Rattle.preamble.specs.declared.Header.{Header}
-use Rattle.preamble.specs.Layout.{preambleFront, preambleBytes}
-use Rattle.preamble.specs.Judge.{preambleOf, judgeChecksum}
+use Rattle.preamble.specs.Layout.{preambleFront, preambleBytes, total}
+use Rattle.preamble.specs.Judge.{preambleOf, judgeChecksum, headerOf, judgeShape, judgeTag, judgeLimits, judgeHeader, judgeFields, judgePreamble}
 use Rattle.preamble.specs.Reading.{HeaderFits, ReadsBack, builtPreamble}
 use Rattle.preamble.proofs.Laws.{header-back, front-crc-lt}
+use Rattle.preamble.specs.declared.Preamble.{Preamble}
 
 whole : (h : Header) (rest : List ℕ) → preambleBytes h ++ rest ≡ preambleFront h ++ (le 4 (crcOf 0 (preambleFront h)) ++ rest)
 unfolding preambleBytes
@@ -52,3 +54,26 @@ module _ (h : Header) (rest : List ℕ) (f : HeaderFits h) where
 pub reads-back : ReadsBack
 unfolding ReadsBack
 reads-back h rest f = record { fields = ap preambleOf (whole h rest) ∙ fields h rest f; checked = ap judgeChecksum (whole h rest) ∙ checked h rest f }
+
+-- ---- a preamble that was laid out is accepted
+
+pub fields-fine : (h : Header) (n : ℕ) → judgeHeader h ≡ fine → total h ≤ n → judgeFields (builtPreamble h) n ≡ fine
+unfolding judgeHeader judgeFields
+fields-fine h n e l =
+    let f = all-fine (judgeShape h ∷ judgeTag (h .tag) ∷ judgeLimits h ∷ []) e in
+    rw (f .0, f .1 .0, f .1 .1 .0, le-leb (total h) n l)
+
+pub record Front (h : Header) (n : ℕ) : Type 0 where
+  pub header : headerOf (preambleBytes h) ≡ h
+  pub accepted : judgePreamble (preambleBytes h) n ≡ fine
+
+pub front-back : (h : Header) (n : ℕ) → HeaderFits h → judgeHeader h ≡ fine → total h ≤ n → Front h n
+unfolding ReadsBack judgePreamble
+front-back h n f e l =
+    let b = reads-back h [] f in
+    let a = sym (append-nil (preambleBytes h)) in
+    let fields = ap preambleOf a ∙ b .fields in
+    record {
+      header = ap (λ (p : Preamble). p .header) fields;
+      accepted = ap₂ orElse (ap judgeChecksum a ∙ b .checked) (ap (λ (p : Preamble). judgeFields p n) fields) ∙ fields-fine h n e l;
+    }

@@ -4,10 +4,10 @@ use mathlib.Core.Bool.{Bool, true, false, true≢false}
 use mathlib.Core.List.{List, [], _∷_, _++_}
 use Prim.Native.Nat.{ℕ, _+_, _≤_}
 use native.Mathlib.Omega.{arith}
-use Rattle.refusal.specs.Refusals.{fine}
+use Rattle.refusal.specs.Refusals.{fine, byJudgement}
 use Rattle.banner.specs.declared.Revision.{Revision}
 use Rattle.stream.specs.declared.Event.{Event}
-use Rattle.stream.specs.Events.{roleOf, judgeRole, judgeEvent, byJudgement}
+use Rattle.stream.specs.Events.{roleOf, judgeRole, judgeEvent}
 use Rattle.stream.specs.Stream.{Entry}
 use Rattle.stream.specs.Adds.{Adds}
 use Rattle.stream.proofs.Events.{by-event, by-adds}

@@ -6,7 +6,7 @@ use mathlib.Core.Bool.{true, false}
 use native.Mathlib.Nat.{sub-zero}
 use lib.ListN.{take}
 use Rattle.refusal.specs.declared.Numbers.{Numbers}
-use Rattle.refusal.specs.Refusals.{Judged, fine, refused}
+use Rattle.refusal.specs.Refusals.{Judged, fine, refused, noRefusal}
 use Rattle.banner.specs.declared.Features.{Features}
 use Rattle.banner.specs.Banner.{judgeOwn}
 use Rattle.stream.specs.Stream.{Entry, Trace, ended, traceOf}
@@ -15,7 +15,7 @@ use Rattle.stream.proofs.Sums.{all-add-up}
 use Rattle.receiver.specs.declared.Stage.the-variants as stage
 use Rattle.receiver.specs.declared.State.{State}
 use Rattle.receiver.specs.declared.Received.{Received}
-use Rattle.receiver.specs.State.{isRefused, noRefusal, agrees}
+use Rattle.receiver.specs.State.{isRefused, agrees}
 use Rattle.receiver.specs.Step.{at, onlyOwn, started, answer, Answered, Running}
 use Rattle.receiver.specs.Every.{unfinished, EveryCall}
 use Rattle.receiver.specs.Calls.{Call, Chained, takenBy, storeBy, reportedBy, AsDefined, Demand3}

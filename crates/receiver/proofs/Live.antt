@@ -12,7 +12,7 @@ use Rattle.buffer.specs.Le.{numberAt}
 use Rattle.crc32c.specs.Crc.{crcOf}
 use Rattle.refusal.specs.declared.Numbers.{Numbers}
 use Rattle.refusal.specs.declared.Refusal.the-variants as refusal
-use Rattle.refusal.specs.Refusals.{Judged, fine, refused, row, unless, isFine}
+use Rattle.refusal.specs.Refusals.{Judged, fine, refused, row, unless, isFine, noRefusal}
 use Rattle.banner.specs.declared.Features.{Features}
 use Rattle.banner.specs.declared.Revision.{Revision}
 use Rattle.banner.specs.declared.Revision.the-variants.{Msgr20, Msgr21}
@@ -36,7 +36,7 @@ use Rattle.receiver.specs.declared.Known.{Known}
 use Rattle.receiver.specs.declared.State.{State}
 use Rattle.receiver.specs.declared.Report.{Report}
 use Rattle.buffer.specs.Zeros.{allZero}
-use Rattle.receiver.specs.State.{sizeOf, placeOf, isRefused, inBody, needed, blank, noRefusal, sameRevision, hasFirstSum, given, ownRule, payloadRule, peerRule, revisionRule, headerRule, firstRule, markRule, refusalRule, rules, leastOf, countRule, inBlock, blockRule, agreesAt, agrees}
+use Rattle.receiver.specs.State.{sizeOf, placeOf, isRefused, inBody, needed, blank, sameRevision, hasFirstSum, given, ownRule, payloadRule, peerRule, revisionRule, headerRule, firstRule, markRule, refusalRule, rules, leastOf, countRule, inBlock, blockRule, agreesAt, agrees}
 use Rattle.receiver.specs.Step.{at, onlyOwn, withPayload, withPeer, withRevision, withHeader, withFirst, nextFrame, refusedState, blockWith, storeWith, absorbed, stored, size, Stepped, silent, refuse, unlessRefused, endBanner, endFrame, beginEpilogue, beginRest, beginBody, reportFirst, behindFirstSum, reached, chunk, finish, onByte, feed, Running}
 use Rattle.refusal.proofs.Booleans.{wrong, both-left, both-right}
 use Rattle.receiver.proofs.Zeros.{zeros-later, drop-sets}

@@ -10,7 +10,7 @@ use lib.Seq.{sets, drop-drop, length-take-le}
 use lib.Dec.{lit<, lit≤, leb, ltb}
 use borrow.Author.Tests.{lt-ltb, le-ltb, ltb-true, ltb-false, leb-true, leb-false, le-leb, lt-leb}
 use Rattle.buffer.specs.Le.{numberAt}
-use Rattle.refusal.specs.Refusals.{Judged, fine, refused}
+use Rattle.refusal.specs.Refusals.{Judged, fine, refused, noRefusal}
 use Rattle.banner.specs.declared.Features.{Features}
 use Rattle.banner.specs.declared.Revision.{Revision}
 use Rattle.banner.specs.Banner.{judgeMagic, judgeLength, judgeFeatures, revisionOf, featuresOf}
@@ -24,7 +24,7 @@ use Rattle.stream.specs.Stream.{Trace, ended, after, bodyTrace, frames, streamT
 use Rattle.receiver.specs.declared.Stage.the-variants as stage
 use Rattle.receiver.specs.declared.Known.{Known}
 use Rattle.receiver.specs.declared.State.{State}
-use Rattle.receiver.specs.State.{blank, noHeader, noRefusal}
+use Rattle.receiver.specs.State.{blank, noHeader}
 use Rattle.receiver.specs.Step.{Stepped, at, onlyOwn, refusedState, withPayload, withPeer, withRevision, withHeader, silent, unlessRefused, endBanner, beginBody, finish}
 use Rattle.receiver.proofs.Machine.{scan-none}
 use Rattle.receiver.proofs.Scan.{byteStep, scan}

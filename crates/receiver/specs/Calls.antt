@@ -6,12 +6,12 @@ use Prim.Native.Nat.{ℕ, _+_, _-_, _≤_, min}
 use lib.ListN.{length, take, drop}
 use lib.Dec.{leb}
 use Rattle.refusal.specs.declared.Numbers.{Numbers}
-use Rattle.refusal.specs.Refusals.{Judged, fine, refused}
+use Rattle.refusal.specs.Refusals.{Judged, fine, refused, byJudgement}
 use Rattle.banner.specs.declared.Features.{Features}
 use Rattle.banner.specs.Banner.{judgeOwn}
 use Rattle.stream.specs.declared.Event.{Event}
 use Rattle.stream.specs.declared.Event.the-variants as event
-use Rattle.stream.specs.Events.{judgeEvent, byJudgement}
+use Rattle.stream.specs.Events.{judgeEvent}
 use Rattle.stream.specs.Stream.{Entry, entry, traceOf}
 use Rattle.stream.specs.Adds.{AddsUp}
 use Rattle.receiver.specs.declared.State.{State}

@@ -6,7 +6,8 @@ use lib.ListN.{drop, replicate}
 use lib.Dec.{leb, ltb, eqb}
 use Rattle.buffer.specs.Zeros.{allZero}
 use Rattle.refusal.specs.declared.Numbers.{Numbers}
-use Rattle.refusal.specs.Refusals.{row, isFine}
+use Rattle.refusal.specs.declared.Refusal.the-variants as refusal
+use Rattle.refusal.specs.Refusals.{isFine, refusalNumber, noMissing}
 use Rattle.banner.specs.declared.Features.{Features}
 use Rattle.banner.specs.declared.Revision.{Revision}
 use Rattle.banner.specs.declared.Revision.the-variants.{Msgr20, Msgr21}
@@ -90,9 +91,6 @@ noSegment = record { len = 0; align = 0 }
 abbrev pub noHeader : Header
 noHeader = record { tag = 0; count = 0; s1 = noSegment; s2 = noSegment; s3 = noSegment; s4 = noSegment }
 
-abbrev pub noRefusal : Numbers
-noRefusal = row 0 0 0 0
-
 abbrev pub blank : List ℕ
 blank = replicate 32 0
 
@@ -118,18 +116,20 @@ isNoHeader h = (eqb (h .tag) 0 && eqb (h .count) 0) && ((isNoSegment (h .s1) && 
 abbrev pub isNoRefusal : Numbers → Bool
 isNoRefusal n = (eqb (n .number) 0 && eqb (n .first) 0) && (eqb (n .second) 0 && eqb (n .third) 0)
 
--- a refusal that a receiver gives: 1 to 12, 24, or 16 at its start; only 3 and 4 have three details
+-- refusals with three details
 abbrev pub threeDetails : ℕ → Bool
-threeDetails n = eqb n 3 || eqb n 4
+threeDetails n = eqb n (refusalNumber (refusal.PeerRequires noMissing)) || eqb n (refusalNumber (refusal.PeerLacks noMissing))
 
+-- a refusal that a receiver gives: 1 to 12, 24, or 16 at its start; only 3 and 4 have three details
 abbrev pub given : Numbers → Bool
 given n =
-    ((leb 1 (n .number) && leb (n .number) 12) || (eqb (n .number) 16 || eqb (n .number) 24))
+    ((leb (refusalNumber refusal.Magic) (n .number) && leb (n .number) (refusalNumber (refusal.LateStatus 0)))
+    || (eqb (n .number) (refusalNumber refusal.OwnFeatures) || eqb (n .number) (refusalNumber (refusal.NonCanonical 0))))
     && (threeDetails (n .number) || (eqb (n .second) 0 && eqb (n .third) 0))
 
 -- our own features are those of a start that was not refused, unless the refusal is 16
 abbrev pub ownRule : Stage → Known → Bool
-ownRule k v = cond (isRefused k && eqb (v .refusal .number) 16) true (isFine (judgeOwn (v .own .supported) (v .own .required)))
+ownRule k v = cond (isRefused k && eqb (v .refusal .number) (refusalNumber refusal.OwnFeatures)) true (isFine (judgeOwn (v .own .supported) (v .own .required)))
 
 -- the payload's length, from its last byte on
 abbrev pub payloadRule : Stage → Known → Bool

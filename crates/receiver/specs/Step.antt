@@ -9,7 +9,7 @@ use lib.Dec.{leb, ltb, eqb}
 use Rattle.buffer.specs.Le.{numberAt}
 use Rattle.refusal.specs.declared.Numbers.{Numbers}
 use Rattle.refusal.specs.declared.Refusal.the-variants as refusal
-use Rattle.refusal.specs.Refusals.{Judged, fine, refused, numbersOf, judgedBy}
+use Rattle.refusal.specs.Refusals.{Judged, fine, refused, numbersOf, judgedBy, noRefusal}
 use Rattle.banner.specs.declared.Features.{Features}
 use Rattle.banner.specs.declared.Revision.{Revision}
 use Rattle.banner.specs.declared.Revision.the-variants.{Msgr20}
@@ -36,7 +36,7 @@ use Rattle.receiver.specs.declared.Moved.{Moved}
 use Rattle.receiver.specs.declared.Taken.{Taken}
 use Rattle.receiver.specs.declared.Taken.the-variants as taken
 use Rattle.receiver.specs.declared.Started.{Started}
-use Rattle.receiver.specs.State.{sizeOf, placeOf, isRefused, needed, noFeatures, noHeader, noRefusal, blank, hasFirstSum, agrees}
+use Rattle.receiver.specs.State.{sizeOf, placeOf, isRefused, needed, noFeatures, noHeader, blank, hasFirstSum, agrees}
 
 -- ---- states that follow from one another
 

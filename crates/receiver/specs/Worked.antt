@@ -2,12 +2,12 @@
 use mathlib.Core.Bool.{Bool, true, false}
 use mathlib.Core.List.{List, [], _∷_}
 use lib.ListN.{set}
-use Rattle.refusal.specs.Refusals.{row}
+use Rattle.refusal.specs.Refusals.{row, noRefusal}
 use Rattle.banner.specs.declared.Revision.the-variants.{Msgr20, Msgr21}
 use Rattle.stream.specs.Rows.{Row, _⇒_, Holds, features, sized, header, segment}
 use Rattle.receiver.specs.declared.Stage.the-variants as stage
 use Rattle.receiver.specs.declared.Known.{Known}
-use Rattle.receiver.specs.State.{noRefusal, blank, agrees}
+use Rattle.receiver.specs.State.{blank, agrees}
 use Rattle.receiver.specs.Step.{stateAt, at, onlyOwn, withPayload, withPeer, withRevision, withHeader, withFirst}
 
 -- what is known before the first byte, with the payload's length, with the peer's features, and behind a banner

@@ -27,7 +27,8 @@ ghost use Prim.Native.Nat.{_-_, _^_};
 ghost use lib.Dec.{leb, ltb};
 ghost use lib.ListN.{length, drop};
 ghost use Rattle.buffer.specs.Zeros.{allZero};
-ghost use Rattle.receiver.specs.State.{rank, sizeOf, placeOf, isRefused, inBody, liveFrom, needed, noHeader, noRefusal, isMsgr21, sameRevision, isNoFeatures, isNoSegment, isNoHeader, isNoRefusal, given, ownRule, payloadRule, peerRule, revisionRule, headerRule, hasFirstSum, firstRule, markRule, refusalRule, rules, leastOf, countRule, inBlock, blockRule, agreesAt, agrees};
+ghost use Rattle.refusal.specs.Refusals.{noRefusal};
+ghost use Rattle.receiver.specs.State.{rank, sizeOf, placeOf, isRefused, inBody, liveFrom, needed, noHeader, isMsgr21, sameRevision, isNoFeatures, isNoSegment, isNoHeader, isNoRefusal, given, ownRule, payloadRule, peerRule, revisionRule, headerRule, hasFirstSum, firstRule, markRule, refusalRule, rules, leastOf, countRule, inBlock, blockRule, agreesAt, agrees};
 ghost use Rattle.receiver.specs.declared.Stage.the-variants as stage;
 ghost use Rattle.receiver.specs.Step.{at, onlyOwn, withPayload, withPeer, withRevision, withHeader, withFirst};
 

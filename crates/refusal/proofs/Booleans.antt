@@ -1,6 +1,6 @@
 -- Laws of tests.
 use mathlib.Core.Path.{_≡_, refl, sym}
-use mathlib.Core.Bool.{Bool, true, false, _&&_, true≢false}
+use mathlib.Core.Bool.{Bool, true, false, _&&_, _||_, true≢false}
 
 -- a test that cannot hold
 pub wrong : {A : Type 0} → false ≡ true → A
@@ -20,3 +20,23 @@ each-true a b e = (both-left a b e, both-right a b e)
 pub both-true : (a b : Bool) → a ≡ true → b ≡ true → (a && b) ≡ true
 both-true true b p q = q
 both-true false b p q = p
+
+pub and-false : (a : Bool) → (a && false) ≡ false
+and-false true = refl
+and-false false = refl
+
+-- of two that do not both hold, the second where the first does
+pub second-false : (a b : Bool) → (a && b) ≡ false → a ≡ true → b ≡ false
+second-false true b e q = e
+second-false false b e q = wrong q
+
+pub or-false : (a b : Bool) → b ≡ false → (a || b) ≡ a
+or-false true b e = refl
+or-false false b e = e
+
+pub either-left : (a b : Bool) → a ≡ true → (a || b) ≡ true
+either-left a b e = rw e
+
+pub either-right : (a b : Bool) → b ≡ true → (a || b) ≡ true
+either-right true b e = refl
+either-right false b e = e

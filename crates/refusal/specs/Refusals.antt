@@ -2,6 +2,7 @@
 use mathlib.Core.Bool.{Bool, true, false, cond}
 use mathlib.Core.List.{List, [], _∷_}
 use Prim.Native.Nat.{ℕ}
+use Rattle.refusal.specs.declared.Missing.{Missing}
 use Rattle.refusal.specs.declared.Numbers.{Numbers}
 use Rattle.refusal.specs.declared.Refusal.{Refusal}
 use Rattle.refusal.specs.declared.Refusal.the-variants.{Magic, BannerLength, PeerRequires, PeerLacks, PreambleChecksum, Shape, Flags, Tag, Limit, StoreShort, SegmentChecksum, LateStatus, SourceLength, NoRoom, AbortOneSegment, OwnFeatures, AuthTag, NoncesSpent, Padding, BodyMalformed, UnexpectedTag, TableFull, AckAhead, NonCanonical, NumbersSpent, StateContradicts, SwitchRefused}
@@ -42,6 +43,17 @@ numbersOf NumbersSpent = row 25 0 0 0
 numbersOf StateContradicts = row 26 0 0 0
 numbersOf SwitchRefused = row 27 0 0 0
 
+-- a case's number by itself, which its details do not change
+abbrev pub refusalNumber : Refusal → ℕ
+refusalNumber r = numbersOf r .number
+
+abbrev pub noMissing : Missing
+noMissing = record { bits = 0; lowest = 0; count = 0 }
+
+-- the words of none
+abbrev pub noRefusal : Numbers
+noRefusal = row 0 0 0 0
+
 -- what a judgement comes to: nothing wrong, or a refusal
 pub data Judged : Type 0 where
   fine : Judged
@@ -57,6 +69,12 @@ judgedBy (verdict.Refused r) = refusedWith r
 abbrev pub isFine : Judged → Bool
 isFine fine = true
 isFine (refused n) = false
+
+-- one answer where nothing is wrong, one made of a refusal otherwise
+module _ {ℓ} {A : Type ℓ} where
+  abbrev pub byJudgement : Judged → A → (Numbers → A) → A
+  byJudgement fine a f = a
+  byJudgement (refused n) a f = f n
 
 -- the first of two that is a refusal
 abbrev pub orElse : Judged → Judged → Judged

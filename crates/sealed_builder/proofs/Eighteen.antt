@@ -25,7 +25,8 @@ use Rattle.sealed_builder.specs.States.{Sound}
 use Rattle.sealed_builder.specs.Nonces.{Build, Meets, left, Exactly}
 use Rattle.sealed_builder.proofs.Accepted.{accepted, counted}
 use Rattle.secure.proofs.Counts.{came-round}
-use Rattle.sealed_builder.proofs.Once.{some, judged, came, when-fine, when-refused}
+use Rattle.secure.proofs.Lengths.{some}
+use Rattle.sealed_builder.proofs.Once.{judged, came, when-fine, when-refused}
 
 -- ---- which judgement gives a number
 

@@ -2,7 +2,7 @@
 use mathlib.Core.Path.{_≡_, refl, sym, ap, ap₂, _∙_}
 use mathlib.Core.Bool.{Bool, true, false, cond}
 use mathlib.Core.List.{List, [], _∷_, _++_}
-use Prim.Native.Nat.{ℕ, suc, _+_, _-_, _%_, _^_, _≤_}
+use Prim.Native.Nat.{ℕ, _+_, _-_, _%_, _^_, _≤_}
 use native.Mathlib.Nat.{mod-eq-of-lt}
 use native.Mathlib.Omega.{arith}
 use borrow.Author.Tests.{leb-true, leb-false}
@@ -14,35 +14,22 @@ use Rattle.refusal.proofs.Judgements.{by-judgement}
 use Rattle.preamble.specs.declared.Header.{Header}
 use Rattle.aes.specs.Aes.{keyExpansion}
 use Rattle.builder.specs.Build.{Answer, wrote, turnedAway, answered}
-use Rattle.secure.specs.Layout.{allNonces, noncesOf, sealedParts, sealedLength, partCount, noRest, noLast, unlessNone, laterTexts, texts}
+use Rattle.secure.specs.Layout.{allNonces, noncesOf, sealedParts, sealedLength, partCount, texts}
 use Rattle.sealed_builder.specs.declared.Sending.{Sending}
 use Rattle.sealed_builder.specs.Build.{Done, done, spentOf, freshSending, sentMore, sentParts, judgeSealed, outcome, sealedDone}
 use Rattle.sealed_builder.specs.Nonces.{Build, Meets, Chained, usedIn, usedBy, used, sendingAfter, left, AllDifferent, SealedWith}
 use Rattle.sealed_builder.proofs.Accepted.{accepted, counted}
 use Rattle.secure.proofs.Runs.{run, length-run, run-of, run-on}
+use Rattle.secure.proofs.Lengths.{texts-count, some}
 use Rattle.sealed_builder.proofs.Different.{all-different}
 
 -- ---- as many nonces as parts
-
-count-two : (a b : Bool) (x y : List ℕ) → suc (length (unlessNone a x ++ unlessNone b y)) ≡ 1 + cond a 0 1 + cond b 0 1
-count-two true true x y = refl
-count-two true false x y = refl
-count-two false true x y = refl
-count-two false false x y = refl
-
-texts-count : (h : Header) (abort : Bool) (source : List ℕ) → length (texts h abort source) ≡ partCount h
-unfolding texts laterTexts partCount
-texts-count h abort source = count-two (noRest h) (noLast h) _ _
 
 sent-run : (s : Sending) (h : Header) (abort : Bool) (source : List ℕ) → noncesOf (sentParts s h abort source) ≡ run (partCount h) (s .nonce)
 sent-run s h abort source = run-of (s .nonce) (texts h abort source) ∙ ap (λ (k : ℕ). run k (s .nonce)) (texts-count h abort source)
 
 pub needs : (s : Sending) (h : Header) (abort : Bool) (source : List ℕ) → length (noncesOf (sentParts s h abort source)) ≡ partCount h
 needs s h abort source = ap length (sent-run s h abort source) ∙ length-run (partCount h) (s .nonce)
-
-pub some : (h : Header) → 1 ≤ partCount h
-unfolding partCount
-some h = omega arith
 
 -- ---- a build, by its judgement
 

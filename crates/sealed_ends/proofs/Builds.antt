@@ -4,10 +4,9 @@ use mathlib.Core.List.{List, [], _∷_, _++_, append-nil}
 use Prim.Native.Nat.{ℕ, _+_, _-_, _≤_}
 use native.Mathlib.Nat.{add-zero}
 use native.Mathlib.Omega.{arith}
-use lib.ListN.{length, take, drop, length-append, length-drop, take-append-drop}
-use lib.Seq.{take-at, drop-append-le, length-take-le}
+use lib.ListN.{length, take, drop, length-append, take-append-drop}
 use Rattle.buffer.specs.Splice.{splice}
-use Rattle.buffer.proofs.Parts.{length-splice, splice-next, drop-take}
+use Rattle.buffer.proofs.Parts.{length-splice, splice-next, written}
 use Rattle.refusal.specs.Refusals.{fine}
 use Rattle.refusal.proofs.Judgements.{by-judgement}
 use Rattle.aes.specs.Aes.{keyExpansion}
@@ -19,7 +18,6 @@ use Rattle.sealed_builder.specs.Build.{Done, sentMore}
 use Rattle.sealed_builder.specs.Nonces.{Build}
 use Rattle.sealed_builder.proofs.Accepted.{Accepted, accepted}
 use Rattle.sealed_builder.proofs.Once.{judged, came, when-fine, when-refused}
-use Rattle.ends.proofs.Builds.{written}
 use Rattle.sealed_ends.specs.Trip.{writtenBy, bytesOf, Accepts}
 use Rattle.sealed_ends.specs.Ends.{Queued, bufferBy, queuedBy}
 
@@ -94,18 +92,3 @@ queued-up s buf queued (b ∷ bs) l q =
       queue = r .queue ∙ omega (arith, a .length-bytes);
       room = omega (arith, a .length-bytes, r .room);
     }
-
--- what stands from q on, and behind it what was put at Q
-pub put-behind : (buf : List ℕ) (q Q : ℕ) (A : List ℕ) → q ≤ Q → Q + length A ≤ length buf
-    → take (Q + length A - q) (drop q (splice buf Q A)) ≡ take (Q - q) (drop q buf) ++ A
-put-behind buf q Q A h l =
-    let R : List ℕ = drop (Q + length A) buf in
-    let t : length (take Q buf) ≡ Q = length-take-le Q buf (omega arith) in
-    let a = length-append (take Q buf) A in
-    let e : q + (Q - q) ≡ Q = omega arith in
-    let front : drop q (take Q buf) ≡ take (Q - q) (drop q buf) = ap (λ (k : ℕ). drop q (take k buf)) (sym e) ∙ drop-take q (Q - q) buf in
-    let d : length (drop q (take Q buf)) ≡ Q - q = (let z = length-drop q (take Q buf) in omega arith) in
-    let n : length (drop q (take Q buf) ++ A) ≡ Q + length A - q = (let z = length-append (drop q (take Q buf)) A in omega arith) in
-    ap (take (Q + length A - q)) (drop-append-le q (take Q buf ++ A) R (omega arith) ∙ ap (λ (x : List ℕ). x ++ R) (drop-append-le q (take Q buf) A (omega arith)))
-    ∙ take-at (drop q (take Q buf) ++ A) R (Q + length A - q) n
-    ∙ ap (λ (x : List ℕ). x ++ A) front

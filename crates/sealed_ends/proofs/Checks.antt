@@ -24,6 +24,7 @@ use Rattle.body.specs.declared.Late.the-variants as late
 use Rattle.body.specs.End.{Ended, whole, dropped, lateOf}
 use Rattle.aes.specs.Aes.{State}
 use Rattle.gcm.specs.Gcm.{plain, openedBy}
+use Rattle.gcm.proofs.Opened.{text-length}
 use Rattle.secure.specs.Layout.{allNonces, nextNonce, roundUp, padding, inlineLength, lastLengths, firstLength, noRest, noLast, restPart, restPartLength, lastPart, lastPartLength, sealedLength, partCount, needed}
 use Rattle.buffer.specs.Zeros.{allZero}
 use Rattle.secure.specs.Reading.{judgeNonce, judgePadding, judgeFirst, paddingOf, lateIn, byLateStatus, lastEnded}
@@ -31,7 +32,6 @@ use Rattle.secure.proofs.Trip.{no-padding}
 use Rattle.sealed_receiver.specs.Step.{textOf}
 use Rattle.buffer.proofs.Zeros.{zeros-append}
 use Rattle.sealed_receiver.proofs.Openings.{not-spent}
-use Rattle.sealed_receiver.proofs.Openings.{text-length}
 use Rattle.sealed_ends.specs.Handed.{textIn, Opens, firstBytes, firstIn, headerIn, restBytes, restIn, lastBytes, lastNonce, lastIn, lengthAt, placeAt, lateBy, ZerosAt, CheckedPreamble, CheckedSealed}
 use Rattle.sealed_ends.proofs.Judging.{PartReads, JudgesAt, least, first-length}
 

@@ -14,11 +14,12 @@ use Rattle.stream.specs.Stream.{Trace, ended, after}
 use Rattle.aes.specs.Aes.{State}
 use Rattle.secure.specs.Layout.{nonceAfter, firstLength, sealedLength, partCount, needed}
 use Rattle.secure.specs.Reading.{zeroed, holding, atEnd, frames}
+use Rattle.secure.proofs.Runs.{after-add}
 use Rattle.ends.specs.Handed.{FramesUpTo}
 use Rattle.ends.proofs.Concatenation.{joined}
 use Rattle.sealed_ends.specs.Fronts.{partsOf, partsIn}
 use Rattle.sealed_ends.specs.Handed.{firstIn, restIn, lastIn, headerIn, segmentsIn}
-use Rattle.sealed_ends.proofs.Judging.{after-add, JudgesAt, least, first-length, fits, segments-short, frame-trace}
+use Rattle.sealed_ends.proofs.Judging.{JudgesAt, least, first-length, fits, segments-short, frame-trace}
 use Rattle.sealed_ends.proofs.Locality.{frame-trace-more, Seen, nothing, refuses, hands, drops, seen}
 
 -- ---- how many frames there may be does not matter, as long as it is enough

@@ -15,6 +15,7 @@ use Rattle.stream.specs.declared.Event.{Event}
 use Rattle.stream.specs.Events.{Role, bannerEnd, firstEnd, frameEnd, streamEnd, roleOf, isFrameEnd}
 use Rattle.stream.specs.Stream.{Entry, Trace, ended, after, refusedAt, payloadOf, traceOf}
 use Rattle.stream.specs.Stream as crc
+use Rattle.stream.proofs.Laws as crc-laws
 use Rattle.aes.specs.Aes.{State, keyExpansion}
 use Rattle.secure.specs.Layout.{nonceAfter}
 use Rattle.secure.specs.Reading.{frames, sealedTrace}
@@ -22,23 +23,18 @@ use Rattle.ends.specs.Handed.{isEarly, FramesUpToAt, FramesUpTo, UpTo}
 use Rattle.ends.specs.Handed as ends
 use Rattle.ends.proofs.Locality as crc-seen
 use Rattle.ends.proofs.Locality.{behindEarly}
-use Rattle.ends.proofs.Concatenation as crc-concatenation
 use Rattle.ends.proofs.Concatenation.{joined, early-up, early-store}
 use Rattle.ends.proofs.Banners.{spoken, met-trace, up-met, follows-on}
-use Rattle.connection.specs.Switched.{Switch, closes, spliced, traceWith}
+use Rattle.connection.specs.Switched.{Switch, closes, spliced, traceWith, framesIn}
 use Rattle.connection.specs.Step.{begun}
 use Rattle.connection.specs.Calls.{Call, Chained, takenBy, listOf, switchBy, SwitchedDemand3}
 use Rattle.connection.proofs.Scans.{LastCloses}
-use Rattle.connection.proofs.Splices.{closings, spliced-there}
+use Rattle.connection.proofs.Splices.{spliced-there}
 use Rattle.connection.proofs.Chain.{switched-demand3}
-use Rattle.sealed_ends.specs.Fronts.{framesIn, partsIn, Front, bytesIn, crcIn, sealedIn, switchIn, traceIn, spentIn, nextIn, Begins}
+use Rattle.sealed_ends.specs.Fronts.{partsIn, Front, bytesIn, crcIn, sealedIn, switchIn, traceIn, spentIn, nextIn, Begins}
 use Rattle.sealed_ends.proofs.Concatenation.{frames-concatenate}
 
 -- ---- entries up to a frame
-
-pub closings-are : (es : List Entry) → framesIn es ≡ closings es
-closings-are [] = refl
-closings-are (e ∷ es) = ap (λ (k : ℕ). cond (closes (e .event)) (suc k) k) (closings-are es)
 
 pub last-cons : (e : Entry) (es : List Entry) (t : ℕ) (s : List ℕ) → LastCloses es t s → LastCloses (e ∷ es) t s
 last-cons e [] t s l = absurd l
@@ -79,7 +75,7 @@ module _ (f : ℕ) (ih : Lower f) (r : Revision) (P : ℕ) (X s : List ℕ) (c :
       at-once X′ refl (omega arith)
     where
       at-once : (Z : List ℕ) → X′ ≡ Z → length X′ ≡ 0 → LastCloses (after v Q s′ T .entries) (P + length X) (T .store)
-      at-once [] y l = rw (y, crc-concatenation.none f r Q s′) (closing, none-left (P + length X) Q (T .entries) up z, refl)
+      at-once [] y l = rw (y, crc-laws.none f r Q s′) (closing, none-left (P + length X) Q (T .entries) up z, refl)
       at-once (b ∷ bs) y l = (let q : length X′ ≡ suc (length bs) = ap length y in absurd (omega arith))
   later (suc k) z =
       last-cons _ (T .entries) (P + length X) (T .store) (rw place at (ih r Q X′ s′ enough (rw place up) (omega arith)))
@@ -118,7 +114,7 @@ module _ (f : ℕ) (ih : Lower f) (r : Revision) (P : ℕ) (X s : List ℕ) (eno
       (early-up (isEarly r (ends.headerIn X)) (P + length X) P X s _ (rw e at up))
 
 crc-last : (f : ℕ) → Lower f
-crc-last zero r P [] s enough up some = absurd (let z : 0 < 0 = rw (crc-concatenation.none zero r P s) at some in omega arith)
+crc-last zero r P [] s enough up some = absurd (let z : 0 < 0 = rw (crc-laws.none zero r P s) at some in omega arith)
 crc-last zero r P (b ∷ bs) s enough up some = absurd (omega arith)
 crc-last (suc f) r P X s enough up some = last-seen f (crc-last f) r P X s enough (crc-seen.seen r P X s) up some
 
@@ -159,7 +155,7 @@ module _ (own : Features) (store : List ℕ) (revision : Revision) (F : Front) (
       let later : List Entry = crc.frames (length Z) revision P Z s₁ .entries in
       let last : List ℕ = traceOf own (F .crc ++ Z) store .store in
       let e : traceOf own (F .crc ++ Z) store .entries ≡ es ++ later = ap (λ (t : Trace). t .entries) (follows-on own (F .crc) Z store revision (b .crc) .follows (length Z) (le-refl (length Z))) in
-      ap₂ (λ (k : ℕ) (l : List Entry). spliced k next l last) (closings-are es) e
+      ap (λ (l : List Entry). spliced (framesIn es) next l last) e
       ∙ spliced-there next later last es P s₁ (front-last own (F .crc) store revision (b .crc) (b .some))
       ∙ ap (λ (x : List ℕ). record { entries = es ++ sealedTrace (F .key) (F .nonce) 0 P x s₁ .entries; store = sealedTrace (F .key) (F .nonce) 0 P x s₁ .store })
       (drop-at (F .crc) Z P refl)

@@ -2,8 +2,8 @@
 use mathlib.Core.Path.{_≡_, refl, sym, ap, ap₂, _∙_}
 use mathlib.Core.Bool.{Bool, true, false, cond}
 use mathlib.Core.List.{List, [], _∷_, _++_, append-nil, append-assoc}
-use Prim.Native.Nat.{ℕ, zero, suc, _+_, _-_, _%_, _≤_, _<_}
-use native.Mathlib.Nat.{zero-add, suc-add, add-zero, mod-lt}
+use Prim.Native.Nat.{ℕ, suc, _+_, _-_, _%_, _≤_, _<_}
+use native.Mathlib.Nat.{zero-add, add-zero, mod-lt}
 use native.Mathlib.Numerals.{add-one}
 use native.Mathlib.Omega.{arith}
 use borrow.Author.Tests.{le-ltb, leb-true}
@@ -21,21 +21,15 @@ use Rattle.body.specs.End.{Ended, whole}
 use Rattle.stream.specs.Stream.{Trace, ended, refusedAt, unlessRefused}
 use Rattle.aes.specs.Aes.{State}
 use Rattle.gcm.specs.Gcm.{Opened, plain, fail, openedBy}
+use Rattle.gcm.proofs.Opened.{text-length}
 use Rattle.secure.specs.Layout.{nextNonce, nonceAfter, padding, roundUp, inlineLength, lastLengths, firstLength, noRest, noLast, restPart, restPartLength, lastPart, lastPartLength, sealedLength, partCount, needed}
 use Rattle.secure.specs.Reading.{Next, judgeNonce, judgePadding, judgeFirst, unpadded, lastEnded, zeroed, byOpening, partTrace, atEnd, lastTrace, restTrace, frames}
 use Rattle.secure.proofs.Trip.{one-segment, without-rest, at-end-same}
+use Rattle.secure.proofs.Runs.{after-add}
 use Rattle.sealed_receiver.specs.Step.{textOf}
 use Rattle.sealed_receiver.proofs.FirstPart.{first-fits, first-header}
-use Rattle.sealed_receiver.proofs.Openings.{text-length}
 use Rattle.sealed_receiver.proofs.Live.{taken-most}
 use Rattle.sealed_ends.specs.Handed.{textIn, firstBytes, firstIn, headerIn, restBytes, restIn, lastBytes, lastNonce, lastIn, segmentsOf, segmentsIn}
-
--- ---- nonces
-
-pub after-add : (j k : ℕ) (nonce : List ℕ) → nonceAfter k (nonceAfter j nonce) ≡ nonceAfter (j + k) nonce
-unfolding nonceAfter
-after-add zero k nonce = ap (λ (i : ℕ). nonceAfter i nonce) (sym (zero-add k))
-after-add (suc j) k nonce = after-add j k (nextNonce nonce) ∙ ap (λ (i : ℕ). nonceAfter i nonce) (sym (suc-add j k))
 
 -- ---- one part
 

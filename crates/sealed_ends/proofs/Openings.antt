@@ -15,7 +15,6 @@ use Rattle.refusal.specs.declared.Refusal.the-variants as refusal
 use Rattle.refusal.specs.Refusals.{Judged, fine, refused, numbersOf, orElse, firstOf, unless}
 use Rattle.refusal.proofs.Booleans.{wrong}
 use Rattle.refusal.proofs.Judgements.{passed}
-use Rattle.preamble.specs.declared.Header.{Header}
 use Rattle.preamble.specs.Judge.{headerOf}
 use Rattle.body.specs.End.{Ended, whole, dropped, turnedAway}
 use Rattle.receiver.specs.declared.Report.{Report}
@@ -32,10 +31,10 @@ use Rattle.sealed_receiver.specs.declared.State as sealed
 use Rattle.sealed_receiver.specs.State.{isRefused, openedOf, freshReceiving, openedMore}
 use Rattle.sealed_receiver.specs.State as sealed-states
 use Rattle.sealed_receiver.specs.Step as step
-use Rattle.sealed_receiver.specs.Step.{at, knowing, switched, Stepped, silent, refuse, unlessRefused, judgeOpened, textOf, judgePart, partText, endFrame, beginLast, beginRest, behindFirst, behindRest, behindLast, finish, absorbed, stored, reached, size, onByte, neededBy, feed}
+use Rattle.sealed_receiver.specs.Step.{at, withOpened, withHeader, switched, Stepped, silent, refuse, unlessRefused, judgeOpened, textOf, judgePart, partText, endFrame, beginLast, beginRest, behindFirst, behindRest, behindLast, finish, absorbed, stored, reached, size, onByte, neededBy, feed}
 use Rattle.sealed_receiver.proofs.Openings.{opened-next}
 use Rattle.sealed_builder.specs.Nonces.{AllDifferent}
-use Rattle.secure.proofs.Runs.{run, length-run, run-on}
+use Rattle.secure.proofs.Runs.{run, length-run, run-on, after-add}
 use Rattle.sealed_builder.proofs.Different.{all-different}
 use Rattle.connection.specs.declared.State.{State}
 use Rattle.connection.specs.declared.Received.{Received}
@@ -43,7 +42,6 @@ use Rattle.connection.specs.declared.Mode.the-variants as mode
 use Rattle.connection.specs.Step.{agrees, Answer, answer, bySecure, Answered, judgeSwitch, switchedState, SwitchedWith}
 use Rattle.connection.specs.Calls.{Try}
 use Rattle.connection.specs.Every.{Lent, AnyCall, taking, switching, Handed}
-use Rattle.sealed_ends.proofs.Judging.{after-add}
 use Rattle.sealed_ends.specs.Openings.{Opening, partBytes, openingBy, openingAt, openingsOf, leftBy, behindBy, finishBy, reachedBy, outcomes, byteBy, unlessReported, openingsIn, openingsOn, openingsBy, openings, stateAfter, noncesOf, Under, Made, NoNonceOpenedTwice}
 
 -- ---- what a step leaves: what opens the next part, or a refusal
@@ -56,31 +54,36 @@ keeps-unless : {r : Receiving} (j : Judged) (s : List ℕ) (x : Stepped) → Kee
 keeps-unless fine s x k = k
 keeps-unless (refused n) s x k = refusing n s refl
 
-keeps-end : (x : Ended) (r : Receiving) (h : Header) (p s : List ℕ) → Keeps r (endFrame x r h p s)
-keeps-end whole r h p s = kept refl refl
-keeps-end dropped r h p s = kept refl refl
-keeps-end (turnedAway n) r h p s = refusing n (zeroed h s) refl
+keeps-end : (x : Ended) (v : Known) (p s : List ℕ) → Keeps (v .receiving) (endFrame x v p s)
+keeps-end whole v p s = kept refl refl
+keeps-end dropped v p s = kept refl refl
+keeps-end (turnedAway n) v p s = refusing n (zeroed (v .header) s) refl
 
 keeps-either : {r : Receiving} (b : Bool) (x y : Stepped) → Keeps r x → Keeps r y → Keeps r (cond b x y)
 keeps-either true x y k l = k
 keeps-either false x y k l = l
 
-keeps-last : (r : Receiving) (h : Header) (s : List ℕ) → Keeps r (beginLast r h s)
-keeps-last r h s = keeps-either (noLast h) (endFrame whole r h (take (h .s1 .len) s) s) (silent (at stage.Last (knowing r h)) s) (keeps-end whole r h (take (h .s1 .len) s) s) (kept refl refl)
+keeps-last : (v : Known) (s : List ℕ) → Keeps (v .receiving) (beginLast v s)
+keeps-last v s =
+    let p : List ℕ = take (v .header .s1 .len) s in
+    keeps-either (noLast (v .header)) (endFrame whole v p s) (silent (at stage.Last v) s) (keeps-end whole v p s) (kept refl refl)
 
-keeps-rest : (r : Receiving) (h : Header) (s : List ℕ) → Keeps r (beginRest r h s)
-keeps-rest r h s = keeps-either (noRest h) (beginLast r h s) (silent (at stage.Rest (knowing r h)) s) (keeps-last r h s) (kept refl refl)
+keeps-rest : (v : Known) (s : List ℕ) → Keeps (v .receiving) (beginRest v s)
+keeps-rest v s = keeps-either (noRest (v .header)) (beginLast v s) (silent (at stage.Rest v) s) (keeps-last v s) (kept refl refl)
 
-keeps-behind : (k : Stage) (r : Receiving) (h : Header) (text s : List ℕ) → Keeps r (behindBy k r h text s)
+keeps-behind : (k : Stage) (v : Known) (text s : List ℕ) → Keeps (v .receiving) (behindBy k v text s)
 unfolding behindFirst behindRest behindLast
-keeps-behind stage.First r h text s =
-    keeps-unless (judgeFirst text (length s)) s (beginRest r (headerOf text) (replaceFront (take (headerOf text .s1 .len) (drop 32 text)) s)) (keeps-rest r (headerOf text) _)
-keeps-behind stage.Rest r h text s =
-    let m : ℕ = h .s1 .len - inlineLength in
+keeps-behind stage.First v text s =
+    let w : Known = withHeader v (headerOf text) in
+    let t : List ℕ = replaceFront (take (headerOf text .s1 .len) (drop 32 text)) s in
+    keeps-unless (judgeFirst text (length s)) s (beginRest w t) (keeps-rest w t)
+keeps-behind stage.Rest v text s =
+    let m : ℕ = v .header .s1 .len - inlineLength in
     let t : List ℕ = splice s inlineLength (take m text ++ replicate (padding m + 16) 0) in
-    keeps-unless (judgePadding (drop m text)) (zeroed h s) (beginLast r h t) (keeps-last r h t)
-keeps-behind stage.Last r h text s = keeps-end (lastEnded h text) r h (take (h .s1 .len) s ++ unpadded (lastLengths h) text) s
-keeps-behind stage.Refused r h text s = refusing (numbersOf refusal.NoncesSpent) s refl
+    keeps-unless (judgePadding (drop m text)) (zeroed (v .header) s) (beginLast v t) (keeps-last v t)
+keeps-behind stage.Last v text s =
+    keeps-end (lastEnded (v .header) text) v (take (v .header .s1 .len) s ++ unpadded (lastLengths (v .header)) text) s
+keeps-behind stage.Refused v text s = refusing (numbersOf refusal.NoncesSpent) s refl
 
 -- ---- openings one behind the other, from what r opens on
 
@@ -164,7 +167,7 @@ module _ (r : Receiving) (bytes left : List ℕ) (next : List ℕ → Stepped) (
 finish-is : (k : Stage) (b : List ℕ) (v : Known) (s : List ℕ) → isRefused k ≡ false
     → finish k b v s
     ≡ unlessRefused (judgePart (v .receiving) (partBytes k b (v .header) s)) (leftBy k (v .header) s)
-    (behindBy k (openedMore (v .receiving)) (v .header) (partText (v .receiving) (partBytes k b (v .header) s)) s)
+    (behindBy k (withOpened v) (partText (v .receiving) (partBytes k b (v .header) s)) s)
 unfolding finish
 finish-is stage.First b v s e = refl
 finish-is stage.Rest b v s e = refl
@@ -181,7 +184,7 @@ reached-byte false y s e l =
     let k = y .position .stage in
     let bytes : List ℕ = partBytes k (y .position .block) h s in
     subst (Byte r (openingBy (judgeNonce (openedOf r)) r bytes)) (sym (finish-is k (y .position .block) (y .known) s e))
-    (part-byte r bytes (leftBy k h s) (λ text. behindBy k (openedMore r) h text s) (λ text. keeps-behind k (openedMore r) h text s) l)
+    (part-byte r bytes (leftBy k h s) (λ text. behindBy k (withOpened (y .known)) text s) (λ text. keeps-behind k (withOpened (y .known)) text s) l)
 
 byte-opens : (st : sealed.State) (s : List ℕ) (b : ℕ) → isRefused (st .position .stage) ≡ false → openedOf (st .known .receiving) ≤ allNonces
     → Byte (st .known .receiving) (openingsOf st s b) (onByte st s b)
@@ -209,7 +212,7 @@ reached-only false y s e =
     let k = y .position .stage in
     let bytes : List ℕ = partBytes k (y .position .block) h s in
     finish-is k (y .position .block) (y .known) s e
-    ∙ part-only r bytes (leftBy k h s) (λ text. behindBy k (openedMore r) h text s) (λ os. finishBy os k (y .known) s) refl (λ o. refl)
+    ∙ part-only r bytes (leftBy k h s) (λ text. behindBy k (withOpened (y .known)) text s) (λ os. finishBy os k (y .known) s) refl (λ o. refl)
 
 only : (st : sealed.State) (s : List ℕ) (b : ℕ) → isRefused (st .position .stage) ≡ false → onByte st s b ≡ byteBy (outcomes (openingsOf st s b)) st s b
 unfolding openingsOf onByte byteBy

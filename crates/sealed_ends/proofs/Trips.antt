@@ -8,7 +8,7 @@ use native.Mathlib.Omega.{arith}
 use lib.ListN.{length, take, drop, replicate, length-append, length-replicate}
 use lib.Seq.{drop-at}
 use Rattle.buffer.specs.Splice.{replaceFront}
-use Rattle.buffer.proofs.Parts.{length-replaceFront}
+use Rattle.buffer.proofs.Parts.{length-replaceFront, put-behind}
 use Rattle.refusal.specs.Refusals.{Judged, fine}
 use Rattle.banner.specs.declared.Features.{Features}
 use Rattle.banner.specs.declared.Revision.{Revision}
@@ -23,12 +23,13 @@ use Rattle.stream.specs.Stream as crc
 use Rattle.aes.specs.Aes.{State, keyExpansion}
 use Rattle.secure.specs.Layout.{allNonces, partCount, needed}
 use Rattle.secure.specs.Reading.{zeroed, holding, frames, sealedTrace}
+use Rattle.secure.proofs.Lengths.{some}
 use Rattle.sealed_builder.specs.declared.Sending.{Sending}
 use Rattle.sealed_builder.specs.Build.{spentOf, freshSending, sentMore}
-use Rattle.sealed_builder.specs.Nonces.{Build}
+use Rattle.sealed_builder.specs.Nonces.{Build, sendingAfter}
 use Rattle.sealed_builder.specs.Trip as sealed
 use Rattle.sealed_builder.specs.Trip.{SentBack}
-use Rattle.sealed_builder.proofs.Once.{some, spent-more}
+use Rattle.sealed_builder.proofs.Once.{spent-more}
 use Rattle.sealed_builder.proofs.Trip.{sent-back}
 use Rattle.ends.specs.Handed.{isEarly}
 use Rattle.ends.specs.Trip as plain
@@ -36,18 +37,18 @@ use Rattle.ends.specs.Ends as crc-ends
 use Rattle.ends.specs.Ends.{Fitting, allEntries, storeAfterAll}
 use Rattle.ends.proofs.Builds as crc-builds
 use Rattle.ends.proofs.Trips.{kept-length, sent-is, sent-length, sent-entries}
-use Rattle.connection.specs.Switched.{Switch, behind, closes, spliced, traceWith}
+use Rattle.connection.specs.Switched.{Switch, behind, closes, spliced, traceWith, framesIn}
 use Rattle.connection.specs.Step.{switchedSending}
 use Rattle.connection.specs.Calls.{takenBy}
 use Rattle.connection.proofs.Scans.{LastCloses}
-use Rattle.connection.proofs.Splices.{closings, spliced-there}
+use Rattle.connection.proofs.Splices.{spliced-there}
 use Rattle.sealed_ends.specs.Fronts.{bytesIn, sealedIn, switchIn, traceIn, spentIn, nextIn}
 use Rattle.sealed_ends.specs.Trip.{writtenBy, bytesOf, Accepts, eventOf, storeAfter, SealedRoundTrip}
-use Rattle.sealed_ends.specs.Ends.{Queued, bufferBy, queuedBy, sendingBy, partsBy, FittingSealed, sealedEntries, storeAfterSealed, SwitchedLink, bufferAt, queuedAt, SwitchedLinked, sentBy, switchedAt, storeAt, SealedTwoEnds}
+use Rattle.sealed_ends.specs.Ends.{Queued, bufferBy, queuedBy, partsBy, FittingSealed, sealedEntries, storeAfterSealed, SwitchedLink, bufferAt, queuedAt, SwitchedLinked, sentBy, switchedAt, storeAt, SealedTwoEnds}
 use Rattle.sealed_ends.proofs.Judging.{least}
 use Rattle.sealed_ends.proofs.Concatenation.{fuel}
 use Rattle.sealed_ends.proofs.Fronts.{last-cons, follows, same, reported}
-use Rattle.sealed_ends.proofs.Builds.{appended, allBytes, queued-up, put-behind}
+use Rattle.sealed_ends.proofs.Builds.{appended, allBytes, queued-up}
 
 -- one build, and what follows it
 build-entries : (f k : ℕ) (s : Sending) (b : Build) (n P : ℕ) (Y store : List ℕ) → Accepts s b → n + partCount (b .header) ≤ allNonces → needed (b .header) ≤ length store
@@ -125,7 +126,7 @@ builds-entries : (f k : ℕ) (s : Sending) (buf : List ℕ) (queued P : ℕ) (bs
     → length (allBytes bs ++ Y) ≤ f → length Y ≤ k
     → frames f (keyExpansion (s .key)) (s .nonce) (spentOf s) P (allBytes bs ++ Y) store .entries
     ≡ sealedEntries P store bs
-    ++ frames k (keyExpansion (s .key)) (sendingBy s bs .nonce) (spentOf s + partsBy bs) (P + length (allBytes bs)) Y (storeAfterSealed bs store) .entries
+    ++ frames k (keyExpansion (s .key)) (sendingAfter s bs .nonce) (spentOf s + partsBy bs) (P + length (allBytes bs)) Y (storeAfterSealed bs store) .entries
 builds-entries f k s buf queued P [] Y store q fit hf hk =
     ap (λ (t : Trace). t .entries) (fuel (keyExpansion (s .key)) f k (s .nonce) (spentOf s) P Y store hf hk)
     ∙ ap₂ (λ (n Q : ℕ). frames k (keyExpansion (s .key)) (s .nonce) n Q Y store .entries) (sym (add-zero (spentOf s))) (sym (add-zero P))
@@ -153,24 +154,24 @@ builds-entries (suc f) k s buf queued P (b ∷ bs) Y store q fit hf hk =
     let kw : keyExpansion (s′ .key) ≡ w = ap keyExpansion (key-stays s b (q .0)) in
     let place : Q + length A ≡ P + length (X ++ A) = omega (arith, a .length-bytes) in
     let count : spentOf s′ + partsBy bs ≡ spentOf s + (c + partsBy bs) = omega arith in
-    let tail : ℕ → ℕ → List Entry = λ n i. frames k w (sendingBy s′ bs .nonce) n i Y (storeAfterSealed bs (storeAfter b store)) .entries in
+    let tail : ℕ → ℕ → List Entry = λ n i. frames k w (sendingAfter s′ bs .nonce) n i Y (storeAfterSealed bs (storeAfter b store)) .entries in
     ap (λ (x : List ℕ). frames (suc f) w (s .nonce) (spentOf s) P x store .entries) (append-assoc X A Y)
     ∙ build-entries f f s b (spentOf s) P (A ++ Y) store (q .0) (a .request .left) (fit .0) l l
     ∙ ap (λ (es : List Entry). entry (eventOf b) Q (storeAfter b store) ∷ es)
     (ap₂ (λ (n : ℕ) (u : List State). frames f u (s′ .nonce) n Q (A ++ Y) (storeAfter b store) .entries) (sym spent) (sym kw)
     ∙ builds-entries f k s′ (b .after) (queued + writtenBy b) Q bs Y (storeAfter b store) (q .3) (rw kept (fit .1)) l hk
-    ∙ ap (λ (u : List State). sealedEntries Q (storeAfter b store) bs ++ frames k u (sendingBy s′ bs .nonce) (spentOf s′ + partsBy bs) (Q + length A) Y (storeAfterSealed bs (storeAfter b store)) .entries) kw
+    ∙ ap (λ (u : List State). sealedEntries Q (storeAfter b store) bs ++ frames k u (sendingAfter s′ bs .nonce) (spentOf s′ + partsBy bs) (Q + length A) Y (storeAfterSealed bs (storeAfter b store)) .entries) kw
     ∙ ap₂ (λ (n i : ℕ). sealedEntries Q (storeAfter b store) bs ++ tail n i) count place)
     ∙ ap (λ (i : ℕ). entry (eventOf b) (P + i) (storeAfter b store) ∷ (sealedEntries (P + i) (storeAfter b store) bs ++ tail (spentOf s + (c + partsBy bs)) (P + length (X ++ A)))) (a .wire)
 
 -- ---- the crc builds of a link: their last entry, and how many there are
 
-closings-two : (es fs : List Entry) → closings (es ++ fs) ≡ closings es + closings fs
-closings-two [] fs = sym (zero-add (closings fs))
+closings-two : (es fs : List Entry) → framesIn (es ++ fs) ≡ framesIn es + framesIn fs
+closings-two [] fs = sym (zero-add (framesIn fs))
 closings-two (e ∷ es) fs = go (closes (e .event)) (closings-two es fs)
   where
-    go : (c : Bool) → closings (es ++ fs) ≡ closings es + closings fs
-        → cond c (suc (closings (es ++ fs))) (closings (es ++ fs)) ≡ cond c (suc (closings es)) (closings es) + closings fs
+    go : (c : Bool) → framesIn (es ++ fs) ≡ framesIn es + framesIn fs
+        → cond c (suc (framesIn (es ++ fs))) (framesIn (es ++ fs)) ≡ cond c (suc (framesIn es)) (framesIn es) + framesIn fs
     go true e = omega arith
     go false e = e
 
@@ -188,16 +189,16 @@ module _ (r : Revision) where
   build-closes true h = refl
   build-closes false h = refl
 
-  one-closing : (P : ℕ) (s : List ℕ) (b : plain.Build) → closings (plain.entriesOf r P s b) ≡ 1
+  one-closing : (P : ℕ) (s : List ℕ) (b : plain.Build) → framesIn (plain.entriesOf r P s b) ≡ 1
   one-closing P s b =
       closings-two (plain.earlyEntry r P s b) (entry (plain.eventOf b) (P + wireLength r (b .header)) (plain.storeAfter b s) ∷ [])
       ∙ ap₂ _+_ (early (isEarly r (b .header))) (ap (λ (c : Bool). cond c 1 0) (build-closes (b .abort) (b .header)))
     where
-      early : (c : Bool) → closings (cond c (entry (First (b .header)) (P + 36 + b .header .s1 .len) (replaceFront (take (b .header .s1 .len) (b .source)) s) ∷ []) []) ≡ 0
+      early : (c : Bool) → framesIn (cond c (entry (First (b .header)) (P + 36 + b .header .s1 .len) (replaceFront (take (b .header .s1 .len) (b .source)) s) ∷ []) []) ≡ 0
       early true = refl
       early false = refl
 
-  all-closings : (P : ℕ) (s : List ℕ) (bs : List plain.Build) → closings (allEntries r P s bs) ≡ length bs
+  all-closings : (P : ℕ) (s : List ℕ) (bs : List plain.Build) → framesIn (allEntries r P s bs) ≡ length bs
   all-closings P s [] = refl
   all-closings P s (b ∷ bs) =
       let i = all-closings (P + wireLength r (b .header)) (plain.storeAfter b s) bs in
@@ -302,7 +303,7 @@ module _ (own : Features) (store : List ℕ) (l : SwitchedLink) (k : SwitchedLin
   sealed-entries : FittingSealed (length store) (l .builds) → (Y : List ℕ)
       → sealedTrace (l .switch .key) (l .switch .sending) 0 (length clear) (allBytes (l .builds) ++ Y) (storeAt l store) .entries
       ≡ sealedEntries (switchedAt l) (storeAt l store) (l .builds)
-      ++ sealedTrace (l .switch .key) (sendingBy (l .switch .switched .sending) (l .builds) .nonce) (partsBy (l .builds)) (length (sentBy l)) Y
+      ++ sealedTrace (l .switch .key) (sendingAfter (l .switch .switched .sending) (l .builds) .nonce) (partsBy (l .builds)) (length (sentBy l)) Y
       (storeAfterSealed (l .builds) (storeAt l store)) .entries
   unfolding sealedTrace freshSending
   sealed-entries long Y =
@@ -315,7 +316,7 @@ module _ (own : Features) (store : List ℕ) (l : SwitchedLink) (k : SwitchedLin
       let u : spentOf s₀ + partsBy bs ≡ partsBy bs = ap (λ (x : Sending). spentOf x + partsBy bs) new ∙ zero-add (partsBy bs) in
       let key : s₀ .key ≡ l .switch .key = ap (λ (x : Sending). x .key) new in
       let place : length clear + length A ≡ length (sentBy l) = sym (ap length (sent-split r l k) ∙ length-append clear A) in
-      let tail : List ℕ → ℕ → ℕ → List Entry = λ c n i. frames (length Y) (keyExpansion c) (sendingBy s₀ bs .nonce) n i Y (storeAfterSealed bs S) .entries in
+      let tail : List ℕ → ℕ → ℕ → List Entry = λ c n i. frames (length Y) (keyExpansion c) (sendingAfter s₀ bs .nonce) n i Y (storeAfterSealed bs S) .entries in
       ap (λ (x : Sending). frames (length (A ++ Y)) (keyExpansion (x .key)) (x .nonce) (spentOf x) (length clear) (A ++ Y) S .entries) (sym new)
       ∙ builds-entries (length (A ++ Y)) (length Y) s₀ (bufferAt l) (queuedAt l) (length clear) bs Y S (k .builds) (rw kept long) (le-refl (length (A ++ Y))) (le-refl (length Y))
       ∙ ap₂ (λ (n i : ℕ). sealedEntries (length clear) S bs ++ tail (s₀ .key) n i) u place

@@ -14,7 +14,7 @@ use Rattle.stream.specs.Stream.{Entry, entry}
 use Rattle.secure.specs.Layout.{partCount, sealedLength, needed}
 use Rattle.secure.specs.Reading.{sealedTrace}
 use Rattle.sealed_builder.specs.declared.Sending.{Sending}
-use Rattle.sealed_builder.specs.Nonces.{Build}
+use Rattle.sealed_builder.specs.Nonces.{Build, sendingAfter}
 use Rattle.ends.specs.Ends as crc
 use Rattle.ends.specs.Ends.{Link, Linked, Fitting, allEntries, storeAfterAll}
 use Rattle.connection.specs.declared.State.{State}
@@ -39,10 +39,6 @@ bufferBy buf (b ∷ bs) = bufferBy (b .after) bs
 abbrev pub queuedBy : ℕ → List Build → ℕ
 queuedBy queued [] = queued
 queuedBy queued (b ∷ bs) = queuedBy (queued + writtenBy b) bs
-
-abbrev pub sendingBy : Sending → List Build → Sending
-sendingBy s [] = s
-sendingBy s (b ∷ bs) = sendingBy (b .answer .sending) bs
 
 -- how many parts were sealed
 abbrev pub partsBy : List Build → ℕ
@@ -116,5 +112,5 @@ SealedTwoEnds =
     ≡ entry (Banner (l .crc .features) (revisionOf (own .supported) (l .crc .features .supported))) bannerLength store
     ∷ (allEntries (revisionOf (own .supported) (l .crc .features .supported)) bannerLength store (l .crc .builds)
     ++ (sealedEntries (switchedAt l) (storeAt l store) (l .builds)
-    ++ sealedTrace (l .switch .key) (sendingBy (l .switch .switched .sending) (l .builds) .nonce) (partsBy (l .builds)) (length (sentBy l))
+    ++ sealedTrace (l .switch .key) (sendingAfter (l .switch .switched .sending) (l .builds) .nonce) (partsBy (l .builds)) (length (sentBy l))
     (take (takenBy 0 cs - length (sentBy l)) later) (storeAfterSealed (l .builds) (storeAt l store)) .entries))

@@ -1,24 +1,18 @@
 -- Where a sealed frame begins in a stream (02, K4): behind a banner and crc frames, the switch, and sealed frames.
 use mathlib.Core.List.{List, [], _∷_, _++_}
-use mathlib.Core.Bool.{cond}
-use Prim.Native.Nat.{ℕ, suc, _+_, _<_}
+use Prim.Native.Nat.{ℕ, _+_, _<_}
 use lib.ListN.{length}
 use Rattle.banner.specs.declared.Features.{Features}
 use Rattle.banner.specs.declared.Revision.{Revision}
 use Rattle.stream.specs.declared.Event.{Event}
-use Rattle.stream.specs.Events.{roleOf, closes, ofFrameEnd}
+use Rattle.stream.specs.Events.{roleOf, ofFrameEnd}
 use Rattle.stream.specs.Stream.{Entry, Trace, traceOf}
 use Rattle.secure.specs.Layout.{nonceAfter, partCount}
 use Rattle.secure.specs.Reading.{sealedTrace}
-use Rattle.connection.specs.Switched.{Switch, behind, traceWith}
+use Rattle.connection.specs.Switched.{Switch, behind, traceWith, framesIn}
 use Rattle.ends.specs.Handed.{FramesUpTo, UpTo}
 
--- how many frames and drops there are
-abbrev pub framesIn : List Entry → ℕ
-framesIn [] = 0
-framesIn (e ∷ es) = cond (closes (e .event)) (suc (framesIn es)) (framesIn es)
-
--- and how many parts they had, each with a nonce of its own
+-- how many parts frames and drops had, each with a nonce of its own
 abbrev pub partsOf : Event → ℕ
 partsOf e = ofFrameEnd partCount (roleOf e)
 

@@ -17,9 +17,9 @@ use Rattle.sealed_receiver.specs.declared.Stage.the-variants as stage
 use Rattle.sealed_receiver.specs.declared.Receiving.{Receiving}
 use Rattle.sealed_receiver.specs.declared.Known.{Known}
 use Rattle.sealed_receiver.specs.declared.State as sealed
-use Rattle.sealed_receiver.specs.State.{isRefused, openedOf, openedMore}
+use Rattle.sealed_receiver.specs.State.{isRefused, openedOf}
 use Rattle.sealed_receiver.specs.State as sealed-states
-use Rattle.sealed_receiver.specs.Step.{Stepped, silent, refuse, unlessRefused, judgeOpened, textOf, behindFirst, behindRest, behindLast, sealedIn, absorbed, stored, size, onByte, neededBy}
+use Rattle.sealed_receiver.specs.Step.{withOpened, Stepped, silent, refuse, unlessRefused, judgeOpened, textOf, behindFirst, behindRest, behindLast, sealedIn, absorbed, stored, size, onByte, neededBy}
 use Rattle.sealed_builder.specs.Nonces.{AllDifferent}
 use Rattle.connection.specs.declared.State.{State}
 use Rattle.connection.specs.Step.{isSecure, readyRule, SwitchedWith}
@@ -67,16 +67,16 @@ leftBy stage.Rest h s = zeroed h s
 leftBy stage.Last h s = zeroed h s
 leftBy stage.Refused h s = s
 
-abbrev pub behindBy : Stage → Receiving → Header → List ℕ → List ℕ → Stepped
-behindBy stage.First r h text s = behindFirst r text s
-behindBy stage.Rest r h text s = behindRest r h text s
-behindBy stage.Last r h text s = behindLast r h text s
-behindBy stage.Refused r h text s = refuse (numbersOf refusal.NoncesSpent) s
+abbrev pub behindBy : Stage → Known → List ℕ → List ℕ → Stepped
+behindBy stage.First v text s = behindFirst v text s
+behindBy stage.Rest v text s = behindRest v text s
+behindBy stage.Last v text s = behindLast v text s
+behindBy stage.Refused v text s = refuse (numbersOf refusal.NoncesSpent) s
 
 -- the last byte of a part: 18 where nothing was opened, 17, or what its text leads to
 abbrev pub finishBy : List Opened → Stage → Known → List ℕ → Stepped
 finishBy [] k v s = refuse (numbersOf refusal.NoncesSpent) (leftBy k (v .header) s)
-finishBy (o ∷ os) k v s = unlessRefused (judgeOpened o) (leftBy k (v .header) s) (behindBy k (openedMore (v .receiving)) (v .header) (textOf o) s)
+finishBy (o ∷ os) k v s = unlessRefused (judgeOpened o) (leftBy k (v .header) s) (behindBy k (withOpened v) (textOf o) s)
 
 abbrev pub reachedBy : List Opened → Bool → sealed.State → List ℕ → Stepped
 reachedBy os true st s = silent st s

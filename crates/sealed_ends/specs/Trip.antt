@@ -9,7 +9,7 @@ use Rattle.banner.specs.declared.Features.{Features}
 use Rattle.banner.specs.declared.Revision.{Revision}
 use Rattle.banner.specs.Banner.{judgeOwn}
 use Rattle.preamble.specs.Reading.{HeaderFits}
-use Rattle.builder.specs.Build.{Answer, wrote, turnedAway, answered}
+use Rattle.builder.specs.Build.{wrote, answered, countIn}
 use Rattle.stream.specs.declared.Event.{Event}
 use Rattle.stream.specs.declared.Event.the-variants.{Frame, Dropped}
 use Rattle.stream.specs.Stream.{entry}
@@ -22,10 +22,6 @@ use Rattle.connection.specs.Calls.{Call, Chained, takenBy, listOf, switchBy}
 use Rattle.sealed_ends.specs.Fronts.{Front, bytesIn, sealedIn, switchIn, traceIn, spentIn, nextIn, Begins}
 
 -- the bytes that a build wrote, behind the queued ones
-abbrev pub countIn : Answer → ℕ
-countIn (wrote n) = n
-countIn (turnedAway r) = 0
-
 abbrev pub writtenBy : Build → ℕ
 writtenBy b = countIn (answered (b .answer .built))
 

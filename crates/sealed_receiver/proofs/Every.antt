@@ -7,13 +7,12 @@ use lib.ListN.{length}
 use lib.Dec.{ltb}
 use borrow.Author.Tests.{ltb-true, ltb-false, lt-ltb, le-ltb}
 use Rattle.refusal.specs.declared.Numbers.{Numbers}
-use Rattle.refusal.specs.declared.Refusal.the-variants as refusal
-use Rattle.refusal.specs.Refusals.{numbersOf}
 use Rattle.refusal.proofs.Booleans.{wrong}
 use Rattle.stream.specs.declared.Event.the-variants as event
 use Rattle.receiver.specs.declared.Report.{Report}
 use Rattle.receiver.specs.declared.Report.the-variants as report
 use Rattle.receiver.proofs.Machine.{by-after}
+use Rattle.receiver.specs.Step.{contradiction}
 use Rattle.sealed_receiver.specs.declared.Stage.{Stage}
 use Rattle.sealed_receiver.specs.declared.Stage.the-variants as stage
 use Rattle.sealed_receiver.specs.declared.State.{State}
@@ -21,10 +20,6 @@ use Rattle.sealed_receiver.specs.State.{isRefused, given, agrees}
 use Rattle.sealed_receiver.specs.Step.{refusedState, Answer, feed, refuseUnchanged, neededBy, shortStore, answer, Running}
 use Rattle.sealed_receiver.proofs.Live.{Gone, After, gone-at, rules-agreed}
 use Rattle.sealed_receiver.proofs.Gathered.{feed-after}
-
--- 26
-abbrev pub contradiction : Numbers
-contradiction = numbersOf refusal.StateContradicts
 
 -- ---- the kinds of answer
 

@@ -23,8 +23,7 @@ use Rattle.secure.specs.Reading.{judgePadding, judgeFirst}
 use Rattle.sealed_receiver.specs.declared.Stage.the-variants as stage
 use Rattle.sealed_receiver.specs.declared.Receiving.{Receiving}
 use Rattle.sealed_receiver.specs.declared.Known.{Known}
-use Rattle.sealed_receiver.specs.State.{openedMore}
-use Rattle.sealed_receiver.specs.Step.{Stepped, refuse, unlessRefused, judgePart, partText, beginRest, behindFirst, finish}
+use Rattle.sealed_receiver.specs.Step.{Stepped, refuse, unlessRefused, withHeader, withOpened, judgePart, partText, beginRest, behindFirst, finish}
 use Rattle.sealed_receiver.proofs.Openings.{part-text-length}
 use Rattle.secure.proofs.Bounds.{segments-fit}
 
@@ -78,23 +77,23 @@ module _ (text : List ℕ) (store : ℕ) where
 
 -- ---- behind it
 
-module _ (r : Receiving) (text s : List ℕ) where
-  pub first-refused : (n : Numbers) → judgeFirst text (length s) ≡ refused n → refuse n s ≡ behindFirst r text s
+module _ (v : Known) (text s : List ℕ) where
+  pub first-refused : (n : Numbers) → judgeFirst text (length s) ≡ refused n → refuse n s ≡ behindFirst v text s
   unfolding behindFirst
   first-refused n e =
-      sym (ap (λ (j : Judged). unlessRefused j s (beginRest r (headerOf text) (replaceFront (take (headerOf text .s1 .len) (drop 32 text)) s))) e)
+      sym (ap (λ (j : Judged). unlessRefused j s (beginRest (withHeader v (headerOf text)) (replaceFront (take (headerOf text .s1 .len) (drop 32 text)) s))) e)
 
   pub first-accepted : (h : Header) (xs s₁ : List ℕ) → judgeFirst text (length s) ≡ fine → h ≡ headerOf text → xs ≡ take (h .s1 .len) (drop 32 text)
-      → s₁ ≡ overwrite xs s → beginRest r h s₁ ≡ behindFirst r text s
+      → s₁ ≡ overwrite xs s → beginRest (withHeader v h) s₁ ≡ behindFirst v text s
   unfolding behindFirst
   first-accepted h xs s₁ e eh ex es =
       let inline : Header → List ℕ = λ x. take (x .s1 .len) (drop 32 text) in
       let x : xs ≡ inline (headerOf text) = ex ∙ ap inline eh in
       let room : length xs ≤ length s =
       omega (arith, ap length x ∙ length-take (headerOf text .s1 .len) (drop 32 text), segments-fit (headerOf text), first-fits text (length s) e) in
-      ap (beginRest r h) (es ∙ overwrite-fits xs s room ∙ ap (λ (t : List ℕ). replaceFront t s) x)
-      ∙ ap (λ (k : Header). beginRest r k (replaceFront (inline (headerOf text)) s)) eh
-      ∙ sym (ap (λ (j : Judged). unlessRefused j s (beginRest r (headerOf text) (replaceFront (inline (headerOf text)) s))) e)
+      ap (beginRest (withHeader v h)) (es ∙ overwrite-fits xs s room ∙ ap (λ (t : List ℕ). replaceFront t s) x)
+      ∙ ap (λ (k : Header). beginRest (withHeader v k) (replaceFront (inline (headerOf text)) s)) eh
+      ∙ sym (ap (λ (j : Judged). unlessRefused j s (beginRest (withHeader v (headerOf text)) (replaceFront (inline (headerOf text)) s))) e)
 
 -- ---- opened in the block
 
@@ -103,16 +102,16 @@ module _ (v : Known) (b b′ s : List ℕ) (same : b′ ≡ b) where
   r = v .receiving
 
   abbrev answer : List ℕ → Stepped
-  answer x = unlessRefused (judgePart r x) s (behindFirst (openedMore r) (partText r x) s)
+  answer x = unlessRefused (judgePart r x) s (behindFirst (withOpened v) (partText r x) s)
 
   pub first-unopened : (n : Numbers) → judgePart r b′ ≡ refused n → refuse n s ≡ finish stage.First b v s
   unfolding finish
   first-unopened n j =
-      sym (ap (λ (x : Judged). unlessRefused x s (behindFirst (openedMore r) (partText r b′) s)) j) ∙ ap answer same
+      sym (ap (λ (x : Judged). unlessRefused x s (behindFirst (withOpened v) (partText r b′) s)) j) ∙ ap answer same
 
   pub first-opened : (ys post text : List ℕ) → length b ≡ 96 → judgePart r b′ ≡ fine
       → ys ≡ partText r b′ ++ drop (length b′ - 16) b′ → text ≡ take 80 (ys ++ post)
-      → behindFirst (openedMore r) text s ≡ finish stage.First b v s
+      → behindFirst (withOpened v) text s ≡ finish stage.First b v s
   unfolding finish
   first-opened ys post text l j ey et =
       let tag : List ℕ = drop (length b′ - 16) b′ in
@@ -120,6 +119,6 @@ module _ (v : Known) (b b′ s : List ℕ) (same : b′ ≡ b) where
       let is : text ≡ partText r b′ =
       et ∙ ap (λ (t : List ℕ). take 80 (t ++ post)) ey ∙ ap (take 80) (append-assoc (partText r b′) tag post)
       ∙ take-at (partText r b′) (tag ++ post) 80 lt in
-      ap (λ (t : List ℕ). behindFirst (openedMore r) t s) is
-      ∙ sym (ap (λ (x : Judged). unlessRefused x s (behindFirst (openedMore r) (partText r b′) s)) j)
+      ap (λ (t : List ℕ). behindFirst (withOpened v) t s) is
+      ∙ sym (ap (λ (x : Judged). unlessRefused x s (behindFirst (withOpened v) (partText r b′) s)) j)
       ∙ ap answer same

@@ -22,8 +22,7 @@ use Rattle.secure.specs.Reading.{unpadded, paddingOf, lateIn, byLateStatus, las
 use Rattle.sealed_receiver.specs.declared.Stage.the-variants as stage
 use Rattle.sealed_receiver.specs.declared.Receiving.{Receiving}
 use Rattle.sealed_receiver.specs.declared.Known.{Known}
-use Rattle.sealed_receiver.specs.State.{openedMore}
-use Rattle.sealed_receiver.specs.Step.{Stepped, refuse, judgePart, partText, endFrame, behindLast, finish, ClosedUp}
+use Rattle.sealed_receiver.specs.Step.{Stepped, refuse, withOpened, judgePart, partText, endFrame, behindLast, finish, ClosedUp}
 use Rattle.buffer.proofs.Splices.{splice-upto, splice-behind}
 use Rattle.buffer.proofs.Zeros.{zeros-append}
 use Rattle.sealed_receiver.proofs.Regions.{end-same, after, after-length, after-before, after-behind, part-refused, part-opened}
@@ -201,70 +200,71 @@ module _ (h : Header) (s s₁ s₂ : List ℕ) (r₂ r₃ : ℕ)
               ∙ splice-behind s (n₁ + n₂) (x₃ ++ x₄) up-to-third (needed h) (omega (arith, size, segments-fit h));
         }
 
--- ---- the frame's end: the text stands in the store, behind segment 1
-
-module _ (r : Receiving) (h : Header) (s : List ℕ) (m : ℕ) (em : m ≡ lastPart h - 16) where
-  abbrev text : List ℕ
-  text = take (lastPart h - 16) (drop (h .s1 .len) s)
-
-  read-is : take m (drop (h .s1 .len) s) ≡ text
-  read-is = ap (λ (k : ℕ). take k (drop (h .s1 .len) s)) em
-
-  module _ (o : Ended) (eo : o ≡ lastEnded h (take m (drop (h .s1 .len) s))) where
-    pub last-ends : (x : Ended) → o ≡ x → endFrame x r h (payload h s text) s ≡ behindLast r h text s
-    unfolding behindLast
-    last-ends x e = ap (λ (y : Ended). endFrame y r h (payload h s text) s) (sym e ∙ eo ∙ ap (lastEnded h) read-is)
-
-    pub last-whole : (s₁ : List ℕ) → o ≡ whole → ClosedUp h s s₁ → endFrame whole r h (take (total h) s₁) s₁ ≡ behindLast r h text s
-    last-whole s₁ e closed =
-        let all : rounds (lastLengths h) ≤ lastPart h - 16 = omega arith in
-        let front : unpadded (lastLengths h) (drop (h .s1 .len) s) ≡ unpadded (lastLengths h) text =
-        sym (unpadded-front (lastLengths h) (lastPart h - 16) (drop (h .s1 .len) s) all) in
-        ap (λ (p : List ℕ). endFrame whole r h p s₁) (closed .segments ∙ ap (λ (t : List ℕ). take (h .s1 .len) s ++ t) front)
-        ∙ end-same h s s₁ (closed .behind) whole r (payload h s text) (payload-fits h s text)
-        ∙ last-ends whole e
-
--- ---- opened where it stands
-
-module _ (v : Known) (s ys : List ℕ) (m : ℕ) (em : m ≡ lastPartLength (v .header)) (e : noLast (v .header) ≡ false)
-    (room : needed (v .header) ≤ length s) (kept : length ys ≡ length (take m (drop (v .header .s1 .len) s))) where
+module _ (v : Known) (s : List ℕ) where
   abbrev g : Header
   g = v .header
 
-  abbrev r : Receiving
-  r = v .receiving
+  -- ---- the frame's end: the text stands in the store, behind segment 1
 
-  abbrev place : ℕ
-  place = v .header .s1 .len
+  module _ (m : ℕ) (em : m ≡ lastPart g - 16) where
+    abbrev text : List ℕ
+    text = take (lastPart g - 16) (drop (g .s1 .len) s)
 
-  abbrev left : List ℕ
-  left = after s place m ys
+    read-is : take m (drop (g .s1 .len) s) ≡ text
+    read-is = ap (λ (k : ℕ). take k (drop (g .s1 .len) s)) em
 
-  abbrev next : List ℕ → List ℕ → Stepped
-  next = behindLast (openedMore (v .receiving)) (v .header)
+    module _ (o : Ended) (eo : o ≡ lastEnded g (take m (drop (g .s1 .len) s))) where
+      pub last-ends : (x : Ended) → o ≡ x → endFrame x v (payload g s text) s ≡ behindLast v text s
+      unfolding behindLast
+      last-ends x e = ap (λ (y : Ended). endFrame y v (payload g s text) s) (sym e ∙ eo ∙ ap (lastEnded g) read-is)
 
-  size : m ≡ lastPart g - 16 + 16
-  size = em ∙ last-size g e ∙ omega arith
+      pub last-whole : (s₁ : List ℕ) → o ≡ whole → ClosedUp g s s₁ → endFrame whole v (take (total g) s₁) s₁ ≡ behindLast v text s
+      last-whole s₁ e closed =
+          let all : rounds (lastLengths g) ≤ lastPart g - 16 = omega arith in
+          let front : unpadded (lastLengths g) (drop (g .s1 .len) s) ≡ unpadded (lastLengths g) text =
+          sym (unpadded-front (lastLengths g) (lastPart g - 16) (drop (g .s1 .len) s) all) in
+          ap (λ (p : List ℕ). endFrame whole v p s₁) (closed .segments ∙ ap (λ (t : List ℕ). take (g .s1 .len) s ++ t) front)
+          ∙ end-same v s s₁ (closed .behind) whole (payload g s text) (payload-fits g s text)
+          ∙ last-ends whole e
 
-  inside : place + m ≤ needed g
-  inside = omega (arith, last-fits g, size)
+  -- ---- opened where it stands
 
-  pub last-left : needed g ≤ length left
-  last-left = omega (arith, after-length g s ys place m inside room kept)
+  module _ (ys : List ℕ) (m : ℕ) (em : m ≡ lastPartLength g) (e : noLast g ≡ false)
+      (room : needed g ≤ length s) (kept : length ys ≡ length (take m (drop (g .s1 .len) s))) where
+    abbrev r : Receiving
+    r = v .receiving
 
-  last-same : (text : List ℕ) → length text ≡ lastPart g - 16 → next text left ≡ next text s
-  unfolding behindLast
-  last-same text l =
-      ap (λ (t : List ℕ). endFrame (lastEnded g text) (openedMore r) g (t ++ unpadded (lastLengths g) text) left)
-      (after-before g s ys place m inside room kept)
-      ∙ end-same g s left (after-behind g s ys place m inside room kept) (lastEnded g text) (openedMore r) (payload g s text) (payload-fits g s text)
+    abbrev place : ℕ
+    place = v .header .s1 .len
 
-  pub last-refused : (b : List ℕ) (n : Numbers) → judgePart r (take m (drop place s)) ≡ refused n → refuse n (zeroed g left) ≡ finish stage.Last b v s
-  unfolding finish
-  last-refused b n j = part-refused g s ys place m inside room kept r (lastPartLength g) em next n j
+    abbrev left : List ℕ
+    left = after s place m ys
 
-  pub last-opened : (b : List ℕ) → judgePart r (take m (drop place s)) ≡ fine
-      → ys ≡ partText r (take m (drop place s)) ++ drop (length (take m (drop place s)) - 16) (take m (drop place s))
-      → next (take (lastPart g - 16) (drop place left)) left ≡ finish stage.Last b v s
-  unfolding finish
-  last-opened b j t = part-opened g s ys place m inside room kept r (lastPartLength g) em next (lastPart g - 16) size last-same j t
+    abbrev next : List ℕ → List ℕ → Stepped
+    next = behindLast (withOpened v)
+
+    size : m ≡ lastPart g - 16 + 16
+    size = em ∙ last-size g e ∙ omega arith
+
+    inside : place + m ≤ needed g
+    inside = omega (arith, last-fits g, size)
+
+    pub last-left : needed g ≤ length left
+    last-left = omega (arith, after-length g s ys place m inside room kept)
+
+    last-same : (text : List ℕ) → length text ≡ lastPart g - 16 → next text left ≡ next text s
+    unfolding behindLast
+    last-same text l =
+        ap (λ (t : List ℕ). endFrame (lastEnded g text) (withOpened v) (t ++ unpadded (lastLengths g) text) left)
+        (after-before g s ys place m inside room kept)
+        ∙ end-same (withOpened v) s left (after-behind g s ys place m inside room kept) (lastEnded g text) (payload g s text) (payload-fits g s text)
+
+    pub last-refused : (b : List ℕ) (n : Numbers) → judgePart r (take m (drop place s)) ≡ refused n → refuse n (zeroed g left) ≡ finish stage.Last b v s
+    unfolding finish
+    last-refused b n j = part-refused g s ys place m inside room kept r (lastPartLength g) em next n j
+
+    pub last-opened : (b : List ℕ) → judgePart r (take m (drop place s)) ≡ fine
+        → ys ≡ partText r (take m (drop place s)) ++ drop (length (take m (drop place s)) - 16) (take m (drop place s))
+        → next (take (lastPart g - 16) (drop place left)) left ≡ finish stage.Last b v s
+    unfolding finish
+    last-opened b j t = part-opened g s ys place m inside room kept r (lastPartLength g) em next (lastPart g - 16) size last-same j t

@@ -24,7 +24,7 @@ use Rattle.body.specs.declared.Late.the-variants as late
 use Rattle.banner.specs.declared.Revision.the-variants.{Msgr21}
 use Rattle.body.specs.End.{Ended, whole, dropped, turnedAway, lateOf}
 use Rattle.receiver.specs.declared.Report.{Report}
-use Rattle.receiver.specs.State.{noHeader}
+use Rattle.receiver.specs.State.{noHeader, isNoRefusal}
 use Rattle.receiver.proofs.Zeros.{zeros-later, drop-sets}
 use Rattle.refusal.proofs.Allowed.{Allowed, allowed-fine, allowed-refused, allowed-cond, allowed-or}
 use Rattle.body.proofs.Allowed.{AllowedEnd, end-whole, end-dropped, end-turned, end-by}
@@ -41,7 +41,7 @@ use Rattle.sealed_receiver.specs.declared.Receiving.{Receiving}
 use Rattle.sealed_receiver.specs.declared.Known.{Known}
 use Rattle.sealed_receiver.specs.declared.State.{State}
 use Rattle.sealed_receiver.specs.State.{isFirst, isRefused, inFrame, sizeOf, needed, openedOf, freshReceiving, openedMore, noReceiving, receivingRule, openedRule, headerRule, given, refusalRule, rules, countRule, blockRule, agreesAt, agrees}
-use Rattle.sealed_receiver.specs.Step.{blank, at, knowing, nextFrame, switched, refusedState, Stepped, silent, refuse, unlessRefused, judgeOpened, judgePart, partText, endFrame, beginLast, beginRest, behindFirst, behindRest, behindLast, sealedIn, finish, blockWith, storeWith, absorbed, stored, reached, size, chunk, onByte, Running}
+use Rattle.sealed_receiver.specs.Step.{blank, at, knowing, withOpened, withHeader, nextFrame, switched, refusedState, Stepped, silent, refuse, unlessRefused, judgeOpened, judgePart, partText, endFrame, beginLast, beginRest, behindFirst, behindRest, behindLast, sealedIn, finish, blockWith, storeWith, absorbed, stored, reached, size, chunk, onByte, Running}
 use Rattle.secure.proofs.Bounds.{there, segments-fit, rest-beyond, pads-fit}
 use Rattle.sealed_receiver.proofs.Openings.{opened-next}
 use Rattle.sealed_receiver.proofs.FirstPart.{first-fits, first-header}
@@ -94,20 +94,26 @@ given-last h text =
 
 -- ---- what an accepted part tells
 
--- the rule of what opens the next part, while nothing is refused
-abbrev Opens : Receiving → Type 0
-Opens r = (not (r .exhausted) || eqb (r .opened) 0) ≡ true
+-- the rules of what opens the next part and of refusals, while nothing is refused
+record Opens (v : Known) : Type 0 where
+  receiving : (not (v .receiving .exhausted) || eqb (v .receiving .opened) 0) ≡ true
+  refusal : isNoRefusal (v .refusal) ≡ true
 
 -- a part is opened where a nonce is left, and so the count comes round to 0 exactly where all are used
-opened-opens : (r : Receiving) (bytes : List ℕ) → judgePart r bytes ≡ fine → Opens (openedMore r)
+opened-opens : (v : Known) (bytes : List ℕ) → judgePart (v .receiving) bytes ≡ fine → Opens (withOpened v)
 unfolding judgePart openedMore
-opened-opens r bytes e =
+opened-opens v bytes e =
+    let r = v .receiving in
     let f : judgeNonce (openedOf r) ≡ fine = both-fine (judgeNonce (openedOf r)) (judgeOpened (opened (r .key) (r .nonce) bytes)) e .0 in
     let l : openedOf r < allNonces = ltb-true (openedOf r) allNonces (passed (ltb (openedOf r) allNonces) refusal.NoncesSpent f) in
-    ap (λ (b : Bool). not (leb allNonces (r .opened + 1)) || b) (came-round (r .opened) 1 (omega arith) (left (r .exhausted) l))
-    ∙ not-or-self (leb allNonces (r .opened + 1))
+    record {
+      receiving =
+          ap (λ (b : Bool). not (leb allNonces (r .opened + 1)) || b) (came-round (r .opened) 1 (omega arith) (left (r .exhausted) l))
+          ∙ not-or-self (leb allNonces (r .opened + 1));
+      refusal = refl;
+    }
   where
-    left : (b : Bool) → cond b allNonces (r .opened) < allNonces → r .opened + 1 ≤ allNonces
+    left : (b : Bool) → cond b allNonces (v .receiving .opened) < allNonces → v .receiving .opened + 1 ≤ allNonces
     left true l = absurd (omega arith)
     left false l = omega arith
 
@@ -194,12 +200,14 @@ running-at : (k : Stage) (v : Known) (s : List ℕ) → isRefused k ≡ false �
 running-at k v s o r i f = record { agree = agree-live k 0 blank v o (record { rule = r; inside = i; zeros = blank-zeros k }); live = o; fits = f }
 
 -- between two frames
-between : (r : Receiving) (s : List ℕ) → Opens r → Running (nextFrame r) s
-between r s o = running-at stage.First (knowing r noHeader) s refl (record { receiving = o; opened = le-leb 0 (openedOf r) zero-le; header = refl; refusal = refl }) (lit< tt) zero-le
+between : (v : Known) (s : List ℕ) → Opens v → Running (nextFrame v) s
+between v s o =
+    running-at stage.First (withHeader v noHeader) s refl
+    (record { receiving = o .receiving; opened = le-leb 0 (openedOf (v .receiving)) zero-le; header = refl; refusal = o .refusal }) (lit< tt) zero-le
 
 pub switched-running : (key nonce s : List ℕ) → Running (switched key nonce) s
 unfolding switched freshReceiving
-switched-running key nonce s = between (freshReceiving key nonce) s refl
+switched-running key nonce s = between (knowing (freshReceiving key nonce) noHeader) s (record { receiving = refl; refusal = refl })
 
 -- ---- what a step leaves
 
@@ -236,48 +244,55 @@ length-holding h p s k l =
 
 -- ---- the end of a frame, and its later parts
 
-frame-leaves : (x : Ended) (r : Receiving) (h : Header) (p s : List ℕ) → Opens r → AllowedEnd given x → length p ≤ layout.needed h
-    → layout.needed h ≤ length s → Leaves (length s) (endFrame x r h p s)
-frame-leaves whole r h p s o k l f = record { after = between r (holding h p s) o; same = length-holding h p s l f }
-frame-leaves dropped r h p s o k l f = record { after = between r (zeroed h s) o; same = length-zeroed h s f }
-frame-leaves (turnedAway n) r h p s o k l f = record { after = gone-at n (k .gives n refl); same = length-zeroed h s f }
+frame-leaves : (x : Ended) (v : Known) (p s : List ℕ) → Opens v → AllowedEnd given x → length p ≤ layout.needed (v .header)
+    → layout.needed (v .header) ≤ length s → Leaves (length s) (endFrame x v p s)
+frame-leaves whole v p s o k l f = record { after = between v (holding (v .header) p s) o; same = length-holding (v .header) p s l f }
+frame-leaves dropped v p s o k l f = record { after = between v (zeroed (v .header) s) o; same = length-zeroed (v .header) s f }
+frame-leaves (turnedAway n) v p s o k l f = record { after = gone-at n (k .gives n refl); same = length-zeroed (v .header) s f }
 
-module _ (r : Receiving) (h : Header) (s : List ℕ) (o : Opens r) (e : isFine (judgeHeader h) ≡ true) (f : layout.needed h ≤ length s) where
-  last-leaves : 1 + cond (noRest h) 0 1 ≤ openedOf r → Leaves (length s) (beginLast r h s)
+module _ (v : Known) (s : List ℕ) (o : Opens v) (e : isFine (judgeHeader (v .header)) ≡ true) (f : layout.needed (v .header) ≤ length s) where
+  abbrev r : Receiving
+  r = v .receiving
+
+  abbrev h : Header
+  h = v .header
+
+  last-leaves : 1 + cond (noRest h) 0 1 ≤ openedOf r → Leaves (length s) (beginLast v s)
   last-leaves l = go (noLast h) refl
     where
-      go : (b : Bool) → noLast h ≡ b → Leaves (length s) (cond b (endFrame whole r h (take (h .s1 .len) s) s) (silent (at stage.Last (knowing r h)) s))
-      go true z = frame-leaves whole r h (take (h .s1 .len) s) s o (end-whole given) (omega (arith, taken-most (h .s1 .len) s, segments-fit h)) f
+      go : (b : Bool) → noLast h ≡ b → Leaves (length s) (cond b (endFrame whole v (take (h .s1 .len) s) s) (silent (at stage.Last v) s))
+      go true z = frame-leaves whole v (take (h .s1 .len) s) s o (end-whole given) (omega (arith, taken-most (h .s1 .len) s, segments-fit h)) f
       go false z =
           let i : 0 < cond (noLast h) 0 (lastPart h) = rw z (omega arith) in
-          record { after = running-at stage.Last (knowing r h) s refl (record { receiving = o; opened = le-leb (1 + cond (noRest h) 0 1) (openedOf r) l; header = e; refusal = refl }) i f; same = refl }
+          record { after = running-at stage.Last v s refl (record { receiving = o .receiving; opened = le-leb (1 + cond (noRest h) 0 1) (openedOf r) l; header = e; refusal = o .refusal }) i f; same = refl }
 
-  rest-leaves : 1 ≤ openedOf r → Leaves (length s) (beginRest r h s)
+  rest-leaves : 1 ≤ openedOf r → Leaves (length s) (beginRest v s)
   rest-leaves l = go (noRest h) refl
     where
-      go : (b : Bool) → noRest h ≡ b → Leaves (length s) (cond b (beginLast r h s) (silent (at stage.Rest (knowing r h)) s))
+      go : (b : Bool) → noRest h ≡ b → Leaves (length s) (cond b (beginLast v s) (silent (at stage.Rest v) s))
       go true z = let one : 1 + cond (noRest h) 0 1 ≤ openedOf r = rw z l in last-leaves one
       go false z =
           let i : 0 < cond (noRest h) 0 (restPart h) = rw z (omega arith) in
-          record { after = running-at stage.Rest (knowing r h) s refl (record { receiving = o; opened = le-leb 1 (openedOf r) l; header = e; refusal = refl }) i f; same = refl }
+          record { after = running-at stage.Rest v s refl (record { receiving = o .receiving; opened = le-leb 1 (openedOf r) l; header = e; refusal = o .refusal }) i f; same = refl }
 
 -- ---- behind an opened part
 
-first-leaves : (r : Receiving) (text s : List ℕ) → Opens r → 1 ≤ openedOf r → Leaves (length s) (behindFirst r text s)
+first-leaves : (v : Known) (text s : List ℕ) → Opens v → 1 ≤ openedOf (v .receiving) → Leaves (length s) (behindFirst v text s)
 unfolding behindFirst
-first-leaves r text s o one =
+first-leaves v text s o one =
     judged-leaves (judgeFirst text (length s)) s _ (length s) (given-first text (length s)) refl
     (λ e.
     let h = headerOf text in
     let f = first-fits text (length s) e in
     let xs = take (h .s1 .len) (drop 32 text) in
     let l : length (replaceFront xs s) ≡ length s = length-replaceFront xs s (omega (arith, taken-most (h .s1 .len) (drop 32 text), segments-fit h)) in
-    rw l at (rest-leaves r h (replaceFront xs s) o (ap isFine (first-header text (length s) e)) (rw l f) one))
+    rw l at (rest-leaves (withHeader v h) (replaceFront xs s) (record { receiving = o .receiving; refusal = o .refusal }) (ap isFine (first-header text (length s) e)) (rw l f) one))
 
-later-leaves : (r : Receiving) (h : Header) (text s : List ℕ) → Opens r → 2 ≤ openedOf r → isFine (judgeHeader h) ≡ true → layout.needed h ≤ length s → noRest h ≡ false
-    → Leaves (length s) (behindRest r h text s)
+later-leaves : (v : Known) (text s : List ℕ) → Opens v → 2 ≤ openedOf (v .receiving) → isFine (judgeHeader (v .header)) ≡ true
+    → layout.needed (v .header) ≤ length s → noRest (v .header) ≡ false → Leaves (length s) (behindRest v text s)
 unfolding behindRest
-later-leaves r h text s o two e f some =
+later-leaves v text s o two e f some =
+    let h = v .header in
     let n = h .s1 .len - 48 in
     judged-leaves (judgePadding (drop n text)) (zeroed h s) _ (length s) (given-padding (drop n text)) (length-zeroed h s f)
     (λ _.
@@ -288,33 +303,34 @@ later-leaves r h text s o two e f some =
     let l : length (splice s 48 (take n text ++ zs)) ≡ length s =
     length-splice s 48 (take n text ++ zs) (omega (arith, k, taken-most n text, rest-beyond h some, pads-fit h some (padding n) refl))
     in
-    let both : 1 + cond (noRest h) 0 1 ≤ openedOf r = rw some two in
-    rw l at (last-leaves r h (splice s 48 (take n text ++ zs)) o e (rw l f) both))
+    let both : 1 + cond (noRest h) 0 1 ≤ openedOf (v .receiving) = rw some two in
+    rw l at (last-leaves v (splice s 48 (take n text ++ zs)) o e (rw l f) both))
 
-ended-leaves : (r : Receiving) (h : Header) (text s : List ℕ) → Opens r → layout.needed h ≤ length s → Leaves (length s) (behindLast r h text s)
+ended-leaves : (v : Known) (text s : List ℕ) → Opens v → layout.needed (v .header) ≤ length s → Leaves (length s) (behindLast v text s)
 unfolding behindLast
-ended-leaves r h text s o f =
-    frame-leaves (lastEnded h text) r h (take (h .s1 .len) s ++ unpadded (lastLengths h) text) s o (given-last h text) (payload-fits h s text) f
+ended-leaves v text s o f =
+    let h = v .header in
+    frame-leaves (lastEnded h text) v (take (h .s1 .len) s ++ unpadded (lastLengths h) text) s o (given-last h text) (payload-fits h s text) f
 
 finish-leaves : (k : Stage) (b : List ℕ) (v : Known) (s : List ℕ) → Rules k v → isRefused k ≡ false → 0 < sizeOf k (v .header)
     → needed k (v .header) ≤ length s → Leaves (length s) (finish k b v s)
 unfolding finish
 finish-leaves stage.First b v s r o i f =
     judged-leaves (judgePart (v .receiving) b) s _ (length s) (given-part (v .receiving) b) refl
-    (λ e. first-leaves (openedMore (v .receiving)) (partText (v .receiving) b) s (opened-opens (v .receiving) b e) (omega (arith, opened-next (v .receiving) b e)))
+    (λ e. first-leaves (withOpened v) (partText (v .receiving) b) s (opened-opens v b e) (omega (arith, opened-next (v .receiving) b e)))
 finish-leaves stage.Rest b v s r o i f =
     let h = v .header in
     let bytes = sealedIn stage.Rest h s in
     judged-leaves (judgePart (v .receiving) bytes) (zeroed h s) _ (length s) (given-part (v .receiving) bytes) (length-zeroed h s f)
     (λ e.
     let two : 2 ≤ openedOf (openedMore (v .receiving)) = omega (arith, opened-next (v .receiving) bytes e, leb-true 1 (openedOf (v .receiving)) (r .opened)) in
-    later-leaves (openedMore (v .receiving)) h (partText (v .receiving) bytes) s (opened-opens (v .receiving) bytes e) two (r .header) f
+    later-leaves (withOpened v) (partText (v .receiving) bytes) s (opened-opens v bytes e) two (r .header) f
     (there (noRest h) (restPart h) i))
 finish-leaves stage.Last b v s r o i f =
     let h = v .header in
     let bytes = sealedIn stage.Last h s in
     judged-leaves (judgePart (v .receiving) bytes) (zeroed h s) _ (length s) (given-part (v .receiving) bytes) (length-zeroed h s f)
-    (λ e. ended-leaves (openedMore (v .receiving)) h (partText (v .receiving) bytes) s (opened-opens (v .receiving) bytes e) f)
+    (λ e. ended-leaves (withOpened v) (partText (v .receiving) bytes) s (opened-opens v bytes e) f)
 finish-leaves stage.Refused b v s r o i f = wrong (sym o)
 
 -- ---- bytes of a part leave the rest as it was

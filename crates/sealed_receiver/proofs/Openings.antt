@@ -1,14 +1,13 @@
 -- A part that is opened where it stands.
 use mathlib.Core.Path.{_≡_, refl, sym, ap, ap₂, _∙_}
 use mathlib.Core.List.{List, _++_}
-use mathlib.Core.Bool.{Bool, true, false, cond, _&&_, _||_}
+use mathlib.Core.Bool.{Bool, true, false, cond, _||_}
 use Prim.Native.Nat.{ℕ, suc, _+_, _-_, _%_, _≤_, _<_}
 use native.Mathlib.Nat.{mod-eq-of-lt}
 use native.Mathlib.Omega.{arith}
 use borrow.Author.Tests.{le-leb, lt-ltb, ltb-true, leb-true, leb-false}
 use lib.Dec.{leb, ltb}
-use lib.ListN.{length, take, drop}
-use lib.Seq.{length-take-le}
+use lib.ListN.{length, drop}
 use Rattle.refusal.specs.declared.Numbers.{Numbers}
 use Rattle.refusal.specs.declared.Refusal.the-variants as refusal
 use Rattle.refusal.specs.declared.Verdict.{Verdict}
@@ -16,13 +15,12 @@ use Rattle.refusal.specs.declared.Verdict.the-variants as verdict
 use Rattle.refusal.specs.Refusals.{Judged, fine, refused, numbersOf, refusedWith, judgedBy, orElse, unless}
 use Rattle.refusal.proofs.Judgements.{both-fine, passed}
 use Rattle.aes.specs.Aes.{State, keyExpansion}
-use Rattle.aes.specs.Counter.{gctr}
-use Rattle.aes.proofs.Counters.{gctr-length}
-use Rattle.gcm.specs.Gcm.{Opened, plain, fail, tagFits, openedBy, opened}
+use Rattle.gcm.specs.Gcm.{Opened, plain, fail, openedBy, opened}
 use Rattle.gcm.specs.Calls as calls
 use Rattle.gcm.specs.Calls.{wrote, Done, done, answered, limit, judgeOpen, byTag, byBoth, openDone, Opening}
 use Rattle.gcm.specs.declared.Outcome.{Outcome}
 use Rattle.gcm.specs.declared.Outcome.the-variants as outcome
+use Rattle.gcm.proofs.Opened.{text-length}
 use Rattle.secure.specs.Layout.{allNonces}
 use Rattle.secure.specs.Reading.{judgeNonce}
 use Rattle.sealed_receiver.specs.declared.Receiving.{Receiving}
@@ -31,20 +29,6 @@ use Rattle.sealed_receiver.specs.Step.{judgeOpened, textOf, judgePart, p
 
 differ : {A : Type 0} {n : Numbers} → refused n ≡ fine → A
 differ e = let z : _≡_ {A = ℕ} 0 1 = cc in absurd (omega arith)
-
--- ---- an opened text is its tag shorter
-
-text-of : (b : Bool) (x text : List ℕ) → cond b (plain x) fail ≡ plain text → x ≡ text
-text-of true x text e = cc
-text-of false x text e = cc
-
-pub text-length : (w : List State) (nonce s text : List ℕ) → openedBy w nonce s ≡ plain text → length text ≡ length s - 16
-unfolding openedBy
-text-length w nonce s text e =
-    let x : List ℕ = gctr w nonce (take (length s - 16) s) in
-    sym (ap length (text-of (leb 16 (length s) && tagFits w nonce (length s - 16) s) x text e))
-    ∙ gctr-length w nonce 0 (take (length s - 16) s)
-    ∙ length-take-le (length s - 16) s (omega arith)
 
 text-if : (w : List State) (nonce s : List ℕ) (j : Judged) (o : Opened) → openedBy w nonce s ≡ o → orElse j (judgeOpened o) ≡ fine
     → length (textOf o) ≡ length s - 16

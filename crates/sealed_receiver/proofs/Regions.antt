@@ -17,6 +17,7 @@ use Rattle.receiver.specs.declared.Report.the-variants as report
 use Rattle.secure.specs.Layout.{needed}
 use Rattle.secure.specs.Reading.{zeroed, holding}
 use Rattle.sealed_receiver.specs.declared.Receiving.{Receiving}
+use Rattle.sealed_receiver.specs.declared.Known.{Known}
 use Rattle.sealed_receiver.specs.Step.{Stepped, stepped, refuse, unlessRefused, judgePart, partText, nextFrame, endFrame}
 use Rattle.buffer.proofs.Splices.{splice-before, splice-from, splice-behind, splice-again, given-back}
 use Rattle.sealed_receiver.proofs.Openings.{part-text-length}
@@ -38,10 +39,13 @@ module _ (h : Header) (s s′ : List ℕ) (d : drop (needed h) s′ ≡ drop (ne
       front-same (payload ++ zeros) s s′ (needed h)
       (length-append payload zeros ∙ omega (arith, length-replicate {A = ℕ} (needed h - length payload) 0)) d
 
-  pub end-same : (o : Ended) (r : Receiving) (payload : List ℕ) → length payload ≤ needed h → endFrame o r h payload s′ ≡ endFrame o r h payload s
-  end-same whole r payload l = ap (λ (t : List ℕ). stepped (nextFrame r) t (report.Event (event.Frame h))) (holding-same payload l)
-  end-same dropped r payload l = ap (λ (t : List ℕ). stepped (nextFrame r) t (report.Event (event.Dropped h))) zeroed-same
-  end-same (turnedAway n) r payload l = ap (refuse n) zeroed-same
+pub end-same : (v : Known) (s s′ : List ℕ) → drop (needed (v .header)) s′ ≡ drop (needed (v .header)) s → (o : Ended) (payload : List ℕ)
+    → length payload ≤ needed (v .header) → endFrame o v payload s′ ≡ endFrame o v payload s
+end-same v s s′ d whole payload l =
+    ap (λ (t : List ℕ). stepped (nextFrame v) t (report.Event (event.Frame (v .header)))) (holding-same (v .header) s s′ d payload l)
+end-same v s s′ d dropped payload l =
+    ap (λ (t : List ℕ). stepped (nextFrame v) t (report.Event (event.Dropped (v .header)))) (zeroed-same (v .header) s s′ d)
+end-same v s s′ d (turnedAway n) payload l = ap (refuse n) (zeroed-same (v .header) s s′ d)
 
 -- zeros over all that the frame needs
 pub zeros-over : (h : Header) (s zs : List ℕ) (n : ℕ) → n ≡ needed h → needed h ≤ length s → zs ≡ overwrite (replicate n 0) s → zs ≡ zeroed h s

@@ -19,6 +19,7 @@ use Rattle.stream.specs.declared.Event.the-variants as event
 use Rattle.stream.specs.Stream.{Trace, ended, after}
 use Rattle.stream.specs.Stream as stream
 use Rattle.receiver.specs.declared.Report.the-variants as report
+use Rattle.receiver.specs.State.{noHeader}
 use Rattle.buffer.proofs.Sets.{sets-whole}
 use Rattle.receiver.proofs.Machine.{Silent, scan, scan-none, scan-silent}
 use Rattle.receiver.proofs.Gathers.{traceBy, run, byteStep, short, full}
@@ -28,9 +29,10 @@ use Rattle.secure.specs.Layout.{nextNonce, padding, inlineLength, firstLength, 
 use Rattle.secure.specs.Reading.{judgeNonce, judgePadding, judgeFirst, unpadded, lastEnded, zeroed, holding, byOpening, partTrace, atEnd, lastTrace, restTrace, frames, sealedTrace}
 use Rattle.sealed_receiver.specs.declared.Stage.the-variants as stage
 use Rattle.sealed_receiver.specs.declared.Receiving.{Receiving}
+use Rattle.sealed_receiver.specs.declared.Known.{Known}
 use Rattle.sealed_receiver.specs.declared.State.{State}
 use Rattle.sealed_receiver.specs.State.{openedOf, freshReceiving, openedMore}
-use Rattle.sealed_receiver.specs.Step.{blank, at, knowing, nextFrame, switched, refusedState, Stepped, unlessRefused, judgeOpened, textOf, judgePart, partText, endFrame, beginLast, beginRest, behindFirst, behindRest, behindLast, finish, stored}
+use Rattle.sealed_receiver.specs.Step.{blank, at, knowing, withOpened, withHeader, nextFrame, switched, refusedState, Stepped, unlessRefused, judgeOpened, textOf, judgePart, partText, endFrame, beginLast, beginRest, behindFirst, behindRest, behindLast, finish, stored}
 use Rattle.secure.proofs.Bounds.{segments-fit, rest-beyond, rest-size, rest-fits, last-size, last-fits}
 use Rattle.sealed_receiver.proofs.Openings.{part-text-length, opened-next}
 use Rattle.sealed_receiver.proofs.FirstPart.{first-fits}
@@ -87,38 +89,48 @@ inline-size text h false e k =
 -- ---- a frame, part by part; f bounds how many frames follow
 
 unfoldable pub Below : ℕ → Type 0
-Below f = (r : Receiving) (P : ℕ) (ys s : List ℕ) → length ys ≤ f → traced (nextFrame r) s P ys ≡ frames f (keyExpansion (r .key)) (r .nonce) (openedOf r) P ys s
+Below f = (v : Known) (P : ℕ) (ys s : List ℕ) → length ys ≤ f
+    → traced (nextFrame v) s P ys ≡ frames f (keyExpansion (v .receiving .key)) (v .receiving .nonce) (openedOf (v .receiving)) P ys s
 
 -- a part's bytes do not matter for how the frame ends
-end-over : (x : Ended) (r : Receiving) (h : Header) (p s xs : List ℕ) (i : ℕ) → i ≤ length s → i + length xs ≤ needed h
-    → endFrame x r h p (splice s i xs) ≡ endFrame x r h p s
-end-over whole r h p s xs i k l = rw (holding-over h p s xs i k l)
-end-over dropped r h p s xs i k l = rw (zeroed-over h s xs i k l)
-end-over (turnedAway n) r h p s xs i k l = rw (zeroed-over h s xs i k l)
+end-over : (x : Ended) (v : Known) (p s xs : List ℕ) (i : ℕ) → i ≤ length s → i + length xs ≤ needed (v .header)
+    → endFrame x v p (splice s i xs) ≡ endFrame x v p s
+end-over whole v p s xs i k l = rw (holding-over (v .header) p s xs i k l)
+end-over dropped v p s xs i k l = rw (zeroed-over (v .header) s xs i k l)
+end-over (turnedAway n) v p s xs i k l = rw (zeroed-over (v .header) s xs i k l)
 
 module _ (f : ℕ) (below : Below f) where
-  end-run : (x : Ended) (r : Receiving) (h : Header) (P : ℕ) (ys p s : List ℕ) → length ys ≤ f
-      → runs (endFrame x r h p s) P ys ≡ atEnd x h P p s (frames f (keyExpansion (r .key)) (r .nonce) (openedOf r) P ys)
+  end-run : (x : Ended) (v : Known) (P : ℕ) (ys p s : List ℕ) → length ys ≤ f
+      → runs (endFrame x v p s) P ys
+      ≡ atEnd x (v .header) P p s (frames f (keyExpansion (v .receiving .key)) (v .receiving .nonce) (openedOf (v .receiving)) P ys)
   unfolding Below
-  end-run whole r h P ys p s l = ap (after (event.Frame h) P (holding h p s)) (below r P ys (holding h p s) l)
-  end-run dropped r h P ys p s l = ap (after (event.Dropped h) P (zeroed h s)) (below r P ys (zeroed h s) l)
-  end-run (turnedAway n) r h P ys p s l = ap (after (event.Refused n) P (zeroed h s)) (silent-trace (refusedState n) (zeroed h s) P ys refl)
+  end-run whole v P ys p s l = ap (after (event.Frame (v .header)) P (holding (v .header) p s)) (below v P ys (holding (v .header) p s) l)
+  end-run dropped v P ys p s l = ap (after (event.Dropped (v .header)) P (zeroed (v .header) s)) (below v P ys (zeroed (v .header) s) l)
+  end-run (turnedAway n) v P ys p s l =
+      ap (after (event.Refused n) P (zeroed (v .header) s)) (silent-trace (refusedState n) (zeroed (v .header) s) P ys refl)
 
   -- ---- the last part
 
-  module _ (r : Receiving) (h : Header) (P : ℕ) (ys first s : List ℕ) (fits : needed h ≤ length s) (stands : take (h .s1 .len) s ≡ first) (left : length ys ≤ f) where
+  module _ (v : Known) (P : ℕ) (ys first s : List ℕ)
+      (fits : needed (v .header) ≤ length s) (stands : take (v .header .s1 .len) s ≡ first) (left : length ys ≤ f) where
+    abbrev r : Receiving
+    r = v .receiving
+
+    abbrev h : Header
+    h = v .header
+
     abbrev n₁ : ℕ
     n₁ = h .s1 .len
 
     abbrev xs : List ℕ
     xs = take (lastPart h) ys
 
-    last-placed : (zs : List ℕ) → length zs ≤ lastPart h → stored (at stage.Last (knowing r h)) s zs ≡ splice s n₁ zs
+    last-placed : (zs : List ℕ) → length zs ≤ lastPart h → stored (at stage.Last v) s zs ≡ splice s n₁ zs
     last-placed zs l = ap (λ (k : ℕ). sets s k zs) (add-zero n₁) ∙ sets-eq zs s n₁ (let q = last-fits h in omega (arith, q))
 
     last-finish : noLast h ≡ false → lastPart h ≤ length ys
-        → finish stage.Last blank (knowing r h) (splice s n₁ xs)
-        ≡ unlessRefused (judgePart r xs) (zeroed h s) (endFrame (lastEnded h (partText r xs)) (openedMore r) h (first ++ unpadded (lastLengths h) (partText r xs)) s)
+        → finish stage.Last blank v (splice s n₁ xs)
+        ≡ unlessRefused (judgePart r xs) (zeroed h s) (endFrame (lastEnded h (partText r xs)) (withOpened v) (first ++ unpadded (lastLengths h) (partText r xs)) s)
     unfolding finish behindLast
     last-finish e l =
         let q = last-fits h in
@@ -127,14 +139,14 @@ module _ (f : ℕ) (below : Below f) where
         let m : n₁ + length xs ≤ needed h = omega (arith, q) in
         let x = lastEnded h (partText r xs) in
         let u = unpadded (lastLengths h) (partText r xs) in
-        ap₂ (λ (b z : List ℕ). unlessRefused (judgePart r b) z (behindLast (openedMore r) h (partText r b) (splice s n₁ xs)))
+        ap₂ (λ (b z : List ℕ). unlessRefused (judgePart r b) z (behindLast (withOpened v) (partText r b) (splice s n₁ xs)))
         (splice-at s n₁ xs k (lastPartLength h) (n ∙ sym (last-size h e))) (zeroed-over h s xs n₁ k m)
         ∙ ap (unlessRefused (judgePart r xs) (zeroed h s))
-        (end-over x (openedMore r) h (take n₁ (splice s n₁ xs) ++ u) s xs n₁ k m ∙ ap (λ (p : List ℕ). endFrame x (openedMore r) h (p ++ u) s) (splice-before s n₁ xs k ∙ stands))
+        (end-over x (withOpened v) (take n₁ (splice s n₁ xs) ++ u) s xs n₁ k m ∙ ap (λ (p : List ℕ). endFrame x (withOpened v) (p ++ u) s) (splice-before s n₁ xs k ∙ stands))
 
     -- all of it came
     last-whole : noLast h ≡ false → lastPart h ≤ length ys
-        → traced (at stage.Last (knowing r h)) s P ys
+        → traced (at stage.Last v) s P ys
         ≡ partTrace (keyExpansion (r .key)) (r .nonce) (openedOf r) xs (P + lastPart h) (zeroed h s)
         (λ text. atEnd (lastEnded h text) h (P + lastPart h) (first ++ unpadded (lastLengths h) text) s
         (frames f (keyExpansion (r .key)) (nextNonce (r .nonce)) (suc (openedOf r)) (P + lastPart h) (drop (lastPart h) ys)))
@@ -145,44 +157,50 @@ module _ (f : ℕ) (below : Below f) where
         let len : length (drop (lastPart h) ys) ≤ f = omega (arith, length-drop (lastPart h) ys) in
         let T = partText r xs in
         let p = first ++ unpadded (lastLengths h) T in
-        full parts (at stage.Last (knowing r h)) s P (lastPart h) ys some (zero-add (lastPart h) ∙ sym (last-size h e)) l
-        ∙ ap (λ (t : List ℕ). runs (finish stage.Last blank (knowing r h) t) (P + lastPart h) (drop (lastPart h) ys)) (last-placed xs (omega (arith, n)))
+        full parts (at stage.Last v) s P (lastPart h) ys some (zero-add (lastPart h) ∙ sym (last-size h e)) l
+        ∙ ap (λ (t : List ℕ). runs (finish stage.Last blank v t) (P + lastPart h) (drop (lastPart h) ys)) (last-placed xs (omega (arith, n)))
         ∙ ap (λ (y : Stepped). runs y (P + lastPart h) (drop (lastPart h) ys)) (last-finish e l)
-        ∙ run-unless (judgePart r xs) (zeroed h s) (endFrame (lastEnded h T) (openedMore r) h p s) (P + lastPart h) (drop (lastPart h) ys)
+        ∙ run-unless (judgePart r xs) (zeroed h s) (endFrame (lastEnded h T) (withOpened v) p s) (P + lastPart h) (drop (lastPart h) ys)
         ∙ part-next (judgePart r xs) (P + lastPart h) (zeroed h s) _ _
-        (λ j. end-run (lastEnded h T) (openedMore r) h (P + lastPart h) (drop (lastPart h) ys) p s len
+        (λ j. end-run (lastEnded h T) (withOpened v) (P + lastPart h) (drop (lastPart h) ys) p s len
         ∙ ap (λ (m : ℕ). atEnd (lastEnded h T) h (P + lastPart h) p s (frames f (keyExpansion (r .key)) (nextNonce (r .nonce)) m (P + lastPart h) (drop (lastPart h) ys))) (opened-next r xs j))
         ∙ part-trace r xs (P + lastPart h) (zeroed h s)
         (λ text. atEnd (lastEnded h text) h (P + lastPart h) (first ++ unpadded (lastLengths h) text) s
         (frames f (keyExpansion (r .key)) (nextNonce (r .nonce)) (suc (openedOf r)) (P + lastPart h) (drop (lastPart h) ys)))
 
-    last-cut : noLast h ≡ false → length ys < lastPart h → traced (at stage.Last (knowing r h)) s P ys ≡ ended (splice s n₁ ys)
+    last-cut : noLast h ≡ false → length ys < lastPart h → traced (at stage.Last v) s P ys ≡ ended (splice s n₁ ys)
     last-cut e l =
         let k : 0 + length ys < lastPartLength h = rw (last-size h e) (omega arith) in
-        short parts (at stage.Last (knowing r h)) s P ys k ∙ ap ended (last-placed ys (omega arith))
+        short parts (at stage.Last v) s P ys k ∙ ap ended (last-placed ys (omega arith))
 
     last-by : (b c : Bool) → noLast h ≡ b → ltb (length ys) (lastPart h) ≡ c
-        → runs (cond b (endFrame whole r h (take n₁ s) s) (record { state = at stage.Last (knowing r h); store = s; report = report.More })) P ys
+        → runs (cond b (endFrame whole v (take n₁ s) s) (record { state = at stage.Last v; store = s; report = report.More })) P ys
         ≡ cond b (atEnd whole h P first s (frames f (keyExpansion (r .key)) (r .nonce) (openedOf r) P ys))
         (cond c (ended (splice s n₁ ys))
         (partTrace (keyExpansion (r .key)) (r .nonce) (openedOf r) xs (P + lastPart h) (zeroed h s)
         (λ text. atEnd (lastEnded h text) h (P + lastPart h) (first ++ unpadded (lastLengths h) text) s
         (frames f (keyExpansion (r .key)) (nextNonce (r .nonce)) (suc (openedOf r)) (P + lastPart h) (drop (lastPart h) ys)))))
-    last-by true c e q = ap (λ (p : List ℕ). runs (endFrame whole r h p s) P ys) stands ∙ end-run whole r h P ys first s left
+    last-by true c e q = ap (λ (p : List ℕ). runs (endFrame whole v p s) P ys) stands ∙ end-run whole v P ys first s left
     last-by false true e q = last-cut e (ltb-true (length ys) (lastPart h) q)
     last-by false false e q = last-whole e (ltb-false (length ys) (lastPart h) q)
 
-    last-run : runs (beginLast r h s) P ys ≡ lastTrace (keyExpansion (r .key)) h (r .nonce) (openedOf r) P ys first s (frames f (keyExpansion (r .key)))
+    last-run : runs (beginLast v s) P ys ≡ lastTrace (keyExpansion (r .key)) h (r .nonce) (openedOf r) P ys first s (frames f (keyExpansion (r .key)))
     last-run = last-by (noLast h) (ltb (length ys) (lastPart h)) refl refl
 
   -- ---- the rest of segment 1
 
-  module _ (r : Receiving) (h : Header) (P : ℕ) (ys first s : List ℕ) (fits : needed h ≤ length s) (left : length ys ≤ f) where
+  module _ (v : Known) (P : ℕ) (ys first s : List ℕ) (fits : needed (v .header) ≤ length s) (left : length ys ≤ f) where
+    abbrev r₁ : Receiving
+    r₁ = v .receiving
+
+    abbrev h₁ : Header
+    h₁ = v .header
+
     abbrev m₁ : ℕ
-    m₁ = h .s1 .len - inlineLength
+    m₁ = h₁ .s1 .len - inlineLength
 
     abbrev rs : List ℕ
-    rs = take (restPart h) ys
+    rs = take (restPart h₁) ys
 
     -- the store with the inline bytes at its front
     abbrev inline : List ℕ
@@ -191,46 +209,46 @@ module _ (f : ℕ) (below : Below f) where
     -- what an opened second part leads to
     abbrev behind₁ : List ℕ → Trace
     behind₁ text =
-        stream.unlessRefused (judgePadding (drop m₁ text)) (P + restPart h) (zeroed h s)
-        (lastTrace (keyExpansion (r .key)) h (nextNonce (r .nonce)) (suc (openedOf r)) (P + restPart h) (drop (restPart h) ys) (first ++ take m₁ text)
-        (replaceFront (first ++ take m₁ text ++ replicate (padding m₁ + 16) 0) s) (frames f (keyExpansion (r .key))))
+        stream.unlessRefused (judgePadding (drop m₁ text)) (P + restPart h₁) (zeroed h₁ s)
+        (lastTrace (keyExpansion (r₁ .key)) h₁ (nextNonce (r₁ .nonce)) (suc (openedOf r₁)) (P + restPart h₁) (drop (restPart h₁) ys) (first ++ take m₁ text)
+        (replaceFront (first ++ take m₁ text ++ replicate (padding m₁ + 16) 0) s) (frames f (keyExpansion (r₁ .key))))
 
-    module _ (e : noRest h ≡ false) (size₁ : length first ≡ inlineLength) where
+    module _ (e : noRest h₁ ≡ false) (size₁ : length first ≡ inlineLength) where
       inline-fits : length inline ≡ length s
-      inline-fits = length-replaceFront first s (let q = rest-fits h e in omega (arith, q))
+      inline-fits = length-replaceFront first s (let q = rest-fits h₁ e in omega (arith, q))
 
-      rest-placed : (zs : List ℕ) → length zs ≤ restPart h → stored (at stage.Rest (knowing r h)) inline zs ≡ splice inline inlineLength zs
-      rest-placed zs l = ap (λ (k : ℕ). sets inline k zs) (add-zero inlineLength) ∙ sets-eq zs inline inlineLength (let q = rest-fits h e in let i = inline-fits in omega (arith, q, i))
+      rest-placed : (zs : List ℕ) → length zs ≤ restPart h₁ → stored (at stage.Rest v) inline zs ≡ splice inline inlineLength zs
+      rest-placed zs l = ap (λ (k : ℕ). sets inline k zs) (add-zero inlineLength) ∙ sets-eq zs inline inlineLength (let q = rest-fits h₁ e in let i = inline-fits in omega (arith, q, i))
 
-      rest-cut : length ys < restPart h → traced (at stage.Rest (knowing r h)) inline P ys ≡ ended (splice inline inlineLength ys)
+      rest-cut : length ys < restPart h₁ → traced (at stage.Rest v) inline P ys ≡ ended (splice inline inlineLength ys)
       rest-cut l =
-          let k : 0 + length ys < restPartLength h = rw (rest-size h e) (omega arith) in
-          short parts (at stage.Rest (knowing r h)) inline P ys k ∙ ap ended (rest-placed ys (omega arith))
+          let k : 0 + length ys < restPartLength h₁ = rw (rest-size h₁ e) (omega arith) in
+          short parts (at stage.Rest v) inline P ys k ∙ ap ended (rest-placed ys (omega arith))
 
-      module _ (l : restPart h ≤ length ys) where
-        rest-n : length rs ≡ restPart h
-        rest-n = length-take-le (restPart h) ys l
+      module _ (l : restPart h₁ ≤ length ys) where
+        rest-n : length rs ≡ restPart h₁
+        rest-n = length-take-le (restPart h₁) ys l
 
         inline-room : inlineLength ≤ length inline
-        inline-room = let q = rest-fits h e in let i = inline-fits in omega (arith, q, i)
+        inline-room = let q = rest-fits h₁ e in let i = inline-fits in omega (arith, q, i)
 
-        rest-zeroed : zeroed h (splice inline inlineLength rs) ≡ zeroed h s
+        rest-zeroed : zeroed h₁ (splice inline inlineLength rs) ≡ zeroed h₁ s
         rest-zeroed =
-            let q = rest-fits h e in
-            let z = length-replicate {A = ℕ} (needed h) 0 in
-            zeroed-over h inline rs inlineLength inline-room (let n = rest-n in omega (arith, q, n)) ∙ over-longer first (replicate (needed h) 0) s (omega (arith, z, q, size₁))
+            let q = rest-fits h₁ e in
+            let z = length-replicate {A = ℕ} (needed h₁) 0 in
+            zeroed-over h₁ inline rs inlineLength inline-room (let n = rest-n in omega (arith, q, n)) ∙ over-longer first (replicate (needed h₁) 0) s (omega (arith, z, q, size₁))
 
-        rest-finish : finish stage.Rest blank (knowing r h) (splice inline inlineLength rs)
-            ≡ unlessRefused (judgePart r rs) (zeroed h s) (behindRest (openedMore r) h (partText r rs) (splice inline inlineLength rs))
+        rest-finish : finish stage.Rest blank v (splice inline inlineLength rs)
+            ≡ unlessRefused (judgePart r₁ rs) (zeroed h₁ s) (behindRest (withOpened v) (partText r₁ rs) (splice inline inlineLength rs))
         unfolding finish
         rest-finish =
-            ap₂ (λ (b z : List ℕ). unlessRefused (judgePart r b) z (behindRest (openedMore r) h (partText r b) (splice inline inlineLength rs)))
-            (splice-at inline inlineLength rs inline-room (restPartLength h) (rest-n ∙ sym (rest-size h e))) rest-zeroed
+            ap₂ (λ (b z : List ℕ). unlessRefused (judgePart r₁ b) z (behindRest (withOpened v) (partText r₁ b) (splice inline inlineLength rs)))
+            (splice-at inline inlineLength rs inline-room (restPartLength h₁) (rest-n ∙ sym (rest-size h₁ e))) rest-zeroed
 
         -- an opened one, and what is behind it
-        module _ (j : judgePart r rs ≡ fine) where
+        module _ (j : judgePart r₁ rs ≡ fine) where
           abbrev text₁ : List ℕ
-          text₁ = partText r rs
+          text₁ = partText r₁ rs
 
           abbrev whole₁ : List ℕ
           whole₁ = first ++ take m₁ text₁
@@ -239,10 +257,10 @@ module _ (f : ℕ) (below : Below f) where
           zeros₁ = replicate (padding m₁ + 16) 0
 
           rest-length : length (take m₁ text₁) ≡ m₁
-          rest-length = length-take-le m₁ text₁ (let k = part-text-length r rs j in let n = rest-n in omega (arith, k, n))
+          rest-length = length-take-le m₁ text₁ (let k = part-text-length r₁ rs j in let n = rest-n in omega (arith, k, n))
 
-          whole-length : length whole₁ ≡ h .s1 .len
-          whole-length = length-append first (take m₁ text₁) ∙ (let k = rest-length in let l₁ = rest-beyond h e in omega (arith, k, l₁, size₁))
+          whole-length : length whole₁ ≡ h₁ .s1 .len
+          whole-length = length-append first (take m₁ text₁) ∙ (let k = rest-length in let l₁ = rest-beyond h₁ e in omega (arith, k, l₁, size₁))
 
           rest-store : splice (splice inline inlineLength rs) inlineLength (take m₁ text₁ ++ zeros₁) ≡ replaceFront (whole₁ ++ zeros₁) s
           rest-store =
@@ -260,59 +278,59 @@ module _ (f : ℕ) (below : Below f) where
               let a = length-append whole₁ zeros₁ in
               let z = length-replicate {A = ℕ} (padding m₁ + 16) 0 in
               let k = whole-length in
-              let q = rest-fits h e in
-              let l₁ = rest-beyond h e in
+              let q = rest-fits h₁ e in
+              let l₁ = rest-beyond h₁ e in
               length-replaceFront (whole₁ ++ zeros₁) s (omega (arith, a, z, k, q, l₁))
 
-          rest-stands : take (h .s1 .len) (replaceFront (whole₁ ++ zeros₁) s) ≡ whole₁
+          rest-stands : take (h₁ .s1 .len) (replaceFront (whole₁ ++ zeros₁) s) ≡ whole₁
           rest-stands =
-              ap (take (h .s1 .len)) (append-assoc whole₁ zeros₁ (drop (length (whole₁ ++ zeros₁)) s))
-              ∙ take-at whole₁ (zeros₁ ++ drop (length (whole₁ ++ zeros₁)) s) (h .s1 .len) whole-length
+              ap (take (h₁ .s1 .len)) (append-assoc whole₁ zeros₁ (drop (length (whole₁ ++ zeros₁)) s))
+              ∙ take-at whole₁ (zeros₁ ++ drop (length (whole₁ ++ zeros₁)) s) (h₁ .s1 .len) whole-length
 
           rest-behind : (P′ : ℕ) (zs : List ℕ) → length zs ≤ f
-              → runs (behindRest (openedMore r) h text₁ (splice inline inlineLength rs)) P′ zs
-              ≡ stream.unlessRefused (judgePadding (drop m₁ text₁)) P′ (zeroed h s)
-              (lastTrace (keyExpansion (r .key)) h (nextNonce (r .nonce)) (suc (openedOf r)) P′ zs whole₁ (replaceFront (whole₁ ++ zeros₁) s) (frames f (keyExpansion (r .key))))
+              → runs (behindRest (withOpened v) text₁ (splice inline inlineLength rs)) P′ zs
+              ≡ stream.unlessRefused (judgePadding (drop m₁ text₁)) P′ (zeroed h₁ s)
+              (lastTrace (keyExpansion (r₁ .key)) h₁ (nextNonce (r₁ .nonce)) (suc (openedOf r₁)) P′ zs whole₁ (replaceFront (whole₁ ++ zeros₁) s) (frames f (keyExpansion (r₁ .key))))
           unfolding behindRest openedMore
           rest-behind P′ zs k =
               let s′ = splice inline inlineLength rs in
               let s″ = replaceFront (whole₁ ++ zeros₁) s in
               let pad = judgePadding (drop m₁ text₁) in
-              ap₂ (λ (z t : List ℕ). runs (unlessRefused pad z (beginLast (openedMore r) h t)) P′ zs) rest-zeroed rest-store
-              ∙ run-unless pad (zeroed h s) (beginLast (openedMore r) h s″) P′ zs
-              ∙ ap (stream.unlessRefused pad P′ (zeroed h s))
-              (last-run (openedMore r) h P′ zs whole₁ s″ (rw rest-kept fits) rest-stands k
-              ∙ ap (λ (n : ℕ). lastTrace (keyExpansion (r .key)) h (nextNonce (r .nonce)) n P′ zs whole₁ s″ (frames f (keyExpansion (r .key)))) (opened-next r rs j))
+              ap₂ (λ (z t : List ℕ). runs (unlessRefused pad z (beginLast (withOpened v) t)) P′ zs) rest-zeroed rest-store
+              ∙ run-unless pad (zeroed h₁ s) (beginLast (withOpened v) s″) P′ zs
+              ∙ ap (stream.unlessRefused pad P′ (zeroed h₁ s))
+              (last-run (withOpened v) P′ zs whole₁ s″ (rw rest-kept fits) rest-stands k
+              ∙ ap (λ (n : ℕ). lastTrace (keyExpansion (r₁ .key)) h₁ (nextNonce (r₁ .nonce)) n P′ zs whole₁ s″ (frames f (keyExpansion (r₁ .key)))) (opened-next r₁ rs j))
 
-        rest-whole : traced (at stage.Rest (knowing r h)) inline P ys
-            ≡ partTrace (keyExpansion (r .key)) (r .nonce) (openedOf r) rs (P + restPart h) (zeroed h s) behind₁
+        rest-whole : traced (at stage.Rest v) inline P ys
+            ≡ partTrace (keyExpansion (r₁ .key)) (r₁ .nonce) (openedOf r₁) rs (P + restPart h₁) (zeroed h₁ s) behind₁
         rest-whole =
-            let some : 0 < restPart h = omega arith in
-            let len : length (drop (restPart h) ys) ≤ f = omega (arith, length-drop (restPart h) ys) in
+            let some : 0 < restPart h₁ = omega arith in
+            let len : length (drop (restPart h₁) ys) ≤ f = omega (arith, length-drop (restPart h₁) ys) in
             let s′ = splice inline inlineLength rs in
-            full parts (at stage.Rest (knowing r h)) inline P (restPart h) ys some (zero-add (restPart h) ∙ sym (rest-size h e)) l
-            ∙ ap (λ (t : List ℕ). runs (finish stage.Rest blank (knowing r h) t) (P + restPart h) (drop (restPart h) ys)) (rest-placed rs (let n = rest-n in omega (arith, n)))
-            ∙ ap (λ (y : Stepped). runs y (P + restPart h) (drop (restPart h) ys)) rest-finish
-            ∙ run-unless (judgePart r rs) (zeroed h s) (behindRest (openedMore r) h (partText r rs) s′) (P + restPart h) (drop (restPart h) ys)
-            ∙ part-next (judgePart r rs) (P + restPart h) (zeroed h s) _ (behind₁ (partText r rs)) (λ j. rest-behind j (P + restPart h) (drop (restPart h) ys) len)
-            ∙ part-trace r rs (P + restPart h) (zeroed h s) behind₁
+            full parts (at stage.Rest v) inline P (restPart h₁) ys some (zero-add (restPart h₁) ∙ sym (rest-size h₁ e)) l
+            ∙ ap (λ (t : List ℕ). runs (finish stage.Rest blank v t) (P + restPart h₁) (drop (restPart h₁) ys)) (rest-placed rs (let n = rest-n in omega (arith, n)))
+            ∙ ap (λ (y : Stepped). runs y (P + restPart h₁) (drop (restPart h₁) ys)) rest-finish
+            ∙ run-unless (judgePart r₁ rs) (zeroed h₁ s) (behindRest (withOpened v) (partText r₁ rs) s′) (P + restPart h₁) (drop (restPart h₁) ys)
+            ∙ part-next (judgePart r₁ rs) (P + restPart h₁) (zeroed h₁ s) _ (behind₁ (partText r₁ rs)) (λ j. rest-behind j (P + restPart h₁) (drop (restPart h₁) ys) len)
+            ∙ part-trace r₁ rs (P + restPart h₁) (zeroed h₁ s) behind₁
 
     -- segment 1 is as long as the inline buffer has it
     abbrev InlineSize : Type 0
-    InlineSize = length first ≡ cond (noRest h) (h .s1 .len) inlineLength
+    InlineSize = length first ≡ cond (noRest h₁) (h₁ .s1 .len) inlineLength
 
-    rest-by : (b c : Bool) → noRest h ≡ b → ltb (length ys) (restPart h) ≡ c → length first ≡ cond b (h .s1 .len) inlineLength
-        → runs (cond b (beginLast r h inline) (record { state = at stage.Rest (knowing r h); store = inline; report = report.More })) P ys
-        ≡ cond b (lastTrace (keyExpansion (r .key)) h (r .nonce) (openedOf r) P ys first inline (frames f (keyExpansion (r .key))))
-        (cond c (ended (splice inline inlineLength ys)) (partTrace (keyExpansion (r .key)) (r .nonce) (openedOf r) rs (P + restPart h) (zeroed h s) behind₁))
+    rest-by : (b c : Bool) → noRest h₁ ≡ b → ltb (length ys) (restPart h₁) ≡ c → length first ≡ cond b (h₁ .s1 .len) inlineLength
+        → runs (cond b (beginLast v inline) (record { state = at stage.Rest v; store = inline; report = report.More })) P ys
+        ≡ cond b (lastTrace (keyExpansion (r₁ .key)) h₁ (r₁ .nonce) (openedOf r₁) P ys first inline (frames f (keyExpansion (r₁ .key))))
+        (cond c (ended (splice inline inlineLength ys)) (partTrace (keyExpansion (r₁ .key)) (r₁ .nonce) (openedOf r₁) rs (P + restPart h₁) (zeroed h₁ s) behind₁))
     rest-by true c e q k =
-        let l : length first ≤ length s = (let z = segments-fit h in omega (arith, z)) in
-        last-run r h P ys first inline (rw (length-replaceFront first s l) fits) (take-at first (drop (length first) s) (h .s1 .len) k) left
-    rest-by false true e q k = rest-cut e k (ltb-true (length ys) (restPart h) q)
-    rest-by false false e q k = rest-whole e k (ltb-false (length ys) (restPart h) q)
+        let l : length first ≤ length s = (let z = segments-fit h₁ in omega (arith, z)) in
+        last-run v P ys first inline (rw (length-replaceFront first s l) fits) (take-at first (drop (length first) s) (h₁ .s1 .len) k) left
+    rest-by false true e q k = rest-cut e k (ltb-true (length ys) (restPart h₁) q)
+    rest-by false false e q k = rest-whole e k (ltb-false (length ys) (restPart h₁) q)
 
-    rest-run : InlineSize → runs (beginRest r h inline) P ys ≡ restTrace (keyExpansion (r .key)) h (r .nonce) (openedOf r) P ys first s (frames f (keyExpansion (r .key)))
-    rest-run k = rest-by (noRest h) (ltb (length ys) (restPart h)) refl refl k
+    rest-run : InlineSize → runs (beginRest v inline) P ys ≡ restTrace (keyExpansion (r₁ .key)) h₁ (r₁ .nonce) (openedOf r₁) P ys first s (frames f (keyExpansion (r₁ .key)))
+    rest-run k = rest-by (noRest h₁) (ltb (length ys) (restPart h₁)) refl refl k
 
   -- ---- the first part
 
@@ -321,51 +339,58 @@ module _ (f : ℕ) (below : Below f) where
       stream.unlessRefused (judgeFirst text (length s)) P s
       (restTrace (keyExpansion (r .key)) (headerOf text) (nextNonce (r .nonce)) (suc (openedOf r)) P ys (take (headerOf text .s1 .len) (drop 32 text)) s (frames f (keyExpansion (r .key))))
 
-  first-behind : (r : Receiving) (P : ℕ) (ys s bytes : List ℕ) → length ys ≤ f → length bytes ≡ firstLength → judgePart r bytes ≡ fine
-      → runs (behindFirst (openedMore r) (partText r bytes) s) P ys ≡ behind₀ r P ys s (partText r bytes)
+  first-behind : (v : Known) (P : ℕ) (ys s bytes : List ℕ) → length ys ≤ f → length bytes ≡ firstLength → judgePart (v .receiving) bytes ≡ fine
+      → runs (behindFirst (withOpened v) (partText (v .receiving) bytes) s) P ys ≡ behind₀ (v .receiving) P ys s (partText (v .receiving) bytes)
   unfolding behindFirst openedMore
-  first-behind r P ys s bytes left n j =
+  first-behind v P ys s bytes left n j =
+      let r = v .receiving in
       let text = partText r bytes in
       let h = headerOf text in
       let first = take (h .s1 .len) (drop 32 text) in
-      run-unless (judgeFirst text (length s)) s (beginRest (openedMore r) h (replaceFront first s)) P ys
+      run-unless (judgeFirst text (length s)) s (beginRest (withHeader (withOpened v) h) (replaceFront first s)) P ys
       ∙ part-next (judgeFirst text (length s)) P s _ _
-      (λ q. rest-run (openedMore r) h P ys first s (first-fits text (length s) q) left
+      (λ q. rest-run (withHeader (withOpened v) h) P ys first s (first-fits text (length s) q) left
       (inline-size text h (noRest h) refl (part-text-length r bytes j ∙ rw n))
       ∙ ap (λ (m : ℕ). restTrace (keyExpansion (r .key)) h (nextNonce (r .nonce)) m P ys first s (frames f (keyExpansion (r .key)))) (opened-next r bytes j))
 
-  module _ (r : Receiving) (P : ℕ) (ys s : List ℕ) (left : length ys ≤ suc f) where
+  module _ (v : Known) (P : ℕ) (ys s : List ℕ) (left : length ys ≤ suc f) where
+    abbrev begun : Known
+    begun = withHeader v noHeader
+
+    abbrev r₀ : Receiving
+    r₀ = v .receiving
+
     abbrev fs : List ℕ
     fs = take firstLength ys
 
     first-whole : firstLength ≤ length ys
-        → traced (nextFrame r) s P ys ≡ partTrace (keyExpansion (r .key)) (r .nonce) (openedOf r) fs (P + firstLength) s (behind₀ r (P + firstLength) (drop firstLength ys) s)
+        → traced (nextFrame v) s P ys ≡ partTrace (keyExpansion (r₀ .key)) (r₀ .nonce) (openedOf r₀) fs (P + firstLength) s (behind₀ r₀ (P + firstLength) (drop firstLength ys) s)
     unfolding finish
     first-whole l =
         let n : length fs ≡ firstLength = length-take-le firstLength ys l in
         let some : 0 < firstLength = lit< tt in
         let len : length (drop firstLength ys) ≤ f = omega (arith, length-drop firstLength ys) in
-        full parts (nextFrame r) s P firstLength ys some refl l
-        ∙ ap (λ (b : List ℕ). runs (unlessRefused (judgePart r b) s (behindFirst (openedMore r) (partText r b) s)) (P + firstLength) (drop firstLength ys)) (sets-whole blank fs n)
-        ∙ run-unless (judgePart r fs) s (behindFirst (openedMore r) (partText r fs) s) (P + firstLength) (drop firstLength ys)
-        ∙ part-next (judgePart r fs) (P + firstLength) s _ (behind₀ r (P + firstLength) (drop firstLength ys) s (partText r fs))
-        (λ j. first-behind r (P + firstLength) (drop firstLength ys) s fs len n j)
-        ∙ part-trace r fs (P + firstLength) s (behind₀ r (P + firstLength) (drop firstLength ys) s)
+        full parts (nextFrame v) s P firstLength ys some refl l
+        ∙ ap (λ (b : List ℕ). runs (unlessRefused (judgePart r₀ b) s (behindFirst (withOpened begun) (partText r₀ b) s)) (P + firstLength) (drop firstLength ys)) (sets-whole blank fs n)
+        ∙ run-unless (judgePart r₀ fs) s (behindFirst (withOpened begun) (partText r₀ fs) s) (P + firstLength) (drop firstLength ys)
+        ∙ part-next (judgePart r₀ fs) (P + firstLength) s _ (behind₀ r₀ (P + firstLength) (drop firstLength ys) s (partText r₀ fs))
+        (λ j. first-behind begun (P + firstLength) (drop firstLength ys) s fs len n j)
+        ∙ part-trace r₀ fs (P + firstLength) s (behind₀ r₀ (P + firstLength) (drop firstLength ys) s)
 
     first-by : (c : Bool) → ltb (length ys) firstLength ≡ c
-        → traced (nextFrame r) s P ys
-        ≡ cond c (ended s) (partTrace (keyExpansion (r .key)) (r .nonce) (openedOf r) fs (P + firstLength) s (behind₀ r (P + firstLength) (drop firstLength ys) s))
-    first-by true q = short parts (nextFrame r) s P ys (let l = ltb-true (length ys) firstLength q in omega (arith, l))
+        → traced (nextFrame v) s P ys
+        ≡ cond c (ended s) (partTrace (keyExpansion (r₀ .key)) (r₀ .nonce) (openedOf r₀) fs (P + firstLength) s (behind₀ r₀ (P + firstLength) (drop firstLength ys) s))
+    first-by true q = short parts (nextFrame v) s P ys (let l = ltb-true (length ys) firstLength q in omega (arith, l))
     first-by false q = first-whole (ltb-false (length ys) firstLength q)
 
 -- THE FRAMES from a state on are those of the definition
 pub frames-trace : (f : ℕ) → Below f
 unfolding Below frames
-frames-trace zero r P [] s l = ap traceBy (scan-none (byteStep parts) (nextFrame r) s P)
-frames-trace zero r P (y ∷ ys) s l = absurd (omega arith)
-frames-trace (suc f) r P ys s l = first-by f (frames-trace f) r P ys s l (ltb (length ys) firstLength) refl
+frames-trace zero v P [] s l = ap traceBy (scan-none (byteStep parts) (nextFrame v) s P)
+frames-trace zero v P (y ∷ ys) s l = absurd (omega arith)
+frames-trace (suc f) v P ys s l = first-by f (frames-trace f) v P ys s l (ltb (length ys) firstLength) refl
 
 -- from a switch on: THE DEFINITION
 pub sealed-trace : (key nonce : List ℕ) (P : ℕ) (ys s : List ℕ) → traced (switched key nonce) s P ys ≡ sealedTrace key nonce 0 P ys s
 unfolding Below switched freshReceiving sealedTrace
-sealed-trace key nonce P ys s = frames-trace (length ys) (freshReceiving key nonce) P ys s (le-refl (length ys))
+sealed-trace key nonce P ys s = frames-trace (length ys) (knowing (freshReceiving key nonce) noHeader) P ys s (le-refl (length ys))

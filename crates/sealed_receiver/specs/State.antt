@@ -5,7 +5,8 @@ use Prim.Native.Nat.{ℕ, _+_, _%_, _^_}
 use lib.ListN.{drop, replicate}
 use lib.Dec.{leb, ltb, eqb}
 use Rattle.refusal.specs.declared.Numbers.{Numbers}
-use Rattle.refusal.specs.Refusals.{isFine}
+use Rattle.refusal.specs.declared.Refusal.the-variants as refusal
+use Rattle.refusal.specs.Refusals.{isFine, refusalNumber}
 use Rattle.preamble.specs.declared.Header.{Header}
 use Rattle.preamble.specs.Judge.{judgeHeader}
 use Rattle.receiver.specs.State.{isNoHeader, isNoRefusal}
@@ -100,7 +101,9 @@ headerRule k h = cond (inFrame k) (isFine (judgeHeader h)) (isNoHeader h)
 -- a refusal that a receiver of sealed frames gives: 5 to 10, 12, and 17 to 19, with one detail
 abbrev pub given : Numbers → Bool
 given n =
-    ((leb 5 (n .number) && leb (n .number) 10) || (eqb (n .number) 12 || (leb 17 (n .number) && leb (n .number) 19)))
+    ((leb (refusalNumber refusal.PreambleChecksum) (n .number) && leb (n .number) (refusalNumber (refusal.StoreShort 0)))
+    || (eqb (n .number) (refusalNumber (refusal.LateStatus 0))
+    || (leb (refusalNumber refusal.AuthTag) (n .number) && leb (n .number) (refusalNumber refusal.Padding))))
     && (eqb (n .second) 0 && eqb (n .third) 0)
 
 abbrev pub refusalRule : Stage → Numbers → Bool

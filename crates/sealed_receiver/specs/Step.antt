@@ -10,7 +10,7 @@ use Rattle.buffer.specs.Splice.{replaceFront, splice}
 use Rattle.refusal.specs.declared.Numbers.{Numbers}
 use Rattle.refusal.specs.declared.Refusal.the-variants as refusal
 use Rattle.refusal.specs.declared.Verdict.{Verdict}
-use Rattle.refusal.specs.Refusals.{Judged, fine, refused, numbersOf, refusedWith, judgedBy, orElse, isFine}
+use Rattle.refusal.specs.Refusals.{Judged, fine, refused, numbersOf, refusedWith, judgedBy, orElse, isFine, noRefusal}
 use Rattle.preamble.specs.declared.Header.{Header}
 use Rattle.preamble.specs.Layout.{total}
 use Rattle.preamble.specs.Judge.{headerOf, judgeHeader}
@@ -19,7 +19,7 @@ use Rattle.stream.specs.declared.Event.{Event}
 use Rattle.stream.specs.declared.Event.the-variants as event
 use Rattle.receiver.specs.declared.Report.{Report}
 use Rattle.receiver.specs.declared.Report.the-variants as report
-use Rattle.receiver.specs.State.{noHeader, noRefusal}
+use Rattle.receiver.specs.State.{noHeader}
 use Rattle.gcm.specs.declared.Outcome.{Outcome}
 use Rattle.gcm.specs.declared.Outcome.the-variants as outcome
 use Rattle.gcm.specs.Gcm.{Opened, plain, fail, opened}
@@ -50,13 +50,21 @@ at k v = stateAt k 0 blank v
 abbrev pub knowing : Receiving → Header → Known
 knowing r h = record { receiving = r; header = h; refusal = noRefusal }
 
+-- one part more was opened, and nothing is refused
+abbrev pub withOpened : Known → Known
+withOpened v = record { receiving = openedMore (v .receiving); header = v .header; refusal = noRefusal }
+
+-- another frame
+abbrev pub withHeader : Known → Header → Known
+withHeader v h = record { receiving = v .receiving; header = h; refusal = v .refusal }
+
 -- the next frame begins
-abbrev pub nextFrame : Receiving → State
-nextFrame r = at stage.First (knowing r noHeader)
+abbrev pub nextFrame : Known → State
+nextFrame v = at stage.First (withHeader v noHeader)
 
 -- THE STATE OF A SWITCH: one key, and the nonce of the first part
 unfoldable pub switched : List ℕ → List ℕ → State
-switched key nonce = nextFrame (freshReceiving key nonce)
+switched key nonce = at stage.First (knowing (freshReceiving key nonce) noHeader)
 
 -- refused from now on
 abbrev pub refusedState : Numbers → State
@@ -97,34 +105,36 @@ judgePart r bytes = orElse (judgeNonce (openedOf r)) (judgeOpened (opened (r .ke
 unfoldable pub partText : Receiving → List ℕ → List ℕ
 partText r bytes = textOf (opened (r .key) (r .nonce) bytes)
 
--- how a frame ends, whose segments are these; r is what opens the next part
-abbrev pub endFrame : Ended → Receiving → Header → List ℕ → List ℕ → Stepped
-endFrame whole r h segments s = stepped (nextFrame r) (holding h segments s) (report.Event (event.Frame h))
-endFrame dropped r h segments s = stepped (nextFrame r) (zeroed h s) (report.Event (event.Dropped h))
-endFrame (turnedAway n) r h segments s = refuse n (zeroed h s)
+-- how a frame ends, whose segments are these
+abbrev pub endFrame : Ended → Known → List ℕ → List ℕ → Stepped
+endFrame whole v segments s = stepped (nextFrame v) (holding (v .header) segments s) (report.Event (event.Frame (v .header)))
+endFrame dropped v segments s = stepped (nextFrame v) (zeroed (v .header) s) (report.Event (event.Dropped (v .header)))
+endFrame (turnedAway n) v segments s = refuse n (zeroed (v .header) s)
 
 -- behind segment 1: the last part, where there is one
-abbrev pub beginLast : Receiving → Header → List ℕ → Stepped
-beginLast r h s = cond (noLast h) (endFrame whole r h (take (h .s1 .len) s) s) (silent (at stage.Last (knowing r h)) s)
+abbrev pub beginLast : Known → List ℕ → Stepped
+beginLast v s = cond (noLast (v .header)) (endFrame whole v (take (v .header .s1 .len) s) s) (silent (at stage.Last v) s)
 
 -- behind the inline buffer: the rest of segment 1, where there is one
-abbrev pub beginRest : Receiving → Header → List ℕ → Stepped
-beginRest r h s = cond (noRest h) (beginLast r h s) (silent (at stage.Rest (knowing r h)) s)
+abbrev pub beginRest : Known → List ℕ → Stepped
+beginRest v s = cond (noRest (v .header)) (beginLast v s) (silent (at stage.Rest v) s)
 
 -- an opened first part: 5 to 10, 19, and segment 1's inline bytes at the store's front
-unfoldable pub behindFirst : Receiving → List ℕ → List ℕ → Stepped
-behindFirst r text s =
-    unlessRefused (judgeFirst text (length s)) s (beginRest r (headerOf text) (replaceFront (take (headerOf text .s1 .len) (drop 32 text)) s))
+unfoldable pub behindFirst : Known → List ℕ → List ℕ → Stepped
+behindFirst v text s =
+    unlessRefused (judgeFirst text (length s)) s
+    (beginRest (withHeader v (headerOf text)) (replaceFront (take (headerOf text .s1 .len) (drop 32 text)) s))
 
 -- an opened second part: 19, and the rest of segment 1 behind its front, with zeros to the part's end
-unfoldable pub behindRest : Receiving → Header → List ℕ → List ℕ → Stepped
-behindRest r h text s =
-    unlessRefused (judgePadding (drop (h .s1 .len - inlineLength) text)) (zeroed h s)
-    (beginLast r h (splice s inlineLength (take (h .s1 .len - inlineLength) text ++ replicate (padding (h .s1 .len - inlineLength) + 16) 0)))
+unfoldable pub behindRest : Known → List ℕ → List ℕ → Stepped
+behindRest v text s =
+    unlessRefused (judgePadding (drop (v .header .s1 .len - inlineLength) text)) (zeroed (v .header) s)
+    (beginLast v (splice s inlineLength (take (v .header .s1 .len - inlineLength) text ++ replicate (padding (v .header .s1 .len - inlineLength) + 16) 0)))
 
 -- an opened last part: 12, 19, drop, or the frame
-unfoldable pub behindLast : Receiving → Header → List ℕ → List ℕ → Stepped
-behindLast r h text s = endFrame (lastEnded h text) r h (take (h .s1 .len) s ++ unpadded (lastLengths h) text) s
+unfoldable pub behindLast : Known → List ℕ → List ℕ → Stepped
+behindLast v text s =
+    endFrame (lastEnded (v .header) text) v (take (v .header .s1 .len) s ++ unpadded (lastLengths (v .header)) text) s
 
 -- the bytes of a later part, in the store
 abbrev pub sealedIn : Stage → Header → List ℕ → List ℕ
@@ -132,13 +142,13 @@ sealedIn k h s = take (sizeOf k h) (drop (placeOf k h) s)
 
 -- the last byte of a part came: by the stage, the block, and what is known
 unfoldable pub finish : Stage → List ℕ → Known → List ℕ → Stepped
-finish stage.First b v s = unlessRefused (judgePart (v .receiving) b) s (behindFirst (openedMore (v .receiving)) (partText (v .receiving) b) s)
+finish stage.First b v s = unlessRefused (judgePart (v .receiving) b) s (behindFirst (withOpened v) (partText (v .receiving) b) s)
 finish stage.Rest b v s =
     unlessRefused (judgePart (v .receiving) (sealedIn stage.Rest (v .header) s)) (zeroed (v .header) s)
-    (behindRest (openedMore (v .receiving)) (v .header) (partText (v .receiving) (sealedIn stage.Rest (v .header) s)) s)
+    (behindRest (withOpened v) (partText (v .receiving) (sealedIn stage.Rest (v .header) s)) s)
 finish stage.Last b v s =
     unlessRefused (judgePart (v .receiving) (sealedIn stage.Last (v .header) s)) (zeroed (v .header) s)
-    (behindLast (openedMore (v .receiving)) (v .header) (partText (v .receiving) (sealedIn stage.Last (v .header) s)) s)
+    (behindLast (withOpened v) (partText (v .receiving) (sealedIn stage.Last (v .header) s)) s)
 finish stage.Refused b v s = silent (at stage.Refused v) s
 
 -- bytes go to their place: those of a first part into the block, those of a later one into the store

@@ -12,9 +12,11 @@ use refusal::in_numbers;
 use states::agrees_with_itself;
 use states::fresh_receiving;
 use states::is_refused;
+use states::knowing;
 use states::needed_by;
-use states::next_frame;
+use states::no_header;
 use states::refused_state;
+use states::state_at;
 use stream::Event;
 ghost use mathlib.Core.Path.{_≡_};
 ghost use mathlib.Core.List.{List};
@@ -78,7 +80,10 @@ pub struct Transition {
 pub fn switch_on(key: [u8; 16], nonce: [u8; 12]) -> State
     ensures { λ r. ⌜ r ≡ switched key nonce ⌝ }
 {
-    next_frame(fresh_receiving(key, nonce))
+    state_at(
+        Stage::First,
+        knowing(fresh_receiving(key, nonce), no_header()),
+    )
 }
 
 // Takes nothing and refuses.

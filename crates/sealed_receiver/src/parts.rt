@@ -4,11 +4,11 @@ use crate::Receiving;
 use crate::Stage;
 use crate::State;
 use crate::Transition;
-use crate::states::knowing;
 use crate::states::next_frame;
-use crate::states::opened_more;
 use crate::states::refused_state;
 use crate::states::state_at;
+use crate::states::with_header;
+use crate::states::with_opened;
 use aes::expand;
 use banner::Revision;
 use body::Ending;
@@ -119,50 +119,52 @@ fn refuse_frame(h: Header, why: Refusal, store: &mut [u8]) -> Transition
     refuse(in_numbers(why))
 }
 
-fn drop_frame(r: Receiving, h: Header, store: &mut [u8]) -> Transition
-    requires { ⌜ needed h ≤ length (now store) ⌝ }
-    ensures { λ q. ⌜ ((segments : List ℕ) → stepped (q .state) (now (store .exit)) (q .report) ≡ endFrame dropped r h segments (now (store .entry))) ⌝ }
+fn drop_frame(v: Known, store: &mut [u8]) -> Transition
+    requires { ⌜ needed (v .header) ≤ length (now store) ⌝ }
+    ensures { λ r. ⌜ ((segments : List ℕ) → stepped (r .state) (now (store .exit)) (r .report) ≡ endFrame dropped v segments (now (store .entry))) ⌝ }
 {
+    let h = v.header;
     zero_needed(store, h);
     Transition {
-        state: next_frame(r),
+        state: next_frame(v),
         report: Report::Event(Event::Dropped(h)),
     }
 }
 
 // The segments stand at the store's front: zeros behind them.
-fn end_whole(r: Receiving, h: Header, store: &mut [u8]) -> Transition
-    requires { ⌜ needed h ≤ length (now store) ⌝ }
-    ensures { λ q. ⌜ stepped (q .state) (now (store .exit)) (q .report) ≡ endFrame whole r h (take (total h) (now (store .entry))) (now (store .entry)) ⌝ }
+fn end_whole(v: Known, store: &mut [u8]) -> Transition
+    requires { ⌜ needed (v .header) ≤ length (now store) ⌝ }
+    ensures { λ r. ⌜ stepped (r .state) (now (store .exit)) (r .report) ≡ endFrame whole v (take (total (v .header)) (now (store .entry))) (now (store .entry)) ⌝ }
 {
+    let h = v.header;
     let n = total_of(h) as usize;
     put_zeros(&mut store[n..], needed_of(h) as usize - n);
     Transition {
-        state: next_frame(r),
+        state: next_frame(v),
         report: Report::Event(Event::Frame(h)),
     }
 }
 
 // Behind segment 1.
-fn begin_last(r: Receiving, h: Header, store: &mut [u8]) -> Transition
-    requires { ⌜ (needed h ≤ length (now store)) × (isFine (judgeHeader h) ≡ true) ⌝ }
-    ensures { λ q. ⌜ stepped (q .state) (now (store .exit)) (q .report) ≡ beginLast r h (now (store .entry)) ⌝ }
+fn begin_last(v: Known, store: &mut [u8]) -> Transition
+    requires { ⌜ (needed (v .header) ≤ length (now store)) × (isFine (judgeHeader (v .header)) ≡ true) ⌝ }
+    ensures { λ r. ⌜ stepped (r .state) (now (store .exit)) (r .report) ≡ beginLast v (now (store .entry)) ⌝ }
 {
-    if no_last(h) {
-        return end_whole(r, h, store);
+    if no_last(v.header) {
+        return end_whole(v, store);
     }
-    more(state_at(Stage::Last, knowing(r, h)))
+    more(state_at(Stage::Last, v))
 }
 
 // Behind the inline buffer.
-fn begin_rest(r: Receiving, h: Header, store: &mut [u8]) -> Transition
-    requires { ⌜ (needed h ≤ length (now store)) × (isFine (judgeHeader h) ≡ true) ⌝ }
-    ensures { λ q. ⌜ stepped (q .state) (now (store .exit)) (q .report) ≡ beginRest r h (now (store .entry)) ⌝ }
+fn begin_rest(v: Known, store: &mut [u8]) -> Transition
+    requires { ⌜ (needed (v .header) ≤ length (now store)) × (isFine (judgeHeader (v .header)) ≡ true) ⌝ }
+    ensures { λ r. ⌜ stepped (r .state) (now (store .exit)) (r .report) ≡ beginRest v (now (store .entry)) ⌝ }
 {
-    if no_rest(h) {
-        return begin_last(r, h, store);
+    if no_rest(v.header) {
+        return begin_last(v, store);
     }
-    more(state_at(Stage::Rest, knowing(r, h)))
+    more(state_at(Stage::Rest, v))
 }
 
 // ---- the first part
@@ -181,16 +183,16 @@ fn judge_first(text: &[u8], store: usize) -> Verdict
     or_else(judge_preamble(text, 4294967296), last)
 }
 
-fn behind_first(r: Receiving, text: &[u8], store: &mut [u8]) -> Transition
+fn behind_first(v: Known, text: &[u8], store: &mut [u8]) -> Transition
     requires { ⌜ length (now text) ≡ 80 ⌝ }
-    ensures { λ q. ⌜ stepped (q .state) (now (store .exit)) (q .report) ≡ behindFirst r (now (text .entry)) (now (store .entry)) ⌝ }
+    ensures { λ r. ⌜ stepped (r .state) (now (store .exit)) (r .report) ≡ behindFirst v (now (text .entry)) (now (store .entry)) ⌝ }
 {
     let judged = judge_first(text, store.len());
     match judged {
         Verdict::Fine => {
             let h = read_header(text);
             put(store, part(text, 32, h.s1.len as usize));
-            begin_rest(r, h, store)
+            begin_rest(with_header(v, h), store)
         }
         Verdict::Refused(why) => refuse(in_numbers(why)),
     }
@@ -203,7 +205,7 @@ fn end_first(block: [u8; 96], v: Known, store: &mut [u8]) -> Transition
     let r = v.receiving;
     let opened = open_part(r, &mut b[0..]);
     match opened {
-        Verdict::Fine => behind_first(opened_more(r), part(&b, 0, 80), store),
+        Verdict::Fine => behind_first(with_opened(v), part(&b, 0, 80), store),
         Verdict::Refused(why) => refuse(in_numbers(why)),
     }
 }
@@ -211,17 +213,17 @@ fn end_first(block: [u8; 96], v: Known, store: &mut [u8]) -> Transition
 // ---- the rest of segment 1
 
 // Its text stands in the store, from byte 48 on.
-fn behind_rest(r: Receiving, h: Header, store: &mut [u8]) -> Transition
-    requires { ⌜ (needed h ≤ length (now store)) × (isFine (judgeHeader h) ≡ true) × (noRest h ≡ false) ⌝ }
-    ensures { λ q. ⌜ stepped (q .state) (now (store .exit)) (q .report) ≡ behindRest r h (take (restPart h - 16) (drop inlineLength (now (store .entry)))) (now (store .entry)) ⌝ }
+fn behind_rest(v: Known, store: &mut [u8]) -> Transition
+    requires { ⌜ (needed (v .header) ≤ length (now store)) × (isFine (judgeHeader (v .header)) ≡ true) × (noRest (v .header) ≡ false) ⌝ }
+    ensures { λ r. ⌜ stepped (r .state) (now (store .exit)) (r .report) ≡ behindRest v (take (restPart (v .header) - 16) (drop inlineLength (now (store .entry)))) (now (store .entry)) ⌝ }
 {
-    let n = h.s1.len as usize;
+    let n = v.header.s1.len as usize;
     let pad = padding(n - 48);
     if all_zero(part(store, n, pad)) {
         put_zeros(&mut store[n + pad..], 16);
-        return begin_last(r, h, store);
+        return begin_last(v, store);
     }
-    refuse_frame(h, Refusal::Padding, store)
+    refuse_frame(v.header, Refusal::Padding, store)
 }
 
 fn end_rest(v: Known, store: &mut [u8]) -> Transition
@@ -233,7 +235,7 @@ fn end_rest(v: Known, store: &mut [u8]) -> Transition
     let n = rest_part_length(h) as usize;
     let opened = open_part(r, &mut store[48..48 + n]);
     match opened {
-        Verdict::Fine => behind_rest(opened_more(r), h, store),
+        Verdict::Fine => behind_rest(with_opened(v), store),
         Verdict::Refused(why) => refuse_frame(h, why, store),
     }
 }
@@ -322,19 +324,20 @@ fn close_up(h: Header, store: &mut [u8])
 }
 
 // Its text stands in the store, behind segment 1.
-fn behind_last(r: Receiving, h: Header, store: &mut [u8]) -> Transition
-    requires { ⌜ (needed h ≤ length (now store)) × (noLast h ≡ false) ⌝ }
-    ensures { λ q. ⌜ stepped (q .state) (now (store .exit)) (q .report) ≡ behindLast r h (take (lastPart h - 16) (drop (h .s1 .len) (now (store .entry)))) (now (store .entry)) ⌝ }
+fn behind_last(v: Known, store: &mut [u8]) -> Transition
+    requires { ⌜ (needed (v .header) ≤ length (now store)) × (noLast (v .header) ≡ false) ⌝ }
+    ensures { λ r. ⌜ stepped (r .state) (now (store .exit)) (r .report) ≡ behindLast v (take (lastPart (v .header) - 16) (drop (v .header .s1 .len) (now (store .entry)))) (now (store .entry)) ⌝ }
 {
+    let h = v.header;
     let at = h.s1.len as usize;
     let n = last_part_length(h) as usize - 16;
     let end = end_of_last(h, part(store, at, n));
     match end {
         Ending::Whole => {
             close_up(h, store);
-            end_whole(r, h, store)
+            end_whole(v, store)
         }
-        Ending::Dropped => drop_frame(r, h, store),
+        Ending::Dropped => drop_frame(v, store),
         Ending::Refused(why) => refuse_frame(h, why, store),
     }
 }
@@ -349,7 +352,7 @@ fn end_last(v: Known, store: &mut [u8]) -> Transition
     let n = last_part_length(h) as usize;
     let opened = open_part(r, &mut store[at..at + n]);
     match opened {
-        Verdict::Fine => behind_last(opened_more(r), h, store),
+        Verdict::Fine => behind_last(with_opened(v), store),
         Verdict::Refused(why) => refuse_frame(h, why, store),
     }
 }

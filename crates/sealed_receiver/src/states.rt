@@ -22,15 +22,16 @@ use secure::rest_part_length;
 ghost use mathlib.Core.Path.{_≡_};
 ghost use mathlib.Core.Bool.{cond};
 ghost use Prim.Native.Nat.{_+_, _<_};
-ghost use Rattle.receiver.specs.State.{noHeader, noRefusal};
+ghost use Rattle.refusal.specs.Refusals.{noRefusal};
+ghost use Rattle.receiver.specs.State.{noHeader};
 ghost use Rattle.secure.specs.Layout.{noRest};
 ghost use Rattle.sealed_receiver.specs.declared.Stage.the-variants as stage;
 ghost use Rattle.sealed_receiver.specs.State.{isFirst, isRefused, sizeOf, placeOf, inFrame, needed, freshReceiving, openedMore, noReceiving, isNoReceiving, receivingRule, openedBefore, openedRule, headerRule, given, refusalRule, countRule, inBlock, blockRule, rules, agrees};
-ghost use Rattle.sealed_receiver.specs.Step.{at, knowing, nextFrame, refusedState};
+ghost use Rattle.sealed_receiver.specs.Step.{at, knowing, withOpened, withHeader, nextFrame, refusedState};
 
 // ---- states
 
-fn no_header() -> Header
+pub(crate) fn no_header() -> Header
     ensures { λ r. ⌜ r ≡ noHeader ⌝ }
 {
     let none = Segment { len: 0, align: 0 };
@@ -41,6 +42,17 @@ fn no_header() -> Header
         s2: none,
         s3: none,
         s4: none,
+    }
+}
+
+fn no_refusal() -> Numbers
+    ensures { λ r. ⌜ r ≡ noRefusal ⌝ }
+{
+    Numbers {
+        number: 0,
+        first: 0,
+        second: 0,
+        third: 0,
     }
 }
 
@@ -64,19 +76,33 @@ pub(crate) fn knowing(receiving: Receiving, header: Header) -> Known
     Known {
         receiving: receiving,
         header: header,
-        refusal: Numbers {
-            number: 0,
-            first: 0,
-            second: 0,
-            third: 0,
-        },
+        refusal: no_refusal(),
     }
 }
 
-pub(crate) fn next_frame(receiving: Receiving) -> State
-    ensures { λ r. ⌜ r ≡ nextFrame receiving ⌝ }
+// One part more was opened, and nothing is refused.
+pub(crate) fn with_opened(v: Known) -> Known
+    ensures { λ r. ⌜ r ≡ withOpened v ⌝ }
 {
-    state_at(Stage::First, knowing(receiving, no_header()))
+    let mut next = v;
+    next.receiving = opened_more(v.receiving);
+    next.refusal = no_refusal();
+    next
+}
+
+// Another frame.
+pub(crate) fn with_header(v: Known, header: Header) -> Known
+    ensures { λ r. ⌜ r ≡ withHeader v header ⌝ }
+{
+    let mut next = v;
+    next.header = header;
+    next
+}
+
+pub(crate) fn next_frame(v: Known) -> State
+    ensures { λ r. ⌜ r ≡ nextFrame v ⌝ }
+{
+    state_at(Stage::First, with_header(v, no_header()))
 }
 
 pub(crate) fn fresh_receiving(key: [u8; 16], nonce: [u8; 12]) -> Receiving
@@ -91,7 +117,7 @@ pub(crate) fn fresh_receiving(key: [u8; 16], nonce: [u8; 12]) -> Receiving
 }
 
 // One part more was opened.
-pub(crate) fn opened_more(r: Receiving) -> Receiving
+fn opened_more(r: Receiving) -> Receiving
     ensures { λ q. ⌜ q ≡ openedMore r ⌝ }
 {
     let key = r.key;

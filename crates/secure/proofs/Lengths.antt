@@ -2,7 +2,7 @@
 use mathlib.Core.Path.{_≡_, refl, sym, ap, ap₂, _∙_}
 use mathlib.Core.Bool.{Bool, true, false, cond}
 use mathlib.Core.List.{List, _++_, append-nil}
-use Prim.Native.Nat.{ℕ, _+_, _-_, _≤_}
+use Prim.Native.Nat.{ℕ, _+_, _-_, _≤_, suc, _<_}
 use native.Mathlib.Nat.{zero-add}
 use native.Mathlib.Omega.{arith}
 use lib.ListN.{length, take, drop, replicate, length-take, length-drop, length-append, length-replicate}
@@ -16,7 +16,7 @@ use Rattle.banner.specs.declared.Revision.the-variants.{Msgr21}
 use Rattle.aes.specs.Aes.{State}
 use Rattle.gcm.specs.Gcm.{sealedBy}
 use Rattle.gcm.proofs.Placing.{sealed-length}
-use Rattle.secure.specs.Layout.{nextNonce, padding, roundUp, padded, inlined, epilogue16, firstText, restText, lastText, noRest, noLast, unlessNone, laterTexts, texts, partsFrom, sealedParts, sealedFrame, restPart, lastPart, sealedLength}
+use Rattle.secure.specs.Layout.{nextNonce, padding, roundUp, padded, inlined, epilogue16, firstText, restText, lastText, noRest, noLast, unlessNone, laterTexts, texts, partsFrom, sealedParts, sealedFrame, restPart, lastPart, sealedLength, partCount}
 
 pub length-inlined : (first : List ℕ) → length (inlined first) ≡ 48
 length-inlined first =
@@ -82,3 +82,23 @@ length-frame w nonce h abort source e =
     length-append (sealedBy w nonce (firstText h first)) later
     ∙ ap₂ _+_ (sealed-length w nonce (firstText h first) ∙ ap (λ (k : ℕ). k + 16) (length-first-text h first)) two
     ∙ omega arith
+
+-- ---- how many parts there are
+
+count-two : (a b : Bool) (x y : List ℕ) → suc (length (unlessNone a x ++ unlessNone b y)) ≡ 1 + cond a 0 1 + cond b 0 1
+count-two true true x y = refl
+count-two true false x y = refl
+count-two false true x y = refl
+count-two false false x y = refl
+
+pub texts-count : (h : Header) (abort : Bool) (source : List ℕ) → length (texts h abort source) ≡ partCount h
+unfolding texts laterTexts partCount
+texts-count h abort source = count-two (noRest h) (noLast h) _ _
+
+pub some : (h : Header) → 1 ≤ partCount h
+unfolding partCount
+some h = omega arith
+
+pub positive : (h : Header) → 0 < sealedLength h
+unfolding sealedLength
+positive h = omega arith

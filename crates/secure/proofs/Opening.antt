@@ -1,19 +1,20 @@
 -- Parts read one by one, by what they open to.
-use mathlib.Core.Path.{_≡_, ap}
+use mathlib.Core.Path.{_≡_, ap, refl}
 use mathlib.Core.Bool.{cond}
 use mathlib.Core.List.{List, _++_}
-use Prim.Native.Nat.{ℕ, suc, _+_, _-_}
+use Prim.Native.Nat.{ℕ, suc, _+_, _-_, zero, _<_}
 use lib.Dec.{ltb}
 use lib.ListN.{length, take, drop, replicate}
+use borrow.Author.Tests.{lt-ltb}
 use Rattle.buffer.specs.Splice.{replaceFront, splice}
 use Rattle.preamble.specs.declared.Header.{Header}
 use Rattle.preamble.specs.Judge.{headerOf}
 use Rattle.body.specs.End.{whole}
 use Rattle.stream.specs.Stream.{ended, unlessRefused}
-use Rattle.aes.specs.Aes.{State}
+use Rattle.aes.specs.Aes.{State, keyExpansion}
 use Rattle.gcm.specs.Gcm.{Opened, openedBy}
 use Rattle.secure.specs.Layout.{nextNonce, padding, inlineLength, firstLength, lastLengths, noRest, noLast, restPart, lastPart}
-use Rattle.secure.specs.Reading.{Next, judgeNonce, judgePadding, judgeFirst, unpadded, lastEnded, zeroed, byOpening, atEnd, lastTrace, restTrace, frames}
+use Rattle.secure.specs.Reading.{Next, judgeNonce, judgePadding, judgeFirst, unpadded, lastEnded, zeroed, byOpening, atEnd, lastTrace, restTrace, frames, sealedTrace}
 
 module _ (w : List State) (nonce : List ℕ) (n P : ℕ) (bytes : List ℕ) (o : Opened) where
   pub read-first : (f : ℕ) (store : List ℕ) → openedBy w nonce (take firstLength bytes) ≡ o
@@ -80,3 +81,12 @@ module _ (w : List State) (nonce : List ℕ) (n P : ℕ) (bytes : List ℕ) (o :
         (λ text. atEnd (lastEnded h text) h (P + lastPart h) (first ++ unpadded (lastLengths h) text) store
         (next (nextNonce nonce) (suc n) (P + lastPart h) (drop (lastPart h) bytes)))))))
         e
+
+-- less than a first part
+pub short : (key nonce : List ℕ) (P : ℕ) (s bytes : List ℕ) → length bytes < 96 → sealedTrace key nonce 0 P bytes s ≡ ended s
+unfolding sealedTrace frames
+short key nonce P s bytes h = go (length bytes)
+  where
+    go : (f : ℕ) → frames f (keyExpansion key) nonce 0 P bytes s ≡ ended s
+    go zero = refl
+    go (suc f) = rw (lt-ltb (length bytes) 96 h)

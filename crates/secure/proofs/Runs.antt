@@ -27,6 +27,11 @@ unfolding nonceAfter
 run-on zero m nonce = ap (λ (i : ℕ). run i nonce) (sym (zero-add m))
 run-on (suc k) m nonce = ap (λ (l : List (List ℕ)). nonce ∷ l) (run-on k m (nextNonce nonce)) ∙ ap (λ (i : ℕ). run i nonce) (sym (suc-add k m))
 
+pub after-add : (j k : ℕ) (nonce : List ℕ) → nonceAfter k (nonceAfter j nonce) ≡ nonceAfter (j + k) nonce
+unfolding nonceAfter
+after-add zero k nonce = ap (λ (i : ℕ). nonceAfter i nonce) (sym (zero-add k))
+after-add (suc j) k nonce = after-add j k (nextNonce nonce) ∙ ap (λ (i : ℕ). nonceAfter i nonce) (sym (suc-add j k))
+
 -- ---- counters
 
 abbrev pub counter : List ℕ → ℕ

@@ -9,10 +9,10 @@ use Rattle.banner.specs.Banner.{judgeFeatures}
 use Rattle.preamble.specs.Judge.{shapeFault, limitFault, headerOf, judgeFields, judgePreamble}
 use Rattle.body.specs.End.{ending}
 use Rattle.stream.specs.Stream.{Trace, frames, streamTrace, traceOf}
-use Rattle.stream.specs.Rows.{features}
+use Rattle.stream.specs.Rows.{features, frameAt}
 use Rattle.connection.specs.Switched.{entered, spliced}
 use Rattle.secure_examples.specs.Parts.{none0}
-use Rattle.secure_examples.specs.Examples.{none, store, frameAt, clear, bannerEntry}
+use Rattle.secure_examples.specs.Examples.{none, store, clear, bannerEntry}
 
 pub up-to-switch : (next : ℕ → List ℕ → Trace)
     → spliced 1 next (traceOf (features 1 0) (clear ++ none0) store .entries) (traceOf (features 1 0) (clear ++ none0) store .store)

@@ -7,14 +7,14 @@ use Rattle.buffer.specs.Le.{numberAt}
 use Rattle.crc32c.specs.Crc.{crcOf, steps, step}
 use Rattle.preamble.specs.Judge.{shapeFault, limitFault, headerOf}
 use Rattle.stream.specs.Stream.{Trace}
-use Rattle.stream.specs.Rows.{Holds, features}
+use Rattle.stream.specs.Rows.{Holds, features, frameAt}
 use Rattle.ghash.specs.Ghash.{quadAt, blockAt}
 use Rattle.gcm.specs.Gcm.{columnNumber, blockNumber, blockBytes, sameAs}
 use Rattle.secure.specs.Layout.{nextNonce, needed}
 use Rattle.secure.specs.Reading.{judgeFirst, lastEnded, sealedTrace}
 use Rattle.connection.specs.Switched.{behind, entered, traceWith}
 use Rattle.secure_examples.specs.Parts.{key, nonce0, none0}
-use Rattle.secure_examples.specs.Examples.{zeros, none, store, front, frameAt, clear, bannerEntry, switchedRows}
+use Rattle.secure_examples.specs.Examples.{zeros, none, store, front, clear, bannerEntry, switchedRows}
 use Rattle.secure_examples.proofs.Rows.{held, trace-by}
 use Rattle.secure_examples.proofs.Clear.{up-to-switch}
 

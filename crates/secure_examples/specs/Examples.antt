@@ -6,9 +6,9 @@ use Rattle.refusal.specs.Refusals.{Judged, fine, refused, row}
 use Rattle.banner.specs.declared.Revision.the-variants.{Msgr21}
 use Rattle.preamble.specs.declared.Header.{Header}
 use Rattle.body.specs.End.{Ended, turnedAway}
-use Rattle.stream.specs.declared.Event.the-variants.{Banner, Frame, Dropped, Refused}
+use Rattle.stream.specs.declared.Event.the-variants.{Banner}
 use Rattle.stream.specs.Stream.{Entry, entry, Trace}
-use Rattle.stream.specs.Rows.{Row, _⇒_, features, segment, header}
+use Rattle.stream.specs.Rows.{Row, _⇒_, features, segment, header, frameAt, dropAt, refusalAt}
 use Rattle.secure.specs.Reading.{judgeFirst, lastEnded, sealedTrace}
 use Rattle.connection.specs.Switched.{behind, traceWith}
 use Rattle.secure_examples.specs.Parts.{key, nonce0, two0, none0, none0Text, sumAndShape0, shapeAndFlags0, flagsAndTag0, tagAndLimit0, limitAndStore0, padded0, full0, full0Text, blocks0, two1, padded1, blocks1, blocks1Text, full1, full1Text, late1, none1, two2, aborted2, high2, highAborted2, lateAndPadding2, paddingAndDrop2, padded2, single0, one0, first1}
@@ -59,15 +59,6 @@ store = replicate 114 0xaa
 
 abbrev pub front : List ℕ → List ℕ
 front bytes = bytes ++ drop (length bytes) store
-
-abbrev pub frameAt : ℕ → Header → List ℕ → Entry
-frameAt at h store = entry (Frame h) at store
-
-abbrev pub dropAt : ℕ → Header → List ℕ → Entry
-dropAt at h store = entry (Dropped h) at store
-
-abbrev pub refusalAt : ℕ → ℕ → ℕ → List ℕ → Entry
-refusalAt at number detail store = entry (Refused (row number detail 0 0)) at store
 
 -- a stream from byte 58 on, as behind our banner and a frame of 32 bytes; so many parts were opened before it
 abbrev pub reading : ℕ → List ℕ → List ℕ → List Entry → List ℕ → Row Trace

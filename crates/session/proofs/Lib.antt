@@ -3,3 +3,4 @@ mod Lent
 mod Past
 mod Single
 pub mod Table
+pub mod Releases

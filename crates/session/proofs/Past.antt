@@ -8,13 +8,13 @@ use lib.ListN.{length, length-append}
 use lib.Dec.{leb, ltb}
 use borrow.Author.Tests.{leb-true, leb-false, lt-ltb, le-ltb}
 use Rattle.refusal.specs.declared.Refusal.the-variants as why
-use Rattle.refusal.specs.Refusals.{Judged, fine, refused, unless, firstOf}
+use Rattle.refusal.specs.Refusals.{Judged, fine, refused, unless, firstOf, byJudgement}
 use Rattle.session.specs.declared.Session.{Session}
 use Rattle.session.specs.declared.Message.{Message}
 use Rattle.session.specs.declared.Report.{Report}
 use Rattle.session.specs.declared.Report.the-variants as report
 use Rattle.session.specs.declared.Outcome.{Outcome}
-use Rattle.session.specs.Calls.{places, finalNumber, heldFrom, heldOf, agrees, freshSession, acked, outcome, refusing, unlessRefused}
+use Rattle.session.specs.Calls.{places, finalNumber, heldFrom, heldOf, agrees, freshSession, acked, outcome, refusing}
 use Rattle.session.specs.Laws.{Call, accept, ack, reconnect, reset, callOf, Event, accepted, acknowledged, dropped, nothing, above, after}
 use Rattle.session.specs.History.{Entry, Chained, sessionBy, eventBy, eventsOf, Fate, isAcknowledged, isDropped, isHeld, fateOf, same, acceptedIn, withFate, highest, due, Each, numbers, countUp, NotAmong, AllDifferent, EveryHistory}
 use Rattle.session.proofs.Table.{agrees-by}
@@ -190,7 +190,7 @@ module _ (past : List Event) (s t : Session) (u : Upto past s) where
 
 -- ---- the next call
 
-report-by : (j : Judged) (s t : Session) (r : Report) → unlessRefused j (refusing s) (outcome t r) .report ≡ unlessRefused j report.Refused r
+report-by : (j : Judged) (s t : Session) (r : Report) → byJudgement j (outcome t r) (refusing s) .report ≡ byJudgement j r report.Refused
 report-by fine s t r = refl
 report-by (refused n) s t r = refl
 
@@ -202,8 +202,8 @@ module _ (past : List Event) (s : Session) (u : Upto past s) where
   reported (reconnect n) = rw (reconnect-is s (u .agreeing) n, ← u .last) (go (leb n (s .last)) refl)
     where
       go : (t : Bool) → leb n (s .last) ≡ t
-          → unlessRefused (unless t why.AckAhead) (refusing s) (outcome (acked s n) (report.Resend (length (heldOf (acked s n))))) .report
-          ≡ unlessRefused (unless t why.AckAhead) report.Refused (report.Resend (length (withFate isHeld (past ++ (acknowledged n ∷ [])))))
+          → byJudgement (unless t why.AckAhead) (outcome (acked s n) (report.Resend (length (heldOf (acked s n))))) (refusing s) .report
+          ≡ byJudgement (unless t why.AckAhead) (report.Resend (length (withFate isHeld (past ++ (acknowledged n ∷ []))))) report.Refused
       go true t = ap (λ (l : List Message). report.Resend (length l))
           (acked-is s (u .agreeing) n (leb-true n (s .last) t) .table ∙ ap (above n) (u .held) ∙ sym (held-snoc past (acknowledged n)))
       go false t = refl

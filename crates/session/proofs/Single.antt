@@ -9,14 +9,14 @@ use lib.Dec.{leb, ltb}
 use borrow.Author.Tests.{ltb-true, leb-true, leb-false, le-leb, lt-leb}
 use Rattle.refusal.specs.declared.Numbers.{Numbers}
 use Rattle.refusal.specs.declared.Refusal.the-variants as why
-use Rattle.refusal.specs.Refusals.{unless, firstOf, row}
+use Rattle.refusal.specs.Refusals.{unless, firstOf, row, byJudgement}
 use Rattle.refusal.proofs.Judgements.{or-else-last}
 use Rattle.session.specs.declared.Session.{Session}
 use Rattle.session.specs.declared.Report.{Report}
 use Rattle.session.specs.declared.Report.the-variants as report
 use Rattle.session.specs.declared.Outcome.{Outcome}
 use Rattle.session.specs.declared.Held.the-variants as held
-use Rattle.session.specs.Calls.{places, finalNumber, messageAt, heldFrom, heldOf, agrees, freshSession, judgeState, judgeAccept, judgeAck, adding, releasing, acked, cleared, outcome, refusing, unlessRefused, acceptOf, ackOf, reconnectOf, resetOf, heldAt}
+use Rattle.session.specs.Calls.{places, finalNumber, messageAt, heldFrom, heldOf, agrees, freshSession, judgeState, judgeAccept, judgeAck, adding, releasing, acked, cleared, outcome, refusing, acceptOf, ackOf, reconnectOf, resetOf, heldAt}
 use Rattle.session.specs.Laws.{Call, accept, ack, reconnect, reset, callOf, Event, accepted, acknowledged, dropped, nothing, eventOf, above, after, answersOf, Sound, EveryCall}
 use Rattle.session.proofs.Table.{held-more, all-above, some-above, found-held, Agreeing, agreeing, agrees-by, held-size}
 
@@ -33,10 +33,10 @@ contradicted s (reset full) e = rw e
 module _ (s : Session) (ok : agrees s ≡ true) where
   -- the judgements behind 26
   abbrev pub acceptBy : Bool → Bool → ℕ → Outcome
-  acceptBy left room h = unlessRefused (firstOf (unless left why.NumbersSpent ∷ unless room why.TableFull ∷ [])) (refusing s) (outcome (adding s (s .last + 1) h) (report.Accepted (s .last + 1)))
+  acceptBy left room h = byJudgement (firstOf (unless left why.NumbersSpent ∷ unless room why.TableFull ∷ [])) (outcome (adding s (s .last + 1) h) (report.Accepted (s .last + 1))) (refusing s)
 
   abbrev pub ackBy : Bool → ℕ → Report → Outcome
-  ackBy sent n r = unlessRefused (unless sent why.AckAhead) (refusing s) (outcome (acked s n) r)
+  ackBy sent n r = byJudgement (unless sent why.AckAhead) (outcome (acked s n) r) (refusing s)
 
   pub accept-is : (h : ℕ) → acceptOf s h ≡ acceptBy (ltb (s .last) finalNumber) (ltb (length (heldOf s)) places) h
   unfolding acceptOf judgeAccept judgeState

@@ -14,7 +14,7 @@ use Rattle.refusal.specs.declared.Refusal.{Refusal}
 use Rattle.refusal.specs.declared.Verdict.{Verdict}
 use Rattle.refusal.specs.declared.Verdict.the-variants as verdict
 use Rattle.refusal.specs.declared.Refusal.the-variants as why
-use Rattle.refusal.specs.Refusals.{Judged, fine, numbersOf, judgedBy, unless}
+use Rattle.refusal.specs.Refusals.{Judged, fine, numbersOf, judgedBy, unless, byJudgement}
 use Rattle.refusal.proofs.Judgements.{passed, all-fine}
 use Rattle.refusal.proofs.Booleans.{both-left, both-right}
 use Rattle.session.specs.declared.Session.{Session}
@@ -22,7 +22,7 @@ use Rattle.session.specs.declared.Message.{Message}
 use Rattle.session.specs.declared.Report.the-variants as report
 use Rattle.session.specs.declared.Held.the-variants as held
 use Rattle.session.specs.Laws.{above}
-use Rattle.session.specs.Calls.{places, finalNumber, message, messageAt, heldFrom, heldOf, agrees, judgeState, judgeAccept, found, outcome, unlessRefused}
+use Rattle.session.specs.Calls.{places, finalNumber, message, messageAt, heldFrom, heldOf, agrees, judgeState, judgeAccept, found, outcome}
 
 -- ---- the messages of the k numbers above n
 
@@ -135,8 +135,8 @@ fine-accept s e =
 -- ---- what a call answers, by its verdict
 
 module _ {A : Type 0} (v : Verdict) (j : Judged) (refusal : Numbers → A) (a b : A) (by : judgedBy v ≡ j) where
-  pub when-fine : v ≡ verdict.Fine → b ≡ a → b ≡ unlessRefused j refusal a
+  pub when-fine : v ≡ verdict.Fine → b ≡ a → b ≡ byJudgement j a refusal
   when-fine e is = rw (sym by ∙ ap judgedBy e) is
 
-  pub when-refused : (why : Refusal) → v ≡ verdict.Refused why → b ≡ refusal (numbersOf why) → b ≡ unlessRefused j refusal a
+  pub when-refused : (why : Refusal) → v ≡ verdict.Refused why → b ≡ refusal (numbersOf why) → b ≡ byJudgement j a refusal
   when-refused why e is = rw (sym by ∙ ap judgedBy e) is

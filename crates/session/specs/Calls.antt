@@ -6,7 +6,7 @@ use lib.ListN.{length, getD, set, replicate}
 use lib.Dec.{leb, ltb}
 use Rattle.refusal.specs.declared.Numbers.{Numbers}
 use Rattle.refusal.specs.declared.Refusal.the-variants as refusal
-use Rattle.refusal.specs.Refusals.{Judged, fine, refused, unless, firstOf}
+use Rattle.refusal.specs.Refusals.{Judged, unless, firstOf, byJudgement}
 use Rattle.session.specs.declared.Session.{Session}
 use Rattle.session.specs.declared.Message.{Message}
 use Rattle.session.specs.declared.Report.{Report}
@@ -85,22 +85,18 @@ outcome s r = record { session = s; report = r }
 abbrev pub refusing : Session → Numbers → Outcome
 refusing s n = outcome s (report.Refused n)
 
-abbrev pub unlessRefused : {A : Type 0} → Judged → (Numbers → A) → A → A
-unlessRefused fine f a = a
-unlessRefused (refused n) f a = f n
-
 unfoldable pub acceptOf : Session → ℕ → Outcome
-acceptOf s h = unlessRefused (judgeAccept s) (refusing s) (outcome (adding s (s .last + 1) h) (report.Accepted (s .last + 1)))
+acceptOf s h = byJudgement (judgeAccept s) (outcome (adding s (s .last + 1) h) (report.Accepted (s .last + 1))) (refusing s)
 
 unfoldable pub ackOf : Session → ℕ → Outcome
-ackOf s n = unlessRefused (judgeAck s n) (refusing s) (outcome (acked s n) report.Done)
+ackOf s n = byJudgement (judgeAck s n) (outcome (acked s n) report.Done) (refusing s)
 
 -- reconnect_ok with the msg_seq n
 unfoldable pub reconnectOf : Session → ℕ → Outcome
-reconnectOf s n = unlessRefused (judgeAck s n) (refusing s) (outcome (acked s n) (report.Resend (length (heldOf (acked s n)))))
+reconnectOf s n = byJudgement (judgeAck s n) (outcome (acked s n) (report.Resend (length (heldOf (acked s n))))) (refusing s)
 
 unfoldable pub resetOf : Session → Bool → Outcome
-resetOf s full = unlessRefused (judgeState s) (refusing s) (outcome (cleared s full) report.Done)
+resetOf s full = byJudgement (judgeState s) (outcome (cleared s full) report.Done) (refusing s)
 
 -- the message at a place of a list
 unfoldable pub found : List Message → ℕ → Held
@@ -109,4 +105,4 @@ found (m ∷ ms) zero = held.At m
 found (m ∷ ms) (suc i) = found ms i
 
 unfoldable pub heldAt : Session → ℕ → Held
-heldAt s i = unlessRefused (judgeState s) held.Refused (found (heldOf s) i)
+heldAt s i = byJudgement (judgeState s) (found (heldOf s) i) held.Refused

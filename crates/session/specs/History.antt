@@ -6,13 +6,13 @@ use Prim.Native.Nat.{ℕ, zero, suc, _+_, _≤_, max}
 use lib.ListN.{length}
 use lib.Dec.{leb, ltb}
 use Rattle.refusal.specs.declared.Refusal.the-variants as refusal
-use Rattle.refusal.specs.Refusals.{Judged, unless, firstOf}
+use Rattle.refusal.specs.Refusals.{Judged, unless, firstOf, byJudgement}
 use Rattle.session.specs.declared.Session.{Session}
 use Rattle.session.specs.declared.Message.{Message}
 use Rattle.session.specs.declared.Report.{Report}
 use Rattle.session.specs.declared.Report.the-variants as report
 use Rattle.session.specs.declared.Outcome.{Outcome}
-use Rattle.session.specs.Calls.{places, finalNumber, heldOf, agrees, freshSession, unlessRefused}
+use Rattle.session.specs.Calls.{places, finalNumber, heldOf, agrees, freshSession}
 use Rattle.session.specs.Laws.{Call, accept, ack, reconnect, reset, callOf, Event, accepted, acknowledged, dropped, nothing, eventOf}
 
 -- ---- histories
@@ -91,7 +91,7 @@ highest (nothing ∷ es) = highest es
 -- ---- the report that is due, by the events before the call
 
 abbrev pub dueBy : Judged → Report → Report
-dueBy j r = unlessRefused j report.Refused r
+dueBy j r = byJudgement j r report.Refused
 
 abbrev pub due : List Event → Call → Report
 due past (accept h) =

@@ -72,8 +72,3 @@ judgeRole (streamEnd n) = refused n
 
 abbrev pub judgeEvent : Event → Judged
 judgeEvent e = judgeRole (roleOf e)
-
-module _ {ℓ} {A : Type ℓ} where
-  abbrev pub byJudgement : Judged → A → (Numbers → A) → A
-  byJudgement fine a f = a
-  byJudgement (refused n) a f = f n

@@ -8,27 +8,18 @@ use Rattle.banner.specs.declared.Revision.{Revision}
 use Rattle.banner.specs.declared.Revision.the-variants.{Msgr20, Msgr21}
 use Rattle.banner.specs.Banner.{bannerBytes}
 use Rattle.preamble.specs.declared.Header.{Header}
-use Rattle.stream.specs.declared.Event.the-variants.{Banner, First, Frame, Dropped, Refused}
+use Rattle.stream.specs.declared.Event.the-variants.{Banner, First, Refused}
 use Rattle.stream.specs.Stream.{Entry, entry, Trace, traceOf}
-use Rattle.stream.specs.Rows.{Row, _⇒_, Holds, features, segment, header}
+use Rattle.stream.specs.Rows.{Row, _⇒_, Holds, features, segment, header, frameAt, dropAt, refusalAt}
 
 -- ---- entries, and a stream's row: our features, the stream, the store; the entries, and the store at the end
 
 abbrev bannerAt : ℕ → Features → Revision → List ℕ → Entry
 bannerAt at peer revision store = entry (Banner peer revision) at store
 
-abbrev frameAt : ℕ → Header → List ℕ → Entry
-frameAt at h store = entry (Frame h) at store
-
 -- segment 1 early
 abbrev firstAt : ℕ → Header → List ℕ → Entry
 firstAt at h store = entry (First h) at store
-
-abbrev dropAt : ℕ → Header → List ℕ → Entry
-dropAt at h store = entry (Dropped h) at store
-
-abbrev refusalAt : ℕ → ℕ → ℕ → List ℕ → Entry
-refusalAt at number detail store = entry (Refused (row number detail 0 0)) at store
 
 abbrev missingAt : ℕ → ℕ → ℕ → ℕ → ℕ → List ℕ → Entry
 missingAt at number bits lowest count store = entry (Refused (row number bits lowest count)) at store

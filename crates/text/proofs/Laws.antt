@@ -1,7 +1,7 @@
 -- Bytes stored one behind the other, and the laws of lines.
 use mathlib.Core.Path.{_≡_, refl, sym, ap, ap₂, _∙_}
 use mathlib.Core.Bool.{Bool, true, false, cond}
-use mathlib.Core.List.{List, [], _∷_, _++_}
+use mathlib.Core.List.{List, [], _∷_, _++_, append-assoc}
 use Prim.Native.Nat.{ℕ, zero, suc, _+_, _-_, _*_, _/_, _%_, _^_, _≤_, _<_, min}
 use native.Mathlib.Nat.{add-zero, add-suc, suc-add, pow-suc, div-lt-iff-lt-mul, pow-le-pow-right, not-suc-le-zero, le-of-suc-le-suc}
 use native.Mathlib.Numerals.{add-one}
@@ -9,7 +9,7 @@ use native.Mathlib.Omega.{arith}
 use borrow.Author.Tests.{lt-ltb, le-ltb, leb-true, leb-false}
 use lib.Dec.{ltb, leb, lit<, lit≤}
 use lib.ListN.{length, take, drop, set, getD, length-append, take-append-drop}
-use lib.Seq.{sets, sets-eq, length-sets, set-out, take-length, take-suc, length-take-le}
+use lib.Seq.{sets, sets-eq, length-sets, set-out, take-length, take-suc, length-take-le, take-at}
 use Rattle.io.specs.Digits.{digits, glyph, Fewest}
 use Rattle.text.specs.Line.{Piece, raw, decimal, number, hex, decimalBy, bytesOf, textOf, widthOf, width}
 use Rattle.text.specs.Page.{Page, page, write, put, puts}
@@ -158,3 +158,27 @@ hex-of n k h w =
     let t : k ≤ 8 = fewest-within 16 8 n k 8 (lit< tt) w (let t : 4294967296 ≤ 16 ^ 8 = lit≤ tt in omega arith) (lit≤ tt) in
     let e : k ≡ 8 = omega arith in
     ap (λ (j : ℕ). digits 16 j n) e
+
+-- ---- lines one behind the other, and what stands of them on a page
+
+pub text-append : (xs ys : List Piece) → textOf (xs ++ ys) ≡ textOf xs ++ textOf ys
+unfolding textOf
+text-append [] ys = refl
+text-append (x ∷ xs) ys = rw (text-append xs ys) (sym (append-assoc (bytesOf x) (textOf xs) (textOf ys)))
+
+pub width-append : (xs ys : List Piece) → width (xs ++ ys) ≡ width xs + width ys
+width-append [] ys = omega arith
+width-append (x ∷ xs) ys = omega (arith, width-append xs ys)
+
+split : (a b : List ℕ) (i j : ℕ) → page a i ≡ page b j → take i a ≡ take j b
+unfolding page
+split a b i j q = ap (λ (p : Page). take (p .at) (p .bytes)) q
+
+-- with room, all of it is there
+pub text-of : EveryLine → (xs : List Piece) (lent text : List ℕ) (k : ℕ) {room : ℕ} → width xs ≤ room → room ≤ length lent → page text k ≡ puts xs (page lent 0) → take k text ≡ textOf xs
+text-of law xs lent text k h g e =
+    let n = length (textOf xs) in
+    let w : 0 + n ≤ length lent = omega (arith, law .within xs) in
+    let q : page text k ≡ page (textOf xs ++ drop (0 + n) lent) (0 + n) = e ∙ law .text xs (page lent 0) ∙ law .whole (textOf xs) lent 0 w in
+    split text (textOf xs ++ drop (0 + n) lent) k (0 + n) q
+    ∙ take-at (textOf xs) (drop (0 + n) lent) (0 + n) (omega arith)

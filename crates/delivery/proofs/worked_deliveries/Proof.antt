@@ -16,6 +16,7 @@ use Rattle.bodies.specs.Read.{settled, readBody}
 use Rattle.stream.specs.Stream.{Trace, frames, streamTrace, traceOf}
 use Rattle.stream.specs.Rows.{Holds}
 use Rattle.secure.specs.Reading.{sealedTrace}
+use Rattle.secure.proofs.Opening.{short}
 use Rattle.connection.specs.Switched.{Switch, none, behind, traceWith}
 use Rattle.connection.specs.Calls.{SwitchedDemand3}
 use Rattle.session.specs.declared.Session.{Session}
@@ -32,7 +33,7 @@ use Rattle.delivery.proofs.Reasons.{afterCalls}
 use Rattle.delivery.proofs.Played.{all-played}
 use Rattle.delivery.proofs.Uncovered.{Holding, uncovered, quiet-holds}
 use Rattle.delivery.proofs.Quiet.{Quiet, QuietBehind, quiet-spliced, releases-nothing}
-use Rattle.delivery.proofs.Acks.{short, sealed-ack}
+use Rattle.delivery.proofs.Acks.{sealed-ack}
 use borrow.Author.Needs.{needs}
 use Rattle.delivery.proofs.worked_deliveries.Statement.{statement}
 use Rattle.delivery.proofs.worked_deliveries.Tie as tie

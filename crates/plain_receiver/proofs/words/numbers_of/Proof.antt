@@ -11,7 +11,7 @@ unfolding words.stateNumbers
 returns c = λ b.
     let g = c .before .before .before .before .before .args in
     plain-of (stateAt (g .stage) (g .got) b (g .known)) _ (c .before .before .before .before .typed-known .ensures (g .stage) (g .got) b)
-    (c .numbers-with .ensures ∙ rw (c .before .before .before .stage-number .ensures, c .before .before .revision-number .ensures, c .before .mark-number .ensures))
+    (c .numbers-with .ensures ∙ rw (c .before .before .before .rank .ensures, c .before .before .revision-number .ensures, c .before .mark-number .ensures))
 
 pub numbers-of-spec : {M : Type 1} → statement M
 numbers-of-spec =
@@ -19,6 +19,7 @@ numbers-of-spec =
     (tie.spec
     (λ c κs. search needs)
     (λ c κs. search needs)
+    (λ c. search needs)
     (λ c κs. search needs)
     (λ c κs. search needs)
     (λ c κs. search needs)

@@ -9,10 +9,10 @@ use Rattle.sealed_receiver.proofs.parts.begin_last.Tie as tie
 returns : tie.Need-returns
 returns c =
     let g = c .before .before .before .before .before .before .before .args in
-    c .before .before .end-whole .ensures ∙ whole-behind (g .r) (g .h) (g .store .now) (fine-is (judgeHeader (g .h)) (c .before .before .before .before .before .before .before .pre .1)) (sym (c .before .before .before .before .before .no-last .ensures) ∙ c .before .before .before .before .if1 .taken)
+    c .before .before .end-whole .ensures ∙ whole-behind (g .v) (g .store .now) (fine-is (judgeHeader (g .v .header)) (c .before .before .before .before .before .before .before .pre .1)) (sym (c .before .before .before .before .before .no-last .ensures) ∙ c .before .before .before .before .if1 .taken)
 
 returns-2 : tie.Need-returns-2
-returns-2 c = rw (sym (c .before .before .before .before .no-last .ensures) ∙ c .before .before .before .if1 .left) (c .more .ensures (c .before .before .before .before .before .before .args .store .now) ∙ rw (c .before .state-at .ensures, c .before .before .knowing .ensures))
+returns-2 c = rw (sym (c .before .before .before .no-last .ensures) ∙ c .before .before .if1 .left) (c .more .ensures (c .before .before .before .before .before .args .store .now) ∙ rw (c .before .state-at .ensures))
 
 pub begin-last-spec : {M : Type 1} → statement M
 begin-last-spec =
@@ -22,7 +22,6 @@ begin-last-spec =
     (λ c κs. search needs)
     (λ c. search needs)
     returns
-    (λ c κs. search needs)
     (λ c κs. search needs)
     (λ c κs. search needs)
     returns-2)

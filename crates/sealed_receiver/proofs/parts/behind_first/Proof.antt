@@ -4,9 +4,10 @@ use Rattle.refusal.specs.Refusals.{fine, isFine, judgedBy}
 use lib.ListN.{length}
 use native.Mathlib.Omega.{arith}
 use Rattle.preamble.specs.declared.Header.{Header}
-use Rattle.preamble.specs.Judge.{judgeHeader}
+use Rattle.preamble.specs.Judge.{headerOf, judgeHeader}
 use Rattle.secure.specs.Layout.{needed}
 use Rattle.secure.specs.Reading.{judgeFirst}
+use Rattle.sealed_receiver.specs.declared.Known.{Known}
 use Rattle.sealed_receiver.specs.Step as step
 use Rattle.sealed_receiver.proofs.FirstPart.{first-fits, first-header, first-refused, first-accepted}
 use borrow.Author.Needs.{needs}
@@ -18,21 +19,24 @@ enum-told c = search needs
 
 begin-rest-requires : tie.Need-begin-rest-requires
 begin-rest-requires c κs =
-    let text = c .before .before .before .before .before .before .before .before .before .before .before .before .before .args .text .now in
-    let s = c .before .before .before .before .before .before .before .before .before .before .before .before .before .args .store .now in
-    let j : judgeFirst text (length s) ≡ fine = sym (c .before .before .before .before .before .before .before .before .before .before .judge-first .ensures) ∙ ap judgedBy (c .before .before .before .before .before .before .before .before .enum-told .given .1) in
-    (omega (arith, ap needed (c .before .before .before .before .before .before .before .read-header .ensures), first-fits text (length s) j, c .before .before .before .put .kept .0), ap (λ (x : Header). isFine (judgeHeader x)) (c .before .before .before .before .before .before .before .read-header .ensures) ∙ ap isFine (first-header text (length s) j))
+    let text = c .before .before .before .before .before .before .before .before .before .before .before .before .before .before .args .text .now in
+    let s = c .before .before .before .before .before .before .before .before .before .before .before .before .before .before .args .store .now in
+    let j : judgeFirst text (length s) ≡ fine = sym (c .before .before .before .before .before .before .before .before .before .before .before .judge-first .ensures) ∙ ap judgedBy (c .before .before .before .before .before .before .before .before .before .enum-told .given .1) in
+    let h : c .before .with-header .result .header ≡ headerOf text = ap (λ (k : Known). k .header) (c .before .with-header .ensures) ∙ c .before .before .before .before .before .before .before .before .read-header .ensures in
+    (omega (arith, ap needed h, first-fits text (length s) j, c .before .before .before .before .put .kept .0), ap (λ (x : Header). isFine (judgeHeader x)) h ∙ ap isFine (first-header text (length s) j))
 
 returns : tie.Need-returns
 returns c =
-    let g = c .before .before .before .before .before .before .before .before .before .before .before .before .before .before .before .before .args in
-    let j : judgeFirst (g .text .now) (length (g .store .now)) ≡ fine = sym (c .before .before .before .before .before .before .before .before .before .before .before .before .before .judge-first .ensures) ∙ ap judgedBy (c .before .before .before .before .before .before .before .before .before .before .before .enum-told .given .1) in
-    c .before .before .begin-rest .ensures ∙ first-accepted (g .r) (g .text .now) (g .store .now) (c .before .before .before .before .before .before .before .before .before .before .read-header .result) (c .before .before .before .before .before .before .before .part .result .now) (c .before .before .before .before .before .before .put .last .0) j (c .before .before .before .before .before .before .before .before .before .before .read-header .ensures) (c .before .before .before .before .before .before .before .part .ensures) (c .before .before .before .before .before .before .put .ensures)
+    let g = c .before .before .before .before .before .before .before .before .before .before .before .before .before .before .before .before .before .args in
+    let j : judgeFirst (g .text .now) (length (g .store .now)) ≡ fine = sym (c .before .before .before .before .before .before .before .before .before .before .before .before .before .before .judge-first .ensures) ∙ ap judgedBy (c .before .before .before .before .before .before .before .before .before .before .before .before .enum-told .given .1) in
+    c .before .before .begin-rest .ensures
+    ∙ ap (λ (k : Known). step.beginRest k (c .before .before .before .before .before .before .before .put .last .0)) (c .before .before .before .before .with-header .ensures)
+    ∙ first-accepted (g .v) (g .text .now) (g .store .now) (c .before .before .before .before .before .before .before .before .before .before .before .read-header .result) (c .before .before .before .before .before .before .before .before .part .result .now) (c .before .before .before .before .before .before .before .put .last .0) j (c .before .before .before .before .before .before .before .before .before .before .before .read-header .ensures) (c .before .before .before .before .before .before .before .before .part .ensures) (c .before .before .before .before .before .before .before .put .ensures)
 
 returns-2 : tie.Need-returns-2
 returns-2 c =
     let g = c .before .before .before .before .before .before .before .before .args in
-    c .refuse .ensures (g .store .now) ∙ ap (λ (n : Numbers). step.refuse n (g .store .now)) (c .before .in-numbers .ensures) ∙ first-refused (g .r) (g .text .now) (g .store .now) _ (sym (c .before .before .before .before .before .judge-first .ensures) ∙ ap judgedBy (c .before .before .before .judged .given .1))
+    c .refuse .ensures (g .store .now) ∙ ap (λ (n : Numbers). step.refuse n (g .store .now)) (c .before .in-numbers .ensures) ∙ first-refused (g .v) (g .text .now) (g .store .now) _ (sym (c .before .before .before .before .before .judge-first .ensures) ∙ ap judgedBy (c .before .before .before .judged .given .1))
 
 pub behind-first-spec : {M : Type 1} → statement M
 behind-first-spec =
@@ -42,6 +46,7 @@ behind-first-spec =
     enum-told
     (λ c κs. search needs)
     (λ c. search needs)
+    (λ c κs. search needs)
     (λ c κs. search needs)
     (λ c κs. search needs)
     begin-rest-requires

@@ -32,7 +32,7 @@ returns c =
     let l : length (g .block) ≡ 96 = c .before .before .before .before .before .before .before .before .before .before .before .before .before .before .good .0 .1 .0 .1 in
     let same : take 96 (g .block) ≡ g .block = take-all 96 (g .block) (omega arith) in
     let j : step.judgePart (g .v .receiving) (take 96 (g .block)) ≡ fine = sym (c .before .before .before .before .before .before .before .before .before .before .open-part .ensures .judged) ∙ ap judgedBy (c .before .before .before .before .before .before .before .enum-told .given .1) in
-    (rw (c .before .before .before .before .before .before .opened-more .ensures) at (c .before .before .behind-first .ensures))
+    (rw (c .before .before .before .before .before .before .with-opened .ensures) at (c .before .before .behind-first .ensures))
     ∙ first-opened (g .v) (g .block) (take 96 (g .block)) (g .store .now) same (c .before .before .before .before .before .before .before .before .before .before .open-part .last .1 .0) (drop 96 (g .block)) (c .before .before .before .before .part .result .now) l j (c .before .before .before .before .before .before .before .before .before .before .open-part .ensures .text j) (c .before .before .before .before .part .ensures)
 
 returns-2 : tie.Need-returns-2

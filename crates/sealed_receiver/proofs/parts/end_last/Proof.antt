@@ -4,7 +4,8 @@ use Prim.Native.Nat.{_+_, _-_}
 use lib.ListN.{take, drop, length-take, length-drop}
 use native.Mathlib.Omega.{arith}
 use Rattle.refusal.specs.Refusals.{fine, judgedBy}
-use Rattle.secure.specs.Layout.{noLast, lastPart, lastPartLength}
+use Rattle.secure.specs.Layout.{noLast, lastPart, lastPartLength, needed}
+use Rattle.sealed_receiver.specs.declared.Known.{Known}
 use Rattle.sealed_receiver.specs.Step as step
 use Rattle.sealed_receiver.proofs.LastPart.{last-left, last-refused, last-opened}
 use Rattle.secure.proofs.Bounds.{there, last-size, last-fits}
@@ -44,7 +45,8 @@ behind-last-requires c κs =
     let e : noLast (v .header) ≡ false = there (noLast (v .header)) (lastPart (v .header)) (c .before .before .before .before .before .before .before .before .before .before .before .before .before .pre .some) in
     let n = c .before .before .before .before .before .before .before .before .last-part-length .result in
     let em : place + n - place ≡ lastPartLength (v .header) = omega (arith, c .before .before .before .before .before .before .before .before .last-part-length .ensures .0) in
-    (last-left v s (c .before .before .before .before .before .before .open-part .last .1 .0) (place + n - place) em e (c .before .before .before .before .before .before .before .before .before .before .before .before .before .pre .fits) (c .before .before .before .before .before .before .open-part .kept .1 .0), e)
+    let h : c .before .with-opened .result .header ≡ v .header = ap (λ (k : Known). k .header) (c .before .with-opened .ensures) in
+    (omega (arith, ap needed h, last-left v s (c .before .before .before .before .before .before .open-part .last .1 .0) (place + n - place) em e (c .before .before .before .before .before .before .before .before .before .before .before .before .before .pre .fits) (c .before .before .before .before .before .before .open-part .kept .1 .0)), ap noLast h ∙ e)
 
 returns : tie.Need-returns
 returns c =
@@ -56,7 +58,7 @@ returns c =
     let n = c .before .before .before .before .before .before .before .before .before .before .before .last-part-length .result in
     let em : place + n - place ≡ lastPartLength (v .header) = omega (arith, c .before .before .before .before .before .before .before .before .before .before .before .last-part-length .ensures .0) in
     let j : step.judgePart (v .receiving) (take (place + n - place) (drop place s)) ≡ fine = sym (c .before .before .before .before .before .before .before .before .before .open-part .ensures .judged) ∙ ap judgedBy (c .before .before .before .before .before .enum-told .given .1) in
-    (rw (c .before .before .before .before .opened-more .ensures) at (c .before .before .behind-last .ensures))
+    (rw (c .before .before .before .before .with-opened .ensures) at (c .before .before .behind-last .ensures))
     ∙ last-opened v s (c .before .before .before .before .before .before .before .before .before .open-part .last .1 .0) (place + n - place) em e (c .before .before .before .before .before .before .before .before .before .before .before .before .before .before .before .before .pre .fits) (c .before .before .before .before .before .before .before .before .before .open-part .kept .1 .0) b j (c .before .before .before .before .before .before .before .before .before .open-part .ensures .text j)
 
 returns-2 : tie.Need-returns-2

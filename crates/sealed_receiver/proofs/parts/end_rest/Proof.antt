@@ -3,8 +3,11 @@ use mathlib.Core.Bool.{false}
 use Prim.Native.Nat.{_+_, _-_}
 use lib.ListN.{take, drop, length-take, length-drop}
 use native.Mathlib.Omega.{arith}
-use Rattle.refusal.specs.Refusals.{fine, judgedBy}
-use Rattle.secure.specs.Layout.{noRest, restPart, restPartLength}
+use Rattle.refusal.specs.Refusals.{fine, isFine, judgedBy}
+use Rattle.preamble.specs.declared.Header.{Header}
+use Rattle.preamble.specs.Judge.{judgeHeader}
+use Rattle.secure.specs.Layout.{noRest, restPart, restPartLength, needed}
+use Rattle.sealed_receiver.specs.declared.Known.{Known}
 use Rattle.sealed_receiver.specs.Step as step
 use Rattle.sealed_receiver.proofs.RestPart.{rest-left, rest-refused, rest-opened}
 use Rattle.secure.proofs.Bounds.{there, rest-size, rest-fits}
@@ -41,7 +44,8 @@ behind-rest-requires c κs =
     let e : noRest (v .header) ≡ false = there (noRest (v .header)) (restPart (v .header)) (c .before .before .before .before .before .before .before .before .before .before .before .before .pre .some) in
     let n = c .before .before .before .before .before .before .before .before .rest-part-length .result in
     let em : 48 + n - 48 ≡ restPartLength (v .header) = omega (arith, c .before .before .before .before .before .before .before .before .rest-part-length .ensures .0) in
-    (rest-left v s (c .before .before .before .before .before .before .open-part .last .1 .0) (48 + n - 48) em e (c .before .before .before .before .before .before .before .before .before .before .before .before .pre .fits) (c .before .before .before .before .before .before .open-part .kept .1 .0), c .before .before .before .before .before .before .before .before .before .before .before .before .pre .header refl, e)
+    let h : c .before .with-opened .result .header ≡ v .header = ap (λ (k : Known). k .header) (c .before .with-opened .ensures) in
+    (omega (arith, ap needed h, rest-left v s (c .before .before .before .before .before .before .open-part .last .1 .0) (48 + n - 48) em e (c .before .before .before .before .before .before .before .before .before .before .before .before .pre .fits) (c .before .before .before .before .before .before .open-part .kept .1 .0)), ap (λ (x : Header). isFine (judgeHeader x)) h ∙ c .before .before .before .before .before .before .before .before .before .before .before .before .pre .header refl, ap noRest h ∙ e)
 
 returns : tie.Need-returns
 returns c =
@@ -52,7 +56,7 @@ returns c =
     let n = c .before .before .before .before .before .before .before .before .before .before .before .rest-part-length .result in
     let em : 48 + n - 48 ≡ restPartLength (v .header) = omega (arith, c .before .before .before .before .before .before .before .before .before .before .before .rest-part-length .ensures .0) in
     let j : step.judgePart (v .receiving) (take (48 + n - 48) (drop 48 s)) ≡ fine = sym (c .before .before .before .before .before .before .before .before .before .open-part .ensures .judged) ∙ ap judgedBy (c .before .before .before .before .before .enum-told .given .1) in
-    (rw (c .before .before .before .before .opened-more .ensures) at (c .before .before .behind-rest .ensures))
+    (rw (c .before .before .before .before .with-opened .ensures) at (c .before .before .behind-rest .ensures))
     ∙ rest-opened v s (c .before .before .before .before .before .before .before .before .before .open-part .last .1 .0) (48 + n - 48) em e (c .before .before .before .before .before .before .before .before .before .before .before .before .before .before .before .pre .fits) (c .before .before .before .before .before .before .before .before .before .open-part .kept .1 .0) b j (c .before .before .before .before .before .before .before .before .before .open-part .ensures .text j)
 
 returns-2 : tie.Need-returns-2

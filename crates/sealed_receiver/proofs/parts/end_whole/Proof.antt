@@ -13,19 +13,19 @@ use Rattle.sealed_receiver.proofs.parts.end_whole.Statement.{statement}
 use Rattle.sealed_receiver.proofs.parts.end_whole.Tie as tie
 
 sub-put-zeros : tie.Need-sub-put-zeros
-sub-put-zeros c = omega (arith, segments-fit (c .before .before .args .h), c .total-of .ensures, c .before .before .pre)
+sub-put-zeros c = omega (arith, segments-fit (c .before .before .before .args .v .header), c .total-of .ensures, c .before .before .before .pre)
 
 part-put-zeros-start : tie.Need-part-put-zeros-start
-part-put-zeros-start c = omega (arith, segments-fit (c .before .before .args .h), c .total-of .ensures, c .before .before .pre)
+part-put-zeros-start c = omega (arith, segments-fit (c .before .before .before .args .v .header), c .total-of .ensures, c .before .before .before .pre)
 
 sub-put-zeros-2 : tie.Need-sub-put-zeros-2
-sub-put-zeros-2 c = omega (arith, segments-fit (c .before .before .before .before .args .h), c .before .before .total-of .ensures, c .needed-of .ensures .0)
+sub-put-zeros-2 c = omega (arith, segments-fit (c .before .before .before .before .before .args .v .header), c .before .before .total-of .ensures, c .needed-of .ensures .0)
 
 returns : tie.Need-returns
 returns c =
-    let g = c .before .before .before .before .before .before .before .before .args in
-    ap₂ (λ (x : State) (t : List ℕ). step.stepped x t (report.Event (event.Frame (g .h)))) (c .next-frame .ensures)
-    (zeros-behind (g .h) (g .store .now) (c .before .before .before .put-zeros .last .0) (c .before .before .before .before .before .before .total-of .result) (c .before .before .before .before .needed-of .result) (c .before .before .before .before .before .before .total-of .ensures) (c .before .before .before .before .needed-of .ensures .0) (c .before .before .before .before .before .before .before .before .pre) (c .before .before .before .put-zeros .ensures))
+    let g = c .before .before .before .before .before .before .before .before .before .args in
+    ap₂ (λ (x : State) (t : List ℕ). step.stepped x t (report.Event (event.Frame (g .v .header)))) (c .next-frame .ensures)
+    (zeros-behind (g .v .header) (g .store .now) (c .before .before .before .put-zeros .last .0) (c .before .before .before .before .before .before .total-of .result) (c .before .before .before .before .needed-of .result) (c .before .before .before .before .before .before .total-of .ensures) (c .before .before .before .before .needed-of .ensures .0) (c .before .before .before .before .before .before .before .before .before .pre) (c .before .before .before .put-zeros .ensures))
 
 pub end-whole-spec : {M : Type 1} → statement M
 end-whole-spec =

@@ -1,0 +1,123 @@
+-- What a call of a session releases, and what it keeps.
+use mathlib.Core.Path.{_≡_, refl, sym, subst}
+use mathlib.Core.List.{List, [], _∷_, _++_, List·Memᴰ, List·Memᴰ·head, List·Memᴰ·tail, Memᴰ·append-left}
+use mathlib.Core.Bool.{Bool, true, false, cond, true≢false}
+use Prim.Native.Nat.{ℕ}
+use borrow.Author.Tests.{leb-false, lt-ltb}
+use lib.Dec.{leb, ltb}
+use lib.ListN.{length}
+use Rattle.refusal.specs.Refusals.{Judged, fine, refused, byJudgement}
+use Rattle.session.specs.declared.Session.{Session}
+use Rattle.session.specs.declared.Message.{Message}
+use Rattle.session.specs.declared.Report.{Report}
+use Rattle.session.specs.declared.Report.the-variants as report
+use Rattle.session.specs.Calls.{places, heldOf, agrees, outcome, refusing, acked, cleared}
+use Rattle.session.specs.Laws as session
+use Rattle.session.specs.Laws.{callOf, eventOf, above, after, EveryCall}
+use Rattle.session.specs.History.{isHeld, fateOf, same, withFate}
+
+-- whether a call of the session releases the message m
+abbrev pub releases : ℕ → session.Call → Bool
+releases m (session.accept h) = false
+releases m (session.ack n) = leb m n
+releases m (session.reconnect n) = leb m n
+releases m (session.reset full) = full
+
+-- one of some calls does
+abbrev pub oneReleases : ℕ → List session.Call → Bool
+oneReleases m [] = false
+oneReleases m (c ∷ cs) = cond (releases m c) true (oneReleases m cs)
+
+-- ---- fates
+
+-- a call that does not release the message leaves its fate to the later ones
+pub stays : (m : ℕ) (c : session.Call) (r : Report) (es : List session.Event) → releases m c ≡ false → fateOf m (eventOf c r ∷ es) ≡ fateOf m es
+unfolding fateOf
+stays m (session.accept h) (report.Accepted n) es e = refl
+stays m (session.accept h) report.Done es e = refl
+stays m (session.accept h) (report.Resend n) es e = refl
+stays m (session.accept h) (report.Refused n) es e = refl
+stays m (session.ack n) (report.Accepted k) es e = rw e
+stays m (session.ack n) report.Done es e = rw e
+stays m (session.ack n) (report.Resend k) es e = rw e
+stays m (session.ack n) (report.Refused k) es e = refl
+stays m (session.reconnect n) (report.Accepted k) es e = rw e
+stays m (session.reconnect n) report.Done es e = rw e
+stays m (session.reconnect n) (report.Resend k) es e = rw e
+stays m (session.reconnect n) (report.Refused k) es e = refl
+stays m (session.reset true) r es e = absurd (true≢false e)
+stays m (session.reset false) r es e = refl
+
+-- a message whose fate is to be held is among those held
+pub among : (x : Message) (es fs : List session.Event) → fateOf (x .number) fs ≡ isHeld → List·Memᴰ x (withFate isHeld (es ++ (session.accepted x ∷ fs)))
+unfolding withFate
+among x [] fs e = rw e (List·Memᴰ·head refl)
+among x (session.accepted y ∷ es) fs e = go (same isHeld (fateOf (y .number) (es ++ (session.accepted x ∷ fs)))) (among x es fs e)
+  where
+    go : (b : Bool) → List·Memᴰ x (withFate isHeld (es ++ (session.accepted x ∷ fs)))
+        → List·Memᴰ x (cond b (y ∷ withFate isHeld (es ++ (session.accepted x ∷ fs))) (withFate isHeld (es ++ (session.accepted x ∷ fs))))
+    go true k = List·Memᴰ·tail k
+    go false k = k
+among x (session.acknowledged n ∷ es) fs e = among x es fs e
+among x (session.dropped ∷ es) fs e = among x es fs e
+among x (session.nothing ∷ es) fs e = among x es fs e
+
+-- ---- a call keeps what it does not release
+
+mem-above : (x : Message) (n : ℕ) (ms : List Message) → leb (x .number) n ≡ false → List·Memᴰ x ms → List·Memᴰ x (above n ms)
+unfolding above
+mem-above x n (y ∷ ms) e (List·Memᴰ·head p) =
+    let l : ltb n (y .number) ≡ true = rw p at (lt-ltb n (x .number) (leb-false (x .number) n e)) in
+    rw l (List·Memᴰ·head p)
+mem-above x n (y ∷ ms) e (List·Memᴰ·tail k) = go (ltb n (y .number)) (mem-above x n ms e k)
+  where
+    go : (b : Bool) → List·Memᴰ x (above n ms) → List·Memᴰ x (cond b (y ∷ above n ms) (above n ms))
+    go true i = List·Memᴰ·tail i
+    go false i = i
+
+keeps : (c : session.Call) (r : Report) (ms : List Message) (x : Message) → releases (x .number) c ≡ false → List·Memᴰ x ms → List·Memᴰ x (after (eventOf c r) ms)
+keeps (session.accept h) (report.Accepted n) ms x e k = Memᴰ·append-left _ k
+keeps (session.accept h) report.Done ms x e k = k
+keeps (session.accept h) (report.Resend n) ms x e k = k
+keeps (session.accept h) (report.Refused n) ms x e k = k
+keeps (session.ack n) (report.Accepted i) ms x e k = mem-above x n ms e k
+keeps (session.ack n) report.Done ms x e k = mem-above x n ms e k
+keeps (session.ack n) (report.Resend i) ms x e k = mem-above x n ms e k
+keeps (session.ack n) (report.Refused i) ms x e k = k
+keeps (session.reconnect n) (report.Accepted i) ms x e k = mem-above x n ms e k
+keeps (session.reconnect n) report.Done ms x e k = mem-above x n ms e k
+keeps (session.reconnect n) (report.Resend i) ms x e k = mem-above x n ms e k
+keeps (session.reconnect n) (report.Refused i) ms x e k = k
+keeps (session.reset true) r ms x e k = absurd (true≢false e)
+keeps (session.reset false) r ms x e k = k
+
+-- of a session that agrees with itself and has its places
+pub record Good (s : Session) : Type 0 where
+  pub agreeing : agrees s ≡ true
+  pub sized : length (s .handles) ≡ places
+
+pub call-good : EveryCall → (s : Session) (c : session.Call) → Good s → Good (callOf s c .session)
+call-good every s c g =
+    let o = every .each s c (g .sized) in
+    record { agreeing = o .agreeing (g .agreeing); sized = o .sized }
+
+pub call-keeps : EveryCall → (s : Session) (c : session.Call) (x : Message) → Good s → releases (x .number) c ≡ false → List·Memᴰ x (heldOf s) → List·Memᴰ x (heldOf (callOf s c .session))
+call-keeps every s c x g e k =
+    subst (λ (ms : List Message). List·Memᴰ x ms) (sym (every .each s c (g .sized) .table (g .agreeing))) (keeps c (callOf s c .report) (heldOf s) x e k)
+
+-- ---- handles
+
+pub kept : (s t : Session) (j : Judged) (r : Report) → t .handles ≡ s .handles → byJudgement j (outcome t r) (refusing s) .session .handles ≡ s .handles
+kept s t fine r h = h
+kept s t (refused n) r h = refl
+
+pub acked-keeps : (s : Session) (n : ℕ) → acked s n .handles ≡ s .handles
+acked-keeps s n = go (leb n (s .released))
+  where
+    go : (b : Bool) → cond b s (record { handles = s .handles; released = n; last = s .last }) .handles ≡ s .handles
+    go true = refl
+    go false = refl
+
+pub cleared-keeps : (s : Session) (full : Bool) → cleared s full .handles ≡ s .handles
+cleared-keeps s true = refl
+cleared-keeps s false = refl
