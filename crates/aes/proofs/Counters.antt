@@ -8,9 +8,9 @@ use lib.Bits.{bitXor}
 use lib.ListN.{length, getD, take, drop, set, length-append, length-take, length-drop}
 use lib.Seq.{drop-cons, getD-at, length-take-le}
 use Rattle.bits.proofs.Xor.{xor-twice}
-use Rattle.buffer.proofs.Turn.{copy-more, take-min, drop-min}
+use Rattle.buffer.proofs.CopyLoop.{copy-more, take-min, drop-min}
 use Rattle.aes.specs.Aes.{State}
-use Rattle.aes.specs.Counter.{streamBlock, byteOf, streamByte, gctrFrom, gctr}
+use Rattle.aes.specs.Counter.{keystreamBlock, byteOf, keystreamByte, gctrFrom, gctr}
 
 module _ (w : List State) (nonce : List ℕ) where
   pub gctr-length : (j : ℕ) (bs : List ℕ) → length (gctrFrom w nonce j bs) ≡ length bs
@@ -19,24 +19,24 @@ module _ (w : List State) (nonce : List ℕ) where
   gctr-length j (b ∷ bs) = ap suc (gctr-length (suc j) bs)
 
   gctr-at : (j : ℕ) (bs : List ℕ) (i : ℕ) → i < length bs
-      → getD (gctrFrom w nonce j bs) i 0 ≡ bitXor (getD bs i 0) (streamByte w nonce (j + i))
+      → getD (gctrFrom w nonce j bs) i 0 ≡ bitXor (getD bs i 0) (keystreamByte w nonce (j + i))
   unfolding gctrFrom
   gctr-at j [] i h = absurd (not-suc-le-zero h)
-  gctr-at j (b ∷ bs) zero h = ap (λ (k : ℕ). bitXor b (streamByte w nonce k)) (sym (add-zero j))
+  gctr-at j (b ∷ bs) zero h = ap (λ (k : ℕ). bitXor b (keystreamByte w nonce k)) (sym (add-zero j))
   gctr-at j (b ∷ bs) (suc i) h =
       gctr-at (suc j) bs i (le-of-suc-le-suc h)
-      ∙ ap (λ (k : ℕ). bitXor (getD bs i 0) (streamByte w nonce k)) (suc-add j i ∙ sym (add-suc j i))
+      ∙ ap (λ (k : ℕ). bitXor (getD bs i 0) (keystreamByte w nonce k)) (suc-add j i ∙ sym (add-suc j i))
 
   -- byte k of the block at i
   masked : (bs : List ℕ) (i k : ℕ) → i % 16 ≡ 0 → k < 16 → i + k < length bs
-      → getD (gctr w nonce bs) (i + k) 0 ≡ bitXor (getD bs (i + k) 0) (byteOf (streamBlock w nonce (i / 16 + 2)) k)
-  unfolding streamByte
+      → getD (gctr w nonce bs) (i + k) 0 ≡ bitXor (getD bs (i + k) 0) (byteOf (keystreamBlock w nonce (i / 16 + 2)) k)
+  unfolding keystreamByte
   masked bs i k e h l =
       let p : (i + k) / 16 ≡ i / 16 = omega arith in
       let q : (i + k) % 16 ≡ k = omega arith in
       gctr-at 0 bs (i + k) l
-      ∙ ap (λ (n : ℕ). bitXor (getD bs (i + k) 0) (streamByte w nonce n)) (zero-add (i + k))
-      ∙ ap₂ (λ (m n : ℕ). bitXor (getD bs (i + k) 0) (byteOf (streamBlock w nonce (m + 2)) n)) p q
+      ∙ ap (λ (n : ℕ). bitXor (getD bs (i + k) 0) (keystreamByte w nonce n)) (zero-add (i + k))
+      ∙ ap₂ (λ (m n : ℕ). bitXor (getD bs (i + k) 0) (byteOf (keystreamBlock w nonce (m + 2)) n)) p q
 
   -- what stands behind the masked front is still the text's
   kept-at : (d dst : List ℕ) (i : ℕ) → i < length d → dst ≡ take i (gctr w nonce d) ++ drop i d → getD dst i 0 ≡ getD d i 0
@@ -52,10 +52,10 @@ module _ (w : List State) (nonce : List ℕ) where
       ∙ omega arith
 
   -- a turn of the loop over a block
-  pub mask-more : (d dst : List ℕ) (s : State) (i k x : ℕ) → i % 16 ≡ 0 → k < 16 → i + k < length d
-      → s ≡ streamBlock w nonce (i / 16 + 2) → x ≡ byteOf s k → dst ≡ take (i + k) (gctr w nonce d) ++ drop (i + k) d
+  pub xor-more : (d dst : List ℕ) (s : State) (i k x : ℕ) → i % 16 ≡ 0 → k < 16 → i + k < length d
+      → s ≡ keystreamBlock w nonce (i / 16 + 2) → x ≡ byteOf s k → dst ≡ take (i + k) (gctr w nonce d) ++ drop (i + k) d
       → set dst (i + k) (bitXor (getD dst (i + k) 0) x) ≡ take (i + (k + 1)) (gctr w nonce d) ++ drop (i + (k + 1)) d
-  mask-more d dst s i k x e h l es ex ed =
+  xor-more d dst s i k x e h l es ex ed =
       let hm : i + k < length (gctr w nonce d) = rw (gctr-length 0 d) l in
       ap₂ (λ (t : List ℕ) (y : ℕ). set t (i + k) y) ed
       (ap₂ bitXor (kept-at d dst (i + k) l ed) (ex ∙ ap (λ (t : State). byteOf t k) es) ∙ sym (masked d i k e h l))
@@ -67,7 +67,7 @@ module _ (w : List State) (nonce : List ℕ) where
   unfolding gctrFrom
   gctr-take j zero bs = refl
   gctr-take j (suc n) [] = refl
-  gctr-take j (suc n) (b ∷ bs) = ap (λ (t : List ℕ). bitXor b (streamByte w nonce j) ∷ t) (gctr-take (suc j) n bs)
+  gctr-take j (suc n) (b ∷ bs) = ap (λ (t : List ℕ). bitXor b (keystreamByte w nonce j) ∷ t) (gctr-take (suc j) n bs)
 
   -- n bytes, or as many as there are
   pub masked-front : (bs : List ℕ) (n m : ℕ) → m ≡ min n (length bs) → take m (gctr w nonce bs) ++ drop m bs ≡ gctr w nonce (take n bs) ++ drop n bs
@@ -80,4 +80,4 @@ module _ (w : List State) (nonce : List ℕ) where
   pub gctr-twice : (j : ℕ) (bs : List ℕ) → gctrFrom w nonce j (gctrFrom w nonce j bs) ≡ bs
   unfolding gctrFrom
   gctr-twice j [] = refl
-  gctr-twice j (b ∷ bs) = ap₂ _∷_ (xor-twice b (streamByte w nonce j)) (gctr-twice (suc j) bs)
+  gctr-twice j (b ∷ bs) = ap₂ _∷_ (xor-twice b (keystreamByte w nonce j)) (gctr-twice (suc j) bs)

@@ -12,19 +12,19 @@ be4 n = n / 256 / 256 / 256 % 256 ∷ n / 256 / 256 % 256 ∷ n / 256 % 256 ∷ 
 unfoldable pub counterBlock : List ℕ → ℕ → State
 counterBlock nonce i = columnAt nonce 0 ∷ columnAt nonce 4 ∷ columnAt nonce 8 ∷ be4 i ∷ []
 
-unfoldable pub streamBlock : List State → List ℕ → ℕ → State
-streamBlock w nonce i = cipher w (counterBlock nonce i)
+unfoldable pub keystreamBlock : List State → List ℕ → ℕ → State
+keystreamBlock w nonce i = cipher w (counterBlock nonce i)
 
 abbrev pub byteOf : State → ℕ → ℕ
 byteOf s k = at s (k / 4) (k % 4)
 
 -- byte j of a text meets byte j % 16 of block 2 + j / 16: the first block is inc_32(J0)
-unfoldable pub streamByte : List State → List ℕ → ℕ → ℕ
-streamByte w nonce j = byteOf (streamBlock w nonce (j / 16 + 2)) (j % 16)
+unfoldable pub keystreamByte : List State → List ℕ → ℕ → ℕ
+keystreamByte w nonce j = byteOf (keystreamBlock w nonce (j / 16 + 2)) (j % 16)
 
 unfoldable pub gctrFrom : List State → List ℕ → ℕ → List ℕ → List ℕ
 gctrFrom w nonce j [] = []
-gctrFrom w nonce j (b ∷ bs) = bitXor b (streamByte w nonce j) ∷ gctrFrom w nonce (suc j) bs
+gctrFrom w nonce j (b ∷ bs) = bitXor b (keystreamByte w nonce j) ∷ gctrFrom w nonce (suc j) bs
 
 -- 6.5: GCTR of a text, from inc_32(J0) on
 abbrev pub gctr : List State → List ℕ → List ℕ → List ℕ

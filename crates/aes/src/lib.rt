@@ -25,7 +25,7 @@ ghost use Rattle.aes.specs.Aes.{
   keyExpansion,
   cipher,
 };
-ghost use Rattle.aes.specs.Counter.{counterBlock, streamBlock, byteOf, gctr};
+ghost use Rattle.aes.specs.Counter.{counterBlock, keystreamBlock, byteOf, gctr};
 ghost use Rattle.aes.specs.Packed.{Packed, doubled, turned1, turned2, turned3, mixedWord};
 
 // ---- a column as one number
@@ -265,20 +265,20 @@ fn counter_block(nonce: [u8; 12], i: usize) -> [[u8; 4]; 4]
     ]
 }
 
-fn stream(t: &[u8; 256], w: &[[[u8; 4]; 4]; 11], nonce: [u8; 12], i: usize) -> [[u8; 4]; 4]
+fn keystream(t: &[u8; 256], w: &[[[u8; 4]; 4]; 11], nonce: [u8; 12], i: usize) -> [[u8; 4]; 4]
     requires { ⌜ Ruled (now t) ⌝ }
-    ensures { λ r. ⌜ r ≡ streamBlock (now (w .entry)) nonce i ⌝ }
+    ensures { λ r. ⌜ r ≡ keystreamBlock (now (w .entry)) nonce i ⌝ }
 {
     let first = w[0];
     rounds(t, w, add_round_key(counter_block(nonce, i), first))
 }
 
 // Counter block i, encrypted.
-pub fn stream_block(w: &[[[u8; 4]; 4]; 11], nonce: [u8; 12], i: usize) -> [[u8; 4]; 4]
-    ensures { λ r. ⌜ r ≡ streamBlock (now (w .entry)) nonce i ⌝ }
+pub fn keystream_block(w: &[[[u8; 4]; 4]; 11], nonce: [u8; 12], i: usize) -> [[u8; 4]; 4]
+    ensures { λ r. ⌜ r ≡ keystreamBlock (now (w .entry)) nonce i ⌝ }
 {
     let t = sbox_table();
-    stream(&t, w, nonce, i)
+    keystream(&t, w, nonce, i)
 }
 
 fn byte_of(s: [[u8; 4]; 4], k: usize) -> u8
@@ -289,9 +289,9 @@ fn byte_of(s: [[u8; 4]; 4], k: usize) -> u8
 }
 
 // The n bytes from place i on, masked by the block s that stands there.
-fn mask_block(s: [[u8; 4]; 4], buf: &mut [u8], i: usize, n: usize)
+fn xor_block(s: [[u8; 4]; 4], buf: &mut [u8], i: usize, n: usize)
     requires { ⌜ (n ≤ 16) × (i + n ≤ length (now buf)) × (i % 16 ≡ 0) ⌝ }
-    ensures { λ _. ⌜ ((w : List State) (nonce d : List ℕ) → s ≡ streamBlock w nonce (i / 16 + 2) → now (buf .entry) ≡ take i (gctr w nonce d) ++ drop i d → now (buf .exit) ≡ take (i + n) (gctr w nonce d) ++ drop (i + n) d) ⌝ }
+    ensures { λ _. ⌜ ((w : List State) (nonce d : List ℕ) → s ≡ keystreamBlock w nonce (i / 16 + 2) → now (buf .entry) ≡ take i (gctr w nonce d) ++ drop i d → now (buf .exit) ≡ take (i + n) (gctr w nonce d) ++ drop (i + n) d) ⌝ }
 {
     let mut k: usize = 0;
     while k < n {
@@ -301,7 +301,7 @@ fn mask_block(s: [[u8; 4]; 4], buf: &mut [u8], i: usize, n: usize)
 }
 
 // The whole blocks among the n first bytes; the answer is where they end.
-fn mask_blocks(
+fn xor_blocks(
     t: &[u8; 256],
     w: &[[[u8; 4]; 4]; 11],
     nonce: [u8; 12],
@@ -313,23 +313,23 @@ fn mask_blocks(
 {
     let mut i: usize = 0;
     while 16 <= n - i {
-        let s = stream(t, w, nonce, i / 16 + 2);
-        mask_block(s, buf, i, 16);
+        let s = keystream(t, w, nonce, i / 16 + 2);
+        xor_block(s, buf, i, 16);
         i += 16;
     }
     i
 }
 
 // Masks the n first bytes of buf, or all where it has fewer, where they stand. Masking them again gives them back.
-pub fn mask(w: &[[[u8; 4]; 4]; 11], nonce: [u8; 12], buf: &mut [u8], n: usize)
+pub fn xor_keystream(w: &[[[u8; 4]; 4]; 11], nonce: [u8; 12], buf: &mut [u8], n: usize)
     ensures { λ _. ⌜ now (buf .exit) ≡ gctr (now (w .entry)) nonce (take n (now (buf .entry))) ++ drop n (now (buf .entry)) ⌝ }
 {
     let m = min(n, buf.len());
     let t = sbox_table();
-    let i = mask_blocks(&t, w, nonce, buf, m);
+    let i = xor_blocks(&t, w, nonce, buf, m);
     if m <= i {
         return;
     }
-    let s = stream(&t, w, nonce, i / 16 + 2);
-    mask_block(s, buf, i, m - i);
+    let s = keystream(&t, w, nonce, i / 16 + 2);
+    xor_block(s, buf, i, m - i);
 }

@@ -6,7 +6,7 @@ use refusal::Refusal;
 use refusal::Verdict;
 use refusal::both;
 use refusal::or_else;
-use refusal::unless_ok;
+use refusal::unless;
 ghost use mathlib.Core.Path.{_≡_};
 ghost use Rattle.refusal.specs.declared.Refusal.the-variants as refusal;
 ghost use Rattle.refusal.specs.Refusals.{judgedBy};
@@ -59,19 +59,19 @@ pub fn judge_own(supported: u64, required: u64) -> Verdict
 {
     let m = missing_of(required, supported);
     let known = both(supported < 2, required < 2);
-    unless_ok(both(known, m == 0), Refusal::OwnFeatures)
+    unless(both(known, m == 0), Refusal::OwnFeatures)
 }
 
 fn judge_required(bits: u64) -> Verdict
     ensures { λ r. ⌜ judgedBy r ≡ judgeMissing refusal.PeerRequires bits ⌝ }
 {
-    unless_ok(bits == 0, Refusal::PeerRequires(detail_of(bits)))
+    unless(bits == 0, Refusal::PeerRequires(detail_of(bits)))
 }
 
 fn judge_lacking(bits: u64) -> Verdict
     ensures { λ r. ⌜ judgedBy r ≡ judgeMissing refusal.PeerLacks bits ⌝ }
 {
-    unless_ok(bits == 0, Refusal::PeerLacks(detail_of(bits)))
+    unless(bits == 0, Refusal::PeerLacks(detail_of(bits)))
 }
 
 // The peer's features against ours.
@@ -102,13 +102,13 @@ pub fn judge_magic(b: &[u8]) -> Verdict
     let m4 = both(byte_at(b, 4) == 0x20, both(byte_at(b, 5) == 0x76, m6));
     let m2 = both(byte_at(b, 2) == 0x70, both(byte_at(b, 3) == 0x68, m4));
     let m0 = both(byte_at(b, 0) == 0x63, both(byte_at(b, 1) == 0x65, m2));
-    unless_ok(m0, Refusal::Magic)
+    unless(m0, Refusal::Magic)
 }
 
 pub fn judge_length(n: u16) -> Verdict
     ensures { λ r. ⌜ judgedBy r ≡ judgeLength n ⌝ }
 {
-    unless_ok(both(16 <= n, n <= 1024), Refusal::BannerLength(n))
+    unless(both(16 <= n, n <= 1024), Refusal::BannerLength(n))
 }
 
 // The features in the first 16 bytes of a banner's payload.

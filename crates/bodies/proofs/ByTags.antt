@@ -17,16 +17,16 @@ use Rattle.bodies.specs.declared.Body.{Body}
 use Rattle.bodies.specs.declared.Body.the-variants as body
 use Rattle.bodies.specs.Table.{Row, listed, layoutIn, layoutOf, hello, authRequest, badMethod, more, authDone, ident, reconnect, oneNumber, reset, stamp}
 use Rattle.bodies.specs.Read.{readOf, readBy, readBody, answerOf, malformedBody, settledBody}
-use Rattle.bodies.specs.ByTag.{unless, short, endsAt, listThen, listEnd, listAt, restAt, helloBody, authRequestBody, badMethodBody, moreBody, authDoneBody, identBody, reconnectBody, oneNumberBody, resetBody, stampBody, tagBody, bodyOf, Within, EveryBody}
+use Rattle.bodies.specs.ByTag.{malformedWhen, short, endsAt, listThen, listEnd, listAt, restAt, helloBody, authRequestBody, badMethodBody, moreBody, authDoneBody, identBody, reconnectBody, oneNumberBody, resetBody, stampBody, tagBody, bodyOf, Within, EveryBody}
 use Rattle.bodies.specs.Claims.{Reads}
-use Rattle.bodies.proofs.Made.{saidAt, Makes, from, stopped, answers}
+use Rattle.bodies.proofs.Bodies.{saidAt, Makes, from, stopped, answers}
 
 -- what holds where the test does not
-under : {x y : Body} (b : Bool) (at : ℕ) → (b ≡ false → x ≡ y) → unless b at x ≡ unless b at y
+under : {x y : Body} (b : Bool) (at : ℕ) → (b ≡ false → x ≡ y) → malformedWhen b at x ≡ malformedWhen b at y
 under true at h = refl
 under false at h = h refl
 
-both-at : (b : Bool) (at : ℕ) → unless b at (malformedBody at) ≡ malformedBody at
+both-at : (b : Bool) (at : ℕ) → malformedWhen b at (malformedBody at) ≡ malformedBody at
 both-at true at = refl
 both-at false at = refl
 
@@ -54,27 +54,27 @@ module _ (s : List ℕ) (at : ℕ) where
     unfolding stepOf
     number-on w n m h e = stands (num w) ks m n (rw (le-leb w (length s - at) (omega arith), e))
 
-    number-first : (w n : ℕ) (m : ℕ → Makes ks) → 1 ≤ w → at + w ≡ n → from (num w ∷ ks) s at m ≡ unless (short s n) at (from ks s n (m (numberAt w at s)))
+    number-first : (w n : ℕ) (m : ℕ → Makes ks) → 1 ≤ w → at + w ≡ n → from (num w ∷ ks) s at m ≡ malformedWhen (short s n) at (from ks s n (m (numberAt w at s)))
     unfolding stepOf
     number-first w n m o e = go (ltb (length s) n) refl
       where
-        go : (b : Bool) → ltb (length s) n ≡ b → from (num w ∷ ks) s at m ≡ unless b at (from ks s n (m (numberAt w at s)))
+        go : (b : Bool) → ltb (length s) n ≡ b → from (num w ∷ ks) s at m ≡ malformedWhen b at (from ks s n (m (numberAt w at s)))
         go true t = let h = ltb-true (length s) n t in fails (num w) ks m at (rw (lt-leb w (length s - at) (omega arith)))
         go false t = let h = ltb-false (length s) n t in number-on w n m (omega arith) e
 
-    bytes-first : (w n : ℕ) (m : Span → Makes ks) → 1 ≤ w → at + w ≡ n → from (plain w ∷ ks) s at m ≡ unless (short s n) at (from ks s n (m (bytesFrom at w)))
+    bytes-first : (w n : ℕ) (m : Span → Makes ks) → 1 ≤ w → at + w ≡ n → from (plain w ∷ ks) s at m ≡ malformedWhen (short s n) at (from ks s n (m (bytesFrom at w)))
     unfolding stepOf
     bytes-first w n m o e = go (ltb (length s) n) refl
       where
-        go : (b : Bool) → ltb (length s) n ≡ b → from (plain w ∷ ks) s at m ≡ unless b at (from ks s n (m (bytesFrom at w)))
+        go : (b : Bool) → ltb (length s) n ≡ b → from (plain w ∷ ks) s at m ≡ malformedWhen b at (from ks s n (m (bytesFrom at w)))
         go true t = let h = ltb-true (length s) n t in fails (plain w) ks m at (rw (lt-leb w (length s - at) (omega arith)))
         go false t = let h = ltb-false (length s) n t in stands (plain w) ks m n (rw (le-leb w (length s - at) (omega arith), e))
 
-    negative-first : (n : ℕ) (m : ℕ → Makes ks) → at + 4 ≡ n → from (neg ∷ ks) s at m ≡ unless (short s n || ltb (numberAt 4 at s) 2147483648) at (from ks s n (m (numberAt 4 at s)))
+    negative-first : (n : ℕ) (m : ℕ → Makes ks) → at + 4 ≡ n → from (neg ∷ ks) s at m ≡ malformedWhen (short s n || ltb (numberAt 4 at s) 2147483648) at (from ks s n (m (numberAt 4 at s)))
     unfolding stepOf
     negative-first n m e = go (ltb (length s) n) (ltb (numberAt 4 at s) 2147483648) refl refl
       where
-        go : (b c : Bool) → ltb (length s) n ≡ b → ltb (numberAt 4 at s) 2147483648 ≡ c → from (neg ∷ ks) s at m ≡ unless (b || c) at (from ks s n (m (numberAt 4 at s)))
+        go : (b c : Bool) → ltb (length s) n ≡ b → ltb (numberAt 4 at s) 2147483648 ≡ c → from (neg ∷ ks) s at m ≡ malformedWhen (b || c) at (from ks s n (m (numberAt 4 at s)))
         go true true t u = fails neg ks m at (rw u)
         go true false t u = let h = ltb-true (length s) n t in fails neg ks m at (rw (u, lt-leb 4 (length s - at) (omega arith)))
         go false true t u = fails neg ks m at (rw u)
@@ -85,7 +85,7 @@ module _ (s : List ℕ) (at : ℕ) where
     list-first m = go (ltb (length s) (at + 4)) (ltb 32 (numberAt 4 at s)) (ltb (length s) (listEnd s at)) refl refl refl
       where
         go : (a b c : Bool) → ltb (length s) (at + 4) ≡ a → ltb 32 (numberAt 4 at s) ≡ b → ltb (length s) (listEnd s at) ≡ c
-            → from (list ∷ ks) s at m ≡ unless a at (unless b at (unless c (at + 4 + (length s - (at + 4)) / 4 * 4) (from ks s (listEnd s at) (m (listAt s at)))))
+            → from (list ∷ ks) s at m ≡ malformedWhen a at (malformedWhen b at (malformedWhen c (at + 4 + (length s - (at + 4)) / 4 * 4) (from ks s (listEnd s at) (m (listAt s at)))))
         go true true c t u v = fails list ks m at (rw u)
         go true false c t u v =
             let h = ltb-true (length s) (at + 4) t in
@@ -104,12 +104,12 @@ module _ (s : List ℕ) (at : ℕ) where
             stands list ks m (listEnd s at) (rw (u, le-leb (4 + 4 * numberAt 4 at s) (length s - at) (omega arith), e))
 
     size-first : (l n : ℕ) (m : Span → Makes ks) → at + 4 ≡ l → at + (4 + numberAt 4 at s) ≡ n
-        → from (size ∷ ks) s at m ≡ unless (short s l || short s n) at (from ks s n (m (bytesFrom (at + 4) (numberAt 4 at s))))
+        → from (size ∷ ks) s at m ≡ malformedWhen (short s l || short s n) at (from ks s n (m (bytesFrom (at + 4) (numberAt 4 at s))))
     unfolding stepOf
     size-first l n m e g = go (ltb (length s) l) (ltb (length s) n) refl refl
       where
         go : (b c : Bool) → ltb (length s) l ≡ b → ltb (length s) n ≡ c
-            → from (size ∷ ks) s at m ≡ unless (b || c) at (from ks s n (m (bytesFrom (at + 4) (numberAt 4 at s))))
+            → from (size ∷ ks) s at m ≡ malformedWhen (b || c) at (from ks s n (m (bytesFrom (at + 4) (numberAt 4 at s))))
         go true c t u = let h = ltb-true (length s) l t in fails size ks m at (rw (lt-leb (4 + numberAt 4 at s) (length s - at) (omega arith)))
         go false true t u = let h = ltb-true (length s) n u in fails size ks m at (rw (lt-leb (4 + numberAt 4 at s) (length s - at) (omega arith)))
         go false false t u = let h = ltb-false (length s) n u in stands size ks m n (rw (le-leb (4 + numberAt 4 at s) (length s - at) (omega arith), g))
@@ -141,10 +141,10 @@ module _ (s : List ℕ) (at : ℕ) where
 -- ---- the bodies
 
 abbrev identified : ℕ → Span → ℕ → ℕ → ℕ → ℕ → ℕ → ℕ → Body
-identified n p a b c d e f = body.Identity n p (record { gid = a; global = b; supported = c; required = d; flags = e; cookie = f })
+identified n p a b c d e f = body.Ident n p (record { gid = a; global = b; supported = c; required = d; flags = e; cookie = f })
 
 abbrev resumed : ℕ → Span → ℕ → ℕ → ℕ → ℕ → ℕ → Body
-resumed n p a b c d e = body.Resume n p (record { client = a; server = b; global = c; connect = d; message = e })
+resumed n p a b c d e = body.Reconnect n p (record { client = a; server = b; global = c; connect = d; message = e })
 
 module _ (s : List ℕ) where
   not-short : (b : Bool) (n : ℕ) → (b || short s n) ≡ false → n ≤ length s
@@ -208,7 +208,7 @@ module _ (s : List ℕ) where
       at : ℕ
       at = length s - 48
 
-      go : (b : Bool) → ltb (length s) 52 ≡ b → from ident s 0 identified ≡ unless b 0 (identified (numberAt 4 0 s) (bytesFrom 4 (at - 4)) (numberAt 8 at s) (numberAt 8 (at + 8) s) (numberAt 8 (at + 16) s) (numberAt 8 (at + 24) s) (numberAt 8 (at + 32) s) (numberAt 8 (at + 40) s))
+      go : (b : Bool) → ltb (length s) 52 ≡ b → from ident s 0 identified ≡ malformedWhen b 0 (identified (numberAt 4 0 s) (bytesFrom 4 (at - 4)) (numberAt 8 at s) (numberAt 8 (at + 8) s) (numberAt 8 (at + 16) s) (numberAt 8 (at + 24) s) (numberAt 8 (at + 32) s) (numberAt 8 (at + 40) s))
       go true t = closing-missing 48 (num 8 ∷ num 8 ∷ num 8 ∷ num 8 ∷ num 8 ∷ num 8 ∷ []) identified (ltb-true (length s) 52 t)
       go false t =
           let h = ltb-false (length s) 52 t in
@@ -224,7 +224,7 @@ module _ (s : List ℕ) where
       at : ℕ
       at = length s - 40
 
-      go : (b : Bool) → ltb (length s) 44 ≡ b → from reconnect s 0 resumed ≡ unless b 0 (resumed (numberAt 4 0 s) (bytesFrom 4 (at - 4)) (numberAt 8 at s) (numberAt 8 (at + 8) s) (numberAt 8 (at + 16) s) (numberAt 8 (at + 24) s) (numberAt 8 (at + 32) s))
+      go : (b : Bool) → ltb (length s) 44 ≡ b → from reconnect s 0 resumed ≡ malformedWhen b 0 (resumed (numberAt 4 0 s) (bytesFrom 4 (at - 4)) (numberAt 8 at s) (numberAt 8 (at + 8) s) (numberAt 8 (at + 16) s) (numberAt 8 (at + 24) s) (numberAt 8 (at + 32) s))
       go true t = closing-missing 40 (num 8 ∷ num 8 ∷ num 8 ∷ num 8 ∷ num 8 ∷ []) resumed (ltb-true (length s) 44 t)
       go false t =
           let h = ltb-false (length s) 44 t in
@@ -277,7 +277,7 @@ module _ (s : List ℕ) where
   unfolding readBody bodyOf
   reads-as tag = go (ltb segmentLimit (length s)) refl
     where
-      go : (b : Bool) → ltb segmentLimit (length s) ≡ b → answerOf s (unless b 0 (tagBody tag s)) ≡ readBody tag s
+      go : (b : Bool) → ltb segmentLimit (length s) ≡ b → answerOf s (malformedWhen b 0 (tagBody tag s)) ≡ readBody tag s
       go true t = rw (lt-leb (length s) segmentLimit (ltb-true segmentLimit (length s) t))
       go false t = rw (le-leb (length s) segmentLimit (ltb-false segmentLimit (length s) t)) (tags tag)
 
@@ -286,12 +286,12 @@ module _ (s : List ℕ) where
   record Stands (b : Body) : Type 0 where
     fact : Within s b
 
-  kept : {x : Body} (b : Bool) (at : ℕ) → (b ≡ false → Stands x) → Stands (unless b at x)
+  kept : {x : Body} (b : Bool) (at : ℕ) → (b ≡ false → Stands x) → Stands (malformedWhen b at x)
   unfolding Within
   kept true at h = record { fact = tt }
   kept false at h = h refl
 
-  fits : {x : Body} (n at : ℕ) → (n ≤ length s → Stands x) → Stands (unless (short s n) at x)
+  fits : {x : Body} (n at : ℕ) → (n ≤ length s → Stands x) → Stands (malformedWhen (short s n) at x)
   fits n at h = kept (short s n) at (λ t. h (ltb-false (length s) n t))
 
   list-fits : {x : Body} (at : ℕ) → (listEnd s at ≤ length s → Stands x) → Stands (listThen s at x)

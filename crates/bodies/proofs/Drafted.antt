@@ -19,12 +19,13 @@ use Rattle.fields.proofs.Puts.{put-none, put-next, put-over}
 use Rattle.fields.proofs.Drafts.{put-len}
 use Rattle.bodies.specs.declared.Request.{Request}
 use Rattle.bodies.specs.declared.Request.the-variants as request
-use Rattle.bodies.specs.declared.Written.{Written}
-use Rattle.bodies.specs.declared.Written.the-variants.{Wrote, Refused}
+use Rattle.refusal.specs.declared.WriteResult.{WriteResult}
+use Rattle.refusal.specs.declared.WriteResult.the-variants.{Wrote, Refused}
+use Rattle.refusal.specs.Writes.{done, outcomeOf}
 use Rattle.bodies.specs.Table.{listed, layoutOf, isListed}
 use Rattle.bodies.specs.Read.{whole, malformed, readBody}
 use Rattle.bodies.specs.Rows.{requested}
-use Rattle.bodies.specs.Write.{kindsOf, bytesOf, done, writeAs, writeBody, outcomeOf, writes, AppendedAll, judged, decided, isWrote}
+use Rattle.bodies.specs.Write.{kindsOf, bytesOf, writeAs, writeBody, writes, AppendedAll, judged, decided, isWrote}
 use Rattle.bodies.specs.Write as w
 use Rattle.bodies.specs.Claims.{AllFit, Writes}
 use Rattle.bodies.specs.Claims as claims
@@ -123,19 +124,19 @@ appended-judge {p} {q} at (w.step {f = f} {fs = fs} {q = r} t s) b e h =
 -- ---- the answer
 
 -- the buffer after an answer
-after : Written → List ℕ → List ℕ → List ℕ
+after : WriteResult → List ℕ → List ℕ → List ℕ
 after v bs out = cond (isWrote v) (replaceFront bs out) out
 
-kept : (v : Written) (bs out : List ℕ) → isWrote v ≡ false → after v bs out ≡ out
+kept : (v : WriteResult) (bs out : List ℕ) → isWrote v ≡ false → after v bs out ≡ out
 unfolding after
 kept v bs out h = rw h
 
-changed : (v : Written) (bs out : List ℕ) → isWrote v ≡ true → after v bs out ≡ replaceFront bs out
+changed : (v : WriteResult) (bs out : List ℕ) → isWrote v ≡ true → after v bs out ≡ replaceFront bs out
 unfolding after
 changed v bs out h = rw h
 
 -- by what the draft came to
-answerBy : Bool → Bool → ℕ → ℕ → Written
+answerBy : Bool → Bool → ℕ → ℕ → WriteResult
 answerBy f r place n = cond f (Refused (BodyMalformed place)) (cond r (Wrote n) (Refused (NoRoom n)))
 
 by-draft : (f r : Bool) (place : ℕ) (fs : List Field) (bs out : List ℕ) → leb (length bs) (length out) ≡ r → done (outcomeOf (answerBy f r place (length bs))) (after (answerBy f r place (length bs)) bs out) ≡ writeAs (cond f (malformed place) (whole fs)) bs out
@@ -211,14 +212,14 @@ kinds-requested tag r ms ns bs = ap (isListed (layoutOf tag)) (go r)
     go (request.BadMethod m e) = refl
     go request.More = refl
     go (request.AuthDone g m) = refl
-    go (request.Identity n i) = refl
-    go (request.Resume n k) = refl
+    go (request.Ident n i) = refl
+    go (request.Reconnect n k) = refl
     go (request.Number n) = refl
     go (request.Reset n) = refl
     go request.Stamp = refl
 
 -- THE TWO RETURNS OF `write`
-module _ {q : Draft} {a b : List ℕ} {v : Written} {served : Bool} (tag : ℕ) (r : Request) (ms ns bs out : List ℕ) (s : served ≡ writes tag r) (t : AppendedAll empty a (requested r ms ns bs) q b) (d : v ≡ decided served q (length out)) where
+module _ {q : Draft} {a b : List ℕ} {v : WriteResult} {served : Bool} (tag : ℕ) (r : Request) (ms ns bs out : List ℕ) (s : served ≡ writes tag r) (t : AppendedAll empty a (requested r ms ns bs) q b) (d : v ≡ decided served q (length out)) where
   abbrev fs : List Field
   fs = requested r ms ns bs
 
@@ -267,6 +268,6 @@ pub not-served : {served : Bool} (q : Draft) (room : ℕ) → served ≡ false �
 unfolding decided
 not-served q room h = rw h
 
-pub is-served : {v : Written} {served : Bool} (q : Draft) (room : ℕ) → served ≡ true → v ≡ judged q room → v ≡ decided served q room
+pub is-served : {v : WriteResult} {served : Bool} (q : Draft) (room : ℕ) → served ≡ true → v ≡ judged q room → v ≡ decided served q room
 unfolding decided
 is-served q room h e = rw h e

@@ -1,5 +1,5 @@
 pub mod Rows
-pub mod Made
+pub mod Bodies
 pub mod Tags
 pub mod Judged
 pub mod Drafted

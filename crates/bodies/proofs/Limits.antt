@@ -9,10 +9,11 @@ use lib.Seq.{take-all}
 use Rattle.buffer.specs.Le.{le, numberAt, words}
 use Rattle.preamble.specs.Judge.{segmentLimit}
 use Rattle.refusal.specs.Refusals.{row}
+use Rattle.refusal.specs.Writes.{refusedFor, done}
 use Rattle.bodies.specs.Table.{layoutIn}
 use Rattle.bodies.specs.Rows.{helloOf, authRequestOf}
 use Rattle.bodies.specs.Read.{whole, readBody}
-use Rattle.bodies.specs.Write.{kindsOf, bytesOf, turnedAway, done, writeAs, writeBody}
+use Rattle.bodies.specs.Write.{kindsOf, bytesOf, writeAs, writeBody}
 use Rattle.bodies.specs.ByTag.{helloBody, tagBody, bodyOf}
 use Rattle.bodies.specs.Worked.{AtLimit}
 use Rattle.bodies.proofs.Judged.{length-words}
@@ -29,13 +30,13 @@ hello-bytes : (bs : List ℕ) → bytesOf (helloOf 8 bs) ≡ 8 ∷ bs
 unfolding bytesOf
 hello-bytes bs = rw append-nil
 
-hello-no-room : (bs : List ℕ) → length bs ≡ 1048575 → writeBody 1 (helloOf 8 bs) (7 ∷ []) ≡ done (turnedAway (row 14 1048576 0 0)) (7 ∷ [])
+hello-no-room : (bs : List ℕ) → length bs ≡ 1048575 → writeBody 1 (helloOf 8 bs) (7 ∷ []) ≡ done (refusedFor (row 14 1048576 0 0)) (7 ∷ [])
 unfolding writeBody writeAs layoutIn kindsOf
 hello-no-room bs e =
     let n : length (8 ∷ bs) ≡ 1048576 = omega arith in
     rw (hello-bytes bs, hello-read bs (omega arith), lt-leb (length (8 ∷ bs)) 1 (omega arith), n)
 
-hello-long : (bs out : List ℕ) → length bs ≡ 1048576 → writeBody 1 (helloOf 8 bs) out ≡ done (turnedAway (row 20 0 0 0)) out
+hello-long : (bs out : List ℕ) → length bs ≡ 1048576 → writeBody 1 (helloOf 8 bs) out ≡ done (refusedFor (row 20 0 0 0)) out
 unfolding writeBody writeAs layoutIn kindsOf
 hello-long bs out e = rw (hello-bytes bs, read-long 1 (8 ∷ bs) (omega arith))
 
@@ -47,7 +48,7 @@ request-length zs bs e f =
     let b : length (bytesOf (authRequestOf 1 zs bs)) ≡ 8 + length (words zs ++ (bs ++ [])) = omega arith in
     omega arith
 
-request-long : (zs bs out : List ℕ) → length zs ≡ 33 → length bs ≡ 1048437 → writeBody 2 (authRequestOf 1 zs bs) out ≡ done (turnedAway (row 20 0 0 0)) out
+request-long : (zs bs out : List ℕ) → length zs ≡ 33 → length bs ≡ 1048437 → writeBody 2 (authRequestOf 1 zs bs) out ≡ done (refusedFor (row 20 0 0 0)) out
 unfolding writeBody writeAs layoutIn kindsOf
 request-long zs bs out e f = rw (read-long 2 (bytesOf (authRequestOf 1 zs bs)) (request-length zs bs e f))
 

@@ -116,13 +116,13 @@ pub serves-auth-done : (tag : ℕ) (g m : ℕ) → tag < 256 → (eqb tag 6) ≡
 unfolding everyBelow sameBool layoutIn writes kindsOf
 serves-auth-done tag g m h = by-byte (λ t. eqb t 6) authDone tag refl h
 
-pub serves-identity : (tag : ℕ) (n : ℕ) (i : Ident) → tag < 256 → (eqb tag 8 || eqb tag 9) ≡ writes tag (request.Identity n i)
+pub serves-ident : (tag : ℕ) (n : ℕ) (i : Ident) → tag < 256 → (eqb tag 8 || eqb tag 9) ≡ writes tag (request.Ident n i)
 unfolding everyBelow sameBool layoutIn writes kindsOf
-serves-identity tag n i h = by-byte (λ t. eqb t 8 || eqb t 9) ident tag refl h
+serves-ident tag n i h = by-byte (λ t. eqb t 8 || eqb t 9) ident tag refl h
 
-pub serves-resume : (tag : ℕ) (n : ℕ) (k : Reconnect) → tag < 256 → (eqb tag 11) ≡ writes tag (request.Resume n k)
+pub serves-reconnect : (tag : ℕ) (n : ℕ) (k : Reconnect) → tag < 256 → (eqb tag 11) ≡ writes tag (request.Reconnect n k)
 unfolding everyBelow sameBool layoutIn writes kindsOf
-serves-resume tag n k h = by-byte (λ t. eqb t 11) reconnect tag refl h
+serves-reconnect tag n k h = by-byte (λ t. eqb t 11) reconnect tag refl h
 
 pub serves-number : (tag : ℕ) (n : ℕ) → tag < 256 → (eqb tag 10 || (eqb tag 15 || eqb tag 20)) ≡ writes tag (request.Number n)
 unfolding everyBelow sameBool layoutIn writes kindsOf

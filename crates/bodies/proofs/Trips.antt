@@ -18,17 +18,18 @@ use Rattle.fields.specs.declared.Cursor.{Cursor}
 use Rattle.fields.specs.Layout.{Kind, good, stepOf}
 use Rattle.fields.specs.Field.{Field, fieldBytes, fieldAt}
 use Rattle.fields.specs.Reading.{spanIn, numbersIn}
-use Rattle.fields.proofs.Again.{over-field, same-kind}
+use Rattle.fields.proofs.ReadBack.{over-field, same-kind}
 use Rattle.bodies.specs.declared.Body.{Body}
 use Rattle.bodies.specs.declared.Body.the-variants as body
 use Rattle.bodies.specs.declared.Request.{Request}
 use Rattle.bodies.specs.declared.Request.the-variants as request
-use Rattle.bodies.specs.declared.Written.{Written}
-use Rattle.bodies.specs.declared.Written.the-variants as written
+use Rattle.refusal.specs.declared.WriteResult.{WriteResult}
+use Rattle.refusal.specs.declared.WriteResult.the-variants as written
+use Rattle.refusal.specs.Writes.{Outcome, wrote, refusedFor, Done, done, outcomeOf}
 use Rattle.bodies.specs.Table.{Found, listed, unlisted, layoutOf, isListed}
 use Rattle.bodies.specs.Rows.{requested}
 use Rattle.bodies.specs.Read.{run, fieldsOf, Answer, whole, refused, malformed, settled, readOf, readBy, readBody, answerOf}
-use Rattle.bodies.specs.Write.{kindsOf, bytesOf, Outcome, wrote, turnedAway, Done, done, writeAs, writeBody, outcomeOf, writes}
+use Rattle.bodies.specs.Write.{kindsOf, bytesOf, writeAs, writeBody, writes}
 use Rattle.bodies.specs.Claims.{AllFit, AllSound, Requested, holds, Reads, Writes, RoundTrips}
 use Rattle.bodies.proofs.Rows.{failed-run}
 use Rattle.bodies.proofs.Tags.{is-listed, listed-is}
@@ -50,7 +51,7 @@ outcomes e = ap (λ (d : Done). d .outcome) e
 same-count : {n m : ℕ} → wrote n ≡ wrote m → n ≡ m
 same-count e = cc
 
-not-wrote : {A : Type 0} {n : ℕ} {r : Numbers} → wrote n ≡ turnedAway r → A
+not-wrote : {A : Type 0} {n : ℕ} {r : Numbers} → wrote n ≡ refusedFor r → A
 not-wrote e = absurd (let z : _≡_ {A = ℕ} 0 1 = cc in omega arith)
 
 -- only a body that reads, with room, is written
@@ -63,10 +64,10 @@ wrote-well tag n fs out l = go (isListed (layoutOf tag) (kindsOf fs)) (readBody 
         let f : done (wrote n) l ≡ done (wrote (length (bytesOf fs))) (replaceFront (bytesOf fs) out) = e ∙ rw z in
         record { kinds = x; gs = gs; reads = y; len = same-count (outcomes f); buffer = ap (λ (d : Done). d .buffer) f }
     go true (whole gs) false x y z e =
-        let f : done (wrote n) l ≡ done (turnedAway (row 14 (length (bytesOf fs)) 0 0)) out = e ∙ rw z in
+        let f : done (wrote n) l ≡ done (refusedFor (row 14 (length (bytesOf fs)) 0 0)) out = e ∙ rw z in
         not-wrote (outcomes f)
-    go true (refused m) b x y z e = let f : done (wrote n) l ≡ done (turnedAway m) out = e in not-wrote (outcomes f)
-    go false r b x y z e = let f : done (wrote n) l ≡ done (turnedAway (row 20 0 0 0)) out = e in not-wrote (outcomes f)
+    go true (refused m) b x y z e = let f : done (wrote n) l ≡ done (refusedFor m) out = e in not-wrote (outcomes f)
+    go false r b x y z e = let f : done (wrote n) l ≡ done (refusedFor (row 20 0 0 0)) out = e in not-wrote (outcomes f)
 
 -- where the bytes of filled fields read at all, they read as those fields
 whole-by : (tag : ℕ) (fs gs : List Field) (b : Bool) (n : ℕ) → readBody tag (bytesOf fs) ≡ whole gs → readBody tag (bytesOf fs) ≡ cond b (malformed n) (whole fs) → readBody tag (bytesOf fs) ≡ whole fs
@@ -153,11 +154,11 @@ unfolding writeBody writeAs
 written-again tag s fs out h e l =
     rw (kinds-read tag s fs e, same-bytes tag s fs h e, e, le-leb (length s) (length out) l)
 
-wrote-is : (w : Written) (l m : List ℕ) (n : ℕ) → done (outcomeOf w) l ≡ done (wrote n) m → (w ≡ written.Wrote n) × (l ≡ m)
+wrote-is : (w : WriteResult) (l m : List ℕ) (n : ℕ) → done (outcomeOf w) l ≡ done (wrote n) m → (w ≡ written.Wrote n) × (l ≡ m)
 wrote-is (written.Wrote k) l m n e = (ap written.Wrote (same-count (outcomes e)), ap (λ (d : Done). d .buffer) e)
 wrote-is (written.Refused r) l m n e = not-wrote (sym (outcomes e))
 
-again : (tag : ℕ) (s : List ℕ) (b : Body) (r : Request) (ms ns bs out l : List ℕ) (w : Written) → Bytes s → Reads tag s b → answerOf s b ≡ whole (requested r ms ns bs) → length s ≤ length out → Writes tag (requested r ms ns bs) out w l → (w ≡ written.Wrote (length s)) × (l ≡ replaceFront s out)
+again : (tag : ℕ) (s : List ℕ) (b : Body) (r : Request) (ms ns bs out l : List ℕ) (w : WriteResult) → Bytes s → Reads tag s b → answerOf s b ≡ whole (requested r ms ns bs) → length s ≤ length out → Writes tag (requested r ms ns bs) out w l → (w ≡ written.Wrote (length s)) × (l ≡ replaceFront s out)
 again tag s b r ms ns bs out l w h q e k x =
     wrote-is w l (replaceFront s out) (length s) (x .outcome ∙ written-again tag s (requested r ms ns bs) out h (sym (q .answer) ∙ e) k)
 
@@ -169,7 +170,7 @@ unfolding AllSound judge
 sound-judged [] at h = refl
 sound-judged (f ∷ fs) at h = rw (h .0) (sound-judged fs (at + length (fieldBytes f)) (h .1))
 
-written-whole : (tag : ℕ) (r : Request) (ms ns bs out l : List ℕ) (w : Written) → writes tag r ≡ true → AllSound (requested r ms ns bs) → length (bytesOf (requested r ms ns bs)) ≤ segmentLimit → length (bytesOf (requested r ms ns bs)) ≤ length out → Writes tag (requested r ms ns bs) out w l → (w ≡ written.Wrote (length (bytesOf (requested r ms ns bs)))) × (l ≡ replaceFront (bytesOf (requested r ms ns bs)) out)
+written-whole : (tag : ℕ) (r : Request) (ms ns bs out l : List ℕ) (w : WriteResult) → writes tag r ≡ true → AllSound (requested r ms ns bs) → length (bytesOf (requested r ms ns bs)) ≤ segmentLimit → length (bytesOf (requested r ms ns bs)) ≤ length out → Writes tag (requested r ms ns bs) out w l → (w ≡ written.Wrote (length (bytesOf (requested r ms ns bs)))) × (l ≡ replaceFront (bytesOf (requested r ms ns bs)) out)
 unfolding writeBody writeAs
 written-whole tag r ms ns bs out l w t s h k x =
     let fs : List Field = requested r ms ns bs in
@@ -184,8 +185,8 @@ held-by s (body.AuthRequest m l p) fs e = holds (request.AuthRequest m) (numbers
 held-by s (body.BadMethod m x l k) fs e = holds (request.BadMethod m x) (numbersIn s l) (numbersIn s k) [] cc
 held-by s (body.More p) fs e = holds request.More [] [] (spanIn s p) cc
 held-by s (body.AuthDone g m p) fs e = holds (request.AuthDone g m) [] [] (spanIn s p) cc
-held-by s (body.Identity n p i) fs e = holds (request.Identity n i) [] [] (spanIn s p) cc
-held-by s (body.Resume n p k) fs e = holds (request.Resume n k) [] [] (spanIn s p) cc
+held-by s (body.Ident n p i) fs e = holds (request.Ident n i) [] [] (spanIn s p) cc
+held-by s (body.Reconnect n p k) fs e = holds (request.Reconnect n k) [] [] (spanIn s p) cc
 held-by s (body.Number n) fs e = holds (request.Number n) [] [] [] cc
 held-by s (body.Reset n) fs e = holds (request.Reset n) [] [] [] cc
 held-by s (body.Stamp p) fs e = holds request.Stamp [] [] (spanIn s p) cc

@@ -16,8 +16,8 @@ use Rattle.bodies.specs.declared.Body.the-variants as body
 use Rattle.bodies.specs.Read.{malformedBody, readBody, answerOf}
 
 -- malformed at a place, or else what follows
-abbrev pub unless : Bool → ℕ → Body → Body
-unless bad at b = cond bad (malformedBody at) b
+abbrev pub malformedWhen : Bool → ℕ → Body → Body
+malformedWhen bad at b = cond bad (malformedBody at) b
 
 -- there are fewer bytes
 abbrev pub short : List ℕ → ℕ → Bool
@@ -25,14 +25,14 @@ short s n = ltb (length s) n
 
 -- a body that ends at a place: what stands behind it is left over
 abbrev pub endsAt : List ℕ → ℕ → Body → Body
-endsAt s at b = unless (ltb at (length s)) at b
+endsAt s at b = malformedWhen (ltb at (length s)) at b
 
 -- a count and that many numbers: one cut off or above 32 is at fault at the count, a list cut short at the number cut off
 abbrev pub listThen : List ℕ → ℕ → Body → Body
 listThen s at b =
-    unless (short s (at + 4)) at
-    (unless (ltb 32 (numberAt 4 at s)) at
-    (unless (short s (at + 4 + 4 * numberAt 4 at s)) (at + 4 + (length s - (at + 4)) / 4 * 4) b))
+    malformedWhen (short s (at + 4)) at
+    (malformedWhen (ltb 32 (numberAt 4 at s)) at
+    (malformedWhen (short s (at + 4 + 4 * numberAt 4 at s)) (at + 4 + (length s - (at + 4)) / 4 * 4) b))
 
 -- where a list ends, and where its numbers stand
 abbrev pub listEnd : List ℕ → ℕ → ℕ
@@ -48,33 +48,33 @@ restAt s at = bytesFrom at (length s - at)
 -- ---- the bodies
 
 unfoldable pub helloBody : List ℕ → Body
-helloBody s = unless (short s 1) 0 (body.Hello (numberAt 1 0 s) (restAt s 1))
+helloBody s = malformedWhen (short s 1) 0 (body.Hello (numberAt 1 0 s) (restAt s 1))
 
 unfoldable pub authRequestBody : List ℕ → Body
-authRequestBody s = unless (short s 4) 0 (listThen s 4 (body.AuthRequest (numberAt 4 0 s) (listAt s 4) (restAt s (listEnd s 4))))
+authRequestBody s = malformedWhen (short s 4) 0 (listThen s 4 (body.AuthRequest (numberAt 4 0 s) (listAt s 4) (restAt s (listEnd s 4))))
 
 -- an error of 0 or above, by its 32 bits, is at fault at its place
 unfoldable pub badMethodBody : List ℕ → Body
 badMethodBody s =
-    unless (short s 4) 0
-    (unless (short s 8 || ltb (numberAt 4 4 s) 2147483648) 4
+    malformedWhen (short s 4) 0
+    (malformedWhen (short s 8 || ltb (numberAt 4 4 s) 2147483648) 4
     (listThen s 8
     (listThen s (listEnd s 8)
     (endsAt s (listEnd s (listEnd s 8)) (body.BadMethod (numberAt 4 0 s) (numberAt 4 4 s) (listAt s 8) (listAt s (listEnd s 8)))))))
 
 -- a payload shorter than its length is at fault at that length
 unfoldable pub moreBody : List ℕ → Body
-moreBody s = unless (short s 4 || short s (4 + numberAt 4 0 s)) 0 (endsAt s (4 + numberAt 4 0 s) (body.More (bytesFrom 4 (numberAt 4 0 s))))
+moreBody s = malformedWhen (short s 4 || short s (4 + numberAt 4 0 s)) 0 (endsAt s (4 + numberAt 4 0 s) (body.More (bytesFrom 4 (numberAt 4 0 s))))
 
 unfoldable pub authDoneBody : List ℕ → Body
-authDoneBody s = unless (short s 8) 0 (unless (short s 12) 8 (body.AuthDone (numberAt 8 0 s) (numberAt 4 8 s) (restAt s 12)))
+authDoneBody s = malformedWhen (short s 8) 0 (malformedWhen (short s 12) 8 (body.AuthDone (numberAt 8 0 s) (numberAt 4 8 s) (restAt s 12)))
 
 -- too short for the address count and the closing fields is at fault at 0; the count itself is not judged
 unfoldable pub identBody : List ℕ → Body
 identBody s =
     let at = length s - 48 in
-    unless (short s 52) 0
-    (body.Identity (numberAt 4 0 s) (bytesFrom 4 (at - 4))
+    malformedWhen (short s 52) 0
+    (body.Ident (numberAt 4 0 s) (bytesFrom 4 (at - 4))
     (record {
       gid = numberAt 8 at s;
       global = numberAt 8 (at + 8) s;
@@ -87,8 +87,8 @@ identBody s =
 unfoldable pub reconnectBody : List ℕ → Body
 reconnectBody s =
     let at = length s - 40 in
-    unless (short s 44) 0
-    (body.Resume (numberAt 4 0 s) (bytesFrom 4 (at - 4))
+    malformedWhen (short s 44) 0
+    (body.Reconnect (numberAt 4 0 s) (bytesFrom 4 (at - 4))
     (record {
       client = numberAt 8 at s;
       server = numberAt 8 (at + 8) s;
@@ -98,14 +98,14 @@ reconnectBody s =
     }))
 
 unfoldable pub oneNumberBody : List ℕ → Body
-oneNumberBody s = unless (short s 8) 0 (endsAt s 8 (body.Number (numberAt 8 0 s)))
+oneNumberBody s = malformedWhen (short s 8) 0 (endsAt s 8 (body.Number (numberAt 8 0 s)))
 
 -- any byte
 unfoldable pub resetBody : List ℕ → Body
-resetBody s = unless (short s 1) 0 (endsAt s 1 (body.Reset (numberAt 1 0 s)))
+resetBody s = malformedWhen (short s 1) 0 (endsAt s 1 (body.Reset (numberAt 1 0 s)))
 
 unfoldable pub stampBody : List ℕ → Body
-stampBody s = unless (short s 8) 0 (endsAt s 8 (body.Stamp (bytesFrom 0 8)))
+stampBody s = malformedWhen (short s 8) 0 (endsAt s 8 (body.Stamp (bytesFrom 0 8)))
 
 -- ---- by tag; an unlisted one is malformed at 0
 
@@ -130,7 +130,7 @@ tagBody tag s =
 
 -- ahead of all, a body above the limit of a segment
 unfoldable pub bodyOf : ℕ → List ℕ → Body
-bodyOf tag s = unless (ltb segmentLimit (length s)) 0 (tagBody tag s)
+bodyOf tag s = malformedWhen (ltb segmentLimit (length s)) 0 (tagBody tag s)
 
 -- ---- within the segment
 
@@ -147,8 +147,8 @@ Within s (body.AuthRequest method modes payload) = numbersWithin s modes × byte
 Within s (body.BadMethod method error methods modes) = numbersWithin s methods × numbersWithin s modes
 Within s (body.More payload) = bytesWithin s payload
 Within s (body.AuthDone id mode payload) = bytesWithin s payload
-Within s (body.Identity addresses block i) = bytesWithin s block
-Within s (body.Resume addresses block k) = bytesWithin s block
+Within s (body.Ident addresses block i) = bytesWithin s block
+Within s (body.Reconnect addresses block k) = bytesWithin s block
 Within s (body.Number n) = Unit {0}
 Within s (body.Reset full) = Unit {0}
 Within s (body.Stamp p) = bytesWithin s p

@@ -11,12 +11,13 @@ use Rattle.fields.specs.Field.{Field, Fits}
 use Rattle.fields.specs.Writing.{sound}
 use Rattle.bodies.specs.declared.Body.{Body}
 use Rattle.bodies.specs.declared.Request.{Request}
-use Rattle.bodies.specs.declared.Written.{Written}
-use Rattle.bodies.specs.declared.Written.the-variants as written
+use Rattle.refusal.specs.declared.WriteResult.{WriteResult}
+use Rattle.refusal.specs.declared.WriteResult.the-variants as written
+use Rattle.refusal.specs.Writes.{done, outcomeOf}
 use Rattle.bodies.specs.Rows.{requested}
 use Rattle.bodies.specs.Read.{whole, readBody, answerOf}
 use Rattle.bodies.specs.ByTag.{bodyOf}
-use Rattle.bodies.specs.Write.{bytesOf, done, outcomeOf, writeBody, writes}
+use Rattle.bodies.specs.Write.{bytesOf, writeBody, writes}
 
 -- THE PROMISE of `read`
 pub record Reads (tag : ℕ) (s : List ℕ) (b : Body) : Type 0 where
@@ -30,7 +31,7 @@ pub data AllFit : List Field → Type 0 where
   one : {f : Field} {fs : List Field} → Fits f → AllFit fs → AllFit (f ∷ fs)
 
 -- THE PROMISE of `write`, with the fields that a request holds: l is the buffer then
-pub record Writes (tag : ℕ) (fs : List Field) (out : List ℕ) (w : Written) (l : List ℕ) : Type 0 where
+pub record Writes (tag : ℕ) (fs : List Field) (out : List ℕ) (w : WriteResult) (l : List ℕ) : Type 0 where
   pub outcome : done (outcomeOf w) l ≡ writeBody tag fs out
   -- the values are of the code's types
   pub fits : AllFit fs
@@ -48,7 +49,7 @@ pub data Requested (fs : List Field) : Type 0 where
 unfoldable pub RoundTrips : Type 0
 RoundTrips =
     -- every request of a tag's body is written, byte for byte, that is no malformed one, no longer than a segment, and has room
-    ((tag : ℕ) (r : Request) (ms ns bs out l : List ℕ) (w : Written)
+    ((tag : ℕ) (r : Request) (ms ns bs out l : List ℕ) (w : WriteResult)
     → writes tag r ≡ true → AllSound (requested r ms ns bs) → length (bytesOf (requested r ms ns bs)) ≤ segmentLimit → length (bytesOf (requested r ms ns bs)) ≤ length out
     → Writes tag (requested r ms ns bs) out w l
     → (w ≡ written.Wrote (length (bytesOf (requested r ms ns bs)))) × (l ≡ replaceFront (bytesOf (requested r ms ns bs)) out))
@@ -58,6 +59,6 @@ RoundTrips =
     -- every body that is not refused holds some request's fields
     × ((s : List ℕ) (b : Body) (fs : List Field) → answerOf s b ≡ whole fs → Requested fs)
     -- and what is read and written again, where there is room, is the same bytes
-    × ((tag : ℕ) (s : List ℕ) (b : Body) (r : Request) (ms ns bs out l : List ℕ) (w : Written)
+    × ((tag : ℕ) (s : List ℕ) (b : Body) (r : Request) (ms ns bs out l : List ℕ) (w : WriteResult)
     → Bytes s → Reads tag s b → answerOf s b ≡ whole (requested r ms ns bs) → length s ≤ length out → Writes tag (requested r ms ns bs) out w l
     → (w ≡ written.Wrote (length s)) × (l ≡ replaceFront s out))

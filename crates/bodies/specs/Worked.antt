@@ -6,6 +6,7 @@ use lib.ListN.{length, replicate}
 use Rattle.buffer.specs.Le.{le}
 use Rattle.refusal.specs.Refusals.{row}
 use Rattle.refusal.specs.declared.Refusal.the-variants.{BodyMalformed}
+use Rattle.refusal.specs.Writes.{Outcome, wrote, refusedFor, Done, done}
 use Rattle.fields.specs.Field.{Field, numbersFrom, bytesFrom}
 use Rattle.bodies.specs.declared.Body.{Body}
 use Rattle.bodies.specs.declared.Body.the-variants as body
@@ -14,7 +15,7 @@ use Rattle.bodies.specs.declared.Reconnect.{Reconnect}
 use Rattle.bodies.specs.Rows.{helloOf, authRequestOf, badMethodOf, moreOf, authDoneOf, identOf, reconnectOf, oneNumberOf, resetOf, stampOf}
 use Rattle.bodies.specs.Read.{Answer, whole, refused, readBody}
 use Rattle.bodies.specs.ByTag.{bodyOf}
-use Rattle.bodies.specs.Write.{Outcome, wrote, turnedAway, Done, done, writeBody}
+use Rattle.bodies.specs.Write.{writeBody}
 
 abbrev zeros : ℕ → List ℕ
 zeros n = replicate {A = ℕ} n 0
@@ -174,11 +175,11 @@ placings =
     ∷ places 4 (le 4 0) (body.More (bytesFrom 4 0))
     ∷ places 5 (le 4 0) (body.More (bytesFrom 4 0))
     -- blocks end where the closing fields begin
-    ∷ places 8 (2 ∷ 1 ∷ 0 ∷ 0 ∷ 0 ∷ 6 ∷ closing48) (body.Identity 258 (bytesFrom 4 2) identity)
-    ∷ places 9 (le 4 0 ++ closing48) (body.Identity 0 (bytesFrom 4 0) identity)
-    ∷ places 8 (le 4 1 ++ closing48) (body.Identity 1 (bytesFrom 4 0) identity)
-    ∷ places 11 (le 4 1 ++ 6 ∷ closing40) (body.Resume 1 (bytesFrom 4 1) resumed)
-    ∷ places 11 (le 4 1 ++ closing40) (body.Resume 1 (bytesFrom 4 0) resumed)
+    ∷ places 8 (2 ∷ 1 ∷ 0 ∷ 0 ∷ 0 ∷ 6 ∷ closing48) (body.Ident 258 (bytesFrom 4 2) identity)
+    ∷ places 9 (le 4 0 ++ closing48) (body.Ident 0 (bytesFrom 4 0) identity)
+    ∷ places 8 (le 4 1 ++ closing48) (body.Ident 1 (bytesFrom 4 0) identity)
+    ∷ places 11 (le 4 1 ++ 6 ∷ closing40) (body.Reconnect 1 (bytesFrom 4 1) resumed)
+    ∷ places 11 (le 4 1 ++ closing40) (body.Reconnect 1 (bytesFrom 4 0) resumed)
     ∷ places 18 (208 ∷ 201 ∷ 249 ∷ 106 ∷ 169 ∷ 238 ∷ 149 ∷ 11 ∷ []) (body.Stamp (bytesFrom 0 8))
     ∷ places 19 (zeros 8) (body.Stamp (bytesFrom 0 8))
     -- nothing has a place
@@ -204,7 +205,7 @@ abbrev writes : ℕ → List Field → List ℕ → Outcome → List ℕ → Wri
 writes tag fields before outcome after = record { tag = tag; fields = fields; before = before; done = done outcome after }
 
 abbrev refuses : ℕ → List Field → List ℕ → ℕ → ℕ → Writing
-refuses tag fields before number detail = record { tag = tag; fields = fields; before = before; done = done (turnedAway (row number detail 0 0)) before }
+refuses tag fields before number detail = record { tag = tag; fields = fields; before = before; done = done (refusedFor (row number detail 0 0)) before }
 
 unfoldable pub writings : List Writing
 writings =
@@ -249,9 +250,9 @@ AtLimit =
     ((bs : List ℕ) → length bs ≡ 1048575 → readBody 1 (8 ∷ bs) ≡ whole (helloOf 8 bs))
     × ((bs : List ℕ) → length bs ≡ 1048576 → readBody 1 (8 ∷ bs) ≡ bad 0)
     × ((bs : List ℕ) → length bs ≡ 1048569 → readBody 3 (le 4 1 ++ le 4 0 ++ bs) ≡ bad 0)
-    × ((bs : List ℕ) → length bs ≡ 1048575 → writeBody 1 (helloOf 8 bs) (7 ∷ []) ≡ done (turnedAway (row 14 1048576 0 0)) (7 ∷ []))
-    × ((bs out : List ℕ) → length bs ≡ 1048576 → writeBody 1 (helloOf 8 bs) out ≡ done (turnedAway (row 20 0 0 0)) out)
-    × ((bs out : List ℕ) → length bs ≡ 1048437 → writeBody 2 (authRequestOf 1 (zeros 33) bs) out ≡ done (turnedAway (row 20 0 0 0)) out)
+    × ((bs : List ℕ) → length bs ≡ 1048575 → writeBody 1 (helloOf 8 bs) (7 ∷ []) ≡ done (refusedFor (row 14 1048576 0 0)) (7 ∷ []))
+    × ((bs out : List ℕ) → length bs ≡ 1048576 → writeBody 1 (helloOf 8 bs) out ≡ done (refusedFor (row 20 0 0 0)) out)
+    × ((bs out : List ℕ) → length bs ≡ 1048437 → writeBody 2 (authRequestOf 1 (zeros 33) bs) out ≡ done (refusedFor (row 20 0 0 0)) out)
 
 unfoldable pub Worked : Type 0
 Worked = AllRead readings × AllPlaced placings × AllWritten writings × AtLimit

@@ -6,7 +6,6 @@ use lib.Dec.{leb}
 use lib.ListN.{length}
 use Rattle.buffer.specs.Splice.{replaceFront}
 use Rattle.preamble.specs.Judge.{segmentLimit}
-use Rattle.refusal.specs.declared.Numbers.{Numbers}
 use Rattle.refusal.specs.declared.Refusal.the-variants.{BodyMalformed, NoRoom}
 use Rattle.refusal.specs.Refusals.{numbersOf}
 use Rattle.fields.specs.declared.Draft.{Draft}
@@ -14,8 +13,9 @@ use Rattle.fields.specs.Layout.{Kind}
 use Rattle.fields.specs.Field.{Field, kindOf, fieldBytes}
 use Rattle.fields.specs.Writing.{Appended}
 use Rattle.bodies.specs.declared.Request.{Request}
-use Rattle.bodies.specs.declared.Written.{Written}
-use Rattle.bodies.specs.declared.Written.the-variants as written
+use Rattle.refusal.specs.declared.WriteResult.{WriteResult}
+use Rattle.refusal.specs.declared.WriteResult.the-variants as written
+use Rattle.refusal.specs.Writes.{wrote, refusedFor, Done, done}
 use Rattle.bodies.specs.Table.{layoutOf, isListed}
 use Rattle.bodies.specs.Read.{Answer, whole, refused, malformed, readBody}
 use Rattle.bodies.specs.Rows.{requested}
@@ -28,31 +28,15 @@ unfoldable pub bytesOf : List Field → List ℕ
 bytesOf [] = []
 bytesOf (f ∷ fs) = fieldBytes f ++ bytesOf fs
 
--- the answer, in numbers, and the buffer after it
-pub data Outcome : Type 0 where
-  wrote : ℕ → Outcome
-  turnedAway : Numbers → Outcome
-
-pub record Done : Type 0 where
-  pub outcome : Outcome
-  pub buffer : List ℕ
-
-abbrev pub done : Outcome → List ℕ → Done
-done o l = record { outcome = o; buffer = l }
-
 unfoldable pub writeAs : Answer → List ℕ → List ℕ → Done
-writeAs (refused n) bs out = done (turnedAway n) out
+writeAs (refused n) bs out = done (refusedFor n) out
 writeAs (whole fs) bs out =
-    cond (leb (length bs) (length out)) (done (wrote (length bs)) (replaceFront bs out)) (done (turnedAway (numbersOf (NoRoom (length bs)))) out)
+    cond (leb (length bs) (length out)) (done (wrote (length bs)) (replaceFront bs out)) (done (refusedFor (numbersOf (NoRoom (length bs)))) out)
 
 -- A BODY WRITTEN at the buffer's front. Fields that are not the tag's are malformed at 0, as an unlisted tag is
 unfoldable pub writeBody : ℕ → List Field → List ℕ → Done
 writeBody tag fs out =
     cond (isListed (layoutOf tag) (kindsOf fs)) (writeAs (readBody tag (bytesOf fs)) (bytesOf fs) out) (writeAs (malformed 0) (bytesOf fs) out)
-
-abbrev pub outcomeOf : Written → Outcome
-outcomeOf (written.Wrote n) = wrote n
-outcomeOf (written.Refused r) = turnedAway (numbersOf r)
 
 -- ---- as the code goes
 
@@ -66,16 +50,16 @@ pub data AppendedAll : Draft → List ℕ → List Field → Draft → List ℕ 
   step : {f : Field} {fs : List Field} {p q r : Draft} {l m n : List ℕ} → Appended f p l q m → AppendedAll q m fs r n → AppendedAll p l (f ∷ fs) r n
 
 -- what a draft comes to with so much room
-unfoldable pub judged : Draft → ℕ → Written
+unfoldable pub judged : Draft → ℕ → WriteResult
 judged q room =
     cond (leb (q .len) segmentLimit)
     (cond (q .failed) (written.Refused (BodyMalformed (q .place)))
     (cond (leb (q .len) room) (written.Wrote (q .len)) (written.Refused (NoRoom (q .len)))))
     (written.Refused (BodyMalformed 0))
 
-unfoldable pub decided : Bool → Draft → ℕ → Written
+unfoldable pub decided : Bool → Draft → ℕ → WriteResult
 decided served q room = cond served (judged q room) (written.Refused (BodyMalformed 0))
 
-abbrev pub isWrote : Written → Bool
+abbrev pub isWrote : WriteResult → Bool
 isWrote (written.Wrote n) = true
 isWrote (written.Refused r) = false

@@ -28,6 +28,7 @@ use fields::start;
 use fields::start_draft;
 use preamble::SEGMENT_LIMIT;
 use refusal::Refusal;
+use refusal::WriteResult;
 use refusal::either;
 ghost use mathlib.Core.Path.{_≡_};
 ghost use Prim.Native.Nat.{_<_};
@@ -83,12 +84,12 @@ pub enum Body {
         mode: u32,
         payload: Span,
     },
-    Identity {
+    Ident {
         addresses: u32,
         block: Span,
         ident: Ident,
     },
-    Resume {
+    Reconnect {
         addresses: u32,
         block: Span,
         reconnect: Reconnect,
@@ -353,7 +354,7 @@ fn read_ident(s: &[u8]) -> Body
         flags: f.value,
         cookie: g.value,
     };
-    let body = Body::Identity {
+    let body = Body::Ident {
         addresses: n.value,
         block: block,
         ident: i,
@@ -386,7 +387,7 @@ fn read_reconnect(s: &[u8]) -> Body
         connect: e.value,
         message: f.value,
     };
-    let body = Body::Resume {
+    let body = Body::Reconnect {
         addresses: n.value,
         block: block,
         reconnect: k,
@@ -585,11 +586,11 @@ pub enum Request {
         id: u64,
         mode: u32,
     },
-    Identity {
+    Ident {
         addresses: u32,
         ident: Ident,
     },
-    Resume {
+    Reconnect {
         addresses: u32,
         reconnect: Reconnect,
     },
@@ -611,11 +612,11 @@ fn serves(tag: u8, r: Request) -> bool
         } => tag == 3,
         Request::More => either(tag == 4, tag == 5),
         Request::AuthDone { id: _, mode: _ } => tag == 6,
-        Request::Identity {
+        Request::Ident {
             addresses: _,
             ident: _,
         } => either(tag == 8, tag == 9),
-        Request::Resume {
+        Request::Reconnect {
             addresses: _,
             reconnect: _,
         } => tag == 11,
@@ -635,8 +636,8 @@ fn row(out: &mut [u8], r: Request, first: &[u32], second: &[u32], bytes: &[u8]) 
         Request::BadMethod { method, error } => row_bad_method(out, method, error, first, second),
         Request::More => row_more(out, bytes),
         Request::AuthDone { id, mode } => row_auth_done(out, id, mode, bytes),
-        Request::Identity { addresses, ident } => row_ident(out, addresses, bytes, ident),
-        Request::Resume {
+        Request::Ident { addresses, ident } => row_ident(out, addresses, bytes, ident),
+        Request::Reconnect {
             addresses,
             reconnect,
         } => row_reconnect(out, addresses, bytes, reconnect),
@@ -646,45 +647,40 @@ fn row(out: &mut [u8], r: Request, first: &[u32], second: &[u32], bytes: &[u8]) 
     }
 }
 
-pub enum Written {
-    Wrote(usize),
-    Refused(Refusal),
-}
-
 // A body above the limit is malformed at 0; then the first fault, then the room.
-fn judge_draft(q: Draft, room: usize) -> Written
+fn judge_draft(q: Draft, room: usize) -> WriteResult
     ensures { λ r. ⌜ r ≡ judged q room ⌝ }
 {
     let len = q.len;
     if limit() < len {
-        return Written::Refused(Refusal::BodyMalformed(0));
+        return WriteResult::Refused(Refusal::BodyMalformed(0));
     }
     if q.failed {
-        return Written::Refused(Refusal::BodyMalformed(q.place as u64));
+        return WriteResult::Refused(Refusal::BodyMalformed(q.place as u64));
     }
     if len <= room {
-        Written::Wrote(len)
+        WriteResult::Wrote(len)
     } else {
-        Written::Refused(Refusal::NoRoom(len as u64))
+        WriteResult::Refused(Refusal::NoRoom(len as u64))
     }
 }
 
 // A request of another tag's body is malformed at 0.
-fn decide(served: bool, q: Draft, room: usize) -> Written
+fn decide(served: bool, q: Draft, room: usize) -> WriteResult
     ensures { λ r. ⌜ r ≡ decided served q room ⌝ }
 {
     if served {
         return judge_draft(q, room);
     }
-    Written::Refused(Refusal::BodyMalformed(0))
+    WriteResult::Refused(Refusal::BodyMalformed(0))
 }
 
-fn is_wrote(w: Written) -> bool
+fn is_wrote(w: WriteResult) -> bool
     ensures { λ r. ⌜ r ≡ isWrote w ⌝ }
 {
     match w {
-        Written::Wrote(_) => true,
-        Written::Refused(_) => false,
+        WriteResult::Wrote(_) => true,
+        WriteResult::Refused(_) => false,
     }
 }
 
@@ -697,7 +693,7 @@ pub fn write(
     first: &[u32],
     second: &[u32],
     bytes: &[u8],
-) -> Written
+) -> WriteResult
     ensures { λ w. ⌜ Writes tag (requested r (now (first .entry)) (now (second .entry)) (now (bytes .entry))) (now (out .entry)) w (now (out .exit)) ⌝ }
 {
     let mut scratch = [0u8; 1];

@@ -6,11 +6,11 @@ use native.Mathlib.Omega.{arith}
 use Rattle.refusal.specs.declared.Numbers.{Numbers}
 use Rattle.refusal.specs.Refusals.{Judged, fine, refused}
 use Rattle.refusal.proofs.Allowed.{Allowed}
-use Rattle.body.specs.End.{Ended, whole, dropped, turnedAway, endedBy, unlessTurnedAway}
+use Rattle.body.specs.End.{Ended, whole, dropped, refusedFor, endedBy, endUnlessRefused}
 
 module _ (test : Numbers → Bool) where
   pub record AllowedEnd (x : Ended) : Type 0 where
-    pub gives : (n : Numbers) → x ≡ turnedAway n → test n ≡ true
+    pub gives : (n : Numbers) → x ≡ refusedFor n → test n ≡ true
 
   pub end-whole : AllowedEnd whole
   end-whole = record { gives = λ m e. absurd (let z : _≡_ {A = ℕ} 0 1 = cc in omega arith) }
@@ -18,13 +18,13 @@ module _ (test : Numbers → Bool) where
   pub end-dropped : AllowedEnd dropped
   end-dropped = record { gives = λ m e. absurd (let z : _≡_ {A = ℕ} 0 1 = cc in omega arith) }
 
-  pub end-turned : (n : Numbers) → test n ≡ true → AllowedEnd (turnedAway n)
+  pub end-turned : (n : Numbers) → test n ≡ true → AllowedEnd (refusedFor n)
   end-turned n g = record { gives = λ m e. (let k : n ≡ m = cc in rw k at g) }
 
   pub end-by : (j : Judged) → Allowed test j → AllowedEnd (endedBy j)
   end-by fine k = end-whole
   end-by (refused n) k = end-turned n (k .gives n refl)
 
-  pub end-or : (j : Judged) {x : Ended} → Allowed test j → AllowedEnd x → AllowedEnd (unlessTurnedAway j x)
+  pub end-or : (j : Judged) {x : Ended} → Allowed test j → AllowedEnd x → AllowedEnd (endUnlessRefused j x)
   end-or fine k l = l
   end-or (refused n) k l = end-turned n (k .gives n refl)

@@ -20,7 +20,7 @@ use Rattle.preamble.specs.Layout.{total}
 use Rattle.body.specs.declared.Late.{Late}
 use Rattle.body.specs.declared.Late.the-variants as late
 use Rattle.body.specs.Body.{segmentSum, restLength, segments, epilogueFrom, inEpilogue, noFirstSum, firstSumLength, noEpilogue, epilogueLength, bodyLength, firstSum, lateByte, epilogue, body}
-use Rattle.body.specs.End.{whole, segmentBytes, stored, compared, unusedFrom, judgeLateFlags, judgeSpelling, lateOf, byLate, unlessTurnedAway, ending}
+use Rattle.body.specs.End.{whole, segmentBytes, stored, compared, unusedFrom, judgeLateFlags, judgeSpelling, lateOf, byLate, endUnlessRefused, ending}
 use Rattle.body.proofs.Laws.{epilogue-is}
 use Rattle.body.proofs.Ends.{no-length}
 use Rattle.body.proofs.Checksums.{fields-back}
@@ -38,7 +38,7 @@ record Whole (r : Revision) (h : Header) (e p : List ℕ) : Type 0 where
   late : lateOf r (getD e 0 0) ≡ late.Complete
   sums : compared r h e p ≡ fine
 
-whole-parts : (g : Judged) (l : Late) (b : ℕ) (j : Judged) → unlessTurnedAway g (byLate l b j) ≡ whole → (g ≡ fine) × (l ≡ late.Complete) × (j ≡ fine)
+whole-parts : (g : Judged) (l : Late) (b : ℕ) (j : Judged) → endUnlessRefused g (byLate l b j) ≡ whole → (g ≡ fine) × (l ≡ late.Complete) × (j ≡ fine)
 whole-parts (refused n) l b j e = (cc, cc, cc)
 whole-parts fine late.Complete b fine e = (refl, refl, refl)
 whole-parts fine late.Complete b (refused n) e = (refl, refl, cc)

@@ -26,7 +26,7 @@ lateOf Msgr21 b = cond (eqb (b % 16) 0x0E) late.Complete (cond (eqb (b % 16) 0x0
 pub data Ended : Type 0 where
   whole : Ended
   dropped : Ended
-  turnedAway : Numbers → Ended
+  refusedFor : Numbers → Ended
 
 -- the segment bytes among the first bytes b behind a preamble
 abbrev pub segmentBytes : Revision → Header → List ℕ → List ℕ
@@ -67,24 +67,24 @@ judgeSpelling revision h e = orElse (unusedFrom (h .count) (epilogueFrom revisio
 
 abbrev pub endedBy : Judged → Ended
 endedBy fine = whole
-endedBy (refused n) = turnedAway n
+endedBy (refused n) = refusedFor n
 
 abbrev pub byLate : Late → ℕ → Judged → Ended
-byLate late.Wrong b j = turnedAway (numbersOf (refusal.LateStatus b))
+byLate late.Wrong b j = refusedFor (numbersOf (refusal.LateStatus b))
 byLate late.Aborted b j = dropped
 byLate late.Complete b j = endedBy j
 
-abbrev pub unlessTurnedAway : Judged → Ended → Ended
-unlessTurnedAway fine x = x
-unlessTurnedAway (refused n) x = turnedAway n
+abbrev pub endUnlessRefused : Judged → Ended → Ended
+endUnlessRefused fine x = x
+endUnlessRefused (refused n) x = refusedFor n
 
 -- THE ORDER AT THE END OF A BODY: the spelling, of aborted frames too, then the late byte, and only then the checksums
 unfoldable pub ending : Revision → Header → List ℕ → List ℕ → Ended
 ending revision h e p =
     cond (noEpilogue revision h) whole
-    (unlessTurnedAway (judgeSpelling revision h e) (byLate (lateOf revision (getD e 0 0)) (getD e 0 0) (compared revision h e p)))
+    (endUnlessRefused (judgeSpelling revision h e) (byLate (lateOf revision (getD e 0 0)) (getD e 0 0) (compared revision h e p)))
 
 abbrev pub endedAs : Ending → Ended
 endedAs ends.Whole = whole
 endedAs ends.Dropped = dropped
-endedAs (ends.Refused r) = turnedAway (numbersOf r)
+endedAs (ends.Refused r) = refusedFor (numbersOf r)

@@ -12,7 +12,7 @@ use refusal::Refusal;
 use refusal::Verdict;
 use refusal::either;
 use refusal::or_else;
-use refusal::unless_ok;
+use refusal::unless;
 ghost use mathlib.Core.Path.{_≡_};
 ghost use mathlib.Core.Bool.{_||_};
 ghost use mathlib.Core.List.{_∷_, []};
@@ -232,7 +232,7 @@ fn compare(count: u8, k: u8, e: &[u8], i: usize, bytes: &[u8]) -> Verdict
     ensures { λ r. ⌜ judgedBy r ≡ unless (ltb count k || eqb (numberAt 4 i (now (e .entry))) (segmentSum (now (bytes .entry)))) (refusal.SegmentChecksum k) ⌝ }
 {
     let stored = u32_at(e, i);
-    unless_ok(
+    unless(
         either(count < k, stored == segment_sum(bytes)),
         Refusal::SegmentChecksum(k),
     )
@@ -283,7 +283,7 @@ fn unused(count: u8, k: u8, e: &[u8], i: usize) -> Verdict
     ensures { λ r. ⌜ judgedBy r ≡ unless (leb k count || eqb (numberAt 4 i (now (e .entry))) 0) (refusal.NonCanonical k) ⌝ }
 {
     let stored = u32_at(e, i);
-    unless_ok(either(k <= count, stored == 0), Refusal::NonCanonical(k))
+    unless(either(k <= count, stored == 0), Refusal::NonCanonical(k))
 }
 
 // The fields of segments 2 to 4, from place i on.
@@ -301,7 +301,7 @@ fn judge_late_flags(revision: Revision, b: u8) -> Verdict
     ensures { λ r. ⌜ judgedBy r ≡ judgeLateFlags revision b ⌝ }
 {
     match revision {
-        Revision::Msgr20 => unless_ok(b < 2, Refusal::NonCanonical(0)),
+        Revision::Msgr20 => unless(b < 2, Refusal::NonCanonical(0)),
         Revision::Msgr21 => Verdict::Fine,
     }
 }

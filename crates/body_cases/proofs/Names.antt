@@ -20,7 +20,7 @@ use Rattle.bodies.specs.Rows.{helloOf, authRequestOf, badMethodOf, moreOf, auth
 use Rattle.bodies.specs.Read.{whole, refused, readBody, answerOf}
 use Rattle.bodies.specs.Write.{kindsOf, writes}
 use Rattle.bodies.specs.Claims.{Reads}
-use Rattle.bodies.proofs.Tags.{serves-hello, serves-auth-request, serves-bad-method, serves-more, serves-auth-done, serves-identity, serves-resume, serves-number, serves-reset, serves-stamp}
+use Rattle.bodies.proofs.Tags.{serves-hello, serves-auth-request, serves-bad-method, serves-more, serves-auth-done, serves-ident, serves-reconnect, serves-number, serves-reset, serves-stamp}
 use Rattle.bodies.proofs.Trips.{kinds-read}
 use Rattle.body_cases.specs.Reading.{helloNames, requestNames, badMethodNames, moreNames, doneNames, identNames, reconnectNames, resetNames, stampNames, namesOf, numberNames, rowLine, readLine}
 
@@ -83,19 +83,19 @@ module _ (tag : ℕ) (s : List ℕ) (b : Body) (h : tag < 256) (r : Reads tag s 
       let k = read-as fs (ap (answerOf s) e) in
       named fs doneNames k (rw (eqb-true tag 6 (serves-auth-done tag g m h ∙ kinds-read tag s fs k)))
 
-  pub line-ident : (n : ℕ) (p : Span) (i : Ident) → b ≡ body.Identity n p i → rowLine tag identNames (identOf n (spanIn s p) i) ≡ readLine tag (readBody tag s)
+  pub line-ident : (n : ℕ) (p : Span) (i : Ident) → b ≡ body.Ident n p i → rowLine tag identNames (identOf n (spanIn s p) i) ≡ readLine tag (readBody tag s)
   unfolding writes kindsOf namesOf
   line-ident n p i e =
       let fs : List Field = identOf n (spanIn s p) i in
       let k = read-as fs (ap (answerOf s) e) in
-      named fs identNames k (two 8 9 tag refl refl (serves-identity tag n i h ∙ kinds-read tag s fs k))
+      named fs identNames k (two 8 9 tag refl refl (serves-ident tag n i h ∙ kinds-read tag s fs k))
 
-  pub line-reconnect : (n : ℕ) (p : Span) (q : Reconnect) → b ≡ body.Resume n p q → rowLine tag reconnectNames (reconnectOf n (spanIn s p) q) ≡ readLine tag (readBody tag s)
+  pub line-reconnect : (n : ℕ) (p : Span) (q : Reconnect) → b ≡ body.Reconnect n p q → rowLine tag reconnectNames (reconnectOf n (spanIn s p) q) ≡ readLine tag (readBody tag s)
   unfolding writes kindsOf namesOf
   line-reconnect n p q e =
       let fs : List Field = reconnectOf n (spanIn s p) q in
       let k = read-as fs (ap (answerOf s) e) in
-      named fs reconnectNames k (rw (eqb-true tag 11 (serves-resume tag n q h ∙ kinds-read tag s fs k)))
+      named fs reconnectNames k (rw (eqb-true tag 11 (serves-reconnect tag n q h ∙ kinds-read tag s fs k)))
 
   pub line-number : (n : ℕ) → b ≡ body.Number n → rowLine tag (numberNames tag) (oneNumberOf n) ≡ readLine tag (readBody tag s)
   unfolding writes kindsOf

@@ -13,10 +13,11 @@ use Rattle.fields.specs.declared.Cursor.{Cursor}
 use Rattle.fields.specs.Layout.{Kind, num, neg, list, size, rest, plain, good, stepOf}
 use Rattle.fields.specs.Field.{Field, number, negative, numbers, sized, opaque, wordsOf}
 use Rattle.fields.specs.Reading.{spanIn}
-use Rattle.bodies.specs.declared.Written.{Written}
+use Rattle.refusal.specs.declared.WriteResult.{WriteResult}
+use Rattle.refusal.specs.Writes.{Done, done, outcomeOf}
 use Rattle.bodies.specs.Table.{layoutIn, layoutOf, unlisted}
 use Rattle.bodies.specs.Rows.{requested}
-use Rattle.bodies.specs.Write.{Done, done, outcomeOf, writeAs, writeBody}
+use Rattle.bodies.specs.Write.{writeAs, writeBody}
 use Rattle.records.specs.Records.{isWhole, allowed, counted}
 use Rattle.records.specs.Records as records
 use Rattle.records.proofs.Laws.{sized-good, words-take}
@@ -150,5 +151,5 @@ unfolding writeOf
 write-done s tag buf et eb x ed = ed ∙ x .writes buf ∙ rw (et, eb)
 
 -- the line as code comes to it
-pub written-line : (w : Written) (sum : ℕ) (buf : List ℕ) (d : Done) → done (outcomeOf w) buf ≡ d → sum ≡ crcOf 4294967295 buf → outcomeLine (outcomeOf w) sum ≡ doneLine d
+pub written-line : (w : WriteResult) (sum : ℕ) (buf : List ℕ) (d : Done) → done (outcomeOf w) buf ≡ d → sum ≡ crcOf 4294967295 buf → outcomeLine (outcomeOf w) sum ≡ doneLine d
 written-line w sum buf d e k = ap (outcomeLine (outcomeOf w)) k ∙ ap doneLine e

@@ -5,6 +5,7 @@ use mathlib.Core.List.{List, [], _∷_}
 use Prim.Native.Nat.{ℕ, _+_, _*_, _≤_, min}
 use lib.Dec.{leb}
 use lib.ListN.{take, drop, getD}
+use Rattle.refusal.specs.Writes.{Outcome, wrote, refusedFor, Done}
 use Rattle.buffer.specs.Le.{numberAt}
 use Rattle.crc32c.specs.Crc.{crcOf}
 use Rattle.fields.specs.declared.Cursor.{Cursor}
@@ -13,7 +14,7 @@ use Rattle.fields.specs.Field.{Field, number, negative, numbers, sized, opaque,
 use Rattle.fields.specs.Reading.{spanIn, numbersIn}
 use Rattle.bodies.specs.Table.{Found, listed, unlisted, layoutOf}
 use Rattle.bodies.specs.Rows.{requested}
-use Rattle.bodies.specs.Write.{Outcome, wrote, turnedAway, Done, writeBody}
+use Rattle.bodies.specs.Write.{writeBody}
 use Rattle.text.specs.Line.{Piece}
 use Rattle.records.specs.Records.{Record, wroteLine, refusedLine, allowed, whole, counted}
 use Rattle.records.specs.Records as records
@@ -63,7 +64,7 @@ kindsFor tag = kindsIn (layoutOf tag)
 
 abbrev pub outcomeLine : Outcome → ℕ → List Piece
 outcomeLine (wrote n) c = wroteLine n c
-outcomeLine (turnedAway w) c = refusedLine w c
+outcomeLine (refusedFor w) c = refusedLine w c
 
 abbrev pub doneLine : Done → List Piece
 doneLine d = outcomeLine (d .outcome) (crcOf 4294967295 (d .buffer))

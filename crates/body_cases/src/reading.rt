@@ -18,7 +18,7 @@ use records::put_refused;
 use records::room;
 use records::sized;
 use refusal::Refusal;
-use refusal::in_numbers;
+use refusal::numbers_of;
 use text::put_decimal;
 use text::put_end;
 use text::put_field;
@@ -287,7 +287,7 @@ fn print_refusal(text: &mut [u8], at: usize, tag: u8, why: Refusal) -> usize
     ensures { λ r. ⌜ page (now (text .exit)) r ≡ print (readLine tag (refused (numbersOf why))) (page (now (text .entry)) at) ⌝ }
 {
     let from = room(text, at);
-    let a = put_refused(text, from, in_numbers(why));
+    let a = put_refused(text, from, numbers_of(why));
     put_end(text, a)
 }
 
@@ -310,12 +310,12 @@ fn print_body(text: &mut [u8], at: usize, tag: u8, s: &[u8], body: Body) -> usiz
         } => print_bad_method(text, at, tag, s, method, error, methods, modes),
         Body::More(payload) => print_more(text, at, tag, s, payload),
         Body::AuthDone { id, mode, payload } => print_done(text, at, tag, s, id, mode, payload),
-        Body::Identity {
+        Body::Ident {
             addresses,
             block,
             ident,
         } => print_ident(text, at, tag, s, addresses, block, ident),
-        Body::Resume {
+        Body::Reconnect {
             addresses,
             block,
             reconnect,

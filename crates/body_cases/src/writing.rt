@@ -2,7 +2,6 @@
 use bodies::Ident;
 use bodies::Reconnect;
 use bodies::Request;
-use bodies::Written;
 use bodies::write;
 use buffer::byte_at;
 use buffer::min;
@@ -25,17 +24,19 @@ use records::print_refused;
 use records::print_wrote;
 use records::read_words;
 use records::sized;
+use refusal::WriteResult;
 use refusal::both;
 use refusal::either;
-use refusal::in_numbers;
+use refusal::numbers_of;
 ghost use mathlib.Core.Path.{_≡_};
 ghost use Prim.Native.Nat.{_+_, _≤_, _<_, min};
 ghost use lib.ListN.{length, drop};
+ghost use Rattle.refusal.specs.Writes.{done, outcomeOf};
 ghost use Rattle.fields.specs.Field.{number, numbers, fixed};
 ghost use Rattle.fields.specs.Layout.{num, list, size, plain, good, stepOf};
 ghost use Rattle.fields.specs.Reading.{numbersIn, spanIn};
 ghost use Rattle.bodies.specs.Table.{hello, authRequest, badMethod, more, authDone, ident, reconnect, oneNumber, reset, stamp};
-ghost use Rattle.bodies.specs.Write.{done, outcomeOf, writeBody};
+ghost use Rattle.bodies.specs.Write.{writeBody};
 ghost use Rattle.text.specs.Page.{page};
 ghost use Rattle.records.specs.Records.{Did, print};
 ghost use Rattle.body_cases.specs.Writing.{limited, Given, BytesGiven, fieldsOf, Asks, AsksFor, outcomeLine, writeSize, writeRecord};
@@ -326,7 +327,7 @@ fn ask_ident(s: &[u8]) -> Asked
         flags: f.value,
         cookie: g.value,
     };
-    let request = Request::Identity {
+    let request = Request::Ident {
         addresses: n.value,
         ident: i,
     };
@@ -358,7 +359,7 @@ fn ask_reconnect(s: &[u8]) -> Asked
         connect: e.value,
         message: f.value,
     };
-    let request = Request::Resume {
+    let request = Request::Reconnect {
         addresses: n.value,
         reconnect: k,
     };
@@ -497,7 +498,7 @@ fn ask(tag: u8, s: &[u8]) -> Asked
     ask_session(tag, s)
 }
 
-fn write_asked(out: &mut [u8], tag: u8, s: &[u8], a: Asked) -> Written
+fn write_asked(out: &mut [u8], tag: u8, s: &[u8], a: Asked) -> WriteResult
     requires { ⌜ (a .first .count ≤ 64) × (a .second .count ≤ 64) ⌝ }
     ensures { λ w. ⌜ done (outcomeOf w) (now (out .exit)) ≡ writeBody tag (fieldsOf (now (s .entry)) a) (now (out .entry)) ⌝ }
 {
@@ -512,12 +513,12 @@ fn write_asked(out: &mut [u8], tag: u8, s: &[u8], a: Asked) -> Written
 
 // ---- the record
 
-fn print_written(text: &mut [u8], at: usize, written: Written, sum: u32) -> usize
+fn print_written(text: &mut [u8], at: usize, written: WriteResult, sum: u32) -> usize
     ensures { λ r. ⌜ page (now (text .exit)) r ≡ print (outcomeLine (outcomeOf written) sum) (page (now (text .entry)) at) ⌝ }
 {
     match written {
-        Written::Wrote(n) => print_wrote(text, at, n, sum),
-        Written::Refused(why) => print_refused(text, at, in_numbers(why), sum),
+        WriteResult::Wrote(n) => print_wrote(text, at, n, sum),
+        WriteResult::Refused(why) => print_refused(text, at, numbers_of(why), sum),
     }
 }
 

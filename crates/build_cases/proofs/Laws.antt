@@ -12,8 +12,8 @@ use Rattle.buffer.specs.Le.{numberAt}
 use Rattle.crc32c.specs.Crc.{crcOf}
 use Rattle.preamble.specs.declared.Header.{Header}
 use Rattle.preamble.specs.Judge.{headerOf}
-use Rattle.builder.specs.declared.Built.{Built}
-use Rattle.builder.specs.Build.{answered}
+use Rattle.refusal.specs.declared.WriteResult.{WriteResult}
+use Rattle.refusal.specs.Writes.{outcomeOf}
 use Rattle.sealed_builder.specs.declared.Sending.{Sending}
 use Rattle.sealed_builder.specs.Build.{Done, done, refusedSending, sealedDone}
 use Rattle.text.specs.Line.{Piece}
@@ -74,11 +74,11 @@ unfolding doneBy
 build-done sending s before source queued header abort eh ea es eb eq = rw (eh, ea, es, eb, eq)
 
 -- its line as code comes to it
-pub built-line : (b : Built) (sum : ℕ) (x : Sending) (buf : List ℕ) (d : Done) → done (answered b) x buf ≡ d → sum ≡ crcOf 4294967295 buf → answerLine (answered b) sum ≡ sealedLine d
-built-line b sum x buf d e k = ap (answerLine (answered b)) k ∙ ap sealedLine e
+pub built-line : (b : WriteResult) (sum : ℕ) (x : Sending) (buf : List ℕ) (d : Done) → done (outcomeOf b) x buf ≡ d → sum ≡ crcOf 4294967295 buf → answerLine (outcomeOf b) sum ≡ sealedLine d
+built-line b sum x buf d e k = ap (answerLine (outcomeOf b)) k ∙ ap sealedLine e
 
 -- what is left behind it
-pub builds-next : (b : Builds) (s : List ℕ) (answer : Built) (buf : List ℕ) {left : ℕ} {x : Sending} → left ≡ b .left - 1 → done (answered answer) x buf ≡ doneBy (b .sending) s → builds left x ≡ buildsAfter b s
+pub builds-next : (b : Builds) (s : List ℕ) (answer : WriteResult) (buf : List ℕ) {left : ℕ} {x : Sending} → left ≡ b .left - 1 → done (outcomeOf answer) x buf ≡ doneBy (b .sending) s → builds left x ≡ buildsAfter b s
 builds-next b s answer buf e d = ap₂ builds e (ap (λ (y : Done). y .sending) d)
 
 -- ---- a part that is bad, and one that is whole

@@ -5,10 +5,10 @@ use mathlib.Core.List.{List, [], _∷_}
 use Prim.Native.Nat.{ℕ, _+_, _-_, _%_, _^_}
 use lib.Dec.{leb, eqb}
 use lib.ListN.{take, drop, getD}
+use Rattle.refusal.specs.Writes.{Outcome, wrote, refusedFor}
 use Rattle.buffer.specs.Le.{numberAt}
 use Rattle.crc32c.specs.Crc.{crcOf}
 use Rattle.preamble.specs.Judge.{headerOf}
-use Rattle.builder.specs.Build.{Answer, wrote, turnedAway}
 use Rattle.secure.specs.Layout.{nonceOf}
 use Rattle.sealed_builder.specs.declared.Sending.{Sending}
 use Rattle.sealed_builder.specs.Build.{Done, sendingState, refusedSending, sealedDone}
@@ -19,9 +19,9 @@ use Rattle.build_cases.specs.declared.Part.{Part}
 
 -- ---- lines
 
-abbrev pub answerLine : Answer → ℕ → List Piece
+abbrev pub answerLine : Outcome → ℕ → List Piece
 answerLine (wrote n) c = wroteLine n c
-answerLine (turnedAway w) c = refusedLine w c
+answerLine (refusedFor w) c = refusedLine w c
 
 -- a build's line: its answer, and the checksum of the buffer that it left
 abbrev pub sealedLine : Done → List Piece

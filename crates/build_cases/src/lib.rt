@@ -5,7 +5,6 @@ use buffer::part;
 use buffer::u16_at;
 use buffer::u32_at;
 use buffer::u64_at;
-use builder::Built;
 use crc32c::checksum;
 use preamble::read_header;
 use records::LARGEST;
@@ -16,8 +15,9 @@ use records::is_whole;
 use records::print_refused;
 use records::print_wrote;
 use records::sized;
+use refusal::WriteResult;
 use refusal::both;
-use refusal::in_numbers;
+use refusal::numbers_of;
 use sealed_builder::Sending;
 use sealed_builder::build_sealed;
 use sealed_builder::refused_sending;
@@ -27,7 +27,7 @@ use secure::nonce_of;
 ghost use mathlib.Core.Path.{_≡_};
 ghost use Prim.Native.Nat.{_-_, _≤_};
 ghost use lib.ListN.{length};
-ghost use Rattle.builder.specs.Build.{answered};
+ghost use Rattle.refusal.specs.Writes.{outcomeOf};
 ghost use Rattle.text.specs.Page.{page};
 ghost use Rattle.records.specs.Records.{print};
 ghost use Rattle.build_cases.specs.Sealed.{answerLine, nonceFurther, sendingAfter, sendingOf, headSize, headPart, buildSize, buildPart, DidPart};
@@ -47,12 +47,12 @@ pub struct Part {
     pub builds: Builds,
 }
 
-pub fn print_built(text: &mut [u8], at: usize, built: Built, sum: u32) -> usize
-    ensures { λ r. ⌜ page (now (text .exit)) r ≡ print (answerLine (answered built) sum) (page (now (text .entry)) at) ⌝ }
+pub fn print_built(text: &mut [u8], at: usize, built: WriteResult, sum: u32) -> usize
+    ensures { λ r. ⌜ page (now (text .exit)) r ≡ print (answerLine (outcomeOf built) sum) (page (now (text .entry)) at) ⌝ }
 {
     match built {
-        Built::Wrote(n) => print_wrote(text, at, n, sum),
-        Built::Refused(why) => print_refused(text, at, in_numbers(why), sum),
+        WriteResult::Wrote(n) => print_wrote(text, at, n, sum),
+        WriteResult::Refused(why) => print_refused(text, at, numbers_of(why), sum),
     }
 }
 

@@ -6,9 +6,8 @@ use Prim.Native.Nat.{ℕ, _+_}
 use lib.ListN.{length}
 use lib.Dec.{leb, eqb}
 use Rattle.buffer.specs.Splice.{splice}
-use Rattle.refusal.specs.declared.Numbers.{Numbers}
 use Rattle.refusal.specs.declared.Refusal.the-variants as refusal
-use Rattle.refusal.specs.Refusals.{Judged, fine, refused, numbersOf, firstOf, unless}
+use Rattle.refusal.specs.Refusals.{Judged, fine, refused, firstOf, unless}
 use Rattle.banner.specs.declared.Revision.{Revision}
 use Rattle.banner.specs.declared.Revision.the-variants.{Msgr20, Msgr21}
 use Rattle.banner.specs.Banner.{bannerBytes, judgeOwn}
@@ -16,8 +15,8 @@ use Rattle.preamble.specs.declared.Header.{Header}
 use Rattle.preamble.specs.Layout.{total}
 use Rattle.preamble.specs.Judge.{judgeHeader}
 use Rattle.body.specs.Body.{frameBytes, wireLength}
-use Rattle.builder.specs.declared.Built.{Built}
-use Rattle.builder.specs.declared.Built.the-variants as built
+use Rattle.refusal.specs.declared.WriteResult.{WriteResult}
+use Rattle.refusal.specs.Writes.{wrote, refusedFor, Done, done, outcomeOf}
 
 -- the source has the bytes of all segments
 abbrev pub judgeSource : ℕ → ℕ → Judged
@@ -50,31 +49,10 @@ bannerLength = 10 + 16
 unfoldable pub judgeBanner : ℕ → ℕ → ℕ → ℕ → Judged
 judgeBanner supported required space queued = firstOf (judgeOwn supported required ∷ judgeRoom bannerLength space queued ∷ [])
 
--- the answer, in 01's numbers, and the buffer
-pub data Answer : Type 0 where
-  wrote : ℕ → Answer
-  turnedAway : Numbers → Answer
-
--- how many bytes it says were written
-abbrev pub countIn : Answer → ℕ
-countIn (wrote n) = n
-countIn (turnedAway r) = 0
-
-pub record Done : Type 0 where
-  pub answer : Answer
-  pub buffer : List ℕ
-
-abbrev pub done : Answer → List ℕ → Done
-done a b = record { answer = a; buffer = b }
-
-abbrev pub answered : Built → Answer
-answered (built.Wrote n) = wrote n
-answered (built.Refused r) = turnedAway (numbersOf r)
-
 -- a refused build changes nothing; another one puts its bytes behind the queued ones
 abbrev pub outcome : Judged → ℕ → List ℕ → ℕ → List ℕ → Done
 outcome fine n buf queued bytes = done (wrote n) (splice buf queued bytes)
-outcome (refused r) n buf queued bytes = done (turnedAway r) buf
+outcome (refused r) n buf queued bytes = done (refusedFor r) buf
 
 -- WHAT BUILDING A FRAME COMES TO
 unfoldable pub frameDone : Revision → Header → Bool → List ℕ → List ℕ → ℕ → Done
@@ -87,8 +65,8 @@ bannerDone supported required buf queued =
     outcome (judgeBanner supported required (length buf) queued) bannerLength buf queued (bannerBytes supported required)
 
 -- THE PROMISES of the two builders: a buffer buf with so many bytes queued, the answer, and the buffer then
-pub record BuiltFrame (revision : Revision) (h : Header) (abort : Bool) (source buf : List ℕ) (queued : ℕ) (answer : Built) (after : List ℕ) : Type 0 where
-  pub promise : done (answered answer) after ≡ frameDone revision h abort source buf queued
+pub record BuiltFrame (revision : Revision) (h : Header) (abort : Bool) (source buf : List ℕ) (queued : ℕ) (answer : WriteResult) (after : List ℕ) : Type 0 where
+  pub promise : done (outcomeOf answer) after ≡ frameDone revision h abort source buf queued
 
-pub record BuiltBanner (supported required : ℕ) (buf : List ℕ) (queued : ℕ) (answer : Built) (after : List ℕ) : Type 0 where
-  pub promise : done (answered answer) after ≡ bannerDone supported required buf queued
+pub record BuiltBanner (supported required : ℕ) (buf : List ℕ) (queued : ℕ) (answer : WriteResult) (after : List ℕ) : Type 0 where
+  pub promise : done (outcomeOf answer) after ≡ bannerDone supported required buf queued

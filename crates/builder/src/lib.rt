@@ -24,9 +24,10 @@ use preamble::preamble_front;
 use preamble::total_of;
 use refusal::Refusal;
 use refusal::Verdict;
+use refusal::WriteResult;
 use refusal::both;
 use refusal::or_else;
-use refusal::unless_ok;
+use refusal::unless;
 ghost use mathlib.Core.Path.{_≡_};
 ghost use mathlib.Core.List.{_++_};
 ghost use Prim.Native.Nat.{_+_, _≤_};
@@ -37,12 +38,6 @@ ghost use Rattle.refusal.specs.Refusals.{judgedBy};
 ghost use Rattle.preamble.specs.Layout.{total, preambleBytes};
 ghost use Rattle.body.specs.Body.{restLength, firstSumLength, epilogueLength, bodyLength, wireLength, firstSum, lateByte, epilogue, body, restSent, frameBytes};
 ghost use Rattle.builder.specs.Build.{judgeAbort, judgeFrame, judgeBanner, BuiltFrame, BuiltBanner};
-
-// What a build comes to: the bytes written, or why it was refused.
-pub enum Built {
-    Wrote(usize),
-    Refused(Refusal),
-}
 
 // ---- judgements
 
@@ -63,7 +58,7 @@ pub fn judge_abort(revision: Revision, count: u8, abort: bool) -> Verdict
 {
     match revision {
         Revision::Msgr20 => Verdict::Fine,
-        Revision::Msgr21 => unless_ok(!both(abort, count == 1), Refusal::AbortOneSegment),
+        Revision::Msgr21 => unless(!both(abort, count == 1), Refusal::AbortOneSegment),
     }
 }
 
@@ -78,17 +73,17 @@ fn judge_frame(
     ensures { λ r. ⌜ judgedBy r ≡ judgeFrame revision h abort source space queued ⌝ }
 {
     let n = wire_length(revision, h);
-    let last = unless_ok(room(n, space, queued), Refusal::NoRoom(n));
+    let last = unless(room(n, space, queued), Refusal::NoRoom(n));
     let v15 = or_else(judge_abort(revision, h.count, abort), last);
     let t = total_of(h);
-    let v13 = or_else(unless_ok(source as u64 == t, Refusal::SourceLength), v15);
+    let v13 = or_else(unless(source as u64 == t, Refusal::SourceLength), v15);
     or_else(judge_header(h), v13)
 }
 
 fn judge_banner(supported: u64, required: u64, space: usize, queued: usize) -> Verdict
     ensures { λ r. ⌜ judgedBy r ≡ judgeBanner supported required space queued ⌝ }
 {
-    let last = unless_ok(room(26, space, queued), Refusal::NoRoom(26));
+    let last = unless(room(26, space, queued), Refusal::NoRoom(26));
     or_else(judge_own(supported, required), last)
 }
 
@@ -193,16 +188,16 @@ fn put_frame(out: &mut [u8], revision: Revision, h: Header, abort: bool, source:
 // ---- the builders
 
 // Builds our banner behind the queued bytes.
-pub fn build_banner(buf: &mut [u8], queued: usize, supported: u64, required: u64) -> Built
+pub fn build_banner(buf: &mut [u8], queued: usize, supported: u64, required: u64) -> WriteResult
     ensures { λ r. ⌜ BuiltBanner supported required (now (buf .entry)) queued r (now (buf .exit)) ⌝ }
 {
     let verdict = judge_banner(supported, required, buf.len(), queued);
     match verdict {
-        Verdict::Refused(why) => Built::Refused(why),
+        Verdict::Refused(why) => WriteResult::Refused(why),
         Verdict::Fine => {
             let bytes = banner_bytes(supported, required);
             put(&mut buf[queued..], &bytes);
-            Built::Wrote(26)
+            WriteResult::Wrote(26)
         }
     }
 }
@@ -215,15 +210,15 @@ pub fn build_frame(
     header: Header,
     abort: bool,
     source: &[u8],
-) -> Built
+) -> WriteResult
     ensures { λ r. ⌜ BuiltFrame revision header abort (now (source .entry)) (now (buf .entry)) queued r (now (buf .exit)) ⌝ }
 {
     let verdict = judge_frame(revision, header, abort, source.len(), buf.len(), queued);
     match verdict {
-        Verdict::Refused(why) => Built::Refused(why),
+        Verdict::Refused(why) => WriteResult::Refused(why),
         Verdict::Fine => {
             put_frame(&mut buf[queued..], revision, header, abort, source);
-            Built::Wrote(wire_length(revision, header) as usize)
+            WriteResult::Wrote(wire_length(revision, header) as usize)
         }
     }
 }

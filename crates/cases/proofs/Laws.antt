@@ -10,19 +10,20 @@ use lib.Dec.{leb, eqb}
 use lib.ListN.{length, take, drop, getD, set, length-drop}
 use lib.Seq.{getD-append-add, getD-drop, length-take-le, take-at}
 use Rattle.refusal.proofs.Booleans.{both-left, both-right}
-use Rattle.buffer.proofs.Turn.{copy-more}
+use Rattle.buffer.proofs.CopyLoop.{copy-more}
 use Rattle.buffer.proofs.Parts.{back}
 use Rattle.buffer.specs.Le.{numberAt}
 use Rattle.crc32c.specs.Crc.{crcOf}
-use Rattle.builder.specs.declared.Built.{Built}
-use Rattle.builder.specs.Build.{Done, done, answered, bannerDone, frameDone}
+use Rattle.refusal.specs.declared.WriteResult.{WriteResult}
+use Rattle.refusal.specs.Writes.{Done, done, outcomeOf}
+use Rattle.builder.specs.Build.{bannerDone, frameDone}
 use Rattle.banner.specs.declared.Revision.{Revision}
 use Rattle.preamble.specs.declared.Header.{Header}
 use Rattle.preamble.specs.Judge.{headerOf}
 use Rattle.records.specs.Records.{allowed, isWhole, counted}
 use Rattle.records.proofs.Laws.{sized-good}
 use Rattle.build_cases.specs.Sealed.{answerLine}
-use Rattle.cases.specs.Builds.{doneLine, bannerSize, bannerDoneOf, revisionOf, frameSize, frameDoneOf}
+use Rattle.cases.specs.Builds.{doneLine, bannerSize, bannerDoneOf, revisionByByte, frameSize, frameDoneOf}
 
 -- ---- kinds
 
@@ -58,7 +59,7 @@ unfolding bannerDoneOf
 banner-done s before supported required queued es er eb eq = rw (es, er, eb, eq)
 
 pub frame-done : (s before source : List ℕ) (queued : ℕ) (revision : Revision) (header : Header) (abort : Bool)
-    → revision ≡ revisionOf (getD s 1 0)
+    → revision ≡ revisionByByte (getD s 1 0)
     → header ≡ headerOf (drop 2 s)
     → abort ≡ eqb (getD s 28 0) 1
     → source ≡ take (numberAt 4 42 s) (drop 46 s)
@@ -69,8 +70,8 @@ unfolding frameDoneOf
 frame-done s before source queued revision header abort ev eh ea es eb eq = rw (ev, eh, ea, es, eb, eq)
 
 -- the line of a build as code comes to it
-pub built-line : (b : Built) (sum : ℕ) (buf : List ℕ) (d : Done) → done (answered b) buf ≡ d → sum ≡ crcOf 4294967295 buf → answerLine (answered b) sum ≡ doneLine d
-built-line b sum buf d e k = ap (answerLine (answered b)) k ∙ ap doneLine e
+pub built-line : (b : WriteResult) (sum : ℕ) (buf : List ℕ) (d : Done) → done (outcomeOf b) buf ≡ d → sum ≡ crcOf 4294967295 buf → answerLine (outcomeOf b) sum ≡ doneLine d
+built-line b sum buf d e k = ap (answerLine (outcomeOf b)) k ∙ ap doneLine e
 
 -- ---- moving
 

@@ -4,19 +4,20 @@ use mathlib.Core.List.{List, [], _∷_}
 use Prim.Native.Nat.{ℕ, _+_}
 use lib.Dec.{leb, eqb}
 use lib.ListN.{take, drop, getD}
+use Rattle.refusal.specs.Writes.{Done}
 use Rattle.buffer.specs.Le.{numberAt}
 use Rattle.crc32c.specs.Crc.{crcOf}
 use Rattle.banner.specs.declared.Revision.{Revision}
 use Rattle.banner.specs.declared.Revision.the-variants.{Msgr20, Msgr21}
 use Rattle.preamble.specs.Judge.{headerOf}
-use Rattle.builder.specs.Build.{Done, bannerDone, frameDone}
+use Rattle.builder.specs.Build.{bannerDone, frameDone}
 use Rattle.text.specs.Line.{Piece}
 use Rattle.records.specs.Records.{Record, sized, allowed, whole, counted}
 use Rattle.build_cases.specs.Sealed.{answerLine}
 
 -- a build's line: its answer, and the checksum of the buffer that it left
 abbrev pub doneLine : Done → List Piece
-doneLine d = answerLine (d .answer) (crcOf 4294967295 (d .buffer))
+doneLine d = answerLine (d .outcome) (crcOf 4294967295 (d .buffer))
 
 -- B: supported u64, required u64, buffer length u32, fill u8, queued u64
 abbrev pub bannerSize : List ℕ → ℕ
@@ -28,8 +29,8 @@ bannerDoneOf s = bannerDone (numberAt 8 1 s) (numberAt 8 9 s) (counted (getD s 2
 unfoldable pub bannerRecord : List ℕ → Record
 bannerRecord s = whole (bannerSize s) s (doneLine (bannerDoneOf s) ∷ [])
 
-abbrev pub revisionOf : ℕ → Revision
-revisionOf b = cond (eqb b 1) Msgr21 Msgr20
+abbrev pub revisionByByte : ℕ → Revision
+revisionByByte b = cond (eqb b 1) Msgr21 Msgr20
 
 -- F: revision u8, tag, count and segments as in a preamble, abort u8, buffer length u32, fill u8, queued u64, source length u32, source bytes
 abbrev pub frameSize : List ℕ → ℕ
@@ -40,7 +41,7 @@ frameSize s =
 
 unfoldable pub frameDoneOf : List ℕ → Done
 frameDoneOf s =
-    frameDone (revisionOf (getD s 1 0)) (headerOf (drop 2 s)) (eqb (getD s 28 0) 1)
+    frameDone (revisionByByte (getD s 1 0)) (headerOf (drop 2 s)) (eqb (getD s 28 0) 1)
     (take (numberAt 4 42 s) (drop 46 s)) (counted (getD s 33 0) (numberAt 4 29 s)) (numberAt 8 34 s)
 
 unfoldable pub frameRecord : List ℕ → Record

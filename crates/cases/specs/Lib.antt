@@ -1,4 +1,4 @@
-pub mod Between
+pub mod LoopInvariant
 pub mod Builds
 pub mod Checksums
 pub mod Kinds

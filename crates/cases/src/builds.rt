@@ -21,7 +21,7 @@ ghost use mathlib.Core.Path.{_≡_};
 ghost use Prim.Native.Nat.{_≤_};
 ghost use lib.ListN.{length};
 ghost use Rattle.records.specs.Records.{Did};
-ghost use Rattle.cases.specs.Builds.{revisionOf, bannerSize, bannerRecord, frameSize, frameRecord};
+ghost use Rattle.cases.specs.Builds.{revisionByByte, bannerSize, bannerRecord, frameSize, frameRecord};
 
 fn banner_size(s: &[u8]) -> usize
     ensures { λ r. ⌜ r ≡ bannerSize (now (s .entry)) ⌝ }
@@ -48,8 +48,8 @@ pub(crate) fn banner_record(s: &[u8], space: &mut [u8], text: &mut [u8], at: usi
     }
 }
 
-fn revision_of(b: u8) -> Revision
-    ensures { λ r. ⌜ r ≡ revisionOf b ⌝ }
+fn revision_by_byte(b: u8) -> Revision
+    ensures { λ r. ⌜ r ≡ revisionByByte b ⌝ }
 {
     if b == 1 {
         Revision::Msgr21
@@ -79,7 +79,7 @@ pub(crate) fn frame_record(s: &[u8], space: &mut [u8], text: &mut [u8], at: usiz
     let buf = &mut space[..n];
     count_up(buf, byte_at(s, 33));
     let queued = u64_at(s, 34) as usize;
-    let revision = revision_of(byte_at(s, 1));
+    let revision = revision_by_byte(byte_at(s, 1));
     let header = read_header(behind(s, 2));
     let source = part(s, 46, u32_at(s, 42) as usize);
     let abort = byte_at(s, 28) == 1;

@@ -29,7 +29,7 @@ ghost use mathlib.Core.Path.{_≡_};
 ghost use mathlib.Core.List.{_++_};
 ghost use Prim.Native.Nat.{_+_, _≤_, _<_};
 ghost use lib.ListN.{length, take, drop};
-ghost use Rattle.cases.specs.Between.{Between, Refilled};
+ghost use Rattle.cases.specs.LoopInvariant.{LoopInvariant, Refilled};
 ghost use Rattle.records.specs.Records.{Did};
 ghost use Rattle.build_cases.specs.Sealed.{DidPart};
 ghost use Rattle.cases.specs.Kinds.{streamRecord, bufferRecord, otherRecord, recordOf, nextOf};
@@ -204,9 +204,9 @@ fn run_next(builds: Builds, s: &[u8], space: &mut [u8], text: &mut [u8], at: usi
 
 // The next record, where the input has one.
 fn run_one(held: &mut [u8], space: &mut [u8], text: &mut [u8], s: State) -> State
-    requires { ⌜ Between s (length (now held)) (length (now space)) ⌝ }
+    requires { ⌜ LoopInvariant s (length (now held)) (length (now space)) ⌝ }
     requires { ⌜ 0 < s .left ⌝ }
-    ensures { λ r. ⌜ Between r (length (now (held .entry))) (length (now (space .entry))) ⌝ }
+    ensures { λ r. ⌜ LoopInvariant r (length (now (held .entry))) (length (now (space .entry))) ⌝ }
     ensures { λ r. ⌜ r .left < s .left ⌝ }
 {
     let input = refill(held, s.input);

@@ -17,7 +17,7 @@ use Rattle.banner.specs.declared.Features.{Features}
 use Rattle.banner.specs.Banner.{judgeOwn}
 use Rattle.preamble.specs.declared.Header.{Header}
 use Rattle.preamble.specs.Judge.{headerOf}
-use Rattle.body.specs.End.{Ended, whole, dropped, turnedAway}
+use Rattle.body.specs.End.{Ended, whole, dropped, refusedFor}
 use Rattle.stream.specs.declared.Event.the-variants as event
 use Rattle.stream.proofs.Events.{by-event}
 use Rattle.receiver.specs.declared.Stage.{Stage}
@@ -50,8 +50,8 @@ use Rattle.connection.specs.Step.{readyAfter, readyRule, agrees, begun, 
 use Rattle.connection.specs.Calls.{Try}
 use Rattle.connection.specs.Every.{refusedInUse, neededInUse, Running, EveryCall, AnyCall, taking, switching, Handed, allTaken, lengthBy, allReported, cameBefore, unfinished, unfinishedAfter, leftBy}
 use Rattle.connection.proofs.Machines.{crc-answer, secure-answer}
-use Rattle.connection.proofs.Parted.{judged-27}
-use Rattle.connection.proofs.Every.{stateOf, rule-of, in-use-of, secure-unready, Gone, goneCrc, goneSecure, gone-of, lasts, short-so, well, sound, sound-switch, begun-agrees}
+use Rattle.connection.proofs.SplitAtSwitch.{judged-27}
+use Rattle.connection.proofs.Every.{stateOf, rule-of, in-use-of, secure-unready, RefusedFor, refusedCrc, refusedSecure, refused-of, lasts, short-so, well, sound, sound-switch, begun-agrees}
 
 -- n bytes of the stream since the last report, by the report and the state that it leaves
 abbrev Counts : Report → ℕ → State → Type 0
@@ -85,7 +85,7 @@ module _ (ready : Bool) (c : crc-state.State) where
   frame-counts : (e : Ended) (v : sealed-known.Known) (p s : List ℕ) (n : ℕ) → n ≡ sealedLength (v .header) → CountsStep n (sealed.endFrame e v p s)
   frame-counts whole v p s n e = e ∙ sym (add-zero (sealedLength (v .header)))
   frame-counts dropped v p s n e = e ∙ sym (add-zero (sealedLength (v .header)))
-  frame-counts (turnedAway m) v p s n e = tt
+  frame-counts (refusedFor m) v p s n e = tt
 
   module _ (v : sealed-known.Known) (s : List ℕ) (n : ℕ) where
     abbrev h : Header
@@ -218,21 +218,21 @@ next-at n t st (report.Event e) a g c =
     g
     c
 
-gone-refused : {m : Numbers} {st : State} → Gone m st → refusedInUse st ≡ true
-gone-refused (goneCrc g) = rw (g .mode, g .gone .stage)
-gone-refused (goneSecure g) = rw (g .mode, g .gone .stage)
+refused-so : {m : Numbers} {st : State} → RefusedFor m st → refusedInUse st ≡ true
+refused-so (refusedCrc g) = rw (g .mode, g .hasRefused .stage)
+refused-so (refusedSecure g) = rw (g .mode, g .hasRefused .stage)
 
 call-next : (n : ℕ) (st : State) (s piece : List ℕ) (r : Received) (s′ : List ℕ) → Counted n st → Answered st s piece r s′ → Next n r
 call-next n st s piece r s′ w a =
     let z = well st s piece r s′ a (w .agree) in
-    next-at n (r .taken) (r .state) (r .report) (z .agree) (λ m q. gone-refused (z .gone m q)) (go (refusedInUse st) refl (ltb (length s) (neededInUse st)) refl)
+    next-at n (r .taken) (r .state) (r .report) (z .agree) (λ m q. refused-so (z .hasRefused m q)) (go (refusedInUse st) refl (ltb (length s) (neededInUse st)) refl)
   where
     none : {m : Numbers} → r .report ≡ report.Event (event.Refused m) → Counts (r .report) (n + r .taken) (r .state)
     none e = subst (λ (p : Report). Counts p (n + r .taken) (r .state)) (sym e) tt
 
     go : (b : Bool) → refusedInUse st ≡ b → (t : Bool) → ltb (length s) (neededInUse st) ≡ t → Counts (r .report) (n + r .taken) (r .state)
     go true q t u =
-        let g = gone-of (st .mode) (st .ready) (st .crc) (st .secure) (w .agree) q in
+        let g = refused-of (st .mode) (st .ready) (st .crc) (st .secure) (w .agree) q in
         none (lasts (g .1) s piece r s′ a .report)
     go false q true u = none (short-so st s piece r s′ a (w .agree) q (ltb-true (length s) (neededInUse st) u) .report)
     go false q false u =

@@ -1,4 +1,4 @@
--- Demand 3 of connections: a list of calls is one run of pieces, or two with a switch between them (Parted), and each run is that of a machine (Lists).
+-- Demand 3 of connections: a list of calls is one run of pieces, or two with a switch between them (SplitAtSwitch), and each run is that of a machine (Lists).
 use Prim.Native.Nat.{ℕ, suc, _+_, _-_, _≤_, zero-le}
 use mathlib.Core.List.{List, [], _∷_, _++_}
 use mathlib.Core.Path.{_≡_, refl, sym, ap, ap₂, subst, _∙_}
@@ -29,7 +29,7 @@ use Rattle.receiver.proofs.Entries.{Behind, noted}
 use Rattle.receiver.proofs.Appended.{clean-here, refused-append, entered-append}
 use Rattle.receiver.proofs.Machine.{Scanned, scan, scan-append, scan-behind}
 use Rattle.receiver.proofs.Machine as machine
-use Rattle.receiver.proofs.Lists.{Comes, Standing, running, gone, stays, every-list, uncut}
+use Rattle.receiver.proofs.Lists.{Comes, Standing, running, hasRefused, stays, every-list, uncut}
 use Rattle.receiver.proofs.Live as crc-live
 use Rattle.sealed_receiver.proofs.Live.{switched-running}
 use Rattle.secure.specs.Reading.{sealedTrace}
@@ -38,11 +38,11 @@ use Rattle.connection.specs.declared.Mode.the-variants as mode
 use Rattle.connection.specs.Switched.{Switch, none, behind, closes, spliced, traceWith, closesAt, choseMsgr21, behindFrame, maySwitch, framesIn}
 use Rattle.connection.specs.Step.{isSecure, noSecure, begun, agrees, mayBeSwitched, judgeSwitch, switchedState}
 use Rattle.connection.specs.Calls.{Piece, Try, Call, Chained, takenBy, stateBy, storeBy, reportedBy, counted, switchBy, Each, Repeats, OneMade, Tries, AsSwitched, SwitchedDemand3}
-use Rattle.connection.proofs.Machines.{crcByte, secureByte, crcSide, secureSide, CrcRunning, SecureRunning, CrcGone, before}
+use Rattle.connection.proofs.Machines.{crcByte, secureByte, crcSide, secureSide, CrcRunning, SecureRunning, CrcRefusedFor, before}
 use Rattle.connection.proofs.Scans.{trace, crc-trace, secure-trace, LastCloses, Just, ready-just, ready-closes, revision-chosen}
 use Rattle.connection.proofs.Splices.{spliced-there, AllBy, skipped, ahead-only, takes-some, lent-nothing}
-use Rattle.connection.proofs.Parted.{runs, refuses, crc-agrees, secure-agrees, Fed, takenOf, stateOf, storeOf, reportedOf, EachOf, reportedThen, countedBy, Unmade, Made, Parted, unmade, made, parted}
-use Rattle.connection.proofs.Tried.{tries-answered}
+use Rattle.connection.proofs.SplitAtSwitch.{runs, refuses, crc-agrees, secure-agrees, Fed, takenOf, stateOf, storeOf, reportedOf, EachOf, reportedThen, countedBy, Unmade, Made, SplitAtSwitch, unmade, made, parted}
+use Rattle.connection.proofs.SwitchTries.{tries-answered}
 
 -- ---- runs of pieces
 
@@ -179,23 +179,23 @@ module _ (own : Features) (store : List ℕ) (ok : judgeOwn (own .supported) (ow
 
   standing-agrees : {st : State} {s : List ℕ} {es : List Entry} → Standing crcSide st s es → agrees st ≡ true
   standing-agrees {st} {s} (running l clean) = crc-agrees {st = st} {s = s} (runs l)
-  standing-agrees {st} {s} (gone n g) = crc-agrees {st = st} {s = s} (refuses n g)
+  standing-agrees {st} {s} (hasRefused n g) = crc-agrees {st = st} {s = s} (refuses n g)
 
-  parted′ : (stream : List ℕ) (cs : List Call) → Chained stream (begun own) store 0 cs → Parted stream start store 0 0 cs
+  parted′ : (stream : List ℕ) (cs : List Call) → Chained stream (begun own) store 0 cs → SplitAtSwitch stream start store 0 0 cs
   parted′ stream cs ch = parted stream start store 0 0 cs (runs start-runs) (subst (λ (x : State). Chained stream x store 0 cs) begun-fine ch)
 
   -- ---- the tries to switch
 
   -- a refused receiver is not ready
-  gone-unready : {n : Numbers} {st : State} → CrcGone n st → st .ready ≡ false
-  gone-unready {n} {st} g = go (st .ready) refl
+  crc-refused-unready : {n : Numbers} {st : State} → CrcRefusedFor n st → st .ready ≡ false
+  crc-refused-unready {n} {st} g = go (st .ready) refl
     where
       go : (b : Bool) → st .ready ≡ b → b ≡ false
       go false e = refl
       go true e =
           let q : (not (isSecure (st .mode)) && before (st .crc)) ≡ true = ap (λ (b : Bool). cond b (not (isSecure (st .mode)) && before (st .crc)) true) (sym e) ∙ g .rule in
           let b = both-right (not (isSecure (st .mode))) (before (st .crc)) q in
-          wrong (sym (ap (λ k. eqb (rank k) 4 && eqb (st .crc .position .got) 0) (g .gone .stage)) ∙ b)
+          wrong (sym (ap (λ k. eqb (rank k) 4 && eqb (st .crc .position .got) 0) (g .hasRefused .stage)) ∙ b)
 
   may-where : (stream : List ℕ) (ps : List Piece) → Fed stream start store 0 ps
       → (agrees (stateOf start ps) ≡ true) × (mayBeSwitched (stateOf start ps) ≡ maySwitch own stream store (takenOf 0 ps))
@@ -216,8 +216,8 @@ module _ (own : Features) (store : List ℕ) (ok : judgeOwn (own .supported) (ow
           let q = scanned₀ stream ps f in
           let v = revision-chosen start store 0 (take (takenOf 0 ps) stream) start-runs (ap (λ (y : Scanned State). refusedIn (y .entries)) q ∙ clean) in
           ap₂ _&&_ c (rw q at v)
-      may-stands stream ps f c (gone n g) =
-          let z = gone-unready g in
+      may-stands stream ps f c (hasRefused n g) =
+          let z = crc-refused-unready g in
           ap (λ (b : Bool). b && isMsgr21 (stateOf start ps .crc .known .revision)) z ∙ sym (ap (λ (b : Bool). b && choseMsgr21 (reportedOf 0 ps)) (sym c ∙ z))
 
   tries₀ : (stream : List ℕ) (cs : List Call) → Chained stream (begun own) store 0 cs → Tries (maySwitch own stream store) 0 cs
@@ -262,7 +262,7 @@ module _ (own : Features) (store : List ℕ) (ok : judgeOwn (own .supported) (ow
         agreeing = rw begun-fine (ap agrees (a .state) ∙ standing-agrees (r .standing));
       }
     where
-      go : (stream′ : List ℕ) (cs′ : List Call) → switchBy 0 cs′ ≡ none → take (takenBy 0 cs′) stream′ ≡ take (takenBy 0 cs) stream → Parted stream′ start store 0 0 cs′
+      go : (stream′ : List ℕ) (cs′ : List Call) → switchBy 0 cs′ ≡ none → take (takenBy 0 cs′) stream′ ≡ take (takenBy 0 cs) stream → SplitAtSwitch stream′ start store 0 0 cs′
           → (stateBy start cs′ ≡ stateBy start cs) × (storeBy store cs′ ≡ storeBy store cs)
       go stream′ cs′ q e (unmade ps′ x′) = same-unmade stream stream′ cs cs′ ps ps′ x x′ e
       go stream′ cs′ q e (made ps′ qs′ c′ x′) = no-switch (sym (x′ .made) ∙ q)
@@ -300,7 +300,7 @@ module _ (own : Features) (store : List ℕ) (ok : judgeOwn (own .supported) (ow
       where
         go : Standing crcSide st₁ s₁ es → refusedIn es ≡ false
         go (running l clean) = clean
-        go (gone n g) = wrong (sym (gone-unready g) ∙ ready₁)
+        go (hasRefused n g) = wrong (sym (crc-refused-unready g) ∙ ready₁)
 
     within₁ : t₁ ≤ length stream
     within₁ = r₁ .reached .within
@@ -415,7 +415,7 @@ module _ (own : Features) (store : List ℕ) (ok : judgeOwn (own .supported) (ow
       where
         go : Standing secureSide (stateOf st₂ qs) (storeOf s₁ qs) (reportedOf t₁ qs) → agrees (stateOf st₂ qs) ≡ true
         go (running l clean) = secure-agrees {st = stateOf st₂ qs} {s = storeOf s₁ qs} (runs l)
-        go (gone n g) = secure-agrees {st = stateOf st₂ qs} {s = storeOf s₁ qs} (refuses n g)
+        go (hasRefused n g) = secure-agrees {st = stateOf st₂ qs} {s = storeOf s₁ qs} (refuses n g)
 
   -- two lists that made the same switch
   module _ (stream stream′ : List ℕ) (cs cs′ : List Call) (ps qs ps′ qs′ : List Piece) (c c′ : Try) (x : Made stream start store 0 0 cs ps qs c) (x′ : Made stream′ start store 0 0 cs′ ps′ qs′ c′)
@@ -501,7 +501,7 @@ module _ (own : Features) (store : List ℕ) (ok : judgeOwn (own .supported) (ow
       }
     where
       go : (stream′ : List ℕ) (cs′ : List Call) → switchBy 0 cs′ ≡ behind (countedBy 0 ps) (c .key) (c .receiving) → take (takenBy 0 cs′) stream′ ≡ take (takenBy 0 cs) stream
-          → Parted stream′ start store 0 0 cs′ → (stateBy start cs′ ≡ stateBy start cs) × (storeBy store cs′ ≡ storeBy store cs)
+          → SplitAtSwitch stream′ start store 0 0 cs′ → (stateBy start cs′ ≡ stateBy start cs) × (storeBy store cs′ ≡ storeBy store cs)
       go stream′ cs′ q e (unmade ps′ x′) = no-switch (sym q ∙ x′ .none)
       go stream′ cs′ q e (made ps′ qs′ c′ x′) =
           let z = sym (x′ .made) ∙ q in
@@ -510,7 +510,7 @@ module _ (own : Features) (store : List ℕ) (ok : judgeOwn (own .supported) (ow
   defined-live : (stream : List ℕ) (cs : List Call) → Chained stream (begun own) store 0 cs → AsSwitched own stream store cs (switchBy 0 cs)
   defined-live stream cs ch = go (parted′ stream cs ch)
     where
-      go : Parted stream start store 0 0 cs → AsSwitched own stream store cs (switchBy 0 cs)
+      go : SplitAtSwitch stream start store 0 0 cs → AsSwitched own stream store cs (switchBy 0 cs)
       go (unmade ps x) = subst (AsSwitched own stream store cs) (sym (x .none)) (defined-unmade stream cs ps x (tries₀ stream cs ch))
       go (made ps qs c x) = subst (AsSwitched own stream store cs) (sym (x .made)) (defined-made stream cs ps qs c x (tries₀ stream cs ch))
 
@@ -524,8 +524,8 @@ module _ (own : Features) (store : List ℕ) (n : Numbers) (not16 : judgeOwn (ow
   unfolding begun crc.started
   begun-refused = rw not16
 
-  start-gone : CrcGone n stopped
-  start-gone = record { mode = refl; rule = refl; gone = crc-live.start-gone own n not16 }
+  start-refused : CrcRefusedFor n stopped
+  start-refused = record { mode = refl; rule = refl; hasRefused = crc-live.start-refused own n not16 }
 
   trace-refused : (bytes : List ℕ) → traceOf own bytes store ≡ ended store
   unfolding traceOf
@@ -535,7 +535,7 @@ module _ (own : Features) (store : List ℕ) (n : Numbers) (not16 : judgeOwn (ow
   never-ready : {A : Type 0} (stream : List ℕ) (cs : List Call) (ps qs : List Piece) (c : Try) → Made stream stopped store 0 0 cs ps qs c → A
   unfolding judgeSwitch
   never-ready stream cs ps qs c x =
-      let q = stays crcSide n stream 0 stopped store ps start-gone (x .fed) .state in
+      let q = stays crcSide n stream 0 stopped store ps start-refused (x .fed) .state in
       let a = all-fine (unless (agrees (stateOf stopped ps)) refusal.StateContradicts ∷ unless (mayBeSwitched (stateOf stopped ps)) refusal.SwitchRefused ∷ []) (x .judged) in
       let r = both-left (stateOf stopped ps .ready) (isMsgr21 (stateOf stopped ps .crc .known .revision)) (passed (mayBeSwitched (stateOf stopped ps)) refusal.SwitchRefused (a .1 .0)) in
       wrong (sym (ap (λ (y : State). y .ready) q) ∙ r)
@@ -546,9 +546,9 @@ module _ (own : Features) (store : List ℕ) (n : Numbers) (not16 : judgeOwn (ow
     where
       nowhere : (ps : List Piece) → Fed stream stopped store 0 ps → (agrees (stateOf stopped ps) ≡ true) × (mayBeSwitched (stateOf stopped ps) ≡ maySwitch own stream store (takenOf 0 ps))
       nowhere ps f =
-          let q = stays crcSide n stream 0 stopped store ps start-gone f .state in
+          let q = stays crcSide n stream 0 stopped store ps start-refused f .state in
           let t = takenOf 0 ps in (
-            ap agrees q ∙ crc-agrees {st = stopped} {s = store} (refuses n start-gone),
+            ap agrees q ∙ crc-agrees {st = stopped} {s = store} (refuses n start-refused),
             ap mayBeSwitched q ∙ sym (ap (λ (y : Trace). behindFrame t (y .entries)) (trace-refused (take t stream))),
           )
 
@@ -561,12 +561,12 @@ module _ (own : Features) (store : List ℕ) (n : Numbers) (not16 : judgeOwn (ow
     one : OneMade cs
 
   still : (stream : List ℕ) (cs : List Call) → Chained stream (begun own) store 0 cs → Still stream cs
-  still stream cs ch = go (parted stream stopped store 0 0 cs (refuses n start-gone) (subst (λ (y : State). Chained stream y store 0 cs) begun-refused ch))
+  still stream cs ch = go (parted stream stopped store 0 0 cs (refuses n start-refused) (subst (λ (y : State). Chained stream y store 0 cs) begun-refused ch))
     where
-      go : Parted stream stopped store 0 0 cs → Still stream cs
+      go : SplitAtSwitch stream stopped store 0 0 cs → Still stream cs
       go (unmade ps x) =
           let a = x .erased in
-          let r = stays crcSide n stream 0 stopped store ps start-gone (a .fed) in
+          let r = stays crcSide n stream 0 stopped store ps start-refused (a .fed) in
           record { taken = a .taken ∙ r .taken; state = a .state ∙ r .state; final = a .store ∙ r .store; repeats = a .repeats n (r .repeats); none = x .none; one = x .one }
       go (made ps qs c x) = never-ready stream cs ps qs c x
 
@@ -583,7 +583,7 @@ module _ (own : Features) (store : List ℕ) (n : Numbers) (not16 : judgeOwn (ow
         same = λ stream′ cs′ ch′ q e. let k′ = still stream′ cs′ ch′ in (rw begun-refused (k′ .state ∙ sym (k .state)), k′ .final ∙ sym (k .final));
         one = k .one;
         tries = tries-refused stream cs ch;
-        agreeing = rw begun-refused (ap agrees (k .state) ∙ crc-agrees {st = stopped} {s = store} (refuses n start-gone));
+        agreeing = rw begun-refused (ap agrees (k .state) ∙ crc-agrees {st = stopped} {s = store} (refuses n start-refused));
       })
 
 -- DEMAND 3

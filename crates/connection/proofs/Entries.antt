@@ -24,7 +24,7 @@ use Rattle.connection.specs.Switched.{Switch, behind, traceWith}
 use Rattle.connection.specs.Step.{begun}
 use Rattle.connection.specs.Calls.{Piece, Try, Call, taking, switching, Chained, takenBy, reportedBy, listOf, counted, madeOr, switchBy, Each, Repeats, AsSwitched, SwitchedDemand3}
 use Rattle.connection.proofs.Splices.{AllBy}
-use Rattle.connection.proofs.Earlier.{upTo, trace-earlier}
+use Rattle.connection.proofs.Prefixes.{upTo, trace-earlier}
 
 -- ---- the first calls of a list
 

@@ -38,27 +38,27 @@ use Rattle.connection.specs.declared.Switched.{Switched}
 use Rattle.connection.specs.Step.{readyRule, agreesInUse, agrees, begun, Answer, answered, byCrc, bySecure, answer, Answered, mayBeSwitched, judgeSwitch, switchedState, SwitchedWith}
 use Rattle.connection.specs.Calls.{Piece, SwitchedDemand3}
 use Rattle.connection.specs.Every.{refusedInUse, neededInUse, shortStore, stopped, Running, Refuses, Sound, SoundSwitch}
-use Rattle.connection.proofs.Machines.{crcSide, secureSide, CrcRunning, CrcGone, SecureRunning, SecureGone, before, crc-answer, secure-answer}
-use Rattle.connection.proofs.Parted.{Stands, runs, refuses, next-stands, crc-agrees, secure-agrees, judged-27, unless-number}
+use Rattle.connection.proofs.Machines.{crcSide, secureSide, CrcRunning, CrcRefusedFor, SecureRunning, SecureRefusedFor, before, crc-answer, secure-answer}
+use Rattle.connection.proofs.SplitAtSwitch.{Stands, runs, refuses, next-stands, crc-agrees, secure-agrees, judged-27, unless-number}
 use Rattle.connection.proofs.Laws.{by-rule}
 use Rattle.connection.proofs.Chain.{switched-demand3}
 
 -- ---- a machine that stands, and one call on it
 
 module _ (m : Machine) (x : m .State) (s piece : List ℕ) (c : m .Call) where
-  fed-after : m .Running x s → m .Answered x s piece c → (let a = m .answer c in After (m .Running) (m .Gone) (a .report) (a .state) (a .store))
+  fed-after : m .Running x s → m .Answered x s piece c → (let a = m .answer c in After (m .Running) (m .RefusedFor) (a .report) (a .state) (a .store))
   fed-after r a =
-      subst (λ (y : machine.Answer (m .State)). After (m .Running) (m .Gone) (y .report) (y .state) (y .store)) (sym (m .feeds x s piece c r a))
-      (feed-after (m .Running) (m .Gone) (m .onByte) (m .keeps) x s piece r)
+      subst (λ (y : machine.Answer (m .State)). After (m .Running) (m .RefusedFor) (y .report) (y .state) (y .store)) (sym (m .feeds x s piece c r a))
+      (feed-after (m .Running) (m .RefusedFor) (m .onByte) (m .keeps) x s piece r)
 
   -- behind a refusal it is refused
-  gone-next : Stands m x s → m .Answered x s piece c → (n : Numbers) → m .answer c .report ≡ report.Event (event.Refused n) → m .Gone n (m .answer c .state)
-  gone-next (runs r) a n q = rw q at (fed-after r a)
-  gone-next (refuses k g) a n q =
+  refuses-next : Stands m x s → m .Answered x s piece c → (n : Numbers) → m .answer c .report ≡ report.Event (event.Refused n) → m .RefusedFor n (m .answer c .state)
+  refuses-next (runs r) a n q = rw q at (fed-after r a)
+  refuses-next (refuses k g) a n q =
       let e = m .repeats k x s piece c g a in
       let w : report.Event (event.Refused k) ≡ report.Event (event.Refused n) = sym (ap (λ (y : machine.Answer (m .State)). y .report) e) ∙ q in
       let i : k ≡ n = cc in
-      subst (m .Gone n) (sym (ap (λ (y : machine.Answer (m .State)). y .state) e)) (subst (λ (j : Numbers). m .Gone j x) i g)
+      subst (m .RefusedFor n) (sym (ap (λ (y : machine.Answer (m .State)). y .state) e)) (subst (λ (j : Numbers). m .RefusedFor j x) i g)
 
 -- a piece is begun
 module _ {A : Type 0} (onByte : A → List ℕ → ℕ → machine.Stepped A) where
@@ -114,9 +114,9 @@ refused-unready mode.Crc true c x e l =
     absurd (omega (arith, z))
 refused-unready mode.Secure ready c x e l = secure-unready ready c x e
 
-pub data Gone (n : Numbers) (st : State) : Type 0 where
-  goneCrc : CrcGone n st → Gone n st
-  goneSecure : SecureGone n st → Gone n st
+pub data RefusedFor (n : Numbers) (st : State) : Type 0 where
+  refusedCrc : CrcRefusedFor n st → RefusedFor n st
+  refusedSecure : SecureRefusedFor n st → RefusedFor n st
 
 module _ (s piece : List ℕ) where
   -- ---- a store that became too short
@@ -135,15 +135,15 @@ module _ (s piece : List ℕ) where
       let st = stateOf mode.Secure ready c x in
       secure-answer st s piece refl (secure-unready ready c x (rule-of st e)) ∙ ap (bySecure st) (sealed-every.shortened x s piece (in-use-of st e) l t)
 
-  short-gone : (k : Mode) (ready : Bool) (c : crc-state.State) (x : sealed-state.State) → (let st = stateOf k ready c x in
-      agrees st ≡ true → refusedInUse st ≡ false → length s < neededInUse st → Gone (shortStore st) (stopped st (shortStore st)))
-  short-gone mode.Crc ready c x e l t =
+  short-refused : (k : Mode) (ready : Bool) (c : crc-state.State) (x : sealed-state.State) → (let st = stateOf k ready c x in
+      agrees st ≡ true → refusedInUse st ≡ false → length s < neededInUse st → RefusedFor (shortStore st) (stopped st (shortStore st)))
+  short-refused mode.Crc ready c x e l t =
       let st = stateOf mode.Crc ready c x in
       let u = crc-unready ready c x (length s) (rule-of st e) t in
-      goneCrc (record { mode = refl; rule = rw u; gone = crc-live.agree-own c (in-use-of st e) l (crc.shortStore c) refl })
-  short-gone mode.Secure ready c x e l t =
+      refusedCrc (record { mode = refl; rule = rw u; hasRefused = crc-live.agree-own c (in-use-of st e) l (crc.shortStore c) refl })
+  short-refused mode.Secure ready c x e l t =
       let st = stateOf mode.Secure ready c x in
-      goneSecure (record { mode = refl; rule = secure-unready ready c x (rule-of st e); gone = sealed-live.gone-at (sealed.shortStore x) refl })
+      refusedSecure (record { mode = refl; rule = secure-unready ready c x (rule-of st e); hasRefused = sealed-live.refused-at (sealed.shortStore x) refl })
 
   -- ---- 26
 
@@ -195,18 +195,18 @@ running-by mode.Secure ready c x s r =
 running-runs : (st : State) (s : List ℕ) → Running st s → Runs st s
 running-runs st s r = running-by (st .mode) (st .ready) (st .crc) (st .secure) s r
 
-pub gone-of : (k : Mode) (ready : Bool) (c : crc-state.State) (x : sealed-state.State)
-    → (let st = stateOf k ready c x in agrees st ≡ true → refusedInUse st ≡ true → (n : Numbers) × Gone n st)
-gone-of mode.Crc ready c x e l =
+pub refused-of : (k : Mode) (ready : Bool) (c : crc-state.State) (x : sealed-state.State)
+    → (let st = stateOf k ready c x in agrees st ≡ true → refusedInUse st ≡ true → (n : Numbers) × RefusedFor n st)
+refused-of mode.Crc ready c x e l =
     let st = stateOf mode.Crc ready c x in
-    (c .known .refusal, goneCrc (record { mode = refl; rule = rule-of st e; gone = crc-live.refused-gone c (in-use-of st e) l }))
-gone-of mode.Secure ready c x e l =
+    (c .known .refusal, refusedCrc (record { mode = refl; rule = rule-of st e; hasRefused = crc-live.refused-for c (in-use-of st e) l }))
+refused-of mode.Secure ready c x e l =
     let st = stateOf mode.Secure ready c x in
-    (x .known .refusal, goneSecure (record { mode = refl; rule = secure-unready ready c x (rule-of st e); gone = sealed-every.refused-gone x (in-use-of st e) l }))
+    (x .known .refusal, refusedSecure (record { mode = refl; rule = secure-unready ready c x (rule-of st e); hasRefused = sealed-every.refused-for x (in-use-of st e) l }))
 
-gone-placed : (n : Numbers) (st : State) (s : List ℕ) → Gone n st → Placed st s
-gone-placed n st s (goneCrc g) = onCrc (refuses n g)
-gone-placed n st s (goneSecure g) = onSecure (refuses n g)
+refused-placed : (n : Numbers) (st : State) (s : List ℕ) → RefusedFor n st → Placed st s
+refused-placed n st s (refusedCrc g) = onCrc (refuses n g)
+refused-placed n st s (refusedSecure g) = onSecure (refuses n g)
 
 placed : (st : State) (s : List ℕ) → agrees st ≡ true → Placed st s
 placed st s e = go (refusedInUse st) refl (ltb (length s) (neededInUse st)) refl
@@ -216,19 +216,19 @@ placed st s e = go (refusedInUse st) refl (ltb (length s) (neededInUse st)) refl
     live (runsSecure r) = onSecure (runs r)
 
     go : (b : Bool) → refusedInUse st ≡ b → (t : Bool) → ltb (length s) (neededInUse st) ≡ t → Placed st s
-    go true l t u = let g = gone-of (st .mode) (st .ready) (st .crc) (st .secure) e l in gone-placed (g .0) st s (g .1)
+    go true l t u = let g = refused-of (st .mode) (st .ready) (st .crc) (st .secure) e l in refused-placed (g .0) st s (g .1)
     go false l true u = tooShort l (ltb-true (length s) (neededInUse st) u)
     go false l false u = live (running-runs st s (record { agree = e; live = l; fits = ltb-false (length s) (neededInUse st) u }))
 
 -- ---- a refused stream
 
-gone-agrees : {n : Numbers} {st : State} → Gone n st → agrees st ≡ true
-gone-agrees {n} {st} (goneCrc g) = crc-agrees {st = st} {s = []} (refuses n g)
-gone-agrees {n} {st} (goneSecure g) = secure-agrees {st = st} {s = []} (refuses n g)
+refused-agrees : {n : Numbers} {st : State} → RefusedFor n st → agrees st ≡ true
+refused-agrees {n} {st} (refusedCrc g) = crc-agrees {st = st} {s = []} (refuses n g)
+refused-agrees {n} {st} (refusedSecure g) = secure-agrees {st = st} {s = []} (refuses n g)
 
-gone-not26 : {st : State} → Gone contradiction st → ⊥
-gone-not26 (goneCrc g) = (let e : crc-states.given contradiction ≡ true = g .gone .gives in wrong e)
-gone-not26 (goneSecure g) = (let e : sealed-states.given contradiction ≡ true = g .gone .gives in wrong e)
+refused-not26 : {st : State} → RefusedFor contradiction st → ⊥
+refused-not26 (refusedCrc g) = (let e : crc-states.given contradiction ≡ true = g .hasRefused .gives in wrong e)
+refused-not26 (refusedSecure g) = (let e : sealed-states.given contradiction ≡ true = g .hasRefused .gives in wrong e)
 
 repeated : {st : State} {s : List ℕ} {r : Received} {s′ : List ℕ} (n : Numbers)
     → record { state = r .state; taken = r .taken; report = r .report; store = s′ } ≡ machine.refusedAgain n st s → Refuses st n s r s′
@@ -239,9 +239,9 @@ repeated n e = record {
   store = ap (λ (y : machine.Answer State). y .store) e;
 }
 
-pub lasts : {n : Numbers} {st : State} → Gone n st → (s piece : List ℕ) (r : Received) (s′ : List ℕ) → Answered st s piece r s′ → Refuses st n s r s′
-lasts {n} {st} (goneCrc g) s piece r s′ a = repeated n (crcSide .repeats n st s piece (record { size = 0; received = r; store = s′ }) g a)
-lasts {n} {st} (goneSecure g) s piece r s′ a = repeated n (secureSide .repeats n st s piece (record { size = 0; received = r; store = s′ }) g a)
+pub lasts : {n : Numbers} {st : State} → RefusedFor n st → (s piece : List ℕ) (r : Received) (s′ : List ℕ) → Answered st s piece r s′ → Refuses st n s r s′
+lasts {n} {st} (refusedCrc g) s piece r s′ a = repeated n (crcSide .repeats n st s piece (record { size = 0; received = r; store = s′ }) g a)
+lasts {n} {st} (refusedSecure g) s piece r s′ a = repeated n (secureSide .repeats n st s piece (record { size = 0; received = r; store = s′ }) g a)
 
 -- ---- every call
 
@@ -265,7 +265,7 @@ module _ (st : State) (s piece : List ℕ) (r : Received) (s′ : List ℕ) (a :
   -- it hands back a state that agrees, and behind a refusal one that is refused
   pub record Well : Type 0 where
     pub agree : agrees (r .state) ≡ true
-    pub gone : (n : Numbers) → r .report ≡ report.Event (event.Refused n) → Gone n (r .state)
+    pub hasRefused : (n : Numbers) → r .report ≡ report.Event (event.Refused n) → RefusedFor n (r .state)
 
   pub well : agrees st ≡ true → Well
   well e = go (placed st s e)
@@ -273,21 +273,21 @@ module _ (st : State) (s piece : List ℕ) (r : Received) (s′ : List ℕ) (a :
       go : Placed st s → Well
       go (onCrc h) = record {
         agree = crc-agrees {st = r .state} {s = s′} (next-stands crcSide st s piece call h a);
-        gone = λ n q. goneCrc (gone-next crcSide st s piece call h a n q);
+        hasRefused = λ n q. refusedCrc (refuses-next crcSide st s piece call h a n q);
       }
       go (onSecure h) = record {
         agree = secure-agrees {st = r .state} {s = s′} (next-stands secureSide st s piece call h a);
-        gone = λ n q. goneSecure (gone-next secureSide st s piece call h a n q);
+        hasRefused = λ n q. refusedSecure (refuses-next secureSide st s piece call h a n q);
       }
       go (tooShort l t) =
           let z = short-so e l t in
-          let g = short-gone s piece (st .mode) (st .ready) (st .crc) (st .secure) e l t in
+          let g = short-refused s piece (st .mode) (st .ready) (st .crc) (st .secure) e l t in
           record {
-            agree = ap agrees (z .state) ∙ gone-agrees g;
-            gone = λ n q.
+            agree = ap agrees (z .state) ∙ refused-agrees g;
+            hasRefused = λ n q.
                 let w : report.Event (event.Refused (shortStore st)) ≡ report.Event (event.Refused n) = sym (z .report) ∙ q in
                 let i : shortStore st ≡ n = cc in
-                subst (λ (y : State). Gone n y) (sym (z .state)) (subst (λ (j : Numbers). Gone j (stopped st (shortStore st))) i g);
+                subst (λ (y : State). RefusedFor n y) (sym (z .state)) (subst (λ (j : Numbers). RefusedFor j (stopped st (shortStore st))) i g);
           }
 
   some : Running st s → 0 < length piece → 0 < r .taken
@@ -309,9 +309,9 @@ module _ (st : State) (s piece : List ℕ) (r : Received) (s′ : List ℕ) (a :
   pub sound : Sound st s piece r s′
   sound = record {
     contradicts = λ e. refusing-so st contradiction (contradicting s piece st e);
-    never26 = λ e q. gone-not26 (well e .gone contradiction q);
+    never26 = λ e q. refused-not26 (well e .hasRefused contradiction q);
     agreeing = λ e. well e .agree;
-    stays = λ n e q s₂ piece₂ r₂ s₃ a₂. lasts (well e .gone n q) s₂ piece₂ r₂ s₃ a₂;
+    stays = λ n e q s₂ piece₂ r₂ s₃ a₂. lasts (well e .hasRefused n q) s₂ piece₂ r₂ s₃ a₂;
     short = short-so;
     progress = some;
     nothing = none;

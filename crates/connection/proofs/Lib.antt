@@ -1,11 +1,11 @@
 pub mod Machines
 pub mod Scans
 pub mod Splices
-pub mod Parted
-pub mod Tried
+pub mod SplitAtSwitch
+pub mod SwitchTries
 pub mod Chain
 pub mod Laws
 pub mod Every
 pub mod Adds
-pub mod Earlier
+pub mod Prefixes
 pub mod Entries

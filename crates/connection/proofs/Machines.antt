@@ -19,7 +19,7 @@ use Rattle.preamble.specs.declared.Header.{Header}
 use Rattle.preamble.specs.Layout.{total}
 use Rattle.preamble.specs.Judge.{headerOf, judgePreamble}
 use Rattle.body.specs.Body.{segmentSum, noEpilogue}
-use Rattle.body.specs.End.{Ended, whole, dropped, turnedAway, ending}
+use Rattle.body.specs.End.{Ended, whole, dropped, refusedFor, ending}
 use Rattle.stream.specs.Stream.{zeroed}
 use Rattle.stream.specs.declared.Event.the-variants as event
 use Rattle.stream.specs.Events.{Role, bannerEnd, firstEnd, frameEnd, streamEnd, roleOf}
@@ -85,7 +85,7 @@ lands-cond false x y l m = m
 lands-end : (e : Ended) (v : Known) (s : List ℕ) → Lands (v .revision) (crc.endFrame e v s)
 lands-end whole v s = record { there = λ e. refl; revision = refl }
 lands-end dropped v s = record { there = λ e. refl; revision = refl }
-lands-end (turnedAway n) v s = lands-refused v n (zeroed (v .header) s)
+lands-end (refusedFor n) v s = lands-refused v n (zeroed (v .header) s)
 
 lands-silent : (st : crc-state.State) (s : List ℕ) → Lands (st .known .revision) (crc.silent st s)
 lands-silent st s = record { there = λ e. wrong e; revision = refl }
@@ -180,20 +180,20 @@ pub record CrcRunning (st : State) (s : List ℕ) : Type 0 where
   pub rule : readyRule st ≡ true
   pub live : crc.Running (st .crc) s
 
-pub record CrcGone (n : Numbers) (st : State) : Type 0 where
+pub record CrcRefusedFor (n : Numbers) (st : State) : Type 0 where
   pub mode : st .mode ≡ mode.Crc
   pub rule : readyRule st ≡ true
-  pub gone : crc-live.Gone n (st .crc)
+  pub hasRefused : crc-live.RefusedFor n (st .crc)
 
 rule-after : (c a : Bool) (m : Mode) → m ≡ mode.Crc → (c ≡ true → a ≡ true) → cond c (not (isSecure m) && a) true ≡ true
 rule-after true a m e l = rw (e, l refl)
 rule-after false a m e l = refl
 
-crc-after : (r : Report) (st : State) (s : List ℕ) → st .mode ≡ mode.Crc → readyRule st ≡ true → After crc.Running crc-live.Gone r (st .crc) s → After CrcRunning CrcGone r st s
+crc-after : (r : Report) (st : State) (s : List ℕ) → st .mode ≡ mode.Crc → readyRule st ≡ true → After crc.Running crc-live.RefusedFor r (st .crc) s → After CrcRunning CrcRefusedFor r st s
 crc-after r st s m q =
-    after-map crc.Running crc-live.Gone CrcRunning CrcGone r (st .crc) st s (λ a. record { mode = m; rule = q; live = a }) (λ n a. record { mode = m; rule = q; gone = a })
+    after-map crc.Running crc-live.RefusedFor CrcRunning CrcRefusedFor r (st .crc) st s (λ a. record { mode = m; rule = q; live = a }) (λ n a. record { mode = m; rule = q; hasRefused = a })
 
-pub crc-keeps : (st : State) (s : List ℕ) (b : ℕ) → CrcRunning st s → After CrcRunning CrcGone (crcByte st s b .report) (crcByte st s b .state) (crcByte st s b .store)
+pub crc-keeps : (st : State) (s : List ℕ) (b : ℕ) → CrcRunning st s → After CrcRunning CrcRefusedFor (crcByte st s b .report) (crcByte st s b .state) (crcByte st s b .store)
 crc-keeps st s b r =
     let y = crcByte st s b in
     crc-after (y .report) (y .state) (y .store) (r .mode)
@@ -242,11 +242,11 @@ crc-feed st s (b ∷ bs) =
     ∙ ap (machine.onward (x .report) (crcByte st s b)) (crc-feed (crcByte st s b .state) (x .store) bs)
 
 -- what a call answers
-abbrev pub plain : Answer → machine.Answer State
-plain a = record { state = a .received .state; taken = a .received .taken; report = a .received .report; store = a .store }
+abbrev pub machineAnswer : Answer → machine.Answer State
+machineAnswer a = record { state = a .received .state; taken = a .received .taken; report = a .received .report; store = a .store }
 
-told : {st : State} {s piece : List ℕ} (c : Piece) → Answered st s piece (c .received) (c .store) → record { received = c .received; store = c .store } ≡ answer st s piece
-told c a = rw (a .received, a .store)
+answer-given : {st : State} {s piece : List ℕ} (c : Piece) → Answered st s piece (c .received) (c .store) → record { received = c .received; store = c .store } ≡ answer st s piece
+answer-given c a = rw (a .received, a .store)
 
 abbrev contradicts : State → List ℕ → Answer
 contradicts st s = answered st 0 (report.Event (event.Refused (numbersOf refusal.StateContradicts))) s
@@ -258,14 +258,14 @@ crc-answer st s piece m q =
     ∙ ap (λ (k : Mode). cond (isSecure k) (bySecure st (sealed.answer (st .secure) s piece)) (byCrc st (crc.answer (st .crc) s piece))) m
 
 pub crc-feeds : (st : State) (s piece : List ℕ) (c : Piece) → CrcRunning st s → Answered st s piece (c .received) (c .store)
-    → plain (record { received = c .received; store = c .store }) ≡ machine.feed crcByte st s piece
+    → machineAnswer (record { received = c .received; store = c .store }) ≡ machine.feed crcByte st s piece
 crc-feeds st s piece c r a =
-    ap plain (told c a ∙ crc-answer st s piece (r .mode) (r .rule) ∙ ap (byCrc st) (crc-every.feeding (st .crc) s piece (r .live))) ∙ crc-feed st s piece
+    ap machineAnswer (answer-given c a ∙ crc-answer st s piece (r .mode) (r .rule) ∙ ap (byCrc st) (crc-every.feeding (st .crc) s piece (r .live))) ∙ crc-feed st s piece
 
-pub crc-repeats : (n : Numbers) (st : State) (s piece : List ℕ) (c : Piece) → CrcGone n st → Answered st s piece (c .received) (c .store)
-    → plain (record { received = c .received; store = c .store }) ≡ refusedAgain n st s
+pub crc-repeats : (n : Numbers) (st : State) (s piece : List ℕ) (c : Piece) → CrcRefusedFor n st → Answered st s piece (c .received) (c .store)
+    → machineAnswer (record { received = c .received; store = c .store }) ≡ refusedAgain n st s
 crc-repeats n st s piece c g a =
-    ap plain (told c a ∙ crc-answer st s piece (g .mode) (g .rule) ∙ ap (byCrc st) (crc-every.gone-answer (st .crc) s piece (g .gone)))
+    ap machineAnswer (answer-given c a ∙ crc-answer st s piece (g .mode) (g .rule) ∙ ap (byCrc st) (crc-every.refused-answer (st .crc) s piece (g .hasRefused)))
     ∙ ap (λ (b : Bool). record { state = record { mode = st .mode; ready = b; crc = st .crc; secure = st .secure }; taken = 0; report = report.Event (event.Refused n); store = s }) (and-true (st .ready))
 
 abbrev pub crcSide : Machine
@@ -273,13 +273,13 @@ crcSide = record {
   State = State;
   onByte = crcByte;
   Running = CrcRunning;
-  Gone = CrcGone;
+  RefusedFor = CrcRefusedFor;
   Call = Piece;
   size = λ c. c .size;
-  answer = λ c. plain (record { received = c .received; store = c .store });
+  answer = λ c. machineAnswer (record { received = c .received; store = c .store });
   Answered = λ st s piece c. Answered st s piece (c .received) (c .store);
   keeps = crc-keeps;
-  silent = λ n st s P bs g. scan-silent crcByte (λ x. x .crc .position .stage ≡ stage.Refused) crc-silent-byte st s P bs (g .gone .stage);
+  silent = λ n st s P bs g. scan-silent crcByte (λ x. x .crc .position .stage ≡ stage.Refused) crc-silent-byte st s P bs (g .hasRefused .stage);
   feeds = crc-feeds;
   repeats = crc-repeats;
 }
@@ -301,23 +301,23 @@ pub record SecureRunning (st : State) (s : List ℕ) : Type 0 where
   pub rule : st .ready ≡ false
   pub live : sealed.Running (st .secure) s
 
-pub record SecureGone (n : Numbers) (st : State) : Type 0 where
+pub record SecureRefusedFor (n : Numbers) (st : State) : Type 0 where
   pub mode : st .mode ≡ mode.Secure
   pub rule : st .ready ≡ false
-  pub gone : sealed-live.Gone n (st .secure)
+  pub hasRefused : sealed-live.RefusedFor n (st .secure)
 
-secure-after : (r : Report) (st : State) (s : List ℕ) → st .mode ≡ mode.Secure → st .ready ≡ false → After sealed.Running sealed-live.Gone r (st .secure) s → After SecureRunning SecureGone r st s
+secure-after : (r : Report) (st : State) (s : List ℕ) → st .mode ≡ mode.Secure → st .ready ≡ false → After sealed.Running sealed-live.RefusedFor r (st .secure) s → After SecureRunning SecureRefusedFor r st s
 secure-after r st s m q =
-    after-map sealed.Running sealed-live.Gone SecureRunning SecureGone r (st .secure) st s (λ a. record { mode = m; rule = q; live = a }) (λ n a. record { mode = m; rule = q; gone = a })
+    after-map sealed.Running sealed-live.RefusedFor SecureRunning SecureRefusedFor r (st .secure) st s (λ a. record { mode = m; rule = q; live = a }) (λ n a. record { mode = m; rule = q; hasRefused = a })
 
-pub secure-keeps : (st : State) (s : List ℕ) (b : ℕ) → SecureRunning st s → After SecureRunning SecureGone (secureByte st s b .report) (secureByte st s b .state) (secureByte st s b .store)
+pub secure-keeps : (st : State) (s : List ℕ) (b : ℕ) → SecureRunning st s → After SecureRunning SecureRefusedFor (secureByte st s b .report) (secureByte st s b .state) (secureByte st s b .store)
 secure-keeps st s b r =
     let y = secureByte st s b in
     secure-after (y .report) (y .state) (y .store) (r .mode) (r .rule) (gathered.chunk-keeps (st .secure) s (b ∷ []) (r .live))
 
 pub secure-silent-byte : (st : State) (s : List ℕ) (b : ℕ) → st .secure .position .stage ≡ part.Refused
     → Silent {State = State} (λ x. x .secure .position .stage ≡ part.Refused) s (secureByte st s b)
-secure-silent-byte st s b e = let z = traces.gone-byte (st .secure) s b e in record { state = z .state; store = z .store; report = z .report }
+secure-silent-byte st s b e = let z = traces.refused-byte (st .secure) s b e in record { state = z .state; store = z .store; report = z .report }
 
 abbrev secureLifted : State → machine.Answer sealed-state.State → machine.Answer State
 secureLifted st a = record { state = record { mode = st .mode; ready = st .ready; crc = st .crc; secure = a .state }; taken = a .taken; report = a .report; store = a .store }
@@ -347,28 +347,28 @@ secure-answer st s piece m q =
     ∙ ap (λ (k : Mode). cond (isSecure k) (bySecure st (sealed.answer (st .secure) s piece)) (byCrc st (crc.answer (st .crc) s piece))) m
 
 pub secure-feeds : (st : State) (s piece : List ℕ) (c : Piece) → SecureRunning st s → Answered st s piece (c .received) (c .store)
-    → plain (record { received = c .received; store = c .store }) ≡ machine.feed secureByte st s piece
+    → machineAnswer (record { received = c .received; store = c .store }) ≡ machine.feed secureByte st s piece
 secure-feeds st s piece c r a =
-    ap plain (told c a ∙ secure-answer st s piece (r .mode) (r .rule) ∙ ap (bySecure st) (sealed-every.feeding (st .secure) s piece (r .live)))
-    ∙ ap (secureLifted st) (gathered.plain-feed (st .secure) s piece)
+    ap machineAnswer (answer-given c a ∙ secure-answer st s piece (r .mode) (r .rule) ∙ ap (bySecure st) (sealed-every.feeding (st .secure) s piece (r .live)))
+    ∙ ap (secureLifted st) (gathered.machine-feed (st .secure) s piece)
     ∙ secure-feed st s piece
 
-pub secure-repeats : (n : Numbers) (st : State) (s piece : List ℕ) (c : Piece) → SecureGone n st → Answered st s piece (c .received) (c .store)
-    → plain (record { received = c .received; store = c .store }) ≡ refusedAgain n st s
-secure-repeats n st s piece c g a = ap plain (told c a ∙ secure-answer st s piece (g .mode) (g .rule) ∙ ap (bySecure st) (sealed-every.gone-answer (st .secure) s piece (g .gone)))
+pub secure-repeats : (n : Numbers) (st : State) (s piece : List ℕ) (c : Piece) → SecureRefusedFor n st → Answered st s piece (c .received) (c .store)
+    → machineAnswer (record { received = c .received; store = c .store }) ≡ refusedAgain n st s
+secure-repeats n st s piece c g a = ap machineAnswer (answer-given c a ∙ secure-answer st s piece (g .mode) (g .rule) ∙ ap (bySecure st) (sealed-every.refused-answer (st .secure) s piece (g .hasRefused)))
 
 abbrev pub secureSide : Machine
 secureSide = record {
   State = State;
   onByte = secureByte;
   Running = SecureRunning;
-  Gone = SecureGone;
+  RefusedFor = SecureRefusedFor;
   Call = Piece;
   size = λ c. c .size;
-  answer = λ c. plain (record { received = c .received; store = c .store });
+  answer = λ c. machineAnswer (record { received = c .received; store = c .store });
   Answered = λ st s piece c. Answered st s piece (c .received) (c .store);
   keeps = secure-keeps;
-  silent = λ n st s P bs g. scan-silent secureByte (λ x. x .secure .position .stage ≡ part.Refused) secure-silent-byte st s P bs (g .gone .stage);
+  silent = λ n st s P bs g. scan-silent secureByte (λ x. x .secure .position .stage ≡ part.Refused) secure-silent-byte st s P bs (g .hasRefused .stage);
   feeds = secure-feeds;
   repeats = secure-repeats;
 }

@@ -37,7 +37,7 @@ use Rattle.secure.specs.Reading.{sealedTrace}
 use Rattle.connection.specs.declared.State.{State}
 use Rattle.connection.specs.Switched.{closes, closesAt, choosesMsgr21, choseMsgr21}
 use Rattle.connection.specs.Step.{closing}
-use Rattle.connection.proofs.Machines.{crcByte, secureByte, CrcRunning, CrcGone, RevisionAfterRole, RevisionAfter, crc-keeps, crc-revision}
+use Rattle.connection.proofs.Machines.{crcByte, secureByte, CrcRunning, CrcRefusedFor, RevisionAfterRole, RevisionAfter, crc-keeps, crc-revision}
 
 abbrev pub trace : {A : Type 0} → Scanned A → Trace
 trace c = record { entries = c .entries; store = c .store }
@@ -125,11 +125,11 @@ ready-closes st s P [] e = e
 ready-closes st s P (b ∷ bs) e = ready-is st s P (b ∷ bs)
 
 -- and its revision is msgr2.1 exactly where a banner chose that
-clean-onward : (r : Report) (at : ℕ) (st : State) (s : List ℕ) (es : List Entry) → refusedIn (noted r at s es) ≡ false → machine.After CrcRunning CrcGone r st s
+clean-onward : (r : Report) (at : ℕ) (st : State) (s : List ℕ) (es : List Entry) → refusedIn (noted r at s es) ≡ false → machine.After CrcRunning CrcRefusedFor r st s
     → (refusedIn es ≡ false) × CrcRunning st s
 clean-onward report.More at st s es e a = (e, a)
 clean-onward (report.Event w) at st s es e a =
-    (clean-behind w (refusedIn es) e, machine.passed-running CrcRunning CrcGone (report.Event w) st s (clean-here w (refusedIn es) e) a)
+    (clean-behind w (refusedIn es) e, machine.passed-running CrcRunning CrcRefusedFor (report.Event w) st s (clean-here w (refusedIn es) e) a)
 
 chose-by : (x : Role) (v w : Revision) (es : List Entry) → byJudgement (judgeRole x) (refusedIn es) (λ n. true) ≡ false → RevisionAfterRole x v w
     → (isMsgr21 w || choseMsgr21 es) ≡ (isMsgr21 v || (choosesMsgr21 x || choseMsgr21 es))

@@ -90,19 +90,19 @@ switchBy k (taking c ∷ cs) = switchBy (counted k (c .received .report)) cs
 switchBy k (switching c ∷ cs) = madeOr (judgedBy (c .switched .verdict)) (behind k (c .key) (c .receiving)) (switchBy k cs)
 
 -- every other try gave 27
-abbrev pub Denied : List Call → Type 0
-Denied [] = Unit {0}
-Denied (taking c ∷ cs) = Denied cs
-Denied (switching c ∷ cs) = (judgedBy (c .switched .verdict) ≡ refused (numbersOf refusal.SwitchRefused)) × Denied cs
+abbrev pub TriesRefused : List Call → Type 0
+TriesRefused [] = Unit {0}
+TriesRefused (taking c ∷ cs) = TriesRefused cs
+TriesRefused (switching c ∷ cs) = (judgedBy (c .switched .verdict) ≡ refused (numbersOf refusal.SwitchRefused)) × TriesRefused cs
 
-abbrev pub madeOrDenied : Judged → Type 0 → Type 0 → Type 0
-madeOrDenied fine later rest = later
-madeOrDenied (refused n) later rest = (n ≡ numbersOf refusal.SwitchRefused) × rest
+abbrev pub madeOrRefused : Judged → Type 0 → Type 0 → Type 0
+madeOrRefused fine later rest = later
+madeOrRefused (refused n) later rest = (n ≡ numbersOf refusal.SwitchRefused) × rest
 
 abbrev pub OneMade : List Call → Type 0
 OneMade [] = Unit {0}
 OneMade (taking c ∷ cs) = OneMade cs
-OneMade (switching c ∷ cs) = madeOrDenied (judgedBy (c .switched .verdict)) (Denied cs) (OneMade cs)
+OneMade (switching c ∷ cs) = madeOrRefused (judgedBy (c .switched .verdict)) (TriesRefused cs) (OneMade cs)
 
 -- what each try answers: it is made where it may be, and every later one gives 27; elsewhere it gives 27
 abbrev pub triedAt : Bool → Judged → Type 0 → Type 0 → Type 0
@@ -113,7 +113,7 @@ triedAt false j later rest = (j ≡ refused (numbersOf refusal.SwitchRefused)) �
 abbrev pub Tries : (ℕ → Bool) → ℕ → List Call → Type 0
 Tries may t [] = Unit {0}
 Tries may t (taking c ∷ cs) = Tries may (t + c .received .taken) cs
-Tries may t (switching c ∷ cs) = triedAt (may t) (judgedBy (c .switched .verdict)) (Denied cs) (Tries may t cs)
+Tries may t (switching c ∷ cs) = triedAt (may t) (judgedBy (c .switched .verdict)) (TriesRefused cs) (Tries may t cs)
 
 -- ---- what is due
 

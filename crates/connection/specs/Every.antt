@@ -16,8 +16,8 @@ use Rattle.receiver.specs.declared.Known.{Known}
 use Rattle.receiver.specs.declared.State as plain-state
 use Rattle.receiver.specs.declared.Report.{Report}
 use Rattle.receiver.specs.declared.Report.the-variants as report
-use Rattle.receiver.specs.State as plain
-use Rattle.receiver.specs.Step as plain-step
+use Rattle.receiver.specs.State as crc
+use Rattle.receiver.specs.Step as crc-step
 use Rattle.receiver.specs.Calls.{passing}
 use Rattle.receiver.specs.Every as plain-every
 use Rattle.receiver.specs.Step.{contradiction}
@@ -39,11 +39,11 @@ use Rattle.connection.specs.Calls.{Try}
 -- ---- the part in use
 
 abbrev pub refusedInUse : State → Bool
-refusedInUse st = cond (isSecure (st .mode)) (sealed.isRefused (st .secure .position .stage)) (plain.isRefused (st .crc .position .stage))
+refusedInUse st = cond (isSecure (st .mode)) (sealed.isRefused (st .secure .position .stage)) (crc.isRefused (st .crc .position .stage))
 
 -- the store that its unfinished frame needs
 abbrev pub neededInUse : State → ℕ
-neededInUse st = cond (isSecure (st .mode)) (sealed-step.neededBy (st .secure)) (plain-step.neededBy (st .crc))
+neededInUse st = cond (isSecure (st .mode)) (sealed-step.neededBy (st .secure)) (crc-step.neededBy (st .crc))
 
 abbrev pub shortStore : State → Numbers
 shortStore st = numbersOf (refusal.StoreShort (neededInUse st))
@@ -52,7 +52,7 @@ shortStore st = numbersOf (refusal.StoreShort (neededInUse st))
 abbrev pub stopped : State → Numbers → State
 stopped st n =
     cond (isSecure (st .mode)) (record { mode = st .mode; ready = st .ready; crc = st .crc; secure = sealed-step.refusedState n })
-    (record { mode = st .mode; ready = st .ready; crc = plain-step.refusedState (st .crc .known) n; secure = st .secure })
+    (record { mode = st .mode; ready = st .ready; crc = crc-step.refusedState (st .crc .known) n; secure = st .secure })
 
 -- not refused, its fields in order, and the store long enough
 pub record Running (st : State) (s : List ℕ) : Type 0 where

@@ -14,8 +14,8 @@ use Rattle.stream.specs.declared.Event.the-variants as event
 use Rattle.receiver.specs.declared.Report.{Report}
 use Rattle.receiver.specs.declared.Report.the-variants as report
 use Rattle.receiver.specs.State.{rank, isMsgr21}
-use Rattle.receiver.specs.State as plain
-use Rattle.receiver.specs.Step as plain-step
+use Rattle.receiver.specs.State as crc
+use Rattle.receiver.specs.Step as crc-step
 use Rattle.sealed_receiver.specs.declared.State as sealed-state
 use Rattle.sealed_receiver.specs.State as sealed
 use Rattle.sealed_receiver.specs.Step as sealed-step
@@ -41,7 +41,7 @@ noSecure = sealed-step.switched (replicate 16 0) (replicate 12 0)
 
 -- THE STATE OF A START
 unfoldable pub begun : Features → State
-begun own = record { mode = mode.Crc; ready = false; crc = plain-step.started own; secure = noSecure }
+begun own = record { mode = mode.Crc; ready = false; crc = crc-step.started own; secure = noSecure }
 
 pub record BegunWith (own : Features) (r : Begun) : Type 0 where
   pub state : r .state ≡ begun own
@@ -61,7 +61,7 @@ abbrev pub readyRule : State → Bool
 readyRule st = cond (st .ready) (not (isSecure (st .mode)) && (eqb (rank (st .crc .position .stage)) 4 && eqb (st .crc .position .got) 0)) true
 
 abbrev pub agreesInUse : State → Bool
-agreesInUse st = cond (isSecure (st .mode)) (sealed.agrees (st .secure)) (plain.agrees (st .crc))
+agreesInUse st = cond (isSecure (st .mode)) (sealed.agrees (st .secure)) (crc.agrees (st .crc))
 
 unfoldable pub agrees : State → Bool
 agrees st = readyRule st && agreesInUse st
@@ -76,7 +76,7 @@ abbrev pub answered : State → ℕ → Report → List ℕ → Answer
 answered st taken r s = record { received = record { state = st; taken = taken; report = r }; store = s }
 
 -- what the receiver of crc frames, or that of sealed ones, answers
-abbrev pub byCrc : State → plain-step.Answer → Answer
+abbrev pub byCrc : State → crc-step.Answer → Answer
 byCrc st a =
     answered
     (record { mode = st .mode; ready = readyAfter (st .ready) (a .received .taken) (a .received .report); crc = a .received .state; secure = st .secure })
@@ -87,7 +87,7 @@ bySecure st a =
     answered (record { mode = st .mode; ready = st .ready; crc = st .crc; secure = a .received .state }) (a .received .taken) (a .received .report) (a .store)
 
 abbrev pub byMode : State → List ℕ → List ℕ → Answer
-byMode st s piece = cond (isSecure (st .mode)) (bySecure st (sealed-step.answer (st .secure) s piece)) (byCrc st (plain-step.answer (st .crc) s piece))
+byMode st s piece = cond (isSecure (st .mode)) (bySecure st (sealed-step.answer (st .secure) s piece)) (byCrc st (crc-step.answer (st .crc) s piece))
 
 unfoldable pub answer : State → List ℕ → List ℕ → Answer
 answer st s piece = cond (readyRule st) (byMode st s piece) (answered st 0 (report.Event (event.Refused (numbersOf refusal.StateContradicts))) s)

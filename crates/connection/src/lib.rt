@@ -1,7 +1,6 @@
 // The receiving side of a connection: crc frames as they come, and sealed frames from a switch on (02, K4).
 use banner::Features;
 use receiver::Report;
-use receiver::start;
 use receiver::states::agrees_with_itself;
 use receiver::states::is_msgr21;
 use receiver::states::rank;
@@ -9,9 +8,9 @@ use refusal::Refusal;
 use refusal::Verdict;
 use refusal::both;
 use refusal::either;
-use refusal::in_numbers;
+use refusal::numbers_of;
 use refusal::or_else;
-use refusal::unless_ok;
+use refusal::unless;
 use sealed_builder::Sending;
 use sealed_builder::fresh_sending;
 use sealed_builder::refused_sending;
@@ -83,10 +82,10 @@ fn no_secure() -> sealed_receiver::State
 }
 
 // A receiving side with our own features.
-pub fn begin(own: Features) -> Begun
+pub fn start(own: Features) -> Begun
     ensures { λ r. ⌜ BegunWith own r ⌝ }
 {
-    let first = start(own);
+    let first = receiver::start(own);
     let crc = first.state;
     let verdict = first.verdict;
     Begun {
@@ -202,7 +201,7 @@ pub fn receive(state: State, piece: &[u8], store: &mut [u8]) -> Received
     ensures { λ r. ⌜ Answered state (now (store .entry)) (now (piece .entry)) r (now (store .exit)) ⌝ }
 {
     if !ready_rule(state) {
-        let n = in_numbers(Refusal::StateContradicts);
+        let n = numbers_of(Refusal::StateContradicts);
         return Received {
             state: state,
             taken: 0,
@@ -231,8 +230,8 @@ fn judge_switch(st: State) -> Verdict
     ensures { λ r. ⌜ judgedBy r ≡ judgeSwitch st ⌝ }
 {
     let agree = both(ready_rule(st), agrees_in_use(st));
-    let first = unless_ok(agree, Refusal::StateContradicts);
-    let second = unless_ok(may_be_switched(st), Refusal::SwitchRefused);
+    let first = unless(agree, Refusal::StateContradicts);
+    let second = unless(may_be_switched(st), Refusal::SwitchRefused);
     or_else(first, second)
 }
 

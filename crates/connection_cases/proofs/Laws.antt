@@ -16,8 +16,8 @@ use Rattle.banner.specs.declared.Features.{Features}
 use Rattle.banner.specs.Banner.{judgeOwn}
 use Rattle.crc32c.specs.Crc.{crcOf}
 use Rattle.preamble.specs.declared.Header.{Header}
-use Rattle.builder.specs.declared.Built.{Built}
-use Rattle.builder.specs.Build.{answered}
+use Rattle.refusal.specs.declared.WriteResult.{WriteResult}
+use Rattle.refusal.specs.Writes.{outcomeOf}
 use Rattle.sealed_builder.specs.declared.Sending.{Sending}
 use Rattle.sealed_builder.specs.Build.{done, sealedDone}
 use Rattle.connection.specs.declared.State.{State}
@@ -34,7 +34,7 @@ use Rattle.connection_cases.specs.declared.places.Call.{Call}
 use Rattle.connection_cases.specs.declared.Called.{Called}
 use Rattle.connection_cases.specs.Lines.{verdictLine}
 use Rattle.connection_cases.specs.Places.{layoutOf, countAt, callsAt, callsOf, callWidth, streamAt, streamOf, callAt, callsFrom, isTry, tryAt, callGood, callsGood, inRange, receiverSize}
-use Rattle.connection_cases.specs.Calls.{lentAnswer, callAnswer, Outcome, answerOutcome, openedBy, emptyHeader, emptyDone, tryOutcome, outcomeOf, CallDid, callLines, ownOf, receiverLines, receiverRecord}
+use Rattle.connection_cases.specs.Calls.{lentAnswer, callAnswer, Outcome, answerOutcome, openedBy, emptyHeader, emptyDone, tryOutcome, callOutcome, CallDid, callLines, ownOf, receiverLines, receiverRecord}
 
 -- ---- calls
 
@@ -72,16 +72,16 @@ try-fits l n e =
     (a, b, omega arith)
 
 -- the line of the build, as code comes to it
-pub empty-line : (sending : Sending) (b : Built) (sum : ℕ) (x : Sending) (buf before : List ℕ) (h : Header)
+pub empty-line : (sending : Sending) (b : WriteResult) (sum : ℕ) (x : Sending) (buf before : List ℕ) (h : Header)
     → before ≡ counted 0 96
     → h ≡ emptyHeader
-    → done (answered b) x buf ≡ sealedDone sending h false [] before 0
+    → done (outcomeOf b) x buf ≡ sealedDone sending h false [] before 0
     → sum ≡ crcOf 4294967295 buf
-    → answerLine (answered b) sum ≡ sealedLine (emptyDone sending)
+    → answerLine (outcomeOf b) sum ≡ sealedLine (emptyDone sending)
 unfolding emptyDone
 empty-line sending b sum x buf before h eb eh e k =
-    let d : done (answered b) x buf ≡ emptyDone sending = e ∙ rw (eb, eh) in
-    ap (answerLine (answered b)) k ∙ ap sealedLine d
+    let d : done (outcomeOf b) x buf ≡ emptyDone sending = e ∙ rw (eb, eh) in
+    ap (answerLine (outcomeOf b)) k ∙ ap sealedLine d
 
 pub try-did : (s : List ℕ) (i : ℕ) (st : State) (o : Switched) {key receiving sending : List ℕ} {spent : ℕ} {before : List ℕ} {at : ℕ} {after : List ℕ} {r : Called} {q : Page}
     → key ≡ take 16 (drop i s)
@@ -116,12 +116,12 @@ try-did s i st o {key} {receiving} {sending} {spent} {before} {at} {after} {r} {
 -- ---- calls and tries
 
 module _ (l : Layout) (s : List ℕ) (st : State) (x : Call) (rest store : List ℕ) {before : List ℕ} {at : ℕ} {store′ after : List ℕ} {r : Called} where
-  pub either-try : isTry l (x .number) ≡ true → CallDid (tryOutcome s (tryAt l (x .number)) st store) before at store′ after r → CallDid (outcomeOf l s st x rest store) before at store′ after r
-  unfolding outcomeOf
+  pub either-try : isTry l (x .number) ≡ true → CallDid (tryOutcome s (tryAt l (x .number)) st store) before at store′ after r → CallDid (callOutcome l s st x rest store) before at store′ after r
+  unfolding callOutcome
   either-try e d = rw e d
 
-  pub either-call : isTry l (x .number) ≡ false → CallDid (answerOutcome (callAnswer st x rest store)) before at store′ after r → CallDid (outcomeOf l s st x rest store) before at store′ after r
-  unfolding outcomeOf
+  pub either-call : isTry l (x .number) ≡ false → CallDid (answerOutcome (callAnswer st x rest store)) before at store′ after r → CallDid (callOutcome l s st x rest store) before at store′ after r
+  unfolding callOutcome
   either-call e d = rw e d
 
 prints-append : (xs ys : List (List Piece)) (p : Page) → prints (xs ++ ys) p ≡ prints ys (prints xs p)
@@ -131,11 +131,11 @@ prints-append (x ∷ xs) ys p = prints-append xs ys (print x p)
 
 -- a call and its lines
 calls-step : (l : Layout) (s : List ℕ) (xs : List Call) (st : State) (x : Call) (rest store : List ℕ) {before : List ℕ} {at : ℕ} {store′ after : List ℕ} {r : Called}
-    → CallDid (outcomeOf l s st x rest store) before at store′ after r
+    → CallDid (callOutcome l s st x rest store) before at store′ after r
     → prints (callLines l s xs (drop (r .taken) rest) (r .state) store′) (page after (r .filled)) ≡ prints (callLines l s (x ∷ xs) rest st store) (page before at)
 unfolding callLines
 calls-step l s xs st x rest store {before} {at} {store′} {after} {r} d =
-    let o : Outcome = outcomeOf l s st x rest store in
+    let o : Outcome = callOutcome l s st x rest store in
     let p : Page = prints (o .lines) (page before at) in
     ap (λ (q : Page). prints (callLines l s xs (drop (r .taken) rest) (r .state) store′) q) (d .printed)
     ∙ ap (λ (m : List ℕ). prints (callLines l s xs (drop (r .taken) rest) (r .state) m) p) (d .store)
@@ -147,7 +147,7 @@ pub calls-on : (l : Layout) (s : List ℕ) (n i : ℕ) (stream : List ℕ) (take
     → 0 < n
     → x ≡ callAt (l .lends) s i
     → rest ≡ drop taken stream
-    → CallDid (outcomeOf l s st x rest store) before at store′ after r
+    → CallDid (callOutcome l s st x rest store) before at store′ after r
     → drop taken′ stream ≡ drop (r .taken) (drop taken stream)
     → width ≡ callWidth (l .lends)
     → prints (callLines l s (callsFrom (l .lends) s (n - 1) (i + width)) (drop taken′ stream) (r .state) store′) (page after (r .filled))

@@ -107,8 +107,8 @@ tryOutcome s i st store =
 
 -- ---- calls, one after the other
 
-unfoldable pub outcomeOf : Layout → List ℕ → State → Call → List ℕ → List ℕ → Outcome
-outcomeOf l s st x rest store = cond (isTry l (x .number)) (tryOutcome s (tryAt l (x .number)) st store) (answerOutcome (callAnswer st x rest store))
+unfoldable pub callOutcome : Layout → List ℕ → State → Call → List ℕ → List ℕ → Outcome
+callOutcome l s st x rest store = cond (isTry l (x .number)) (tryOutcome s (tryAt l (x .number)) st store) (answerOutcome (callAnswer st x rest store))
 
 -- THE PROMISE OF A CALL AND ITS LINES
 pub record CallDid (o : Outcome) (before : List ℕ) (at : ℕ) (store′ after : List ℕ) (r : Called) : Type 0 where
@@ -121,8 +121,8 @@ pub record CallDid (o : Outcome) (before : List ℕ) (at : ℕ) (store′ after 
 unfoldable pub callLines : Layout → List ℕ → List Call → List ℕ → State → List ℕ → List (List Piece)
 callLines l s [] stream st store = []
 callLines l s (x ∷ xs) stream st store =
-    outcomeOf l s st x stream store .lines
-    ++ callLines l s xs (drop (outcomeOf l s st x stream store .taken) stream) (outcomeOf l s st x stream store .state) (outcomeOf l s st x stream store .store)
+    callOutcome l s st x stream store .lines
+    ++ callLines l s xs (drop (callOutcome l s st x stream store .taken) stream) (callOutcome l s st x stream store .state) (callOutcome l s st x stream store .store)
 
 -- ---- the record
 

@@ -13,8 +13,8 @@ use build_cases::nonce_further;
 use build_cases::print_built;
 use connection::Received;
 use connection::State;
-use connection::begin;
 use connection::receive;
+use connection::start;
 use connection::switch;
 use crc32c::checksum;
 use lines::print_report;
@@ -53,7 +53,7 @@ ghost use Rattle.text.specs.Page.{page};
 ghost use Rattle.records.specs.Records.{Did, print, prints};
 ghost use Rattle.build_cases.specs.Sealed.{sealedLine};
 ghost use Rattle.connection_cases.specs.Places.{countAt, callsFrom};
-ghost use Rattle.connection_cases.specs.Calls.{LentAnswer, callAnswer, answerOutcome, withOpened, openedBy, emptyHeader, emptyDone, tryOutcome, outcomeOf, CallDid, callLines, receiverRecord};
+ghost use Rattle.connection_cases.specs.Calls.{LentAnswer, callAnswer, answerOutcome, withOpened, openedBy, emptyHeader, emptyDone, tryOutcome, callOutcome, CallDid, callLines, receiverRecord};
 
 // What a call leaves: the receiving side's state, how many bytes were taken, and where the text now ends.
 struct Called {
@@ -202,7 +202,7 @@ fn make_either(
     at: usize,
 ) -> Called
     requires { ⌜ countAt l ≤ length (now s) ⌝ }
-    ensures { λ r. ⌜ CallDid (outcomeOf l (now (s .entry)) state call (now (rest .entry)) (now (store .entry))) (now (text .entry)) at (now (store .exit)) (now (text .exit)) r ⌝ }
+    ensures { λ r. ⌜ CallDid (callOutcome l (now (s .entry)) state call (now (rest .entry)) (now (store .entry))) (now (text .entry)) at (now (store .exit)) (now (text .exit)) r ⌝ }
 {
     let n = call.number;
     if is_try(l, n) {
@@ -288,7 +288,7 @@ pub fn receiver_record(
         supported: u64_at(s, 1),
         required: u64_at(s, 9),
     };
-    let begun = begin(own);
+    let begun = start(own);
     let state = begun.state;
     let verdict = begun.verdict;
     let started = print_verdict(text, at, b"start", verdict);

@@ -8,7 +8,7 @@ use records::put_why;
 use records::room;
 use refusal::Numbers;
 use refusal::Verdict;
-use refusal::in_numbers;
+use refusal::numbers_of;
 use stream::Event;
 use text::put_end;
 use text::put_field;
@@ -203,6 +203,6 @@ pub(crate) fn print_verdict(text: &mut [u8], at: usize, letters: &[u8], verdict:
 {
     match verdict {
         Verdict::Fine => print_fine(text, at, letters),
-        Verdict::Refused(why) => print_verdict_refused(text, at, letters, in_numbers(why)),
+        Verdict::Refused(why) => print_verdict_refused(text, at, letters, numbers_of(why)),
     }
 }

@@ -14,7 +14,7 @@ use Rattle.crc_steps.specs.Steps.{steps}
 use Rattle.crc_steps.proofs.Linear.{at-zero, interchange, steps-add, steps-none, steps-shifted, steps-split, steps-xor}
 use Rattle.bits.proofs.Xor.{xor-assoc}
 use Rattle.crc32c.specs.Crc.{crcByte, crcOf}
-use Rattle.crc32c.specs.Left.{Left, lanes, whole}
+use Rattle.crc32c.specs.Lanes.{Left, lanes, whole}
 use Rattle.crc32c.proofs.Laws.{crc-append}
 
 -- ---- the checksum is linear

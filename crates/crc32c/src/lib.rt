@@ -9,7 +9,7 @@ ghost use mathlib.Core.Path.{_≡_};
 ghost use Prim.Native.Nat.{ℕ, _+_, _*_, _-_, _≤_, _<_};
 ghost use lib.ListN.{length, replicate};
 ghost use Rattle.crc32c.specs.Crc.{crcOf, steps};
-ghost use Rattle.crc32c.specs.Left.{LeftBy};
+ghost use Rattle.crc32c.specs.Lanes.{LeftBy};
 
 // Fewer than 32 bit steps of a word, at least one. As many zeros below it as they are short of 32 make them 32.
 fn fewer_steps(bits: u32, x: u32) -> u32

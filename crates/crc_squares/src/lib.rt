@@ -45,7 +45,7 @@ fn read(t: &[u32; 256], k: u32) -> u32
 }
 
 // The last arm, for what no other arm has. No caller asks for that, and the compiler drops the arm.
-fn slow(k: u32) -> u32
+fn by_table(k: u32) -> u32
     ensures { λ r. ⌜ r ≡ rootOrSquare k ⌝ }
 {
     read(&ROOTS_AND_SQUARES, k)
@@ -311,6 +311,6 @@ fn entry(k: u32) -> u32
         509 => 0xA2000000,
         510 => 0xA8000000,
         511 => 0xAA000000,
-        _ => slow(k),
+        _ => by_table(k),
     }
 }

@@ -22,7 +22,7 @@ fn walk(t: &[u32; 256], n: usize, k: u32) -> u32
 }
 
 // The last arm of each table, for what no other arm has. No caller asks for that, and the compiler drops the arm.
-pub fn slow(n: usize, k: u32) -> u32
+pub fn by_byte_table(n: usize, k: u32) -> u32
     ensures { λ r. ⌜ r ≡ entry (8 * n) k ⌝ }
 {
     walk(&TABLE, n, k)

@@ -1,7 +1,7 @@
 // 128 bit steps of a word, by a table for each of its bytes, the lowest first: the entry at 256 + k is what the steps make of the byte k at its place.
 // A `match` on constants is compiled to a read-only table, where a constant array is stored anew by each call that names it.
+use crc_steps::by_byte_table;
 use crc_steps::place;
-use crc_steps::slow;
 ghost use mathlib.Core.Path.{_≡_};
 ghost use Rattle.crc_steps.specs.Steps.{steps};
 ghost use Rattle.crc_steps.specs.Tables.{entry};
@@ -277,7 +277,7 @@ fn byte_0(k: u32) -> u32
         509 => 0x6E2E10F7,
         510 => 0x7DD67004,
         511 => 0x8FDA7DFA,
-        _ => slow(16, k),
+        _ => by_byte_table(16, k),
     }
 }
 
@@ -541,7 +541,7 @@ fn byte_1(k: u32) -> u32
         509 => 0xDE65623F,
         510 => 0x76F6653C,
         511 => 0x1178983D,
-        _ => slow(15, k),
+        _ => by_byte_table(15, k),
     }
 }
 
@@ -805,7 +805,7 @@ fn byte_2(k: u32) -> u32
         509 => 0x8BBD8E6D,
         510 => 0x77B471A7,
         511 => 0x23B324E1,
-        _ => slow(14, k),
+        _ => by_byte_table(14, k),
     }
 }
 
@@ -1069,6 +1069,6 @@ fn byte_3(k: u32) -> u32
         509 => 0x613AD4F9,
         510 => 0x304C9C56,
         511 => 0x009EA433,
-        _ => slow(13, k),
+        _ => by_byte_table(13, k),
     }
 }

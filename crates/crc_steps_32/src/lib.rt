@@ -1,7 +1,7 @@
 // 32 bit steps of a word, by a table for each of its bytes, the lowest first: the entry at 256 + k is what the steps make of the byte k at its place.
 // A `match` on constants is compiled to a read-only table, where a constant array is stored anew by each call that names it.
+use crc_steps::by_byte_table;
 use crc_steps::place;
-use crc_steps::slow;
 ghost use mathlib.Core.Path.{_≡_};
 ghost use Rattle.crc_steps.specs.Steps.{steps};
 ghost use Rattle.crc_steps.specs.Tables.{entry};
@@ -272,7 +272,7 @@ fn byte_0(k: u32) -> u32
         509 => 0x9764CBC3,
         510 => 0xF54642FA,
         511 => 0x2803E842,
-        _ => slow(4, k),
+        _ => by_byte_table(4, k),
     }
 }
 
@@ -536,7 +536,7 @@ fn byte_1(k: u32) -> u32
         509 => 0xDE6A79A5,
         510 => 0x3444B9D6,
         511 => 0x91052BA8,
-        _ => slow(3, k),
+        _ => by_byte_table(3, k),
     }
 }
 
@@ -800,7 +800,7 @@ fn byte_2(k: u32) -> u32
         509 => 0x84A6146D,
         510 => 0xB041BCF4,
         511 => 0xA3E32483,
-        _ => slow(2, k),
+        _ => by_byte_table(2, k),
     }
 }
 
@@ -1064,6 +1064,6 @@ fn byte_3(k: u32) -> u32
         509 => 0x4C4623A6,
         510 => 0x5F16D052,
         511 => 0xAD7D5351,
-        _ => slow(1, k),
+        _ => by_byte_table(1, k),
     }
 }

@@ -1,7 +1,7 @@
 // 64 bit steps of a word, by a table for each of its bytes, the lowest first: the entry at 256 + k is what the steps make of the byte k at its place.
 // A `match` on constants is compiled to a read-only table, where a constant array is stored anew by each call that names it.
+use crc_steps::by_byte_table;
 use crc_steps::place;
-use crc_steps::slow;
 ghost use mathlib.Core.Path.{_≡_};
 ghost use Rattle.crc_steps.specs.Steps.{steps};
 ghost use Rattle.crc_steps.specs.Tables.{entry};
@@ -272,7 +272,7 @@ fn byte_0(k: u32) -> u32
         509 => 0x8D6DCAEB,
         510 => 0x56294D82,
         511 => 0x1F1530A5,
-        _ => slow(8, k),
+        _ => by_byte_table(8, k),
     }
 }
 
@@ -536,7 +536,7 @@ fn byte_1(k: u32) -> u32
         509 => 0xAD1764DF,
         510 => 0x15121187,
         511 => 0x7D113D4F,
-        _ => slow(7, k),
+        _ => by_byte_table(7, k),
     }
 }
 
@@ -800,7 +800,7 @@ fn byte_2(k: u32) -> u32
         509 => 0x6A378EFF,
         510 => 0x5E8B4525,
         511 => 0xB1BB2E3C,
-        _ => slow(6, k),
+        _ => by_byte_table(6, k),
     }
 }
 
@@ -1064,6 +1064,6 @@ fn byte_3(k: u32) -> u32
         509 => 0xD04AB1FB,
         510 => 0x9879010F,
         511 => 0xA0686EA3,
-        _ => slow(5, k),
+        _ => by_byte_table(5, k),
     }
 }

@@ -18,7 +18,7 @@ use Rattle.aes.specs.Aes.{keyExpansion}
 use Rattle.aes.proofs.Counters.{gctr-length}
 use Rattle.gcm.specs.Gcm.{Opened, plain, fail, tagOf, openedBy}
 use Rattle.gcm.proofs.Placing.{sealed-length}
-use Rattle.gcm.proofs.There.{lists}
+use Rattle.gcm.proofs.RoundTrip.{lists}
 use Rattle.gcm.proofs.Opened.{not-opened}
 use Rattle.secure.specs.Layout.{nextNonce, needed}
 use Rattle.secure.specs.Reading.{judgeFirst, byOpening, restTrace, frames, sealedTrace}
@@ -36,9 +36,9 @@ use Rattle.delivery.specs.declared.Asked.the-variants.{Nothing, Ack}
 use Rattle.delivery.specs.Asked.{askedByFrame}
 use Rattle.delivery.specs.Calls.{receives, callsDue}
 use Rattle.delivery.specs.Worked.{ours, store, message, asksOf, first, second, third, heldBy, ackText, masked, sealedAck, behindMessage, sealedEntries, SealedAck}
-use Rattle.connection.proofs.Earlier.{upTo, behind-first, crc-first}
-use Rattle.delivery.proofs.Quiet.{Quiet, releases-nothing}
-use Rattle.delivery.proofs.Played.{all-played}
+use Rattle.connection.proofs.Prefixes.{upTo, behind-first, crc-first}
+use Rattle.delivery.proofs.NoRequests.{NoRequests, releases-nothing}
+use Rattle.delivery.proofs.OneRequest.{all-played}
 
 -- ---- parts
 
@@ -92,9 +92,9 @@ module _ (key nonce : List ℕ) where
   acked : sealedEntries key nonce (sealedAck key nonce) ≡ sofar .entries ++ part key nonce 106 (sofar .store) (plain ackText) .entries
   acked = opened-entries (sealedAck key nonce) (plain ackText) (sealed-length (keyExpansion key) nonce ackText) (lists (keyExpansion key) nonce ackText)
 
-  turned-away : (tag : List ℕ) → length tag ≡ 16 → (tag ≡ tagOf (keyExpansion key) nonce (masked key nonce) → ⊥)
+  tag-refused : (tag : List ℕ) → length tag ≡ 16 → (tag ≡ tagOf (keyExpansion key) nonce (masked key nonce) → ⊥)
       → sealedEntries key nonce (masked key nonce ++ tag) ≡ sofar .entries ++ part key nonce 106 (sofar .store) fail .entries
-  turned-away tag l differs =
+  tag-refused tag l differs =
       opened-entries (masked key nonce ++ tag) fail
       (length-append (masked key nonce) tag ∙ ap₂ _+_ (gctr-length (keyExpansion key) nonce 0 ackText) l)
       (not-opened (keyExpansion key) nonce ackText tag l differs)
@@ -116,14 +116,14 @@ module _ (key nonce : List ℕ) where
   unfolding numberAt crcOf steps step missing lowestBit bitCount judgeFeatures shapeFault limitFault headerOf judgeFields judgePreamble ending stream.frames streamTrace traceOf askedByFrame agrees judgeState judgeAccept judgeAck acceptOf ackOf heldFrom
   holds-all = refl
 
-  quiet-front : Quiet (sofar .entries ++ [])
+  no-requests-front : NoRequests (sofar .entries ++ [])
   unfolding numberAt crcOf steps step missing lowestBit bitCount judgeFeatures shapeFault limitFault headerOf judgeFields judgePreamble ending stream.frames streamTrace traceOf askedByFrame
-  quiet-front = (refl, (refl, tt))
+  no-requests-front = (refl, (refl, tt))
 
-  quiet-part : (n : ℕ) → n < 96 → Quiet (sealedEntries key nonce (take n (sealedAck key nonce)))
-  quiet-part n h =
+  no-requests-part : (n : ℕ) → n < 96 → NoRequests (sealedEntries key nonce (take n (sealedAck key nonce)))
+  no-requests-part n h =
       let l : length (take n (sealedAck key nonce)) < 96 = (let e = length-take n (sealedAck key nonce) in omega (arith, e)) in
-      rw (sealed-entries key nonce (take n (sealedAck key nonce)), short key nonce 106 (sofar .store) (take n (sealedAck key nonce)) l) quiet-front
+      rw (sealed-entries key nonce (take n (sealedAck key nonce)), short key nonce 106 (sofar .store) (take n (sealedAck key nonce)) l) no-requests-front
 
   -- all of it, without calls of the caller's own
   asks-once : callsDue (map receives (upTo 202 (sofar .entries ++ part key nonce 106 (sofar .store) (plain ackText) .entries))) ≡ ack 1 ∷ []
@@ -139,12 +139,12 @@ module _ (key nonce : List ℕ) where
     asks = ap (map asksOf) acked ∙ asks-ack;
     releases = ap heldBy acked ∙ releases-one;
     damaged = λ tag l differs. (
-      ap (map asksOf) (turned-away tag l differs) ∙ asks-none,
-      ap heldBy (turned-away tag l differs) ∙ holds-all,
+      ap (map asksOf) (tag-refused tag l differs) ∙ asks-none,
+      ap heldBy (tag-refused tag l differs) ∙ holds-all,
     );
     splits = λ n h.
         releases-nothing demand (λ sw. sw ≡ behind 1 key nonce) (behindMessage (take n (sealedAck key nonce)))
-        (λ sw e. rw e (quiet-part n h));
+        (λ sw e. rw e (no-requests-part n h));
     completes =
         all-played demand (behind 1 key nonce) (behindMessage (sealedAck key nonce)) 202 (ack 1) (sofar .entries ++ part key nonce 106 (sofar .store) (plain ackText) .entries)
         acked none-before asks-once;

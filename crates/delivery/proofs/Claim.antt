@@ -26,11 +26,11 @@ use Rattle.session.specs.History.{sessionBy, Accounted, EveryHistory}
 use Rattle.delivery.specs.declared.Delivery.{Delivery}
 use Rattle.delivery.specs.declared.Asked.{Asked}
 use Rattle.delivery.specs.declared.Asked.the-variants as asked
-use Rattle.delivery.specs.declared.Settled.{Settled}
+use Rattle.delivery.specs.declared.Applied.{Applied}
 use Rattle.delivery.specs.declared.Delivered.{Delivered}
 use Rattle.delivery.specs.declared.Sent.{Sent}
-use Rattle.delivery.specs.Asked.{askedBy, askedByReport, settled, doneTo, receivedBy, switchedBy, Delivers, Called, ConnectedWith}
-use Rattle.delivery.specs.Calls.{Call, piece, tried, accepted, handed, Chained, sessionAfter, Connection, Connects, sessionAfterAll, onConnection, switchOf, entriesUpTo, added, Cause, sends, receives, causesFrom, causesOf, callsAsked, callsBy, callsDue, played, historyOf, Does, nothing, one, Each, EachOf, toldBy, toldIn, toldOf, reportsIn, StartsOf, Given, SwitchesOf, ReceivedOf, EveryRelease}
+use Rattle.delivery.specs.Asked.{askedBy, askedByReport, applied, doneTo, receivedBy, switchedBy, Delivers, Called, ConnectedWith}
+use Rattle.delivery.specs.Calls.{Call, piece, tried, accepted, handed, Chained, sessionAfter, Connection, Connects, sessionAfterAll, onConnection, switchOf, entriesUpTo, added, Cause, sends, receives, causesFrom, causesOf, callsAsked, callsBy, callsDue, played, historyOf, Does, nothing, one, Each, EachOf, reportedBy, reportedIn, reportedOf, reportsIn, StartsOf, Given, SwitchesOf, ReceivedOf, EveryRelease}
 use Rattle.connection.proofs.Entries.{andTry, andPiece, taken-try, taken-piece, Adds, silent, again, reports, Grows, defined, grown}
 use Rattle.delivery.proofs.Reasons.{afterCalls, sent-held}
 use Rattle.delivery.proofs.Leaves.{left-of}
@@ -51,7 +51,7 @@ OnConnection k = connection.Chained (k .stream) (begun (k .own)) (k .store) 0 (o
 pub on-connection : (k : Connection) (s : Session) → ConnectedWith s (k .own) (k .connected) → Chained (k .stream) (k .connected .state) (k .store) 0 (k .calls) → OnConnection k
 on-connection k s c ch = rw (ap (λ (x : Delivery). x .receiver) (c .state)) at (chained-on (k .stream) (k .connected .state) (k .store) 0 (k .calls) ch)
 
-does : (s : Session) (d : Settled) (r : Report) (t′ : ℕ) (s′ : List ℕ) (new : List Entry) → d ≡ doneTo s (askedByReport r s′) → Adds r t′ s′ new → Does s t′ d new
+does : (s : Session) (d : Applied) (r : Report) (t′ : ℕ) (s′ : List ℕ) (new : List Entry) → d ≡ doneTo s (askedByReport r s′) → Adds r t′ s′ new → Does s t′ d new
 does s d r t′ s′ new e (silent q) = nothing (e ∙ ap (λ (x : Report). doneTo s (askedByReport x s′)) q)
 does s d r t′ s′ new e (again n q) = nothing (e ∙ ap (λ (x : Report). doneTo s (askedByReport x s′)) q)
 does s d r t′ s′ new e (reports w q) = one (entry w t′ s′) refl (e ∙ ap (λ (x : Report). doneTo s (askedByReport x s′)) q)
@@ -76,9 +76,9 @@ module _ (demand : SwitchedDemand3) (k : Connection) (on : OnConnection k) where
     behind-them : entriesUpTo k (t + r .taken) ≡ entriesUpTo k t ++ added k t (t + r .taken)
     behind-them = grows .grows ∙ ap (λ (es : List Entry). entriesUpTo k t ++ es) (sym added-is)
 
-    done : Does (st .session) (t + r .taken) (settled (r .state .session) (r .effect)) (added k t (t + r .taken))
-    done = subst (λ (es : List Entry). Does (st .session) (t + r .taken) (settled (r .state .session) (r .effect)) es) (sym added-is)
-        (does (st .session) (settled (r .state .session) (r .effect)) (r .report) (t + r .taken) s′ (grows .new) (d .done) (grows .adds))
+    done : Does (st .session) (t + r .taken) (applied (r .state .session) (r .effect)) (added k t (t + r .taken))
+    done = subst (λ (es : List Entry). Does (st .session) (t + r .taken) (applied (r .state .session) (r .effect)) es) (sym added-is)
+        (does (st .session) (applied (r .state .session) (r .effect)) (r .report) (t + r .taken) s′ (grows .new) (d .done) (grows .adds))
 
   pub each : (past : List connection.Call) (st : Delivery) (s : List ℕ) (t : ℕ) (cs : List Call) → past ++ onConnection cs ≡ onConnection (k .calls) → t ≡ takenBy 0 past
       → Chained (k .stream) st s t cs → Each k (st .session) t cs
@@ -125,33 +125,33 @@ plays-then {s} {s′} {s″} {xs} {ys} {rs} {qs} x y = record {
 }
 
 -- what is asked is done by the calls that are asked for
-asked-plays : (s : Session) (a : Asked) → Plays s (callsAsked a) (doneTo s a .session) (toldBy (doneTo s a .effect))
+asked-plays : (s : Session) (a : Asked) → Plays s (callsAsked a) (doneTo s a .session) (reportedBy (doneTo s a .effect))
 asked-plays s asked.Nothing = record { leads = refl; gives = refl }
 asked-plays s (asked.Ack n) = record { leads = refl; gives = refl }
 asked-plays s (asked.Reconnect n) = record { leads = refl; gives = refl }
 asked-plays s (asked.Reset full) = record { leads = refl; gives = refl }
 asked-plays s (asked.Malformed n) = record { leads = refl; gives = refl }
 
-does-plays : (s : Session) (t′ : ℕ) (d : Settled) (es : List Entry) → Does s t′ d es → Plays s (callsDue (map receives es)) (d .session) (toldBy (d .effect))
-does-plays s t′ d es (nothing e) = subst (λ (x : Settled). Plays s [] (x .session) (toldBy (x .effect))) (sym e) (record { leads = refl; gives = refl })
+does-plays : (s : Session) (t′ : ℕ) (d : Applied) (es : List Entry) → Does s t′ d es → Plays s (callsDue (map receives es)) (d .session) (reportedBy (d .effect))
+does-plays s t′ d es (nothing e) = subst (λ (x : Applied). Plays s [] (x .session) (reportedBy (x .effect))) (sym e) (record { leads = refl; gives = refl })
 does-plays s t′ d es (one w at e) =
     let a = askedBy (w .event) (w .store) in
-    subst (λ (x : Settled). Plays s (callsAsked a ++ []) (x .session) (toldBy (x .effect))) (sym e)
-    (subst (λ (cs : List session.Call). Plays s cs (doneTo s a .session) (toldBy (doneTo s a .effect))) (sym (append-nil (callsAsked a))) (asked-plays s a))
+    subst (λ (x : Applied). Plays s (callsAsked a ++ []) (x .session) (reportedBy (x .effect))) (sym e)
+    (subst (λ (cs : List session.Call). Plays s cs (doneTo s a .session) (reportedBy (doneTo s a .effect))) (sym (append-nil (callsAsked a))) (asked-plays s a))
 
 called-plays : (st : Delivery) (c : session.Call) (r : Sent) → Called st c r → Plays (st .session) (c ∷ []) (r .state .session) (r .report ∷ [])
 called-plays st c r x = record { leads = ap (λ (d : Delivery). d .session) (x .state); gives = ap (λ (q : answer.Report). q ∷ []) (x .report) }
 
 pub calls-play : (k : Connection) (st : Delivery) (s : List ℕ) (t : ℕ) (cs : List Call) → Chained (k .stream) st s t cs → Each k (st .session) t cs
-    → Plays (st .session) (callsDue (causesFrom k t cs)) (sessionAfter (st .session) cs) (toldIn cs)
+    → Plays (st .session) (callsDue (causesFrom k t cs)) (sessionAfter (st .session) cs) (reportedIn cs)
 calls-play k st s t [] ch e = record { leads = refl; gives = refl }
 calls-play k st s t (piece size r s′ ∷ cs) ch e =
     let xs = map receives (added k t (t + r .taken)) in
     let ys = causesFrom k (t + r .taken) cs in
-    subst (λ (l : List session.Call). Plays (st .session) l (sessionAfter (r .state .session) cs) (toldBy (r .effect) ++ toldIn cs)) (sym (due-append xs ys))
-    (plays-then (does-plays (st .session) (t + r .taken) (settled (r .state .session) (r .effect)) (added k t (t + r .taken)) (e .1)) (calls-play k (r .state) s′ (t + r .taken) cs (ch .1) (e .2)))
+    subst (λ (l : List session.Call). Plays (st .session) l (sessionAfter (r .state .session) cs) (reportedBy (r .effect) ++ reportedIn cs)) (sym (due-append xs ys))
+    (plays-then (does-plays (st .session) (t + r .taken) (applied (r .state .session) (r .effect)) (added k t (t + r .taken)) (e .1)) (calls-play k (r .state) s′ (t + r .taken) cs (ch .1) (e .2)))
 calls-play k st s t (tried key receiving sending r ∷ cs) ch e =
-    subst (λ (x : Session). Plays x (callsDue (causesFrom k t cs)) (sessionAfter (r .state .session) cs) (toldIn cs)) (ch .0 .session) (calls-play k (r .state) s t cs (ch .1) e)
+    subst (λ (x : Session). Plays x (callsDue (causesFrom k t cs)) (sessionAfter (r .state .session) cs) (reportedIn cs)) (ch .0 .session) (calls-play k (r .state) s t cs (ch .1) e)
 calls-play k st s t (accepted h r ∷ cs) ch e = plays-then (called-plays st (session.accept h) r (ch .0)) (calls-play k (r .state) s t cs (ch .1) e)
 calls-play k st s t (handed n r ∷ cs) ch e = plays-then (called-plays st (session.ack n) r (ch .0)) (calls-play k (r .state) s t cs (ch .1) e)
 
@@ -164,16 +164,16 @@ each-of demand s (k ∷ ks) c =
     let e : st .session ≡ s = ap (λ (x : Delivery). x .session) (c .0 .state) in
     (subst (λ (x : Session). Each k x 0 (k .calls)) e (each demand k (on-connection k s (c .0) (c .1)) [] st (k .store) 0 (k .calls) refl refl (c .1)), each-of demand (sessionAfter s (k .calls)) ks (c .2))
 
-all-play : (s : Session) (ks : List Connection) → Connects s ks → EachOf s ks → Plays s (callsDue (causesOf ks)) (sessionAfterAll s ks) (toldOf ks)
+all-play : (s : Session) (ks : List Connection) → Connects s ks → EachOf s ks → Plays s (callsDue (causesOf ks)) (sessionAfterAll s ks) (reportedOf ks)
 all-play s [] c e = record { leads = refl; gives = refl }
 all-play s (k ∷ ks) c e =
     let st = k .connected .state in
     let q : st .session ≡ s = ap (λ (x : Delivery). x .session) (c .0 .state) in
     let xs = causesFrom k 0 (k .calls) in
-    let now : Plays s (callsDue xs) (sessionAfter s (k .calls)) (toldIn (k .calls)) =
-    subst (λ (x : Session). Plays x (callsDue xs) (sessionAfter x (k .calls)) (toldIn (k .calls))) q
+    let now : Plays s (callsDue xs) (sessionAfter s (k .calls)) (reportedIn (k .calls)) =
+    subst (λ (x : Session). Plays x (callsDue xs) (sessionAfter x (k .calls)) (reportedIn (k .calls))) q
     (calls-play k st (k .store) 0 (k .calls) (c .1) (subst (λ (x : Session). Each k x 0 (k .calls)) (sym q) (e .0))) in
-    subst (λ (l : List session.Call). Plays s l (sessionAfterAll (sessionAfter s (k .calls)) ks) (toldIn (k .calls) ++ toldOf ks)) (sym (due-append xs (causesOf ks)))
+    subst (λ (l : List session.Call). Plays s l (sessionAfterAll (sessionAfter s (k .calls)) ks) (reportedIn (k .calls) ++ reportedOf ks)) (sym (due-append xs (causesOf ks)))
     (plays-then now (all-play (sessionAfter s (k .calls)) ks (c .2) (e .1)))
 
 -- where our own features are refused, the definition has no entry
@@ -234,7 +234,7 @@ every-release demand calls histories ks c =
       leaves = left-of calls freshSession ks c e (record { agreeing = calls .fresh; sized = refl });
       final = final;
       accounted = accounted;
-      told = p .gives;
+      reported = p .gives;
       starts = starts-of freshSession ks c;
       switches = switches-of demand freshSession ks c;
       released = λ before since h m q a.

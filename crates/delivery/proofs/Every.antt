@@ -22,12 +22,12 @@ use Rattle.delivery.specs.declared.Delivery.{Delivery}
 use Rattle.delivery.specs.declared.Asked.{Asked}
 use Rattle.delivery.specs.declared.Asked.the-variants as asked
 use Rattle.delivery.specs.declared.Effect.the-variants as effect
-use Rattle.delivery.specs.declared.Settled.{Settled}
+use Rattle.delivery.specs.declared.Applied.{Applied}
 use Rattle.delivery.specs.declared.Delivered.{Delivered}
 use Rattle.delivery.specs.declared.Sent.{Sent}
-use Rattle.delivery.specs.Asked.{byBody, bodyOf, askedByFrame, askedBy, askedByReport, settled, doneTo, receivedBy, Delivers, Called}
+use Rattle.delivery.specs.Asked.{byBody, bodyOf, askedByFrame, askedBy, askedByReport, applied, doneTo, receivedBy, Delivers, Called}
 use Rattle.delivery.specs.Calls.{Cause, hands, Leaves}
-use Rattle.delivery.specs.Every.{speaks, turnedAway, reportedCause, Untouched, Sound, SoundSent, EveryCall}
+use Rattle.delivery.specs.Every.{speaks, askedRefused, reportedCause, Untouched, Sound, SoundSent, EveryCall}
 use Rattle.delivery.proofs.Leaves.{by-call, asked-left}
 
 -- what speaks of nothing asks for nothing
@@ -46,10 +46,10 @@ module _ (every : session.EveryCall) (s : Session) (sized : length (s .handles) 
   call-broken : (c : session.Call) → agrees s ≡ false → callOf s c .session ≡ s
   call-broken c e = ap (λ (o : Outcome). o .session) (every .each s c sized .contradicts e)
 
-  call-stays : (c : session.Call) → turnedAway (effect.Answer (callOf s c .report)) ≡ true → callOf s c .session ≡ s
+  call-stays : (c : session.Call) → askedRefused (effect.Answer (callOf s c .report)) ≡ true → callOf s c .session ≡ s
   call-stays c = go (callOf s c .report) refl
     where
-      go : (q : session-report.Report) → callOf s c .report ≡ q → turnedAway (effect.Answer q) ≡ true → callOf s c .session ≡ s
+      go : (q : session-report.Report) → callOf s c .report ≡ q → askedRefused (effect.Answer q) ≡ true → callOf s c .session ≡ s
       go (answer.Accepted n) i e = absurd (true≢false (sym e))
       go answer.Done i e = absurd (true≢false (sym e))
       go (answer.Resend n) i e = absurd (true≢false (sym e))
@@ -62,7 +62,7 @@ module _ (every : session.EveryCall) (s : Session) (sized : length (s .handles) 
   asked-broken (asked.Reset full) e = call-broken (session.reset full) e
   asked-broken (asked.Malformed n) e = refl
 
-  asked-stays : (a : Asked) → turnedAway (doneTo s a .effect) ≡ true → doneTo s a .session ≡ s
+  asked-stays : (a : Asked) → askedRefused (doneTo s a .effect) ≡ true → doneTo s a .session ≡ s
   asked-stays asked.Nothing e = refl
   asked-stays (asked.Ack n) e = call-stays (session.ack n) e
   asked-stays (asked.Reconnect n) e = call-stays (session.reconnect n) e
@@ -81,15 +81,15 @@ module _ (every : session.EveryCall) (s : Session) (sized : length (s .handles) 
   reported-leaves report.More t s′ g = λ x k. inl k
   reported-leaves (report.Event e) t s′ g = asked-left every s (entry e t s′) (askedBy e s′) refl g .leaves
 
-untouched : (st : Delivery) (r : Delivered) → settled (r .state .session) (r .effect) ≡ settled (st .session) effect.Nothing → Untouched st r
-untouched st r e = record { session = ap (λ (d : Settled). d .session) e; effect = ap (λ (d : Settled). d .effect) e }
+untouched : (st : Delivery) (r : Delivered) → applied (r .state .session) (r .effect) ≡ applied (st .session) effect.Nothing → Untouched st r
+untouched st r e = record { session = ap (λ (d : Applied). d .session) e; effect = ap (λ (d : Applied). d .effect) e }
 
 module _ (calls : connection.EveryCall) (every : session.EveryCall) (st : Delivery) (sized : length (st .session .handles) ≡ places) where
   sound : (s piece : List ℕ) (r : Delivered) (s′ : List ℕ) → Delivers st s piece r s′ → Sound st s piece r s′
   unfolding connection.EveryCall
   sound s piece r s′ d =
       let a : Asked = askedByReport (r .report) s′ in
-      let e : r .state .session ≡ doneTo (st .session) a .session = ap (λ (x : Settled). x .session) (d .done) in
+      let e : r .state .session ≡ doneTo (st .session) a .session = ap (λ (x : Applied). x .session) (d .done) in
       let keeps : speaks (r .report) ≡ false → Untouched st r = λ q. untouched st r (d .done ∙ ap (doneTo (st .session)) (asks-none (r .report) s′ q)) in
       let broken : agrees (st .session) ≡ false → r .state .session ≡ st .session = λ q. e ∙ asked-broken every (st .session) sized a q in
       record {
@@ -98,7 +98,7 @@ module _ (calls : connection.EveryCall) (every : session.EveryCall) (st : Delive
             let c = calls .1 (st .receiver) s piece (receivedBy r) s′ (d .received) .contradicts q in
             (c, keeps (ap speaks (c .report)));
         broken = broken;
-        unchanged = λ q. e ∙ asked-stays every (st .session) sized a (sym (ap (λ (x : Settled). turnedAway (x .effect)) (d .done)) ∙ q);
+        unchanged = λ q. e ∙ asked-stays every (st .session) sized a (sym (ap (λ (x : Applied). askedRefused (x .effect)) (d .done)) ∙ q);
         leaves = by-agreement every (st .session) sized (r .state .session) (reportedCause (r .report) (r .taken) s′) broken
             (λ g. subst (λ (x : Session). Leaves (st .session) x (reportedCause (r .report) (r .taken) s′)) (sym e) (reported-leaves every (st .session) sized (r .report) (r .taken) s′ g));
       }

@@ -13,8 +13,8 @@ use Rattle.session.proofs.Releases.{releases, oneReleases, Good, call-good, cal
 use Rattle.delivery.specs.declared.Delivery.{Delivery}
 use Rattle.delivery.specs.declared.Asked.{Asked}
 use Rattle.delivery.specs.declared.Asked.the-variants as asked
-use Rattle.delivery.specs.declared.Settled.{Settled}
-use Rattle.delivery.specs.Asked.{askedBy, settled, doneTo}
+use Rattle.delivery.specs.declared.Applied.{Applied}
+use Rattle.delivery.specs.Asked.{askedBy, applied, doneTo}
 use Rattle.delivery.specs.Calls.{Call, piece, tried, accepted, handed, Chained, sessionAfter, Connection, Connects, added, Cause, hands, receives, callsAsked, callsBy, Does, nothing, one, Each, EachOf, Covered, Leaves, LeavesIn, LeavesOf}
 use Rattle.delivery.specs.Calls as calls
 use Rattle.delivery.proofs.Reasons.{reason}
@@ -39,9 +39,9 @@ module _ (every : EveryCall) where
   asked-left s e (asked.Reset full) q g = record { leaves = by-call s (session.reset full) (receives e) (ap callsAsked q) g; good = call-good every s (session.reset full) g }
   asked-left s e (asked.Malformed n) q g = record { leaves = λ x k. inl k; good = g }
 
-  does-left : (s : Session) (t′ : ℕ) (d : Settled) (es : List Entry) → Does s t′ d es → Good s → Left s (d .session) (map receives es)
-  does-left s t′ d es (nothing e) g = subst (λ (x : Settled). Left s (x .session) []) (sym e) (record { leaves = λ x k. inl k; good = g })
-  does-left s t′ d es (one w at e) g = subst (λ (x : Settled). Left s (x .session) (receives w ∷ [])) (sym e) (asked-left s w (askedBy (w .event) (w .store)) refl g)
+  does-left : (s : Session) (t′ : ℕ) (d : Applied) (es : List Entry) → Does s t′ d es → Good s → Left s (d .session) (map receives es)
+  does-left s t′ d es (nothing e) g = subst (λ (x : Applied). Left s (x .session) []) (sym e) (record { leaves = λ x k. inl k; good = g })
+  does-left s t′ d es (one w at e) g = subst (λ (x : Applied). Left s (x .session) (receives w ∷ [])) (sym e) (asked-left s w (askedBy (w .event) (w .store)) refl g)
 
   -- ---- every call and every connection
 
@@ -52,7 +52,7 @@ module _ (every : EveryCall) where
   left-run : (k : Connection) (st : Delivery) (s : List ℕ) (t : ℕ) (cs : List Call) → Chained (k .stream) st s t cs → Each k (st .session) t cs → Good (st .session) → AllLeft k (st .session) t cs
   left-run k st s t [] ch e g = record { leaves = tt; good = g }
   left-run k st s t (piece size r s′ ∷ cs) ch e g =
-      let l = does-left (st .session) (t + r .taken) (settled (r .state .session) (r .effect)) (added k t (t + r .taken)) (e .1) g in
+      let l = does-left (st .session) (t + r .taken) (applied (r .state .session) (r .effect)) (added k t (t + r .taken)) (e .1) g in
       let i = left-run k (r .state) s′ (t + r .taken) cs (ch .1) (e .2) (l .good) in
       record { leaves = (l .leaves, i .leaves); good = i .good }
   left-run k st s t (tried key receiving sending r ∷ cs) ch e g =

@@ -3,7 +3,7 @@ pub mod Reasons
 pub mod Leaves
 pub mod Every
 pub mod Claim
-pub mod Quiet
-pub mod Uncovered
-pub mod Played
+pub mod NoRequests
+pub mod NoReason
+pub mod OneRequest
 pub mod Acks

@@ -30,7 +30,7 @@ use Rattle.delivery.specs.declared.Asked.{Asked}
 use Rattle.delivery.specs.declared.Asked.the-variants as asked
 use Rattle.delivery.specs.declared.Effect.{Effect}
 use Rattle.delivery.specs.declared.Effect.the-variants as effect
-use Rattle.delivery.specs.declared.Settled.{Settled}
+use Rattle.delivery.specs.declared.Applied.{Applied}
 use Rattle.delivery.specs.declared.Delivered.{Delivered}
 use Rattle.delivery.specs.declared.Switched.{Switched}
 use Rattle.delivery.specs.declared.Sent.{Sent}
@@ -91,18 +91,18 @@ askedByReport (report.Event e) s = askedBy e s
 
 -- ---- what is done to the session
 
-abbrev pub settled : Session → Effect → Settled
-settled s e = record { session = s; effect = e }
+abbrev pub applied : Session → Effect → Applied
+applied s e = record { session = s; effect = e }
 
-abbrev pub answeredBy : Outcome → Settled
-answeredBy o = settled (o .session) (effect.Answer (o .report))
+abbrev pub answeredBy : Outcome → Applied
+answeredBy o = applied (o .session) (effect.Answer (o .report))
 
-abbrev pub doneTo : Session → Asked → Settled
-doneTo s asked.Nothing = settled s effect.Nothing
+abbrev pub doneTo : Session → Asked → Applied
+doneTo s asked.Nothing = applied s effect.Nothing
 doneTo s (asked.Ack n) = answeredBy (ackOf s n)
 doneTo s (asked.Reconnect n) = answeredBy (reconnectOf s n)
 doneTo s (asked.Reset full) = answeredBy (resetOf s full)
-doneTo s (asked.Malformed n) = settled s (effect.Malformed n)
+doneTo s (asked.Malformed n) = applied s (effect.Malformed n)
 
 -- ---- THE PROMISES OF THE CALLS
 
@@ -115,7 +115,7 @@ receivedBy r = record { state = r .state .receiver; taken = r .taken; report = r
 -- `deliver`: what `receive` promises, and what its report asks of the session, read from the store as it left it
 pub record Delivers (st : Delivery) (s piece : List ℕ) (r : Delivered) (s′ : List ℕ) : Type 0 where
   pub received : Answered (st .receiver) s piece (receivedBy r) s′
-  pub done : settled (r .state .session) (r .effect) ≡ doneTo (st .session) (askedByReport (r .report) s′)
+  pub done : applied (r .state .session) (r .effect) ≡ doneTo (st .session) (askedByReport (r .report) s′)
 
 abbrev pub switchedBy : Switched → connection.Switched
 switchedBy r = record { state = r .state .receiver; sending = r .sending; verdict = r .verdict }

@@ -34,12 +34,12 @@ use Rattle.delivery.specs.declared.Asked.{Asked}
 use Rattle.delivery.specs.declared.Asked.the-variants as asked
 use Rattle.delivery.specs.declared.Effect.{Effect}
 use Rattle.delivery.specs.declared.Effect.the-variants as effect
-use Rattle.delivery.specs.declared.Settled.{Settled}
+use Rattle.delivery.specs.declared.Applied.{Applied}
 use Rattle.delivery.specs.declared.Delivered.{Delivered}
 use Rattle.delivery.specs.declared.Switched.{Switched}
 use Rattle.delivery.specs.declared.Sent.{Sent}
 use Rattle.delivery.specs.declared.Connected.{Connected}
-use Rattle.delivery.specs.Asked.{bodyOf, askedBy, settled, doneTo, receivedBy, switchedBy, Delivers, Switches, Called, ConnectedWith}
+use Rattle.delivery.specs.Asked.{bodyOf, askedBy, applied, doneTo, receivedBy, switchedBy, Delivers, Switches, Called, ConnectedWith}
 
 -- ---- connections and the calls on them
 
@@ -156,15 +156,15 @@ historyOf cs = played freshSession (callsDue cs)
 -- ---- each call by itself
 
 -- what was done to the session s, by the entries that the bytes of a call added: at most one, at the last byte taken
-pub data Does (s : Session) (t′ : ℕ) (d : Settled) : List Entry → Type 0 where
-  nothing : d ≡ settled s effect.Nothing → Does s t′ d []
+pub data Does (s : Session) (t′ : ℕ) (d : Applied) : List Entry → Type 0 where
+  nothing : d ≡ applied s effect.Nothing → Does s t′ d []
   one : (e : Entry) → e .at ≡ t′ → d ≡ doneTo s (askedBy (e .event) (e .store)) → Does s t′ d (e ∷ [])
 
 abbrev pub Each : Connection → Session → ℕ → List Call → Type 0
 Each k s t [] = Unit {0}
 Each k s t (piece size r s′ ∷ cs) =
     (entriesUpTo k (t + r .taken) ≡ entriesUpTo k t ++ added k t (t + r .taken))
-    × Does s (t + r .taken) (settled (r .state .session) (r .effect)) (added k t (t + r .taken))
+    × Does s (t + r .taken) (applied (r .state .session) (r .effect)) (added k t (t + r .taken))
     × Each k (r .state .session) (t + r .taken) cs
 Each k s t (tried key receiving sending r ∷ cs) = Each k (r .state .session) t cs
 Each k s t (accepted h r ∷ cs) = Each k (r .state .session) t cs
@@ -177,22 +177,22 @@ EachOf s (k ∷ ks) = Each k s 0 (k .calls) × EachOf (sessionAfter s (k .calls)
 -- ---- what the caller is told
 
 -- by an effect: the session's answer, if it was asked
-abbrev pub toldBy : Effect → List Report
-toldBy effect.Nothing = []
-toldBy (effect.Malformed n) = []
-toldBy (effect.Answer r) = r ∷ []
+abbrev pub reportedBy : Effect → List Report
+reportedBy effect.Nothing = []
+reportedBy (effect.Malformed n) = []
+reportedBy (effect.Answer r) = r ∷ []
 
-abbrev pub toldIn : List Call → List Report
-toldIn [] = []
-toldIn (piece size r s′ ∷ cs) = toldBy (r .effect) ++ toldIn cs
-toldIn (tried key receiving sending r ∷ cs) = toldIn cs
-toldIn (accepted h r ∷ cs) = r .report ∷ toldIn cs
-toldIn (handed n r ∷ cs) = r .report ∷ toldIn cs
+abbrev pub reportedIn : List Call → List Report
+reportedIn [] = []
+reportedIn (piece size r s′ ∷ cs) = reportedBy (r .effect) ++ reportedIn cs
+reportedIn (tried key receiving sending r ∷ cs) = reportedIn cs
+reportedIn (accepted h r ∷ cs) = r .report ∷ reportedIn cs
+reportedIn (handed n r ∷ cs) = r .report ∷ reportedIn cs
 
 -- THE SESSION'S ANSWERS, in the order in which the calls tell them
-abbrev pub toldOf : List Connection → List Report
-toldOf [] = []
-toldOf (k ∷ ks) = toldIn (k .calls) ++ toldOf ks
+abbrev pub reportedOf : List Connection → List Report
+reportedOf [] = []
+reportedOf (k ∷ ks) = reportedIn (k .calls) ++ reportedOf ks
 
 -- those of a history
 abbrev pub reportsIn : List history.Entry → List Report
@@ -271,7 +271,7 @@ pub record Acknowledged (ks : List Connection) : Type 0 where
   -- of these K13's claim holds: what is held is what they neither acknowledged nor dropped
   pub accounted : Accounted (historyOf (causesOf ks))
   -- and the answers that the caller is told are their answers, in order, none left out
-  pub told : toldOf ks ≡ reportsIn (historyOf (causesOf ks))
+  pub reported : reportedOf ks ≡ reportsIn (historyOf (causesOf ks))
   -- each connection began as `connect` said, and was switched once at most, as `switch` said
   pub starts : StartsOf ks
   pub switches : SwitchesOf ks

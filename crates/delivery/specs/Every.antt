@@ -30,13 +30,13 @@ speaks report.More = false
 speaks (report.Event e) = isFrame e && forSession (roleHeader (roleOf e) .tag)
 
 -- 20, or a refusal of the session
-abbrev pub turnedAway : Effect → Bool
-turnedAway effect.Nothing = false
-turnedAway (effect.Malformed n) = true
-turnedAway (effect.Answer (answer.Accepted n)) = false
-turnedAway (effect.Answer answer.Done) = false
-turnedAway (effect.Answer (answer.Resend n)) = false
-turnedAway (effect.Answer (answer.Refused n)) = true
+abbrev pub askedRefused : Effect → Bool
+askedRefused effect.Nothing = false
+askedRefused (effect.Malformed n) = true
+askedRefused (effect.Answer (answer.Accepted n)) = false
+askedRefused (effect.Answer answer.Done) = false
+askedRefused (effect.Answer (answer.Resend n)) = false
+askedRefused (effect.Answer (answer.Refused n)) = true
 
 -- what is reported, as a cause: at the last byte taken of the piece, with the store then
 abbrev pub reportedCause : Report → ℕ → List ℕ → List Cause
@@ -55,7 +55,7 @@ pub record Sound (st : Delivery) (s piece : List ℕ) (r : Delivered) (s′ : Li
   pub contradicts : agrees (st .receiver) ≡ false → Refuses (st .receiver) contradiction s (receivedBy r) s′ × Untouched st r
   -- a session that contradicts itself stays as it is, and so does one that turns away what is asked
   pub broken : session.agrees (st .session) ≡ false → r .state .session ≡ st .session
-  pub unchanged : turnedAway (r .effect) ≡ true → r .state .session ≡ st .session
+  pub unchanged : askedRefused (r .effect) ≡ true → r .state .session ≡ st .session
   -- a message that was held before the call and is not held after it has its reason in what the call reports
   pub leaves : Leaves (st .session) (r .state .session) (reportedCause (r .report) (r .taken) s′)
 

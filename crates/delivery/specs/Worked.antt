@@ -29,10 +29,10 @@ use Rattle.delivery.specs.declared.Asked.{Asked}
 use Rattle.delivery.specs.declared.Asked.the-variants.{Nothing, Ack, Reconnect, Reset, Malformed}
 use Rattle.delivery.specs.declared.Effect.{Effect}
 use Rattle.delivery.specs.declared.Effect.the-variants as effect
-use Rattle.delivery.specs.declared.Settled.{Settled}
+use Rattle.delivery.specs.declared.Applied.{Applied}
 use Rattle.delivery.specs.declared.Connected.{Connected}
-use Rattle.delivery.specs.Asked.{askedByFrame, askedBy, settled, doneTo, ConnectedWith}
-use Rattle.delivery.specs.Calls.{Call, piece, tried, accepted, handed, Chained, sessionAfter, Connection, Connects, sessionAfterAll, onConnection, sends, hands, receives, callsDue, played, historyOf, toldIn, reportsIn, Covered}
+use Rattle.delivery.specs.Asked.{askedByFrame, askedBy, applied, doneTo, ConnectedWith}
+use Rattle.delivery.specs.Calls.{Call, piece, tried, accepted, handed, Chained, sessionAfter, Connection, Connects, sessionAfterAll, onConnection, sends, hands, receives, callsDue, played, historyOf, reportedIn, reportsIn, Covered}
 
 -- ---- what the rows are made of
 
@@ -127,7 +127,7 @@ Any sw = Unit {0}
 abbrev pub Completes : Switch → List ℕ → ℕ → session.Call → Type 0
 Completes sw stream n call =
     (s : Session) (k : Connected) (cs : List Call) → ConnectedWith s ours k → Chained stream (k .state) store 0 cs → switchBy 0 (onConnection cs) ≡ sw → ownCalls cs ≡ []
-    → takenBy 0 (onConnection cs) ≡ n → (sessionAfter s cs ≡ callOf s call .session) × (toldIn cs ≡ callOf s call .report ∷ [])
+    → takenBy 0 (onConnection cs) ≡ n → (sessionAfter s cs ≡ callOf s call .session) × (reportedIn cs ≡ callOf s call .report ∷ [])
 
 -- ---- what is released
 
@@ -202,10 +202,10 @@ resultRows =
 abbrev broken : Session
 broken = record { handles = replicate 64 0; released = 1; last = 0 }
 
-abbrev says26 : Asked → Row Settled
-says26 a = doneTo broken a ⇒ settled broken (effect.Answer (Refused (row 26 0 0 0)))
+abbrev says26 : Asked → Row Applied
+says26 a = doneTo broken a ⇒ applied broken (effect.Answer (Refused (row 26 0 0 0)))
 
-unfoldable pub brokenRows : List (Row Settled)
+unfoldable pub brokenRows : List (Row Applied)
 brokenRows = says26 (Reset true) ∷ says26 (Reset false) ∷ says26 (Ack 0) ∷ says26 (Reconnect 1) ∷ []
 
 -- what the caller's own calls are told
@@ -230,7 +230,7 @@ Resumes =
     (k l : Connected) (cs ds : List Call) → Connects freshSession (reading split k cs ∷ reading resumed l ds ∷ [])
     → ownCalls cs ≡ session.accept 7 ∷ session.accept 8 ∷ []
     → switchBy 0 (onConnection ds) ≡ none → ownCalls ds ≡ [] → takenBy 0 (onConnection ds) ≡ length resumed
-    → (heldOf (sessionAfterAll freshSession (reading split k cs ∷ reading resumed l ds ∷ [])) ≡ second ∷ []) × (toldIn ds ≡ Resend 1 ∷ [])
+    → (heldOf (sessionAfterAll freshSession (reading split k cs ∷ reading resumed l ds ∷ [])) ≡ second ∷ []) × (reportedIn ds ≡ Resend 1 ∷ [])
 
 -- ---- other frames
 

@@ -5,15 +5,15 @@ use bodies::Body;
 use bodies::read;
 use buffer::min;
 use connection::State;
-use connection::begin;
 use connection::receive;
+use connection::start;
 use preamble::Header;
 use receiver::Report;
 use refusal::Numbers;
 use refusal::Refusal;
 use refusal::Verdict;
 use refusal::either;
-use refusal::in_numbers;
+use refusal::numbers_of;
 use sealed_builder::Sending;
 use session::Outcome;
 use session::Session;
@@ -23,7 +23,7 @@ ghost use mathlib.Core.List.{List};
 ghost use Prim.Native.Nat.{ℕ};
 ghost use Rattle.bodies.specs.Read.{answerOf};
 ghost use Rattle.session.specs.Laws.{accept, ack};
-ghost use Rattle.delivery.specs.Asked.{forSession, asking, byNumber, byBody, askedByFrame, askedBy, askedByReport, settled, answeredBy, doneTo, sentBy, Delivers, Switches, Called, ConnectedWith};
+ghost use Rattle.delivery.specs.Asked.{forSession, asking, byNumber, byBody, askedByFrame, askedBy, askedByReport, applied, answeredBy, doneTo, sentBy, Delivers, Switches, Called, ConnectedWith};
 ghost use Rattle.delivery.specs.Calls.{EveryRelease};
 ghost use Rattle.delivery.specs.Every.{EveryCall};
 ghost use Rattle.delivery.specs.Worked.{Worked};
@@ -54,7 +54,7 @@ pub enum Effect {
     Answer(session::Report),
 }
 
-pub struct Settled {
+pub struct Applied {
     pub session: Session,
     pub effect: Effect,
 }
@@ -116,7 +116,7 @@ fn asked_by_number(h: Header, number: u64) -> Asked
         return asking(h.tag, number);
     }
     let first = h.s1;
-    Asked::Malformed(in_numbers(Refusal::BodyMalformed(first.len as u64)))
+    Asked::Malformed(numbers_of(Refusal::BodyMalformed(first.len as u64)))
 }
 
 fn asked_by_body(h: Header, body: Body) -> Asked
@@ -125,7 +125,7 @@ fn asked_by_body(h: Header, body: Body) -> Asked
     match body {
         Body::Number(n) => asked_by_number(h, n),
         Body::Reset(full) => asked_by_number(h, full as u64),
-        Body::Refused(why) => Asked::Malformed(in_numbers(why)),
+        Body::Refused(why) => Asked::Malformed(numbers_of(why)),
         _ => Asked::Nothing,
     }
 }
@@ -160,25 +160,25 @@ fn asked_by_report(report: Report, store: &[u8]) -> Asked
     }
 }
 
-fn answered(o: Outcome) -> Settled
+fn answered(o: Outcome) -> Applied
     ensures { λ r. ⌜ r ≡ answeredBy o ⌝ }
 {
     let session = o.session;
     let report = o.report;
-    Settled {
+    Applied {
         session,
         effect: Effect::Answer(report),
     }
 }
 
-fn done(s: Session, effect: Effect) -> Settled
-    ensures { λ r. ⌜ r ≡ settled s effect ⌝ }
+fn done(s: Session, effect: Effect) -> Applied
+    ensures { λ r. ⌜ r ≡ applied s effect ⌝ }
 {
-    Settled { session: s, effect }
+    Applied { session: s, effect }
 }
 
 // Does to the session what is asked.
-pub fn settle(s: Session, asked: Asked) -> Settled
+pub fn apply(s: Session, asked: Asked) -> Applied
     ensures { λ r. ⌜ r ≡ doneTo s asked ⌝ }
 {
     match asked {
@@ -194,7 +194,7 @@ pub fn settle(s: Session, asked: Asked) -> Settled
 pub fn connect(s: Session, own: Features) -> Connected
     ensures { λ r. ⌜ ConnectedWith s own r ⌝ }
 {
-    let begun = begin(own);
+    let begun = start(own);
     let receiver = begun.state;
     let verdict = begun.verdict;
     Connected {
@@ -212,7 +212,7 @@ pub fn deliver(state: Delivery, piece: &[u8], store: &mut [u8]) -> Delivered
 {
     let got = receive(state.receiver, piece, store);
     let report = got.report;
-    let after = settle(state.session, asked_by_report(report, store));
+    let after = apply(state.session, asked_by_report(report, store));
     let receiver = got.state;
     let session = after.session;
     let effect = after.effect;

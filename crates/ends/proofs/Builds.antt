@@ -14,17 +14,18 @@ use Rattle.banner.specs.declared.Revision.{Revision}
 use Rattle.banner.specs.Banner.{bannerBytes, judgeOwn}
 use Rattle.body.specs.Body.{frameBytes, wireLength}
 use Rattle.body.proofs.Laws.{length-frame}
-use Rattle.builder.specs.declared.Built.the-variants as built
-use Rattle.builder.specs.Build.{judgeRoom, judgeFrame, judgeBanner, bannerLength, Answer, wrote, turnedAway, Done, done, outcome, frameDone, bannerDone, BuiltBanner, countIn}
+use Rattle.refusal.specs.declared.WriteResult.the-variants as built
+use Rattle.refusal.specs.Writes.{Outcome, wrote, refusedFor, Done, done, countIn}
+use Rattle.builder.specs.Build.{judgeRoom, judgeFrame, judgeBanner, bannerLength, outcome, frameDone, bannerDone, BuiltBanner}
 use Rattle.builder.proofs.Accepted.{Accepted, accepted, banner-fits}
 use Rattle.ends.specs.Trip.{Build, Accepts}
 use Rattle.ends.specs.Ends.{Queued, bufferBy, queuedBy}
 
 -- ---- an outcome with bytes written was not refused
 
-isWrote : Answer → Bool
+isWrote : Outcome → Bool
 isWrote (wrote n) = true
-isWrote (turnedAway n) = false
+isWrote (refusedFor n) = false
 
 -- xs are the n bytes to be written behind the queued ones of buf
 record Wrote (j : Judged) (n : ℕ) (buf : List ℕ) (queued : ℕ) (xs : List ℕ) (w : ℕ) (after : List ℕ) : Type 0 where
@@ -35,8 +36,8 @@ record Wrote (j : Judged) (n : ℕ) (buf : List ℕ) (queued : ℕ) (xs : List �
 was-written : (j : Judged) (n : ℕ) (buf : List ℕ) (queued : ℕ) (xs : List ℕ) (w : ℕ) (after : List ℕ) → done (wrote w) after ≡ outcome j n buf queued xs → Wrote j n buf queued xs w after
 unfolding isWrote
 was-written fine n buf queued xs w after e =
-    record { judged = refl; count = ap (λ (d : Done). countIn (d .answer)) e; buffer = ap (λ (d : Done). d .buffer) e }
-was-written (refused r) n buf queued xs w after e = absurd (true≢false (ap (λ (d : Done). isWrote (d .answer)) e))
+    record { judged = refl; count = ap (λ (d : Done). countIn (d .outcome)) e; buffer = ap (λ (d : Done). d .buffer) e }
+was-written (refused r) n buf queued xs w after e = absurd (true≢false (ap (λ (d : Done). isWrote (d .outcome)) e))
 
 -- a frame's build
 pub record Appended (r : Revision) (buf : List ℕ) (queued : ℕ) (b : Build) : Type 0 where

@@ -23,7 +23,7 @@ use Rattle.body.specs.declared.Late.{Late}
 use Rattle.body.specs.declared.Late.the-variants as late
 use Rattle.body.specs.Body.{segmentSum, cutInto, noFirstSum, noEpilogue, bodyLength, wireLength}
 use Rattle.body.specs.End as end
-use Rattle.body.specs.End.{Ended, whole, dropped, byLate, unlessTurnedAway, lateOf, segmentBytes, stored, unusedFrom, judgeSpelling, ending}
+use Rattle.body.specs.End.{Ended, whole, dropped, byLate, endUnlessRefused, lateOf, segmentBytes, stored, unusedFrom, judgeSpelling, ending}
 use Rattle.stream.specs.Stream.{firstWrong}
 use Rattle.refusal.proofs.Booleans.{both-left, both-right}
 use Rattle.buffer.proofs.Numbers.{number-take, number-drop}
@@ -71,7 +71,7 @@ module _ (X : List ℕ) (n : ℕ) where
 
 -- c: there is no epilogue; g: its spelling; l: what its late byte says; j: its checksums
 abbrev endBy : Bool → Judged → Late → ℕ → Judged → Ended
-endBy c g l b j = cond c whole (unlessTurnedAway g (byLate l b j))
+endBy c g l b j = cond c whole (endUnlessRefused g (byLate l b j))
 
 end-whole : (c : Bool) (g : Judged) (l : Late) (b : ℕ) (j : Judged) → endBy c g l b j ≡ whole
     → (cond c late.Complete l ≡ late.Complete) × ((c ≡ false → g ≡ fine) × (c ≡ false → j ≡ fine))

@@ -18,7 +18,7 @@ use Rattle.preamble.specs.declared.Header.{Header}
 use Rattle.preamble.specs.Layout.{total}
 use Rattle.preamble.specs.Judge.{judgePreamble}
 use Rattle.body.specs.Body.{noFirstSum, firstSumLength, bodyLength, wireLength}
-use Rattle.body.specs.End.{Ended, whole, dropped, turnedAway, segmentBytes, ending}
+use Rattle.body.specs.End.{Ended, whole, dropped, refusedFor, segmentBytes, ending}
 use Rattle.stream.specs.Stream.{Trace, ended, refusedAt, zeroed, firstSumEnd, firstWrong, firstReported, reportedFirst, atEnd, frames}
 use Rattle.refusal.proofs.Booleans.{wrong}
 use Rattle.body.proofs.Ends.{segments-own, ending-append}
@@ -207,8 +207,8 @@ module _ (r : Revision) (P : ℕ) (X s : List ℕ) where
   by-end : 32 ≤ length X → judgePreamble (take 32 X) (length s) ≡ fine → firstWrong r h b ≡ false → bodyLength r h ≤ length b → (x : Ended) → ends ≡ x → Seen r P X s
   by-end l a w n whole e = hands (record { front = l; accepted = a; long = n; first = w; end = e })
   by-end l a w n dropped e = drops (record { front = l; accepted = a; long = n; first = w; end = e })
-  by-end l a w n (turnedAway m) e =
-      let j : Judges (turnedAway m) r X (length s) = record { front = l; accepted = a; long = n; first = w; end = e } in
+  by-end l a w n (refusedFor m) e =
+      let j : Judges (refusedFor m) r X (length s) = record { front = l; accepted = a; long = n; first = w; end = e } in
       refuses (isEarly r h) m (P + wireLength r h) (zeroed h s) (judges-first X j) (λ f. frame-trace f P X s j)
 
   by-length : 32 ≤ length X → judgePreamble (take 32 X) (length s) ≡ fine → firstWrong r h b ≡ false → (c : Bool) → ltb (length b) (bodyLength r h) ≡ c → Seen r P X s

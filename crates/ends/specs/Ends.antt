@@ -9,7 +9,7 @@ use Rattle.banner.specs.declared.Revision.{Revision}
 use Rattle.banner.specs.Banner.{judgeOwn, judgeFeatures, revisionOf}
 use Rattle.preamble.specs.Layout.{total}
 use Rattle.body.specs.Body.{wireLength}
-use Rattle.builder.specs.declared.Built.the-variants as built
+use Rattle.refusal.specs.declared.WriteResult.the-variants as built
 use Rattle.builder.specs.Build.{bannerLength, BuiltBanner}
 use Rattle.stream.specs.declared.Event.the-variants.{Banner}
 use Rattle.stream.specs.Stream.{Entry, entry}

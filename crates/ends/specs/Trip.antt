@@ -13,7 +13,7 @@ use Rattle.preamble.specs.declared.Header.{Header}
 use Rattle.preamble.specs.Layout.{total}
 use Rattle.preamble.specs.Reading.{HeaderFits}
 use Rattle.body.specs.Body.{wireLength}
-use Rattle.builder.specs.declared.Built.the-variants as built
+use Rattle.refusal.specs.declared.WriteResult.the-variants as built
 use Rattle.builder.specs.Build.{BuiltFrame}
 use Rattle.stream.specs.declared.Event.{Event}
 use Rattle.stream.specs.declared.Event.the-variants.{First, Frame, Dropped}

@@ -13,11 +13,12 @@ use Rattle.banner.specs.declared.Revision.the-variants.{Msgr20, Msgr21}
 use Rattle.banner.specs.Banner.{magic, bannerBytes, judgeOwn, judgeMagic, judgeLength, judgeFeatures, revisionOf}
 use Rattle.preamble.specs.declared.Header.{Header}
 use Rattle.preamble.specs.Layout.{total}
-use Rattle.preamble.specs.Judge.{segmentLimit, sumLimit, judgeFields, judgePreamble}
+use Rattle.preamble.specs.Judge.{segmentLimit, frameLimit, judgeFields, judgePreamble}
 use Rattle.body.specs.Body.{segmentStart, wireLength, frameBytes}
-use Rattle.body.specs.End.{Ended, whole, dropped, turnedAway, ending}
-use Rattle.builder.specs.Build.{Done, done, wrote, judgeFrame, judgeBanner, frameDone, bannerDone}
-use Rattle.builder.specs.Build as built
+use Rattle.body.specs.End.{Ended, whole, dropped, refusedFor, ending}
+use Rattle.builder.specs.Build.{judgeFrame, judgeBanner, frameDone, bannerDone}
+use Rattle.refusal.specs.Writes as writes
+use Rattle.refusal.specs.Writes.{wrote, Done, done}
 use Rattle.stream.specs.Rows.{Row, _⇒_, Holds, segment, header, sized}
 
 -- ---- what the rows ask, each definition named once
@@ -50,7 +51,7 @@ abbrev ended : Revision → Header → ℕ → List ℕ → List ℕ → Ended
 ended revision h late sums bytes = ending revision h (late ∷ words sums) bytes
 
 abbrev away : ℕ → ℕ → Ended
-away n d = turnedAway (row n d 0 0)
+away n d = refusedFor (row n d 0 0)
 
 -- one segment, an empty one, two, four
 abbrev one : Header
@@ -194,15 +195,15 @@ preambles =
     ∷ fields (header 21 1 (segment 0 0) (segment 0 0) (segment 0 0) (segment 0 0)) 1 0 0 ⇒ refuse 7 26
     ∷ fields (header 0 1 (segment 0 0) (segment 0 0) (segment 0 0) (segment 0 0)) 0 1 0 ⇒ refuse 7 27
     -- 8 and 9
-    ∷ fields (header 21 1 (segment (segmentLimit + 1) 0) (segment 0 0) (segment 0 0) (segment 0 0)) 0 0 sumLimit ⇒ refuse 8 21
+    ∷ fields (header 21 1 (segment (segmentLimit + 1) 0) (segment 0 0) (segment 0 0) (segment 0 0)) 0 0 frameLimit ⇒ refuse 8 21
     -- 9 and 10
     ∷ fields (sized 1 (segmentLimit + 1) 0 0 0) 0 0 0 ⇒ refuse 9 2
-    ∷ fields (sized 3 segmentLimit segmentLimit 1 0) 0 0 sumLimit ⇒ refuse 9 14
+    ∷ fields (sized 3 segmentLimit segmentLimit 1 0) 0 0 frameLimit ⇒ refuse 9 14
     -- 10
     ∷ fields one 0 0 5 ⇒ fine
     ∷ fields one 0 0 4 ⇒ refuse 10 5
     ∷ fields four 0 0 3 ⇒ refuse 10 4
-    ∷ fields (sized 2 segmentLimit segmentLimit 0 0) 0 0 (sumLimit - 1) ⇒ refuse 10 sumLimit
+    ∷ fields (sized 2 segmentLimit segmentLimit 0 0) 0 0 (frameLimit - 1) ⇒ refuse 10 frameLimit
     ∷ []
 
 -- refusals 6, 8 and 9, of receiver and builder alike
@@ -429,12 +430,12 @@ buffers =
     -- our banner
     bannerDone 1 1 (replicate 29 0xAA) 2 ⇒ done (wrote 26) ((0xAA ∷ 0xAA ∷ []) ++ (0x63 ∷ 0x65 ∷ 0x70 ∷ 0x68 ∷ 0x20 ∷ 0x76 ∷ 0x32 ∷ 0x0A ∷ 0x10 ∷ 0x00 ∷ 0x01 ∷ 0x00 ∷ 0x00 ∷ 0x00 ∷ 0x00 ∷ 0x00 ∷ 0x00 ∷ 0x00 ∷ 0x01 ∷ 0x00 ∷ 0x00 ∷ 0x00 ∷ 0x00 ∷ 0x00 ∷ 0x00 ∷ 0x00 ∷ []) ++ (0xAA ∷ []))
     -- no room, and own features
-    ∷ bannerDone 1 1 (replicate 27 0xAA) 2 ⇒ done (built.turnedAway (row 14 26 0 0)) (replicate 27 0xAA)
-    ∷ bannerDone 3 0 (replicate 29 0xAA) 2 ⇒ done (built.turnedAway (row 16 0 0 0)) (replicate 29 0xAA)
+    ∷ bannerDone 1 1 (replicate 27 0xAA) 2 ⇒ done (writes.refusedFor (row 14 26 0 0)) (replicate 27 0xAA)
+    ∷ bannerDone 3 0 (replicate 29 0xAA) 2 ⇒ done (writes.refusedFor (row 16 0 0 0)) (replicate 29 0xAA)
     -- a frame
     ∷ frameDone Msgr21 (header 16 1 (segment 0 8) (segment 0 0) (segment 0 0) (segment 0 0)) false [] (replicate 34 0xAA) 1 ⇒ done (wrote 32) ((0xAA ∷ []) ++ wait ++ (0xAA ∷ []))
-    ∷ frameDone Msgr21 (header 16 1 (segment 0 8) (segment 0 0) (segment 0 0) (segment 0 0)) false [] (replicate 34 0xAA) 3 ⇒ done (built.turnedAway (row 14 32 0 0)) (replicate 34 0xAA)
-    ∷ frameDone Msgr20 one true [] (replicate 34 0xAA) 3 ⇒ done (built.turnedAway (row 13 0 0 0)) (replicate 34 0xAA)
+    ∷ frameDone Msgr21 (header 16 1 (segment 0 8) (segment 0 0) (segment 0 0) (segment 0 0)) false [] (replicate 34 0xAA) 3 ⇒ done (writes.refusedFor (row 14 32 0 0)) (replicate 34 0xAA)
+    ∷ frameDone Msgr20 one true [] (replicate 34 0xAA) 3 ⇒ done (writes.refusedFor (row 13 0 0 0)) (replicate 34 0xAA)
     ∷ []
 
 -- THE CLAIM: each row of each table holds

@@ -1,5 +1,5 @@
 pub mod Skips
-pub mod Again
+pub mod ReadBack
 pub mod Steps
 pub mod Puts
 pub mod Drafts

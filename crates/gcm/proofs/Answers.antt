@@ -9,18 +9,19 @@ use lib.ListN.{length, take, replicate}
 use lib.Seq.{length-take-le}
 use Rattle.buffer.specs.Splice.{replaceFront}
 use Rattle.refusal.specs.Refusals.{fine, row}
+use Rattle.refusal.specs.Writes.{wrote, refusedFor, done}
 use Rattle.aes.specs.Aes.{State}
 use Rattle.aes.specs.Counter.{gctr}
 use Rattle.gcm.specs.Gcm.{plain, fail, sealedBy, tagFits, openedBy}
-use Rattle.gcm.specs.Calls.{wrote, refusedWith, done, limit, judgeOpen, byBoth, sealDone, openDone}
+use Rattle.gcm.specs.Calls.{limit, judgeOpen, byBoth, sealDone, openDone}
 
 module _ (w : List State) (nonce text buf : List ℕ) where
-  pub seal-long : limit < length text → sealDone w nonce text buf ≡ done (refusedWith (row 9 0 0 0)) buf
+  pub seal-long : limit < length text → sealDone w nonce text buf ≡ done (refusedFor (row 9 0 0 0)) buf
   unfolding sealDone
   seal-long h = simp (lt-leb (length text) limit h)
 
   pub seal-short : length text ≤ limit → length buf < length text + 16
-      → sealDone w nonce text buf ≡ done (refusedWith (row 14 (length text + 16) 0 0)) buf
+      → sealDone w nonce text buf ≡ done (refusedFor (row 14 (length text + 16) 0 0)) buf
   unfolding sealDone
   seal-short h k = simp (le-leb (length text) limit h, lt-leb (length text + 16) (length buf) k)
 
@@ -35,13 +36,13 @@ module _ (w : List State) (nonce buf : List ℕ) where
   text-length : length (take (length buf - 16) buf) ≡ length buf - 16
   text-length = length-take-le (length buf - 16) buf (omega arith)
 
-  pub in-place-short : length buf < 16 → sealDone w nonce (take (length buf - 16) buf) buf ≡ done (refusedWith (row 14 16 0 0)) buf
+  pub in-place-short : length buf < 16 → sealDone w nonce (take (length buf - 16) buf) buf ≡ done (refusedFor (row 14 16 0 0)) buf
   in-place-short h =
       let e : length (take (length buf - 16) buf) ≡ 0 = text-length ∙ omega arith in
       seal-short w nonce (take (length buf - 16) buf) buf (omega arith) (omega arith)
-      ∙ ap (λ (n : ℕ). done (refusedWith (row 14 (n + 16) 0 0)) buf) e
+      ∙ ap (λ (n : ℕ). done (refusedFor (row 14 (n + 16) 0 0)) buf) e
 
-  pub in-place-long : limit < length buf - 16 → sealDone w nonce (take (length buf - 16) buf) buf ≡ done (refusedWith (row 9 0 0 0)) buf
+  pub in-place-long : limit < length buf - 16 → sealDone w nonce (take (length buf - 16) buf) buf ≡ done (refusedFor (row 9 0 0 0)) buf
   in-place-long h = seal-long w nonce (take (length buf - 16) buf) buf (omega (arith, text-length))
 
   pub in-place-fits : 16 ≤ length buf → length buf - 16 ≤ limit
@@ -52,16 +53,16 @@ module _ (w : List State) (nonce buf : List ℕ) where
       ∙ ap (λ (n : ℕ). done (wrote n) (replaceFront (sealedBy w nonce (take (length buf - 16) buf)) buf)) e
 
 module _ (w : List State) (nonce s buf : List ℕ) where
-  pub open-none : length s < 16 → openDone w nonce s buf ≡ done (refusedWith (row 17 0 0 0)) buf
+  pub open-none : length s < 16 → openDone w nonce s buf ≡ done (refusedFor (row 17 0 0 0)) buf
   unfolding openDone
   open-none h = simp (lt-leb 16 (length s) h)
 
-  pub open-long : 16 ≤ length s → limit < length s - 16 → openDone w nonce s buf ≡ done (refusedWith (row 9 0 0 0)) buf
+  pub open-long : 16 ≤ length s → limit < length s - 16 → openDone w nonce s buf ≡ done (refusedFor (row 9 0 0 0)) buf
   unfolding openDone
   open-long h k = simp (le-leb 16 (length s) h, lt-leb (length s - 16) limit k)
 
   pub open-short : 16 ≤ length s → length s - 16 ≤ limit → length buf < length s - 16
-      → openDone w nonce s buf ≡ done (refusedWith (row 14 (length s - 16) 0 0)) buf
+      → openDone w nonce s buf ≡ done (refusedFor (row 14 (length s - 16) 0 0)) buf
   unfolding openDone
   open-short h k l = simp (le-leb 16 (length s) h, le-leb (length s - 16) limit k, lt-leb (length s - 16) (length buf) l)
 
@@ -81,6 +82,6 @@ module _ (w : List State) (nonce s buf : List ℕ) where
     open-right e = ap₂ (λ j o. byBoth j o (length s - 16) buf) judged (opened-if true e)
 
     pub open-wrong : tagFits w nonce (length s - 16) s ≡ false
-        → openDone w nonce s buf ≡ done (refusedWith (row 17 0 0 0)) (replaceFront (replicate (length s - 16) 0) buf)
+        → openDone w nonce s buf ≡ done (refusedFor (row 17 0 0 0)) (replaceFront (replicate (length s - 16) 0) buf)
     unfolding openDone
     open-wrong e = ap₂ (λ j o. byBoth j o (length s - 16) buf) judged (opened-if false e)

@@ -2,5 +2,5 @@ pub mod Answers
 pub mod Comparison
 pub mod InPlace
 pub mod Placing
-pub mod There
+pub mod RoundTrip
 pub mod Opened

@@ -5,29 +5,12 @@ use Prim.Native.Nat.{ℕ, _+_, _-_, _^_}
 use lib.Dec.{leb}
 use lib.ListN.{length, replicate}
 use Rattle.buffer.specs.Splice.{replaceFront}
-use Rattle.refusal.specs.declared.Numbers.{Numbers}
 use Rattle.refusal.specs.declared.Refusal.the-variants as refusal
 use Rattle.refusal.specs.Refusals.{Judged, fine, refused, numbersOf, firstOf, unless}
 use Rattle.aes.specs.Aes.{State}
 use Rattle.gcm.specs.Gcm.{Opened, plain, fail, sealedBy, openedBy}
-use Rattle.gcm.specs.declared.Outcome.{Outcome}
-use Rattle.gcm.specs.declared.Outcome.the-variants as outcome
-
--- the answer, in 01's numbers, and the buffer
-pub data Answer : Type 0 where
-  wrote : ℕ → Answer
-  refusedWith : Numbers → Answer
-
-pub record Done : Type 0 where
-  pub answer : Answer
-  pub buffer : List ℕ
-
-abbrev pub done : Answer → List ℕ → Done
-done a b = record { answer = a; buffer = b }
-
-abbrev pub answered : Outcome → Answer
-answered (outcome.Wrote n) = wrote n
-answered (outcome.Refused r) = refusedWith (numbersOf r)
+use Rattle.refusal.specs.declared.WriteResult.{WriteResult}
+use Rattle.refusal.specs.Writes.{wrote, refusedFor, Done, done, outcomeOf}
 
 -- GCM's longest text
 abbrev pub limit : ℕ
@@ -40,7 +23,7 @@ judgeSeal n space = firstOf (unless (leb n limit) (refusal.Limit 0) ∷ unless (
 
 abbrev pub byJudge : Judged → ℕ → List ℕ → List ℕ → Done
 byJudge fine n bytes buf = done (wrote n) (replaceFront bytes buf)
-byJudge (refused r) n bytes buf = done (refusedWith r) buf
+byJudge (refused r) n bytes buf = done (refusedFor r) buf
 
 -- WHAT SEALING A TEXT INTO THE FRONT OF A BUFFER COMES TO
 unfoldable pub sealDone : List State → List ℕ → List ℕ → List ℕ → Done
@@ -53,20 +36,20 @@ judgeOpen n space = firstOf (unless (leb 16 n) refusal.AuthTag ∷ unless (leb (
 
 abbrev pub byTag : Opened → ℕ → List ℕ → Done
 byTag (plain text) n buf = done (wrote n) (replaceFront text buf)
-byTag fail n buf = done (refusedWith (numbersOf refusal.AuthTag)) (replaceFront (replicate n 0) buf)
+byTag fail n buf = done (refusedFor (numbersOf refusal.AuthTag)) (replaceFront (replicate n 0) buf)
 
 abbrev pub byBoth : Judged → Opened → ℕ → List ℕ → Done
 byBoth fine o n buf = byTag o n buf
-byBoth (refused r) o n buf = done (refusedWith r) buf
+byBoth (refused r) o n buf = done (refusedFor r) buf
 
 -- WHAT OPENING SEALED BYTES INTO THE FRONT OF A BUFFER COMES TO
 unfoldable pub openDone : List State → List ℕ → List ℕ → List ℕ → Done
 openDone w nonce s buf = byBoth (judgeOpen (length s) (length buf)) (openedBy w nonce s) (length s - 16) buf
 
--- ---- THE PROMISES of a call that was lent buf, answered r and left `after`
+-- ---- THE PROMISES of a call that was lent buf, outcomeOf r and left `after`
 
-pub record Sealing (w : List State) (nonce text buf : List ℕ) (r : Outcome) (after : List ℕ) : Type 0 where
-  pub is : done (answered r) after ≡ sealDone w nonce text buf
+pub record Sealing (w : List State) (nonce text buf : List ℕ) (r : WriteResult) (after : List ℕ) : Type 0 where
+  pub is : done (outcomeOf r) after ≡ sealDone w nonce text buf
 
-pub record Opening (w : List State) (nonce s buf : List ℕ) (r : Outcome) (after : List ℕ) : Type 0 where
-  pub is : done (answered r) after ≡ openDone w nonce s buf
+pub record Opening (w : List State) (nonce s buf : List ℕ) (r : WriteResult) (after : List ℕ) : Type 0 where
+  pub is : done (outcomeOf r) after ≡ openDone w nonce s buf

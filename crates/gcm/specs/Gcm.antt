@@ -6,7 +6,7 @@ use lib.Bits.{bitXor}
 use lib.Dec.{eqb, leb}
 use lib.ListN.{getD, length, take, drop, replicate}
 use Rattle.aes.specs.Aes.{State, stateOf, cipher, keyExpansion}
-use Rattle.aes.specs.Counter.{be4, streamBlock, gctr}
+use Rattle.aes.specs.Counter.{be4, keystreamBlock, gctr}
 use Rattle.ghash.specs.Ghash.{pair, quadOf, ghash}
 
 -- ---- blocks as numbers, the first byte highest, and back
@@ -38,7 +38,7 @@ hashKey w = blockNumber (cipher w (stateOf (replicate 16 0)))
 
 -- steps 4 to 6: the tag of the masked text c is its hash, masked by the block of J0
 unfoldable pub tagOf : List State → List ℕ → List ℕ → List ℕ
-tagOf w nonce c = blockBytes (bitXor (ghash (hashKey w) c) (blockNumber (streamBlock w nonce 1)))
+tagOf w nonce c = blockBytes (bitXor (ghash (hashKey w) c) (blockNumber (keystreamBlock w nonce 1)))
 
 -- steps 3 and 7
 unfoldable pub sealedBy : List State → List ℕ → List ℕ → List ℕ

@@ -1,13 +1,14 @@
 // AES-128-GCM: seal and open, into a buffer or where the bytes stand.
 use aes::encrypt;
 use aes::expand;
-use aes::mask;
-use aes::stream_block;
+use aes::keystream_block;
+use aes::xor_keystream;
 use buffer::put;
 use buffer::put_zeros;
 use ghash::Block;
 use ghash::hash;
 use refusal::Refusal;
+use refusal::WriteResult;
 ghost use mathlib.Core.Path.{_≡_};
 ghost use mathlib.Core.List.{_++_};
 ghost use Prim.Native.Nat.{_+_, _-_, _*_, _^_, _<_, _≤_};
@@ -19,12 +20,6 @@ ghost use Rattle.ghash.specs.Ghash.{pair, quadOf};
 ghost use Rattle.gcm.specs.Gcm.{columnNumber, blockNumber, blockBytes, hashKey, tagOf, sealedBy, sameAs, tagFits};
 ghost use Rattle.gcm.specs.Calls.{Sealing, Opening};
 ghost use Rattle.gcm.specs.Trip.{RoundTrip};
-
-// What a call comes to: the bytes written, or why it was refused.
-pub enum Outcome {
-    Wrote(usize),
-    Refused(Refusal),
-}
 
 // GCM's longest text: 2^36 - 32 bytes.
 const LONGEST: usize = 68719476704;
@@ -106,7 +101,7 @@ fn tag(w: &[[[u8; 4]; 4]; 11], nonce: [u8; 12], c: &[u8]) -> [u8; 16]
     ensures { λ r. ⌜ r ≡ tagOf (now (w .entry)) nonce (now (c .entry)) ⌝ }
 {
     let y = hash(hash_key(w), c);
-    let m = block_of(stream_block(w, nonce, 1));
+    let m = block_of(keystream_block(w, nonce, 1));
     xor_bytes(y, m)
 }
 
@@ -140,29 +135,34 @@ fn seal_front(w: &[[[u8; 4]; 4]; 11], nonce: [u8; 12], buf: &mut [u8], n: usize)
     requires { ⌜ n + 16 ≤ length (now buf) ⌝ }
     ensures { λ _. ⌜ now (buf .exit) ≡ replaceFront (sealedBy (now (w .entry)) nonce (take n (now (buf .entry)))) (now (buf .entry)) ⌝ }
 {
-    mask(w, nonce, buf, n);
+    xor_keystream(w, nonce, buf, n);
     let t = tag(w, nonce, &buf[..n]);
     put(&mut buf[n..], &t);
 }
 
 // Seals text into the front of out, by the round keys of a key: the masked bytes, and then the tag.
-pub fn seal_with(w: &[[[u8; 4]; 4]; 11], nonce: [u8; 12], text: &[u8], out: &mut [u8]) -> Outcome
+pub fn seal_with(
+    w: &[[[u8; 4]; 4]; 11],
+    nonce: [u8; 12],
+    text: &[u8],
+    out: &mut [u8],
+) -> WriteResult
     ensures { λ r. ⌜ Sealing (now (w .entry)) nonce (now (text .entry)) (now (out .entry)) r (now (out .exit)) ⌝ }
 {
     let n = text.len();
     if LONGEST < n {
-        return Outcome::Refused(Refusal::Limit(0));
+        return WriteResult::Refused(Refusal::Limit(0));
     }
     if out.len() < n + 16 {
-        return Outcome::Refused(Refusal::NoRoom((n + 16) as u64));
+        return WriteResult::Refused(Refusal::NoRoom((n + 16) as u64));
     }
     put(out, text);
     seal_front(w, nonce, out, n);
-    Outcome::Wrote(n + 16)
+    WriteResult::Wrote(n + 16)
 }
 
 // Seals text into the front of out.
-pub fn seal(key: [u8; 16], nonce: [u8; 12], text: &[u8], out: &mut [u8]) -> Outcome
+pub fn seal(key: [u8; 16], nonce: [u8; 12], text: &[u8], out: &mut [u8]) -> WriteResult
     ensures { λ r. ⌜ Sealing (keyExpansion key) nonce (now (text .entry)) (now (out .entry)) r (now (out .exit)) ⌝ }
 {
     let w = expand(key);
@@ -172,30 +172,35 @@ pub fn seal(key: [u8; 16], nonce: [u8; 12], text: &[u8], out: &mut [u8]) -> Outc
 // ---- opening
 
 // Opens what stands in sealed into the front of out, by the round keys of a key.
-pub fn open_with(w: &[[[u8; 4]; 4]; 11], nonce: [u8; 12], sealed: &[u8], out: &mut [u8]) -> Outcome
+pub fn open_with(
+    w: &[[[u8; 4]; 4]; 11],
+    nonce: [u8; 12],
+    sealed: &[u8],
+    out: &mut [u8],
+) -> WriteResult
     ensures { λ r. ⌜ Opening (now (w .entry)) nonce (now (sealed .entry)) (now (out .entry)) r (now (out .exit)) ⌝ }
 {
     if sealed.len() < 16 {
-        return Outcome::Refused(Refusal::AuthTag);
+        return WriteResult::Refused(Refusal::AuthTag);
     }
     let n = sealed.len() - 16;
     if LONGEST < n {
-        return Outcome::Refused(Refusal::Limit(0));
+        return WriteResult::Refused(Refusal::Limit(0));
     }
     if out.len() < n {
-        return Outcome::Refused(Refusal::NoRoom(n as u64));
+        return WriteResult::Refused(Refusal::NoRoom(n as u64));
     }
     if tag_fits(w, nonce, sealed, n) {
         put(out, &sealed[..n]);
-        mask(w, nonce, out, n);
-        return Outcome::Wrote(n);
+        xor_keystream(w, nonce, out, n);
+        return WriteResult::Wrote(n);
     }
     put_zeros(out, n);
-    Outcome::Refused(Refusal::AuthTag)
+    WriteResult::Refused(Refusal::AuthTag)
 }
 
 // Opens what stands in sealed into the front of out.
-pub fn open(key: [u8; 16], nonce: [u8; 12], sealed: &[u8], out: &mut [u8]) -> Outcome
+pub fn open(key: [u8; 16], nonce: [u8; 12], sealed: &[u8], out: &mut [u8]) -> WriteResult
     ensures { λ r. ⌜ Opening (keyExpansion key) nonce (now (sealed .entry)) (now (out .entry)) r (now (out .exit)) ⌝ }
 {
     let w = expand(key);
@@ -205,37 +210,37 @@ pub fn open(key: [u8; 16], nonce: [u8; 12], sealed: &[u8], out: &mut [u8]) -> Ou
 // ---- where the bytes stand
 
 // Seals all but the last 16 bytes of buf, and puts their tag there.
-pub fn seal_in_place(w: &[[[u8; 4]; 4]; 11], nonce: [u8; 12], buf: &mut [u8]) -> Outcome
+pub fn seal_in_place(w: &[[[u8; 4]; 4]; 11], nonce: [u8; 12], buf: &mut [u8]) -> WriteResult
     ensures { λ r. ⌜ Sealing (now (w .entry)) nonce (take (length (now (buf .entry)) - 16) (now (buf .entry))) (now (buf .entry)) r (now (buf .exit)) ⌝ }
 {
     if buf.len() < 16 {
-        return Outcome::Refused(Refusal::NoRoom(16));
+        return WriteResult::Refused(Refusal::NoRoom(16));
     }
     let n = buf.len() - 16;
     if LONGEST < n {
-        return Outcome::Refused(Refusal::Limit(0));
+        return WriteResult::Refused(Refusal::Limit(0));
     }
     seal_front(w, nonce, buf, n);
-    Outcome::Wrote(buf.len())
+    WriteResult::Wrote(buf.len())
 }
 
 // Opens all of buf to its own front; behind the text the tag stays.
-pub fn open_in_place(w: &[[[u8; 4]; 4]; 11], nonce: [u8; 12], buf: &mut [u8]) -> Outcome
+pub fn open_in_place(w: &[[[u8; 4]; 4]; 11], nonce: [u8; 12], buf: &mut [u8]) -> WriteResult
     ensures { λ r. ⌜ Opening (now (w .entry)) nonce (now (buf .entry)) (now (buf .entry)) r (now (buf .exit)) ⌝ }
 {
     if buf.len() < 16 {
-        return Outcome::Refused(Refusal::AuthTag);
+        return WriteResult::Refused(Refusal::AuthTag);
     }
     let n = buf.len() - 16;
     if LONGEST < n {
-        return Outcome::Refused(Refusal::Limit(0));
+        return WriteResult::Refused(Refusal::Limit(0));
     }
     if tag_fits(w, nonce, buf, n) {
-        mask(w, nonce, buf, n);
-        return Outcome::Wrote(n);
+        xor_keystream(w, nonce, buf, n);
+        return WriteResult::Wrote(n);
     }
     put_zeros(buf, n);
-    Outcome::Refused(Refusal::AuthTag)
+    WriteResult::Refused(Refusal::AuthTag)
 }
 
 // Opening what was sealed gives it back. The body does nothing: the promise is a theorem about any call that keeps the promises above.

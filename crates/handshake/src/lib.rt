@@ -2,7 +2,7 @@
 use refusal::Numbers;
 use refusal::Refusal;
 use refusal::both;
-use refusal::in_numbers;
+use refusal::numbers_of;
 ghost use mathlib.Core.Path.{_≡_};
 ghost use mathlib.Core.Bool.{cond};
 ghost use Rattle.handshake.specs.Table.{ledTo, bothRows, clientRows, serverRows, find};
@@ -207,20 +207,20 @@ fn advance(n: Next, tag: u8) -> Step
         },
         Next::Unexpected => Step {
             state: State::Closed,
-            report: Report::Refused(in_numbers(Refusal::UnexpectedTag(tag))),
+            report: Report::Refused(numbers_of(Refusal::UnexpectedTag(tag))),
         },
     }
 }
 
 // A client in the state s gets a frame with a tag.
-pub fn client(s: State, tag: u8, v: Verdict) -> Step
+pub fn client_step(s: State, tag: u8, v: Verdict) -> Step
     ensures { λ r. ⌜ Stepped clientRows s tag v r ⌝ }
 {
     advance(client_next(s, tag, v), tag)
 }
 
 // A server in the state s gets a frame with a tag.
-pub fn server(s: State, tag: u8, v: Verdict) -> Step
+pub fn server_step(s: State, tag: u8, v: Verdict) -> Step
     ensures { λ r. ⌜ Stepped serverRows s tag v r ⌝ }
 {
     advance(server_next(s, tag, v), tag)

@@ -6,9 +6,9 @@ use handshake::Picked;
 use handshake::Report;
 use handshake::State;
 use handshake::Verdict;
-use handshake::client;
+use handshake::client_step;
 use handshake::pick_mode;
-use handshake::server;
+use handshake::server_step;
 use records::Step;
 use records::bad_record;
 use records::is_whole;
@@ -113,9 +113,9 @@ fn make_step(side: u8, s: State, tag: u8, verdict: u8) -> handshake::Step
 {
     let v = verdict_of(verdict);
     if side == 1 {
-        return server(s, tag, v);
+        return server_step(s, tag, v);
     }
-    client(s, tag, v)
+    client_step(s, tag, v)
 }
 
 // A step stands at a place, with both its bytes.

@@ -23,8 +23,8 @@ use Rattle.receiver.specs.State.{agrees, isRefused}
 use Rattle.receiver.specs.Step.{Answered, Running, neededBy, contradiction, shortStore, refusedState}
 use Rattle.receiver.specs.Every.{Refuses, Sound}
 use Rattle.receiver.specs.Calls.{pieceAt, refusedIn}
-use Rattle.receiver.proofs.Live.{refused-gone}
-use Rattle.receiver.proofs.Every.{sound, gone-answer, refuses}
+use Rattle.receiver.proofs.Live.{refused-for}
+use Rattle.receiver.proofs.Every.{sound, refused-answer, refuses}
 use Rattle.receiver.proofs.CallLoop.{taken-within}
 use Rattle.text.specs.Page.{page, puts}
 use Rattle.link.specs.declared.Walk.{Walk}
@@ -93,7 +93,7 @@ moves st s piece o s′ a = by-agree (agrees st) refl
     by-store e l false t = moves-running piece o within st s s′ x (record { agree = e; live = l; fits = ltb-false (length s) (neededBy st) t })
 
     by-stage : agrees st ≡ true → (b : Bool) → isRefused (st .position .stage) ≡ b → Moves piece o
-    by-stage e true l = moves-refused piece o within st (st .known .refusal) s s′ (refuses st (st .known .refusal) a (gone-answer st s piece (refused-gone st e l)))
+    by-stage e true l = moves-refused piece o within st (st .known .refusal) s s′ (refuses st (st .known .refusal) a (refused-answer st s piece (refused-for st e l)))
     by-stage e false l = by-store e l (ltb (length s) (neededBy st)) refl
 
     by-agree : (b : Bool) → agrees st ≡ b → Moves piece o

@@ -11,7 +11,7 @@ use lib.Seq.{take-take, take-all, drop-drop}
 use borrow.Author.Tests.{lt-ltb, le-ltb, le-leb, ltb-true, ltb-false, leb-true, leb-false, eqb-true, eqb-false}
 use Rattle.buffer.specs.Le.{numberAt, Bytes}
 use Rattle.buffer.proofs.Numbers.{number-take, word-read, bytes-take, bytes-drop}
-use Rattle.buffer.proofs.Turn.{take-min}
+use Rattle.buffer.proofs.CopyLoop.{take-min}
 use Rattle.buffer.proofs.Parts.{drop-take}
 use Rattle.refusal.specs.Refusals.{Judged, fine}
 use Rattle.refusal.proofs.Booleans.{either-left, either-right}

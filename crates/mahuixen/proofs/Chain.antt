@@ -53,12 +53,12 @@ module _ (st : State) (p : PlainConnection) (s piece : List ℕ) (o : PlainRecei
   abbrev k : connectionOf p ≡ st
   k = w .stands .state
 
-  record Told : Type 0 where
+  record AnswerGiven : Type 0 where
     received : o ≡ plainReceived (answer st s piece .received)
     store : s′ ≡ answer st s piece .store
 
-  told : (b : Bool) → readyRule st ≡ b → Told
-  told true q =
+  answer-given : (b : Bool) → readyRule st ≡ b → AnswerGiven
+  answer-given true q =
       let e = answered-by p s piece st k (w .stands .fit) q in
       let f : next p (answer st s piece .received .state) ≡ plainOf (answer st s piece .received .state) =
       ap (λ (x : PlainConnection). next x (answer st s piece .received .state)) (w .words) ∙ next-words st s piece q in
@@ -66,7 +66,7 @@ module _ (st : State) (p : PlainConnection) (s piece : List ℕ) (o : PlainRecei
         received = h .received ∙ ap (λ (x : PlainAnswer). x .received) e ∙ ap (λ (x : PlainConnection). handed x (crc.reportWords (answer st s piece .received .taken) (answer st s piece .received .report))) f;
         store = h .store ∙ ap (λ (x : PlainAnswer). x .store) e;
       }
-  told false q =
+  answer-given false q =
       let e = answer-by p s piece false (rw (w .stands .fit, k, q)) in
       let a = contradicted st s piece contradiction q refl in
       record {
@@ -76,7 +76,7 @@ module _ (st : State) (p : PlainConnection) (s piece : List ℕ) (o : PlainRecei
 
   pub plain-form : PlainForm st s piece o s′
   plain-form =
-      let t = told (readyRule st) refl in
+      let t = answer-given (readyRule st) refl in
       record {
         received = t .received;
         store = t .store;

@@ -25,7 +25,7 @@ use Rattle.connection.specs.Step.{isSecure, readyRule, Answer, byCrc, answer}
 use Rattle.connection.specs.Calls.{Piece}
 use Rattle.connection.proofs.Laws.{mode-is}
 use Rattle.connection.proofs.Machines.{before, crcSide}
-use Rattle.connection.proofs.Parted.{Stands, runs, refuses, next-stands}
+use Rattle.connection.proofs.SplitAtSwitch.{Stands, runs, refuses, next-stands}
 use Rattle.plain_connection.specs.Words.{PlainConnection, PlainOf, PlainReceived, kindIn, takenIn}
 use Rattle.plain_connection.proofs.Calls.{taken-word}
 use Rattle.mahuixen.specs.Calls.{PlainPiece, PlainChained, plainReceived}

@@ -9,8 +9,8 @@ use Rattle.refusal.specs.declared.Refusal.the-variants.{StateContradicts}
 use Rattle.refusal.specs.Refusals.{numbersOf}
 use Rattle.refusal.proofs.Booleans.{and-false}
 use Rattle.banner.specs.declared.Features.{Features}
-use Rattle.builder.specs.declared.Built.the-variants as built
-use Rattle.builder.specs.Build as build
+use Rattle.refusal.specs.declared.WriteResult.the-variants as built
+use Rattle.refusal.specs.Writes as writes
 use Rattle.banner.specs.declared.Revision.{Revision}
 use Rattle.builder.specs.Build.{frameDone, bannerDone}
 use Rattle.stream.specs.declared.Event.the-variants as event
@@ -31,13 +31,13 @@ use Rattle.ends.specs.Handed.{HandedOver}
 use Rattle.ends.specs.Trip.{Build, Accepts, bytesOf, RoundTrip}
 use Rattle.ends.specs.Ends.{Queued, Link, Linked, sentBy, TwoEnds}
 use Rattle.plain.specs.declared.Written.{Written}
-use Rattle.plain.specs.Words.{within, revisionOf, plainRefused, PlainDone, plainDone, headerAt, headerLimits}
+use Rattle.plain.specs.Words.{within, revisionByNumber, plainRefused, PlainDone, plainDone, headerAt, headerLimits, inPlain, plainResult}
 use Rattle.plain.proofs.Headers.{header-fits}
 use Rattle.plain_receiver.specs.Words.{reportWords}
 use Rattle.plain_receiver.proofs.Back.{refused-back}
 use Rattle.plain_connection.specs.Words.{PlainConnection, connectionOf, fits, PlainOf, following, next, PlainReceived, handed, kindIn, PlainAnswer, plainly, contradicts, ReceivedBy}
 use Rattle.plain_connection.proofs.Calls.{answer-by, answered-by}
-use Rattle.plain_builder.specs.Words.{plainBuilt, inPlain, plainFrame}
+use Rattle.plain_builder.specs.Words.{plainFrame}
 use Rattle.mahuixen.specs.Calls.{PlainPiece, PlainChained}
 use Rattle.mahuixen.specs.Demands.{InnerCall, PlainRefuses, PlainDemand1, pieces, PlainAccepts, PlainQueued, PlainLinked, PlainDemand2}
 use Rattle.mahuixen.proofs.Crc.{CrcPieces, crc-pieces, CrcCalls, crc-calls}
@@ -99,11 +99,11 @@ module _ (every : connection.EveryCall) where
       let first : r ≡ plainly p (answer (connectionOf p) s piece) .received = received-is p s piece i r s′ h k (rule-of (connectionOf p) g) in
       let x : Received = answer (connectionOf p) s piece .received in
       let v = sound-of (connectionOf p) s piece x (answer (connectionOf p) s piece .store) (record { received = refl; store = refl }) in
-      let told : x .report ≡ report.Event (event.Refused n) = refused-back (x .taken) t (x .report) n (sym (ap (λ (y : PlainReceived). y .report) first) ∙ e) in
+      let reported : x .report ≡ report.Event (event.Refused n) = refused-back (x .taken) t (x .report) n (sym (ap (λ (y : PlainReceived). y .report) first) ∙ e) in
       let b = h .answered .back k in
       let q : readyRule (connectionOf (r .state)) ≡ true = ap readyRule (b .state) ∙ rule-of (x .state) (v .agreeing g) in
       let z : Answer = answer (x .state) s₂ piece₂ in
-      let y = v .stays n g told s₂ piece₂ (z .received) (z .store) (record { received = refl; store = refl }) in
+      let y = v .stays n g reported s₂ piece₂ (z .received) (z .store) (record { received = refl; store = refl }) in
       let again : r₂ ≡ handed (next (r .state) (x .state)) (reportWords 0 (report.Event (event.Refused n))) =
       received-is (r .state) s₂ piece₂ i₂ r₂ s₃ h₂ (b .fit) q
       ∙ ap (λ (c : State). plainly (r .state) (answer c s₂ piece₂) .received) (b .state)
@@ -134,48 +134,48 @@ demand1-in-c every calls = record {
 -- ---- demand 2
 
 -- a build that wrote something was not refused
-accepted-is : (d : build.Done) (b : Written) (l : List ℕ) → plainDone b l ≡ inPlain d → 0 < b .written → (w : ℕ) → b .written ≡ w → build.done (build.answered (built.Wrote w)) l ≡ d
-accepted-is d b l e z w v = go (d .answer) refl
+accepted-is : (d : writes.Done) (b : Written) (l : List ℕ) → plainDone b l ≡ inPlain d → 0 < b .written → (w : ℕ) → b .written ≡ w → writes.done (writes.outcomeOf (built.Wrote w)) l ≡ d
+accepted-is d b l e z w v = go (d .outcome) refl
   where
-    go : (x : build.Answer) → d .answer ≡ x → build.done (build.answered (built.Wrote w)) l ≡ d
-    go (build.wrote n) q =
-        let p : plainDone b l ≡ plainDone (plainBuilt (build.wrote n)) (d .buffer) = e ∙ ap (λ (x : build.Answer). plainDone (plainBuilt x) (d .buffer)) q in
+    go : (x : writes.Outcome) → d .outcome ≡ x → writes.done (writes.outcomeOf (built.Wrote w)) l ≡ d
+    go (writes.wrote n) q =
+        let p : plainDone b l ≡ plainDone (plainResult (writes.wrote n)) (d .buffer) = e ∙ ap (λ (x : writes.Outcome). plainDone (plainResult x) (d .buffer)) q in
         let m : b .written ≡ n = ap (λ (x : PlainDone). x .answer .written) p in
         let k : l ≡ d .buffer = ap (λ (x : PlainDone). x .buffer) p in
-        ap₂ build.done (ap build.wrote (sym v ∙ m) ∙ sym q) k
-    go (build.turnedAway n) q =
-        let p : plainDone b l ≡ plainDone (plainBuilt (build.turnedAway n)) (d .buffer) = e ∙ ap (λ (x : build.Answer). plainDone (plainBuilt x) (d .buffer)) q in
+        ap₂ writes.done (ap writes.wrote (sym v ∙ m) ∙ sym q) k
+    go (writes.refusedFor n) q =
+        let p : plainDone b l ≡ plainDone (plainResult (writes.refusedFor n)) (d .buffer) = e ∙ ap (λ (x : writes.Outcome). plainDone (plainResult x) (d .buffer)) q in
         let m : b .written ≡ 0 = ap (λ (x : PlainDone). x .answer .written) p in
         absurd (omega arith)
 
 -- nor were the words of its header
 within-fields : (revision : ℕ) (ws : List ℕ) (abort : Bool) (source buf : List ℕ) (queued : ℕ) (b : Written) (l : List ℕ)
     → plainDone b l ≡ plainFrame revision ws abort source buf queued → 0 < b .written
-    → plainDone b l ≡ inPlain (frameDone (revisionOf revision) (headerAt 0 ws) abort source buf queued)
+    → plainDone b l ≡ inPlain (frameDone (revisionByNumber revision) (headerAt 0 ws) abort source buf queued)
 unfolding plainFrame
 within-fields revision ws abort source buf queued b l e z = go (within headerLimits 0 ws) refl
   where
-    go : (t : Bool) → within headerLimits 0 ws ≡ t → plainDone b l ≡ inPlain (frameDone (revisionOf revision) (headerAt 0 ws) abort source buf queued)
+    go : (t : Bool) → within headerLimits 0 ws ≡ t → plainDone b l ≡ inPlain (frameDone (revisionByNumber revision) (headerAt 0 ws) abort source buf queued)
     go true k = e ∙ rw k
     go false k =
         let p : plainDone b l ≡ plainDone (plainRefused (numbersOf StateContradicts)) buf = e ∙ rw k in
         let m : b .written ≡ 0 = ap (λ (x : PlainDone). x .answer .written) p in
         absurd (omega arith)
 
-accepts : (revision : ℕ) (buf : List ℕ) (queued : ℕ) (b : Build) → PlainAccepts revision buf queued b → Accepts (revisionOf revision) buf queued b
+accepts : (revision : ℕ) (buf : List ℕ) (queued : ℕ) (b : Build) → PlainAccepts revision buf queued b → Accepts (revisionByNumber revision) buf queued b
 accepts revision buf queued b a =
     let e = within-fields revision (a .words) (b .abort) (b .source) buf queued (a .built) (b .buffer) (a .promised .promise) (a .accepted) in
     record {
-      promised = record { promise = accepted-is (frameDone (revisionOf revision) (b .header) (b .abort) (b .source) buf queued) (a .built) (b .buffer) (rw (a .header) e) (a .accepted) (b .written) (a .written) };
+      promised = record { promise = accepted-is (frameDone (revisionByNumber revision) (b .header) (b .abort) (b .source) buf queued) (a .built) (b .buffer) (rw (a .header) e) (a .accepted) (b .written) (a .written) };
       header = rw (a .header) (header-fits 0 (a .words));
       source = a .source;
     }
 
-queued-in : (revision : ℕ) (buf : List ℕ) (queued : ℕ) (bs : List Build) → PlainQueued revision buf queued bs → Queued (revisionOf revision) buf queued bs
+queued-in : (revision : ℕ) (buf : List ℕ) (queued : ℕ) (bs : List Build) → PlainQueued revision buf queued bs → Queued (revisionByNumber revision) buf queued bs
 queued-in revision buf queued [] q = tt
 queued-in revision buf queued (b ∷ bs) q = (accepts revision buf queued b (q .0), queued-in revision (b .buffer) (queued + b .written) bs (q .1))
 
-pub linked : (revision : ℕ) (l : Link) → PlainLinked revision l → Linked (revisionOf revision) l
+pub linked : (revision : ℕ) (l : Link) → PlainLinked revision l → Linked (revisionByNumber revision) l
 linked revision l a = record {
   banner = record { promise = accepted-is (bannerDone (l .features .supported) (l .features .required) (l .space) (l .queued)) (a .banner) (l .buffer) (a .promised .promise) (a .accepted) (l .written) (a .written) };
   builds = queued-in revision (l .buffer) (l .queued + l .written) (l .builds) (a .builds);
@@ -192,14 +192,14 @@ unfolding HandedOver RoundTrip TwoEnds
 demand2-in-c handed trip two = record {
   handed = λ own n p q front X store revision up ps h.
       (let x = pieces-of (front ++ X) own p store ps (q .state) h in
-      record { calls = x .calls; plain = x .plain; chained = x .chained; holds = handed own front X store (revisionOf revision) up .reports (x .calls) (x .chained) });
+      record { calls = x .calls; plain = x .plain; chained = x .chained; holds = handed own front X store (revisionByNumber revision) up .reports (x .calls) (x .chained) });
   trip = λ own n p q front store revision up buf queued b a room behind ps h.
       (let x = pieces-of (front ++ bytesOf queued b ++ behind) own p store ps (q .state) h in
       record {
         calls = x .calls;
         plain = x .plain;
         chained = x .chained;
-        holds = trip own front store (revisionOf revision) up buf queued b (accepts revision buf queued b a) room behind (x .calls) (x .chained);
+        holds = trip own front store (revisionByNumber revision) up buf queued b (accepts revision buf queued b a) room behind (x .calls) (x .chained);
       });
   ends = λ own n p q store revision l e a o f room behind ps h.
       (let x = pieces-of (sentBy l ++ behind) own p store ps (q .state) h in

@@ -13,8 +13,8 @@ use Rattle.refusal.specs.declared.Numbers.{Numbers}
 use Rattle.refusal.specs.Refusals.{Judged, fine, refused, row, numbersOf, unless, firstOf}
 use Rattle.preamble.specs.declared.Header.{Header}
 use Rattle.aes.specs.Aes.{keyExpansion}
-use Rattle.builder.specs.declared.Built.the-variants as built
-use Rattle.builder.specs.Build.{wrote}
+use Rattle.refusal.specs.declared.WriteResult.the-variants as built
+use Rattle.refusal.specs.Writes.{wrote}
 use Rattle.secure.specs.Layout.{allNonces, noncesOf, sealedParts, partCount, sealedLength}
 use Rattle.secure.proofs.Lengths.{positive}
 use Rattle.sealed_builder.specs.declared.Sending.{Sending}

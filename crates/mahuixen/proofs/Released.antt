@@ -22,7 +22,7 @@ use Rattle.session.specs.Laws as session
 use Rattle.session.specs.Laws.{callOf}
 use Rattle.connection.specs.declared.State.{State}
 use Rattle.connection.specs.Step.{begun, answer}
-use Rattle.delivery.specs.declared.Settled.{Settled}
+use Rattle.delivery.specs.declared.Applied.{Applied}
 use Rattle.delivery.specs.declared.Delivered.{Delivered}
 use Rattle.delivery.specs.declared.Switched.{Switched}
 use Rattle.delivery.specs.Asked as promises
@@ -34,7 +34,7 @@ use Rattle.plain_connection.specs.Words.{PlainConnection, connectionOf, PlainOf
 use Rattle.plain_connection.proofs.Calls.{taken-word}
 use Rattle.plain_session.specs.Words as words
 use Rattle.plain_session.specs.Words.{PlainSession, sessionOf, PlainOutcome, plainOutcome, PlainCalled}
-use Rattle.plain_delivery.specs.Words.{PlainSettled, plainSettled}
+use Rattle.plain_delivery.specs.Words.{PlainApplied, plainApplied}
 use Rattle.mahuixen.specs.Releases.{PlainCall, piece, tried, accepted, handed, PlainChained, plainAfter, PlainLink, PlainConnects, answerKind, plainCalls, plainLinks, PlainEveryRelease}
 use Rattle.mahuixen.proofs.Chain.{plain-form, verdictOf, judged, answered, switch-form}
 
@@ -47,7 +47,7 @@ reported st p s bytes w =
     ∙ ap (λ (x : State). answer x s bytes .received .report) (w .stands .state)
 
 module _ (st : State) (x : Session) (s bytes : List ℕ) where
-  abbrev done : Settled
+  abbrev done : Applied
   done = doneTo x (askedByReport (answer st s bytes .received .report) (answer st s bytes .store))
 
   abbrev delivered : Delivered
@@ -58,13 +58,13 @@ module _ (st : State) (x : Session) (s bytes : List ℕ) where
     effect = done .effect;
   }
 
-  done-form : (p : PlainConnection) (q : PlainSession) (d : PlainSettled) (s′ : List ℕ) → PlainOf st p → q ≡ words.plainOf x → s′ ≡ answer st s bytes .store
-      → d ≡ plainSettled (doneTo (sessionOf q) (askedByReport (reportBy p s bytes) s′)) → d ≡ plainSettled done
+  done-form : (p : PlainConnection) (q : PlainSession) (d : PlainApplied) (s′ : List ℕ) → PlainOf st p → q ≡ words.plainOf x → s′ ≡ answer st s bytes .store
+      → d ≡ plainApplied (doneTo (sessionOf q) (askedByReport (reportBy p s bytes) s′)) → d ≡ plainApplied done
   done-form p q d s′ w e f h =
       h
-      ∙ ap (λ (y : PlainSession). plainSettled (doneTo (sessionOf y) (askedByReport (reportBy p s bytes) s′))) e
-      ∙ ap (λ (r : Report). plainSettled (doneTo x (askedByReport r s′))) (reported st p s bytes w)
-      ∙ ap (λ (y : List ℕ). plainSettled (doneTo x (askedByReport (answer st s bytes .received .report) y))) f
+      ∙ ap (λ (y : PlainSession). plainApplied (doneTo (sessionOf y) (askedByReport (reportBy p s bytes) s′))) e
+      ∙ ap (λ (r : Report). plainApplied (doneTo x (askedByReport r s′))) (reported st p s bytes w)
+      ∙ ap (λ (y : List ℕ). plainApplied (doneTo x (askedByReport (answer st s bytes .received .report) y))) f
 
 -- ---- a call of the session
 
@@ -89,7 +89,7 @@ record AsCalls (stream : List ℕ) (st : State) (x : Session) (q : PlainSession)
   chained : Chained stream (promises.delivery st x) s t calls
   left : plainAfter q ps ≡ words.plainOf (sessionAfter x calls)
 
-same-piece : (size n : ℕ) {o o′ : PlainReceived} {d d′ : PlainSettled} {s s′ : List ℕ} → n ≡ kindIn o → o ≡ o′ → d ≡ d′ → s ≡ s′ → piece size n o d s ≡ piece size (kindIn o′) o′ d′ s′
+same-piece : (size n : ℕ) {o o′ : PlainReceived} {d d′ : PlainApplied} {s s′ : List ℕ} → n ≡ kindIn o → o ≡ o′ → d ≡ d′ → s ≡ s′ → piece size n o d s ≡ piece size (kindIn o′) o′ d′ s′
 same-piece size n c e f g = rw (c, e, f, g)
 
 same-accepted : (h n : ℕ) {o o′ : PlainOutcome} → n ≡ answerKind o → o ≡ o′ → accepted h n o ≡ accepted h (answerKind o′) o′
@@ -109,7 +109,7 @@ as-calls stream st p x q s t (piece size k o d s′ ∷ ps) w e h =
     let n : takenIn o ≡ a .received .taken = ap takenIn (f .received) ∙ taken-word (a .received .taken) (a .received .report) in
     let on =
     as-calls stream (a .received .state) (o .state) (r .state .session) (d .session) (a .store) (t + a .received .taken) ps (f .next)
-    (ap (λ (y : PlainSettled). y .session) g) (rw (n, f .store) at (h .1)) in
+    (ap (λ (y : PlainApplied). y .session) g) (rw (n, f .store) at (h .1)) in
     record {
       calls = delivery.piece size r (a .store) ∷ on .calls;
       plain = ap₂ _∷_ (same-piece size k (h .0 .received .kind) (f .received) g (f .store)) (on .plain);

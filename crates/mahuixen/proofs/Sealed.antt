@@ -13,7 +13,7 @@ use Rattle.sealed_ends.specs.Handed.{SealedHandedOver}
 use Rattle.sealed_ends.specs.Trip.{Accepts, bytesOf, SealedRoundTrip}
 use Rattle.sealed_ends.specs.Fronts.{bytesIn}
 use Rattle.sealed_ends.specs.Ends.{Queued, bufferAt, queuedAt, sentBy, SwitchedLinked, SealedTwoEnds}
-use Rattle.plain.specs.Words.{revisionOf}
+use Rattle.plain.specs.Words.{revisionByNumber}
 use Rattle.plain.proofs.Headers.{header-fits}
 use Rattle.plain_connection.specs.Words.{PlainConnection, connectionOf, fits, PlainSending, sendingWords, judgeWords}
 use Rattle.mahuixen.specs.Nonces.{PlainBuild, writtenBy, sendingBehind, sendingIn, buildOf}
@@ -58,7 +58,7 @@ switched-in l e = record {
   sends = ap (λ (j : Judged). switchedSending j (l .key) (l .sending)) (sym e);
 }
 
-linked-in : (revision : ℕ) (l : PlainSwitchedLink) → PlainSwitchedLinked revision l → SwitchedLinked (revisionOf revision) (linkOf l)
+linked-in : (revision : ℕ) (l : PlainSwitchedLink) → PlainSwitchedLinked revision l → SwitchedLinked (revisionByNumber revision) (linkOf l)
 linked-in revision l a =
     let e = made-fine (l .state) (l .key) (l .receiving) (l .sending) (l .switched) (a .switch) (a .made) in
     let s = made-sends (l .state) (l .key) (l .receiving) (l .sending) (l .switched) (a .switch) (a .made) in

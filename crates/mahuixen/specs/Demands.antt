@@ -26,7 +26,7 @@ use Rattle.ends.specs.Handed.{UpTo, ExactlyBehind, Through}
 use Rattle.ends.specs.Trip.{Build, bytesOf, entriesOf, storeAfter, following}
 use Rattle.ends.specs.Ends.{Link, Fitting, sentBy, allEntries, storeAfterAll}
 use Rattle.plain.specs.declared.Written.{Written}
-use Rattle.plain.specs.Words.{revisionOf, headerAt}
+use Rattle.plain.specs.Words.{revisionByNumber, headerAt}
 use Rattle.plain_receiver.specs.Words.{plainOf, reportWords}
 use Rattle.plain_connection.specs.Words.{PlainConnection, connectionOf, fits, next, PlainBegun, PlainReceived, handed, kindIn, ReceivedBy}
 use Rattle.plain_builder.specs.Words.{PlainBuiltBanner, PlainBuiltFrame}
@@ -140,24 +140,24 @@ pub record PlainLinked (revision : ℕ) (l : Link) : Type 0 where
 pub record PlainDemand2 : Type 0 where
   -- handed over exactly when the checks hold
   pub handed : (own : Features) (n : ℕ) (p : PlainConnection) → PlainBegun own n p
-      → (front X store : List ℕ) (revision : ℕ) → UpTo (revisionOf revision) (length front) (traceOf own front store .entries)
+      → (front X store : List ℕ) (revision : ℕ) → UpTo (revisionByNumber revision) (length front) (traceOf own front store .entries)
       → (ps : List PlainPiece) → PlainChained (front ++ X) p store 0 (pieces ps)
       → AsCallsOf own (front ++ X) store ps
-      (λ cs. Through own front X (revisionOf revision) cs → ExactlyBehind own front X store (revisionOf revision) (listOf (judgeOwn (own .supported) (own .required)) cs))
+      (λ cs. Through own front X (revisionByNumber revision) cs → ExactlyBehind own front X store (revisionByNumber revision) (listOf (judgeOwn (own .supported) (own .required)) cs))
   -- what was built comes back
   pub trip : (own : Features) (n : ℕ) (p : PlainConnection) → PlainBegun own n p
-      → (front store : List ℕ) (revision : ℕ) → UpTo (revisionOf revision) (length front) (traceOf own front store .entries)
+      → (front store : List ℕ) (revision : ℕ) → UpTo (revisionByNumber revision) (length front) (traceOf own front store .entries)
       → (buf : List ℕ) (queued : ℕ) (b : Build) → PlainAccepts revision buf queued b → total (b .header) ≤ length store
       → (behind : List ℕ) (ps : List PlainPiece) → PlainChained (front ++ bytesOf queued b ++ behind) p store 0 (pieces ps)
       → AsCallsOf own (front ++ bytesOf queued b ++ behind) store ps
       (λ cs. length (front ++ bytesOf queued b) ≤ takenBy 0 cs
       → listOf (judgeOwn (own .supported) (own .required)) cs
       ≡ traceOf own front store .entries
-      ++ (entriesOf (revisionOf revision) (length front) (traceOf own front store .store) b
-      ++ following (revisionOf revision) (length (front ++ bytesOf queued b)) behind (storeAfter b (traceOf own front store .store)) (takenBy 0 cs)))
+      ++ (entriesOf (revisionByNumber revision) (length front) (traceOf own front store .store) b
+      ++ following (revisionByNumber revision) (length (front ++ bytesOf queued b)) behind (storeAfter b (traceOf own front store .store)) (takenBy 0 cs)))
   -- our banner and any builds behind it are reported as they were built; the revision is the one that the two sides' features give
   pub ends : (own : Features) (n : ℕ) (p : PlainConnection) → PlainBegun own n p
-      → (store : List ℕ) (revision : ℕ) (l : Link) → revisionOf revision ≡ banner.revisionOf (own .supported) (l .features .supported) → PlainLinked revision l
+      → (store : List ℕ) (revision : ℕ) (l : Link) → revisionByNumber revision ≡ banner.revisionOf (own .supported) (l .features .supported) → PlainLinked revision l
       → judgeOwn (own .supported) (own .required) ≡ fine
       → judgeFeatures (own .supported) (own .required) (l .features .supported) (l .features .required) ≡ fine
       → Fitting (length store) (l .builds)

@@ -9,7 +9,7 @@ use lib.ListN.{length}
 use Rattle.buffer.specs.Splice.{splice}
 use Rattle.refusal.specs.declared.Refusal.the-variants.{StateContradicts, SwitchRefused, NoncesSpent}
 use Rattle.refusal.specs.Refusals.{fine, numbersOf}
-use Rattle.builder.specs.declared.Built.the-variants as built
+use Rattle.refusal.specs.declared.WriteResult.the-variants as built
 use Rattle.aes.specs.Aes.{keyExpansion}
 use Rattle.secure.specs.Layout.{Part, noncesOf, sealedParts, frameParts, partCount}
 use Rattle.sealed_builder.specs.declared.Sending.{Sending}

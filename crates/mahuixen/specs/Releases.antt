@@ -10,21 +10,21 @@ use Rattle.receiver.specs.Calls.{pieceAt}
 use Rattle.session.specs.Calls.{outcome, freshSession}
 use Rattle.session.specs.Laws as session
 use Rattle.delivery.specs.declared.Sent.{Sent}
-use Rattle.delivery.specs.Asked.{settled, receivedBy, switchedBy}
+use Rattle.delivery.specs.Asked.{applied, receivedBy, switchedBy}
 use Rattle.delivery.specs.Calls as delivery
 use Rattle.delivery.specs.Calls.{Connection, Connects, Acknowledged}
 use Rattle.plain_receiver.specs.Words.{numberOf}
 use Rattle.plain_connection.specs.Words.{PlainConnection, plainOf, PlainBegun, PlainReceived, kindIn, takenIn, PlainSwitched, PlainSwitchedWith}
 use Rattle.plain_session.specs.Words as words
 use Rattle.plain_session.specs.Words.{PlainSession, PlainOutcome, plainOutcome, PlainCalled}
-use Rattle.plain_delivery.specs.Words.{PlainSettled, plainSettled, PlainDelivers}
+use Rattle.plain_delivery.specs.Words.{PlainApplied, plainApplied, PlainDelivers}
 use Rattle.mahuixen.specs.Calls.{plainReceived, plainSwitched}
 
 -- ---- connections by C, and the calls on them
 
 pub data PlainCall : Type 0 where
   -- a piece of so many bytes was lent: the number that was answered, what was handed back, what was done to the session, and the store then
-  piece : (size number : ℕ) → PlainReceived → PlainSettled → List ℕ → PlainCall
+  piece : (size number : ℕ) → PlainReceived → PlainApplied → List ℕ → PlainCall
   -- a try to switch, with a key and the nonce of each direction
   tried : (key receiving sending : List ℕ) → PlainSwitched → PlainCall
   -- a message with this handle was sent: the number that was answered, and what was handed back
@@ -77,7 +77,7 @@ answerKind o = getD (o .answer) 0 0
 abbrev pub plainCalls : List delivery.Call → List PlainCall
 plainCalls [] = []
 plainCalls (delivery.piece size r s′ ∷ cs) =
-    piece size (kindIn (plainReceived (receivedBy r))) (plainReceived (receivedBy r)) (plainSettled (settled (r .state .session) (r .effect))) s′ ∷ plainCalls cs
+    piece size (kindIn (plainReceived (receivedBy r))) (plainReceived (receivedBy r)) (plainApplied (applied (r .state .session) (r .effect))) s′ ∷ plainCalls cs
 plainCalls (delivery.tried key receiving sending r ∷ cs) = tried key receiving sending (plainSwitched (switchedBy r)) ∷ plainCalls cs
 plainCalls (delivery.accepted h r ∷ cs) = accepted h (answerKind (plainSent r)) (plainSent r) ∷ plainCalls cs
 plainCalls (delivery.handed n r ∷ cs) = handed n (answerKind (plainSent r)) (plainSent r) ∷ plainCalls cs

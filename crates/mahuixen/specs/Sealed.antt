@@ -24,7 +24,7 @@ use Rattle.sealed_ends.specs.Fronts.{Front, bytesIn, sealedIn, switchIn, traceI
 use Rattle.sealed_ends.specs.Handed.{SealedBehind, Through}
 use Rattle.sealed_ends.specs.Trip.{bytesOf, eventOf, storeAfter}
 use Rattle.sealed_ends.specs.Ends.{SwitchedLink, bufferAt, queuedAt, sentBy, switchedAt, storeAt, partsBy, FittingSealed, sealedEntries, storeAfterSealed}
-use Rattle.plain.specs.Words.{revisionOf, headerAt}
+use Rattle.plain.specs.Words.{revisionByNumber, headerAt}
 use Rattle.plain_connection.specs.Words.{PlainConnection, connectionOf, PlainBegun, PlainSending, PlainSwitched, PlainSwitchedWith}
 use Rattle.mahuixen.specs.Calls.{PlainCall, PlainChained}
 use Rattle.mahuixen.specs.Demands.{PlainLinked}
@@ -109,7 +109,7 @@ pub record PlainSealedDemand2 : Type 0 where
   -- our banner, any crc builds, the switch on both sides and any sealed builds are reported as they were built. The reader made the switch behind the last of the crc builds, with
   -- the sender's key, and with the sender's sending nonce as its receiving one
   pub ends : (own : Features) (n : ℕ) (p : PlainConnection) → PlainBegun own n p
-      → (store : List ℕ) (revision : ℕ) (l : PlainSwitchedLink) → revisionOf revision ≡ banner.revisionOf (own .supported) (l .crc .features .supported) → PlainSwitchedLinked revision l
+      → (store : List ℕ) (revision : ℕ) (l : PlainSwitchedLink) → revisionByNumber revision ≡ banner.revisionOf (own .supported) (l .crc .features .supported) → PlainSwitchedLinked revision l
       → judgeOwn (own .supported) (own .required) ≡ fine
       → judgeFeatures (own .supported) (own .required) (l .crc .features .supported) (l .crc .features .required) ≡ fine
       → Fitting (length store) (l .crc .builds) → FittingSealed (length store) (linkOf l .builds)

@@ -2,7 +2,7 @@
 use plain_delivery::plain_deliver;
 ghost use Rattle.plain_connection.specs.Words.{plainConnection, handed};
 ghost use Rattle.plain_session.specs.Words.{plainSession};
-ghost use Rattle.plain_delivery.specs.Words.{settledWith, PlainDelivers};
+ghost use Rattle.plain_delivery.specs.Words.{appliedWith, PlainDelivers};
 
 // A call that also does to the session what a whole frame asks: an ack, a reconnect_ok, a reset. No handle is changed.
 #[no_mangle]
@@ -21,7 +21,7 @@ pub extern "C" fn mahuixen_deliver_in(
     piece: &[u8],
     store: &mut [u8],
 ) -> u64
-    ensures { λ r. ⌜ PlainDelivers (plainConnection (now (link .entry)) (now (numbers .entry)) (now (block .entry)) (now (sealed .entry)) (now (first .entry)) (now (key .entry)) (now (nonce .entry))) (plainSession (now (session .entry)) (now (handles .entry))) (now (store .entry)) (now (piece .entry)) r (handed (plainConnection (now (link .exit)) (now (numbers .exit)) (now (block .exit)) (now (sealed .exit)) (now (first .exit)) (now (key .exit)) (now (nonce .exit))) (now (report .exit))) (settledWith (now (session .exit)) (now (handles .entry)) (now (effect .exit))) (now (store .exit)) ⌝ }
+    ensures { λ r. ⌜ PlainDelivers (plainConnection (now (link .entry)) (now (numbers .entry)) (now (block .entry)) (now (sealed .entry)) (now (first .entry)) (now (key .entry)) (now (nonce .entry))) (plainSession (now (session .entry)) (now (handles .entry))) (now (store .entry)) (now (piece .entry)) r (handed (plainConnection (now (link .exit)) (now (numbers .exit)) (now (block .exit)) (now (sealed .exit)) (now (first .exit)) (now (key .exit)) (now (nonce .exit))) (now (report .exit))) (appliedWith (now (session .exit)) (now (handles .entry)) (now (effect .exit))) (now (store .exit)) ⌝ }
 {
     plain_deliver(
         link,

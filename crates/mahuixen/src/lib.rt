@@ -11,8 +11,8 @@ pub mod version;
 use crc32c::checksum;
 use plain_builder::plain_banner;
 use plain_builder::plain_frame;
-use plain_connection::plain_begin;
 use plain_connection::plain_receive;
+use plain_connection::plain_start;
 use plain_connection::plain_switch;
 ghost use mathlib.Core.Path.{_≡_};
 ghost use mathlib.Core.Bool.{true, false};
@@ -41,7 +41,7 @@ pub extern "C" fn mahuixen_start_in(
 ) -> u64
     ensures { λ r. ⌜ PlainBegun (features supported required) r (plainConnection (now (link .exit)) (now (numbers .exit)) (now (block .exit)) (now (sealed .exit)) (now (first .exit)) (now (key .exit)) (now (nonce .exit))) ⌝ }
 {
-    plain_begin(
+    plain_start(
         link,
         numbers,
         block,

@@ -8,10 +8,10 @@ use Rattle.refusal.specs.Refusals.{row}
 use Rattle.banner.specs.declared.Revision.{Revision}
 use Rattle.banner.specs.declared.Revision.the-variants.{Msgr20, Msgr21}
 use Rattle.preamble.specs.declared.Header.{Header}
-use Rattle.plain.specs.Words.{Within, revisionNumber, revisionOf, markNumber, markOf, lowU8, headerWords, headerAt, headerLimits}
+use Rattle.plain.specs.Words.{Within, revisionNumber, revisionByNumber, markNumber, markOf, lowU8, headerWords, headerAt, headerLimits}
 use Rattle.plain.proofs.Headers.{small8, header-typed, header-back}
 
-pub revision-back : (v : Revision) → revisionOf (revisionNumber v) ≡ v
+pub revision-back : (v : Revision) → revisionByNumber (revisionNumber v) ≡ v
 revision-back Msgr20 = refl
 revision-back Msgr21 = refl
 
@@ -27,7 +27,7 @@ pub mark-known : (b : Bool) → markNumber b ≤ 1
 mark-known true = omega arith
 mark-known false = omega arith
 
-pub revision-number-back : (n : ℕ) → n ≤ 1 → revisionNumber (revisionOf n) ≡ n
+pub revision-number-back : (n : ℕ) → n ≤ 1 → revisionNumber (revisionByNumber n) ≡ n
 revision-number-back zero h = refl
 revision-number-back (suc n) h =
     let e : n ≡ 0 = omega arith in

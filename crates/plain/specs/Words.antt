@@ -7,6 +7,7 @@ use lib.Dec.{leb, eqb}
 use lib.ListN.{getD}
 use Rattle.refusal.specs.declared.Numbers.{Numbers}
 use Rattle.refusal.specs.Refusals.{row, noRefusal}
+use Rattle.refusal.specs.Writes.{Outcome, wrote, refusedFor, Done}
 use Rattle.banner.specs.declared.Features.{Features}
 use Rattle.banner.specs.declared.Revision.{Revision}
 use Rattle.banner.specs.declared.Revision.the-variants.{Msgr20, Msgr21}
@@ -49,8 +50,8 @@ lowU32 n = n % 4294967296
 
 -- ---- revisions and marks: any number but 0 is msgr2.1, and true, as C's truth values are
 
-abbrev pub revisionOf : ℕ → Revision
-revisionOf n = cond (eqb n 0) Msgr20 Msgr21
+abbrev pub revisionByNumber : ℕ → Revision
+revisionByNumber n = cond (eqb n 0) Msgr20 Msgr21
 
 abbrev pub markNumber : Bool → ℕ
 markNumber b = cond b 1 0
@@ -86,6 +87,13 @@ pub record PlainDone : Type 0 where
 
 abbrev pub plainDone : Written → List ℕ → PlainDone
 plainDone w l = record { answer = w; buffer = l }
+
+abbrev pub plainResult : Outcome → Written
+plainResult (wrote n) = plainWrote n
+plainResult (refusedFor n) = plainRefused n
+
+abbrev pub inPlain : Done → PlainDone
+inPlain d = plainDone (plainResult (d .outcome)) (d .buffer)
 
 abbrev segmentWords : Segment → List ℕ
 segmentWords s = s .len ∷ s .align ∷ []

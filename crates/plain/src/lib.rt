@@ -4,12 +4,14 @@ use preamble::Header;
 use preamble::Segment;
 use refusal::Numbers;
 use refusal::Refusal;
-use refusal::in_numbers;
+use refusal::WriteResult;
+use refusal::numbers_of;
 ghost use mathlib.Core.Path.{_≡_};
 ghost use mathlib.Core.List.{[], _∷_};
 ghost use Prim.Native.Nat.{_≤_};
 ghost use Rattle.refusal.specs.Refusals.{numbersOf};
-ghost use Rattle.plain.specs.Words.{within, Within, maxU8, maxU16, revisionNumber, revisionOf, markNumber, refusalWords, plainWrote, plainRefused, headerWords, headerAt, headerLimits};
+ghost use Rattle.refusal.specs.Writes.{outcomeOf};
+ghost use Rattle.plain.specs.Words.{within, Within, maxU8, maxU16, revisionNumber, revisionByNumber, markNumber, refusalWords, plainWrote, plainRefused, plainResult, headerWords, headerAt, headerLimits};
 
 pub fn revision_number(revision: Revision) -> u64
     ensures { λ r. ⌜ r ≡ revisionNumber revision ⌝ }
@@ -21,8 +23,8 @@ pub fn revision_number(revision: Revision) -> u64
 }
 
 // Any number but 0 is msgr2.1.
-pub fn revision_of(n: u64) -> Revision
-    ensures { λ r. ⌜ r ≡ revisionOf n ⌝ }
+pub fn revision_by_number(n: u64) -> Revision
+    ensures { λ r. ⌜ r ≡ revisionByNumber n ⌝ }
 {
     if n == 0 {
         Revision::Msgr20
@@ -58,12 +60,22 @@ pub fn wrote(n: usize) -> Written
     }
 }
 
-pub fn turned_away(why: Refusal) -> Written
+pub fn plain_refused(why: Refusal) -> Written
     ensures { λ r. ⌜ r ≡ plainRefused (numbersOf why) ⌝ }
 {
     Written {
         written: 0,
-        refusal: refusal_words(in_numbers(why)),
+        refusal: refusal_words(numbers_of(why)),
+    }
+}
+
+// The words of what a call that writes comes to.
+pub fn written_of(r: WriteResult) -> Written
+    ensures { λ w. ⌜ w ≡ plainResult (outcomeOf r) ⌝ }
+{
+    match r {
+        WriteResult::Wrote(n) => wrote(n),
+        WriteResult::Refused(why) => plain_refused(why),
     }
 }
 

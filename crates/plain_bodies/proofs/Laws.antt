@@ -13,17 +13,18 @@ use Rattle.refusal.proofs.Booleans.{both-left}
 use Rattle.bodies.specs.declared.Body.{Body}
 use Rattle.bodies.specs.declared.Body.the-variants as body
 use Rattle.bodies.specs.declared.Request.{Request}
-use Rattle.bodies.specs.declared.Written as bodies
+use Rattle.refusal.specs.declared.WriteResult.{WriteResult}
+use Rattle.refusal.specs.Writes.{outcomeOf}
 use Rattle.bodies.specs.Rows.{requested}
 use Rattle.bodies.specs.Read.{refused, readBody, answerOf}
 use Rattle.bodies.specs.ByTag.{bodyOf, Within}
-use Rattle.bodies.specs.Write.{outcomeOf, writeBody}
+use Rattle.bodies.specs.Write.{writeBody}
 use Rattle.bodies.specs.Claims.{Reads, Writes}
 use Rattle.bodies.proofs.ByTags.{reads-as, all-within}
 use Rattle.plain.specs.declared.Written.{Written}
-use Rattle.plain.specs.Words.{maxU8, lowU8, plainRefused, plainDone}
+use Rattle.plain.specs.Words.{maxU8, lowU8, plainRefused, plainDone, inPlain, plainResult}
 use Rattle.plain.proofs.Headers.{small8}
-use Rattle.plain_bodies.specs.Words.{bodyWords, plainBody, WithinWords, PlainReads, requestOf, fits, plainOutcome, inPlain, plainWrite, PlainWrites}
+use Rattle.plain_bodies.specs.Words.{bodyWords, plainBody, WithinWords, PlainReads, requestOf, fits, plainWrite, PlainWrites}
 
 -- a tag within its field is its own low bits
 pub read-words : (tag : ℕ) (s : List ℕ) (b : Body) → tag ≤ maxU8 → Reads (lowU8 tag) s b → b ≡ plainBody tag s
@@ -47,8 +48,8 @@ within-words s (body.AuthRequest method modes payload) h = (h .0, omega arith, h
 within-words s (body.BadMethod method error methods modes) h = (h .0, h .1, omega arith)
 within-words s (body.More payload) h = (omega arith, omega arith, h)
 within-words s (body.AuthDone id mode payload) h = (omega arith, omega arith, h)
-within-words s (body.Identity addresses block i) h = (omega arith, omega arith, h)
-within-words s (body.Resume addresses block k) h = (omega arith, omega arith, h)
+within-words s (body.Ident addresses block i) h = (omega arith, omega arith, h)
+within-words s (body.Reconnect addresses block k) h = (omega arith, omega arith, h)
 within-words s (body.Number n) h = (omega arith, omega arith, omega arith)
 within-words s (body.Reset full) h = (omega arith, omega arith, omega arith)
 within-words s (body.Stamp p) h = (omega arith, omega arith, h)
@@ -68,9 +69,9 @@ module _ (tag : ℕ) (ws ms ns bs out : List ℕ) where
       let beyond = not-true (leb tag maxU8 && fits (getD ws 0 0) (getD ws 1 0) (getD ws 2 0)) (rw g at k) in
       record { promise = rw beyond (ap (λ (x : Written). plainDone x out) e) }
 
-  pub write-words : (q : Bool) (t : ℕ) (r : Request) (o : bodies.Written) (w : Written) (after : List ℕ)
+  pub write-words : (q : Bool) (t : ℕ) (r : Request) (o : WriteResult) (w : Written) (after : List ℕ)
       → q ≡ fits (getD ws 0 0) (getD ws 1 0) (getD ws 2 0) → not (leb tag maxU8 && q) ≡ false → t ≡ lowU8 tag → r ≡ requestOf ws
-      → Writes t (requested r ms ns bs) out o after → w ≡ plainOutcome (outcomeOf o) → PlainWrites tag ws ms ns bs out w after
+      → Writes t (requested r ms ns bs) out o after → w ≡ plainResult (outcomeOf o) → PlainWrites tag ws ms ns bs out w after
   unfolding plainWrite
   write-words q t r o w after g k a b h e =
       let fit = not-false (leb tag maxU8 && q) k in

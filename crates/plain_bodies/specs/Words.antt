@@ -24,7 +24,7 @@ use Rattle.bodies.specs.ByTag.{bodyOf}
 use Rattle.bodies.specs.Rows.{requested}
 use Rattle.bodies.specs.Write as write
 use Rattle.plain.specs.declared.Written.{Written}
-use Rattle.plain.specs.Words.{maxU8, maxU32, lowU8, lowU32, refusalWords, plainWrote, plainRefused, PlainDone, plainDone}
+use Rattle.plain.specs.Words.{maxU8, maxU32, lowU8, lowU32, refusalWords, plainRefused, PlainDone, plainDone, inPlain}
 
 -- ---- a body read
 
@@ -57,8 +57,8 @@ bodyWords (body.AuthRequest method modes payload) = saying 2 (two method 0) (lis
 bodyWords (body.BadMethod method error methods modes) = saying 3 (two method error) (listWords methods) (listWords modes) nothing noRefusal
 bodyWords (body.More payload) = saying 4 (two 0 0) nothing nothing (spanWords payload) noRefusal
 bodyWords (body.AuthDone id mode payload) = saying 5 (two id mode) nothing nothing (spanWords payload) noRefusal
-bodyWords (body.Identity n block i) = saying 6 (identNumbers n i) nothing nothing (spanWords block) noRefusal
-bodyWords (body.Resume n block k) = saying 7 (reconnectNumbers n k) nothing nothing (spanWords block) noRefusal
+bodyWords (body.Ident n block i) = saying 6 (identNumbers n i) nothing nothing (spanWords block) noRefusal
+bodyWords (body.Reconnect n block k) = saying 7 (reconnectNumbers n k) nothing nothing (spanWords block) noRefusal
 bodyWords (body.Number n) = saying 8 (two n 0) nothing nothing nothing noRefusal
 bodyWords (body.Reset full) = saying 9 (two full 0) nothing nothing nothing noRefusal
 bodyWords (body.Stamp p) = saying 10 (two 0 0) nothing nothing (spanWords p) noRefusal
@@ -110,8 +110,8 @@ requestWith kind a b i k =
     (cond (eqb kind 3) (request.BadMethod (lowU32 a) (lowU32 b))
     (cond (eqb kind 4) request.More
     (cond (eqb kind 5) (request.AuthDone a (lowU32 b))
-    (cond (eqb kind 6) (request.Identity (lowU32 a) i)
-    (cond (eqb kind 7) (request.Resume (lowU32 a) k)
+    (cond (eqb kind 6) (request.Ident (lowU32 a) i)
+    (cond (eqb kind 7) (request.Reconnect (lowU32 a) k)
     (cond (eqb kind 8) (request.Number a)
     (cond (eqb kind 9) (request.Reset (lowU8 a)) request.Stamp))))))))
 
@@ -126,13 +126,6 @@ fits kind a b =
     (cond (eqb kind 2 || (eqb kind 6 || eqb kind 7)) (leb a maxU32)
     (cond (eqb kind 3) (leb a maxU32 && leb b maxU32)
     (cond (eqb kind 5) (leb b maxU32) (leb 1 kind && leb kind 10))))
-
-abbrev pub plainOutcome : write.Outcome → Written
-plainOutcome (write.wrote n) = plainWrote n
-plainOutcome (write.turnedAway n) = plainRefused n
-
-abbrev pub inPlain : write.Done → PlainDone
-inPlain d = plainDone (plainOutcome (d .outcome)) (d .buffer)
 
 -- WHAT WRITING COMES TO, with two lists and bytes: 26, and the buffer as it was, where a number is beyond its field
 unfoldable pub plainWrite : ℕ → List ℕ → List ℕ → List ℕ → List ℕ → List ℕ → PlainDone

@@ -3,22 +3,20 @@ use bodies::Body;
 use bodies::Ident;
 use bodies::Reconnect;
 use bodies::Request;
-use bodies::Written;
 use bodies::read;
 use bodies::write;
 use fields::NumberList;
 use fields::Span;
-use plain::turned_away;
-use plain::wrote;
+use plain::plain_refused;
+use plain::written_of;
 use refusal::Numbers;
 use refusal::Refusal;
-use refusal::in_numbers;
+use refusal::numbers_of;
 ghost use mathlib.Core.Path.{_≡_};
 ghost use Rattle.refusal.specs.Refusals.{noRefusal};
-ghost use Rattle.bodies.specs.Write.{outcomeOf};
 ghost use Rattle.plain.specs.Words.{lowU8, lowU32, written};
 ghost use Rattle.plain_bodies.specs.Worked.{Worked};
-ghost use Rattle.plain_bodies.specs.Words.{spanWords, listWords, nothing, saying, two, identNumbers, reconnectNumbers, bodyWords, plainBody, PlainReads, identAt, reconnectAt, requestWith, requestOf, fits, plainOutcome, PlainWrites};
+ghost use Rattle.plain_bodies.specs.Words.{spanWords, listWords, nothing, saying, two, identNumbers, reconnectNumbers, bodyWords, plainBody, PlainReads, identAt, reconnectAt, requestWith, requestOf, fits, PlainWrites};
 
 // ---- reading
 
@@ -197,12 +195,12 @@ fn body_words(b: Body) -> [u64; 18]
         } => says_bad_method(method as u64, error as u64, methods, modes),
         Body::More(payload) => says_bytes(4, 0, 0, payload),
         Body::AuthDone { id, mode, payload } => says_bytes(5, id, mode as u64, payload),
-        Body::Identity {
+        Body::Ident {
             addresses,
             block,
             ident,
         } => says_ident(addresses as u64, block, ident),
-        Body::Resume {
+        Body::Reconnect {
             addresses,
             block,
             reconnect,
@@ -210,7 +208,7 @@ fn body_words(b: Body) -> [u64; 18]
         Body::Number(n) => says_number(8, n),
         Body::Reset(full) => says_number(9, full as u64),
         Body::Stamp(p) => says_bytes(10, 0, 0, p),
-        Body::Refused(why) => says_refused(in_numbers(why)),
+        Body::Refused(why) => says_refused(numbers_of(why)),
     }
 }
 
@@ -286,11 +284,11 @@ fn request_with(kind: u64, a: u64, b: u64, i: Ident, k: Reconnect) -> Request
             id: a,
             mode: low_u32(b),
         },
-        6 => Request::Identity {
+        6 => Request::Ident {
             addresses: low_u32(a),
             ident: i,
         },
-        7 => Request::Resume {
+        7 => Request::Reconnect {
             addresses: low_u32(a),
             reconnect: k,
         },
@@ -325,15 +323,6 @@ fn fits(kind: u64, a: u64, b: u64) -> bool
     (1 <= kind) & (kind <= 10)
 }
 
-fn written_of(w: Written) -> plain::Written
-    ensures { λ r. ⌜ r ≡ plainOutcome (outcomeOf w) ⌝ }
-{
-    match w {
-        Written::Wrote(n) => wrote(n),
-        Written::Refused(why) => turned_away(why),
-    }
-}
-
 fn write_any(
     out: &mut [u8],
     tag: u64,
@@ -345,7 +334,7 @@ fn write_any(
     ensures { λ r. ⌜ PlainWrites tag ws (now (first .entry)) (now (second .entry)) (now (bytes .entry)) (now (out .entry)) r (now (out .exit)) ⌝ }
 {
     if !((tag <= 255) & fits(ws[0], ws[1], ws[2])) {
-        return turned_away(Refusal::StateContradicts);
+        return plain_refused(Refusal::StateContradicts);
     }
     written_of(write(out, low_u8(tag), request_of(ws), first, second, bytes))
 }

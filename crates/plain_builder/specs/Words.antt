@@ -7,19 +7,12 @@ use Rattle.refusal.specs.declared.Refusal.the-variants.{StateContradicts}
 use Rattle.refusal.specs.Refusals.{numbersOf}
 use Rattle.builder.specs.Build as build
 use Rattle.plain.specs.declared.Written.{Written}
-use Rattle.plain.specs.Words.{within, revisionOf, plainWrote, plainRefused, PlainDone, plainDone, headerAt, headerLimits}
-
-abbrev pub plainBuilt : build.Answer → Written
-plainBuilt (build.wrote n) = plainWrote n
-plainBuilt (build.turnedAway n) = plainRefused n
-
-abbrev pub inPlain : build.Done → PlainDone
-inPlain d = plainDone (plainBuilt (d .answer)) (d .buffer)
+use Rattle.plain.specs.Words.{within, revisionByNumber, plainRefused, PlainDone, plainDone, headerAt, headerLimits, inPlain}
 
 -- WHAT BUILDING A FRAME COMES TO: 26, and every byte as it was, where a word of the header is beyond its field
 unfoldable pub plainFrame : ℕ → List ℕ → Bool → List ℕ → List ℕ → ℕ → PlainDone
 plainFrame revision ws abort source buf queued =
-    cond (within headerLimits 0 ws) (inPlain (build.frameDone (revisionOf revision) (headerAt 0 ws) abort source buf queued))
+    cond (within headerLimits 0 ws) (inPlain (build.frameDone (revisionByNumber revision) (headerAt 0 ws) abort source buf queued))
     (plainDone (plainRefused (numbersOf StateContradicts)) buf)
 
 -- THE PROMISES: a buffer with so many bytes queued, the answer, and the buffer then

@@ -1,27 +1,16 @@
 // The builder's calls over words. Each promises the words of what `builder` promises, for every word that C can hand in.
-use builder::Built;
 use builder::build_banner;
 use builder::build_frame;
 use plain::Written;
 use plain::header_fits;
 use plain::header_of;
-use plain::revision_of;
-use plain::turned_away;
-use plain::wrote;
+use plain::plain_refused;
+use plain::revision_by_number;
+use plain::written_of;
 use refusal::Refusal;
 ghost use mathlib.Core.Path.{_≡_};
-ghost use Rattle.builder.specs.Build.{answered};
 ghost use Rattle.plain.specs.Words.{written};
-ghost use Rattle.plain_builder.specs.Words.{plainBuilt, PlainBuiltBanner, PlainBuiltFrame};
-
-pub fn written_of(b: Built) -> Written
-    ensures { λ r. ⌜ r ≡ plainBuilt (answered b) ⌝ }
-{
-    match b {
-        Built::Wrote(n) => wrote(n),
-        Built::Refused(why) => turned_away(why),
-    }
-}
+ghost use Rattle.plain_builder.specs.Words.{PlainBuiltBanner, PlainBuiltFrame};
 
 // Builds our banner behind the queued bytes; answers the bytes written, 0 where it is refused.
 pub fn plain_banner(
@@ -50,12 +39,12 @@ fn frame_written(
     ensures { λ r. ⌜ PlainBuiltFrame revision ws abort (now (source .entry)) (now (buf .entry)) queued r (now (buf .exit)) ⌝ }
 {
     if !header_fits(ws) {
-        return turned_away(Refusal::StateContradicts);
+        return plain_refused(Refusal::StateContradicts);
     }
     written_of(build_frame(
         buf,
         queued as usize,
-        revision_of(revision),
+        revision_by_number(revision),
         header_of(ws),
         abort,
         source,

@@ -24,7 +24,7 @@ use Rattle.connection.specs.Step.{readyRule, agreesInUse, agrees, mayBeSwitched
 use Rattle.connection.proofs.Laws.{switch-judged}
 use Rattle.plain_receiver.specs.Words as crc
 use Rattle.plain_receiver.specs.Words.{PlainState, stateOf, reportWords}
-use Rattle.plain_receiver.proofs.Back.{told, told-refused}
+use Rattle.plain_receiver.proofs.Back.{refusedReport, refused-report}
 use Rattle.plain_receiver.proofs.Answers.{answer-within, answer-beyond}
 use Rattle.plain_connection.specs.Secure as secure
 use Rattle.plain_connection.specs.Secure.{PlainSecure, secureOf}
@@ -33,7 +33,7 @@ use Rattle.plain_connection.proofs.Calls.{crc-stands, secure-stands, cr
 
 -- ---- a report of 26
 
-tells-26 : (q : List ℕ) → is26 q ≡ true → told q ≡ report.Event (event.Refused contradiction)
+tells-26 : (q : List ℕ) → is26 q ≡ true → refusedReport q ≡ report.Event (event.Refused contradiction)
 tells-26 q e =
     let d = eqb (getD q 18 0) 0 in
     let c = eqb (getD q 17 0) 0 && d in
@@ -70,7 +70,7 @@ module _ (c : PlainState) (s piece : List ℕ) (o : crc.PlainReceived) (s′ : L
   agreeing e true i =
       absurd
       (sound (stateOf c) s piece (answered .received) (answered .store) (record { received = refl; store = refl }) .never26 e
-      (told-refused (answered .received .taken) (answered .received .report) contradiction (tells-26 (reportWords (answered .received .taken) (answered .received .report)) i)))
+      (refused-report (answered .received .taken) (answered .received .report) contradiction (tells-26 (reportWords (answered .received .taken) (answered .received .report)) i)))
 
   pub crc-says : not (is26 (o .report)) ≡ (crc.fits (c .numbers) && crc-states.agrees (stateOf c))
   crc-says = go (crc.fits (c .numbers)) refl (crc-states.agrees (stateOf c)) refl

@@ -26,8 +26,8 @@ module _ (p : PlainSecure) (s piece : List ℕ) where
   unfolding receivedBy storeBy
   within e = (rw e, rw e)
 
-  pub turned-away : (r : List ℕ) → fits (p .numbers) ≡ false → r ≡ reportWords 0 (report.Event (event.Refused contradiction)) → SecureAnswered p s piece (handed p r) s
-  turned-away r e d =
+  pub words-refused : (r : List ℕ) → fits (p .numbers) ≡ false → r ≡ reportWords 0 (report.Event (event.Refused contradiction)) → SecureAnswered p s piece (handed p r) s
+  words-refused r e d =
       let b = beyond e in
       record { received = ap (handed p) d ∙ sym (b .0); store = sym (b .1); back = λ t. wrong (sym e ∙ t); tells = rw (e, d) }
 

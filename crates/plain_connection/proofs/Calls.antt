@@ -134,8 +134,8 @@ module _ (p : PlainConnection) (s piece : List ℕ) where
         go true t = rw (t, d) (ap (λ (y : Received). y .report) (contradicted (connectionOf p) s piece contradiction (f t) refl .received))
         go false t = rw (t, d)
 
-    pub turned-away : (fits p && readyRule (connectionOf p)) ≡ false → PlainAnswered p s piece (handed p r) s
-    turned-away e = away (answer-by false e) (λ t. sym (rw t) ∙ e)
+    pub words-refused : (fits p && readyRule (connectionOf p)) ≡ false → PlainAnswered p s piece (handed p r) s
+    words-refused e = away (answer-by false e) (λ t. sym (rw t) ∙ e)
 
   -- ---- and calls that are answered
   module _ (st : State) (k : connectionOf p ≡ st) (f : fits p ≡ true) (q : readyRule st ≡ true) where
@@ -194,15 +194,15 @@ module _ (ready : ℕ) (c : PlainState) (x : PlainSecure) (s piece : List ℕ) (
   abbrev crcAnswer : crc-step.Answer
   crcAnswer = crc-step.answer (stateOf c) s piece
 
-  crc-told : crc.fits (c .numbers) ≡ true → o ≡ crc.plainReceived (crcAnswer .received)
-  crc-told f = h .received ∙ ap (λ (y : crc.PlainAnswer). y .received) (answer-within c s piece f)
+  crc-reported : crc.fits (c .numbers) ≡ true → o ≡ crc.plainReceived (crcAnswer .received)
+  crc-reported f = h .received ∙ ap (λ (y : crc.PlainAnswer). y .received) (answer-within c s piece f)
 
   crc-mark : crc.fits (c .numbers) ≡ true → r ≡ markNumber (readyAfter (markOf ready) (crcAnswer .received .taken) (crcAnswer .received .report))
   crc-mark f =
       let t = crcAnswer .received .taken in
       let u = crcAnswer .received .report in
       let e : markAfter ready (crc-answers.takenIn o) (crc.kindIn o) ≡ markAfter ready (getD (reportWords t u) 1 0) (getD (reportWords t u) 0 0) =
-      ap (λ (y : crc.PlainReceived). markAfter ready (crc-answers.takenIn y) (crc.kindIn y)) (crc-told f) in
+      ap (λ (y : crc.PlainReceived). markAfter ready (crc-answers.takenIn y) (crc.kindIn y)) (crc-reported f) in
       m ∙ e ∙ ap (λ (y : ℕ). markAfter ready y (getD (reportWords t u) 0 0)) (taken-word t u) ∙ mark-after ready t u l
 
   crc-answered : readyRule (connectionOf crcWords) ≡ true → crc.fits (c .numbers) ≡ true → PlainAnswered crcWords s piece (handed (connected 0 r (o .state) x) (o .report)) s′
@@ -211,7 +211,7 @@ module _ (ready : ℕ) (c : PlainState) (x : PlainSecure) (s piece : List ℕ) (
       let st = crcState ready c x in
       let rule : readyRule st ≡ true = sym (ap readyRule k) ∙ q in
       let w = h .back f in
-      let t = crc-told f in
+      let t = crc-reported f in
       let a = readyAfter (markOf ready) (crcAnswer .received .taken) (crcAnswer .received .report) in
       let b : markOf r ≡ a = ap markOf (crc-mark f) ∙ mark-back a in
       let small : r ≤ 1 = subst (λ (y : ℕ). y ≤ 1) (sym (crc-mark f)) (mark-known a) in
@@ -237,7 +237,7 @@ module _ (ready : ℕ) (c : PlainState) (x : PlainSecure) (s piece : List ℕ) (
       joined refl u (ap (λ (y : crc.PlainReceived). y .state) t) refl (ap (λ (y : crc.PlainReceived). y .report) t) in
       subst (λ (y : PlainReceived). PlainAnswered crcWords s piece y s′) (sym z)
       (subst (λ (y : List ℕ). PlainAnswered crcWords s piece (contradicts crcWords) y) (sym v)
-      (turned-away crcWords s piece (contradicts crcWords .report) refl (ap (λ (y : Bool). y && readyRule (connectionOf crcWords)) g)))
+      (words-refused crcWords s piece (contradicts crcWords .report) refl (ap (λ (y : Bool). y && readyRule (connectionOf crcWords)) g)))
 
   pub crc-call : readyRule (connectionOf crcWords) ≡ true → PlainAnswered crcWords s piece (handed (connected 0 r (o .state) x) (o .report)) s′
   crc-call q = go (crc.fits (c .numbers)) refl
@@ -280,7 +280,7 @@ module _ (ready : ℕ) (c : PlainState) (x : PlainSecure) (s piece : List ℕ) (
       joined refl refl refl (ap (λ (y : SecureReceived). y .state) t) (ap (λ (y : SecureReceived). y .report) t) in
       subst (λ (y : PlainReceived). PlainAnswered secureWords s piece y s′) (sym z)
       (subst (λ (y : List ℕ). PlainAnswered secureWords s piece (contradicts secureWords) y) (sym v)
-      (turned-away secureWords s piece (contradicts secureWords .report) refl (ap (λ (y : Bool). y && readyRule (connectionOf secureWords)) g)))
+      (words-refused secureWords s piece (contradicts secureWords .report) refl (ap (λ (y : Bool). y && readyRule (connectionOf secureWords)) g)))
 
   pub secure-call : readyRule (connectionOf secureWords) ≡ true → PlainAnswered secureWords s piece (handed (connected 1 ready c (o .state)) (o .report)) s′
   secure-call q = go (secure.fits (x .numbers)) refl
@@ -307,7 +307,7 @@ not-usable p e = rw (rule-in-words p) (go (leb (p .mode) 1) (leb (p .ready) 1) (
     go false b t f e = refl
 
 pub unusable : (p : PlainConnection) (s piece r : List ℕ) → usable p ≡ false → r ≡ contradicts p .report → PlainAnswered p s piece (handed p r) s
-unusable p s piece r e d = turned-away p s piece r d (not-usable p e)
+unusable p s piece r e d = words-refused p s piece r d (not-usable p e)
 
 pub record Usable (p : PlainConnection) : Type 0 where
   pub mode : p .mode ≤ 1

@@ -3,7 +3,7 @@
 mod secure;
 
 use banner::Features;
-use connection::begin;
+use connection::start;
 use plain::mark_number;
 use plain_receiver::words::contradicts;
 use plain_receiver::words::number_of;
@@ -14,7 +14,7 @@ use refusal::Verdict;
 use refusal::both;
 use refusal::is_fine;
 use refusal::or_else;
-use refusal::unless_ok;
+use refusal::unless;
 use sealed_builder::Sending;
 use sealed_builder::fresh_sending;
 use sealed_builder::refused_sending;
@@ -90,10 +90,10 @@ fn secure_answer(
     }
     let o = sealed_receiver::receive(secure::state_of(ws, first, key, nonce), piece, store);
     let next = o.state;
-    let told = o.report;
+    let reported = o.report;
     Handed {
         part: secure_words(next),
-        report: report_words(o.taken as u64, told),
+        report: report_words(o.taken as u64, reported),
     }
 }
 
@@ -178,7 +178,7 @@ pub fn plain_receive(
 // ---- the start
 
 // A receiving side with our own features: its words, and 16 where the features are refused, which every call then repeats, or 0.
-pub fn plain_begin(
+pub fn plain_start(
     link: &mut [u64; 2],
     numbers: &mut [u64; 23],
     block: &mut [u8; 32],
@@ -191,7 +191,7 @@ pub fn plain_begin(
 ) -> u64
     ensures { λ r. ⌜ PlainBegun (features supported required) r (plainConnection (now (link .exit)) (now (numbers .exit)) (now (block .exit)) (now (sealed .exit)) (now (first .exit)) (now (key .exit)) (now (nonce .exit))) ⌝ }
 {
-    let o = begin(Features {
+    let o = start(Features {
         supported: supported,
         required: required,
     });
@@ -280,9 +280,9 @@ fn judge_words(
     ensures { λ r. ⌜ judgedBy r ≡ judgeWords (plainConnection link numbers block sealed first key nonce) ⌝ }
 {
     let agree = agrees(link, numbers, block, sealed, first, key, nonce);
-    let first_verdict = unless_ok(agree, Refusal::StateContradicts);
+    let first_verdict = unless(agree, Refusal::StateContradicts);
     let may = (link[1] != 0) & (numbers[1] != 0);
-    or_else(first_verdict, unless_ok(may, Refusal::SwitchRefused))
+    or_else(first_verdict, unless(may, Refusal::SwitchRefused))
 }
 
 fn sending_by(v: Verdict, key: [u8; 16], nonce: [u8; 12]) -> Sending

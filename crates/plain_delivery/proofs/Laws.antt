@@ -18,12 +18,12 @@ use Rattle.session.specs.Calls.{heldOf, judgeState, judgeAck, acked, cleared, a
 use Rattle.session.proofs.Releases.{kept, acked-keeps, cleared-keeps}
 use Rattle.delivery.specs.declared.Asked.{Asked}
 use Rattle.delivery.specs.declared.Asked.the-variants as asked
-use Rattle.delivery.specs.declared.Settled.{Settled}
+use Rattle.delivery.specs.declared.Applied.{Applied}
 use Rattle.delivery.specs.Asked.{askedByFrame, askedByReport, doneTo}
-use Rattle.plain.specs.Words.{features, revisionOf, refusalAt, headerAt}
+use Rattle.plain.specs.Words.{features, revisionByNumber, refusalAt, headerAt}
 use Rattle.plain_receiver.specs.Words.{reportAs, reportOf}
 use Rattle.plain_session.specs.Words.{plainSession, sessionOf, sessionNumbers, answering}
-use Rattle.plain_delivery.specs.Words.{effectWords, PlainSettled, settledWith, plainSettled}
+use Rattle.plain_delivery.specs.Words.{effectWords, PlainApplied, appliedWith, plainApplied}
 
 -- ---- what words ask
 
@@ -39,7 +39,7 @@ others-ask q s e = go (eqb (getD q 0 0) 0) (eqb (getD q 0 0) 1) (eqb (getD q 0 0
         ≡ askedByReport
         (cond a report.More
         (report.Event
-        (cond b (event.Banner (features (getD q 3 0) (getD q 4 0)) (revisionOf (getD q 2 0)))
+        (cond b (event.Banner (features (getD q 3 0) (getD q 4 0)) (revisionByNumber (getD q 2 0)))
         (cond f (event.Frame (headerAt 5 q))
         (cond c (event.Dropped (headerAt 5 q))
         (cond d (event.Refused (refusalAt 15 q)) (event.First (headerAt 5 q)))))))) s
@@ -68,24 +68,24 @@ two-words (a ∷ b ∷ d ∷ ws) h = absurd (omega arith)
 
 module _ (ws hs : List ℕ) (a : Asked) where
   pub nothing-done : {e : List ℕ} → length ws ≡ 2 → a ≡ asked.Nothing → e ≡ answering 0 0 noRefusal
-      → settledWith ws hs e ≡ plainSettled (doneTo (sessionOf (plainSession ws hs)) a)
+      → appliedWith ws hs e ≡ plainApplied (doneTo (sessionOf (plainSession ws hs)) a)
   nothing-done {e = e} h f g =
-      ap (λ (x : List ℕ). settledWith x hs e) (two-words ws h)
-      ∙ ap (settledWith (getD ws 0 0 ∷ getD ws 1 0 ∷ []) hs) g
-      ∙ ap (λ (x : Asked). plainSettled (doneTo (sessionOf (plainSession ws hs)) x)) (sym f)
+      ap (λ (x : List ℕ). appliedWith x hs e) (two-words ws h)
+      ∙ ap (appliedWith (getD ws 0 0 ∷ getD ws 1 0 ∷ []) hs) g
+      ∙ ap (λ (x : Asked). plainApplied (doneTo (sessionOf (plainSession ws hs)) x)) (sym f)
 
-  pub something-done : {x : Session} {d : Settled} {n e : List ℕ} → x ≡ sessionOf (plainSession ws hs) → d ≡ doneTo x a → n ≡ sessionNumbers (d .session) → e ≡ effectWords (d .effect)
-      → settledWith n hs e ≡ plainSettled (doneTo (sessionOf (plainSession ws hs)) a)
+  pub something-done : {x : Session} {d : Applied} {n e : List ℕ} → x ≡ sessionOf (plainSession ws hs) → d ≡ doneTo x a → n ≡ sessionNumbers (d .session) → e ≡ effectWords (d .effect)
+      → appliedWith n hs e ≡ plainApplied (doneTo (sessionOf (plainSession ws hs)) a)
   something-done {x = x} {d = d} {e = e} f g h i =
       let y : d ≡ doneTo (sessionOf (plainSession ws hs)) a = g ∙ ap (λ (z : Session). doneTo z a) f in
-      let k : hs ≡ d .session .handles = sym (ap (λ (z : Settled). z .session .handles) y ∙ handles-kept (sessionOf (plainSession ws hs)) a) in
-      ap (λ (z : List ℕ). settledWith z hs e) h
-      ∙ ap (settledWith (sessionNumbers (d .session)) hs) i
-      ∙ ap (λ (z : List ℕ). settledWith (sessionNumbers (d .session)) z (effectWords (d .effect))) k
-      ∙ ap plainSettled y
+      let k : hs ≡ d .session .handles = sym (ap (λ (z : Applied). z .session .handles) y ∙ handles-kept (sessionOf (plainSession ws hs)) a) in
+      ap (λ (z : List ℕ). appliedWith z hs e) h
+      ∙ ap (appliedWith (sessionNumbers (d .session)) hs) i
+      ∙ ap (λ (z : List ℕ). appliedWith (sessionNumbers (d .session)) z (effectWords (d .effect))) k
+      ∙ ap plainApplied y
 
 -- ---- both together
 
-pub joined : (x : Session) (s : List ℕ) {m r : receiver.Report} {a : Asked} {d : PlainSettled} → m ≡ r → a ≡ askedByReport m s → d ≡ plainSettled (doneTo x a)
-    → d ≡ plainSettled (doneTo x (askedByReport r s))
-joined x s e f g = g ∙ ap (λ (z : Asked). plainSettled (doneTo x z)) (f ∙ ap (λ (z : receiver.Report). askedByReport z s) e)
+pub joined : (x : Session) (s : List ℕ) {m r : receiver.Report} {a : Asked} {d : PlainApplied} → m ≡ r → a ≡ askedByReport m s → d ≡ plainApplied (doneTo x a)
+    → d ≡ plainApplied (doneTo x (askedByReport r s))
+joined x s e f g = g ∙ ap (λ (z : Asked). plainApplied (doneTo x z)) (f ∙ ap (λ (z : receiver.Report). askedByReport z s) e)

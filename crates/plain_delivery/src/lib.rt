@@ -1,8 +1,8 @@
 // The joined call over words: a piece is received, and what it completes is done to the session.
 use delivery::Asked;
 use delivery::Effect;
+use delivery::apply;
 use delivery::asked_by_frame;
-use delivery::settle;
 use plain::header_of;
 use plain_connection::plain_receive;
 use plain_session::answer_words;
@@ -15,7 +15,7 @@ ghost use Rattle.delivery.specs.Asked.{askedByReport, doneTo};
 ghost use Rattle.plain_receiver.specs.Words.{reportOf};
 ghost use Rattle.plain_connection.specs.Words.{plainConnection, handed};
 ghost use Rattle.plain_session.specs.Words.{plainSession, sessionOf, sessionNumbers, answering};
-ghost use Rattle.plain_delivery.specs.Words.{effectWords, settledWith, plainSettled, PlainDelivers};
+ghost use Rattle.plain_delivery.specs.Words.{effectWords, appliedWith, plainApplied, PlainDelivers};
 
 // The words that change when something is done to a session: no frame changes a handle.
 struct Done {
@@ -62,8 +62,8 @@ fn asked_by_words(q: &[u64; 19], store: &[u8]) -> Asked
 }
 
 // The handles are looked at only where something is asked of the session.
-fn settle_words(ws: [u64; 2], handles: &[u64; 64], asked: Asked) -> Done
-    ensures { λ r. ⌜ settledWith (r .numbers) (now (handles .entry)) (r .effect) ≡ plainSettled (doneTo (sessionOf (plainSession ws (now (handles .entry)))) asked) ⌝ }
+fn apply_words(ws: [u64; 2], handles: &[u64; 64], asked: Asked) -> Done
+    ensures { λ r. ⌜ appliedWith (r .numbers) (now (handles .entry)) (r .effect) ≡ plainApplied (doneTo (sessionOf (plainSession ws (now (handles .entry)))) asked) ⌝ }
 {
     match asked {
         Asked::Nothing => Done {
@@ -71,7 +71,7 @@ fn settle_words(ws: [u64; 2], handles: &[u64; 64], asked: Asked) -> Done
             effect: no_effect(),
         },
         _ => {
-            let d = settle(session_of(ws, *handles), asked);
+            let d = apply(session_of(ws, *handles), asked);
             let s = d.session;
             let effect = d.effect;
             Done {
@@ -98,7 +98,7 @@ pub fn plain_deliver(
     piece: &[u8],
     store: &mut [u8],
 ) -> u64
-    ensures { λ r. ⌜ PlainDelivers (plainConnection (now (link .entry)) (now (numbers .entry)) (now (block .entry)) (now (sealed .entry)) (now (first .entry)) (now (key .entry)) (now (nonce .entry))) (plainSession (now (session .entry)) (now (handles .entry))) (now (store .entry)) (now (piece .entry)) r (handed (plainConnection (now (link .exit)) (now (numbers .exit)) (now (block .exit)) (now (sealed .exit)) (now (first .exit)) (now (key .exit)) (now (nonce .exit))) (now (report .exit))) (settledWith (now (session .exit)) (now (handles .entry)) (now (effect .exit))) (now (store .exit)) ⌝ }
+    ensures { λ r. ⌜ PlainDelivers (plainConnection (now (link .entry)) (now (numbers .entry)) (now (block .entry)) (now (sealed .entry)) (now (first .entry)) (now (key .entry)) (now (nonce .entry))) (plainSession (now (session .entry)) (now (handles .entry))) (now (store .entry)) (now (piece .entry)) r (handed (plainConnection (now (link .exit)) (now (numbers .exit)) (now (block .exit)) (now (sealed .exit)) (now (first .exit)) (now (key .exit)) (now (nonce .exit))) (now (report .exit))) (appliedWith (now (session .exit)) (now (handles .entry)) (now (effect .exit))) (now (store .exit)) ⌝ }
 {
     let kind = plain_receive(
         link,
@@ -112,7 +112,7 @@ pub fn plain_deliver(
         piece,
         store,
     );
-    let d = settle_words(*session, handles, asked_by_words(report, store));
+    let d = apply_words(*session, handles, asked_by_words(report, store));
     let ws = d.numbers;
     let e = d.effect;
     *session = ws;

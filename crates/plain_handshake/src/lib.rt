@@ -5,12 +5,12 @@ use handshake::Report;
 use handshake::State;
 use handshake::Step;
 use handshake::Verdict;
-use handshake::client;
+use handshake::client_step;
 use handshake::pick_mode;
-use handshake::server;
+use handshake::server_step;
 use plain::refusal_words;
 use refusal::Refusal;
-use refusal::in_numbers;
+use refusal::numbers_of;
 ghost use mathlib.Core.Path.{_≡_};
 ghost use Rattle.handshake.specs.Table.{stateNumber};
 ghost use Rattle.handshake.specs.Pick.{pickOf};
@@ -111,14 +111,14 @@ fn stepped(at_server: bool, s: u64, tag: u64, ws: [u64; 4]) -> Words
     if !fits(s, tag, ws) {
         return Words {
             state: s,
-            refusal: refusal_words(in_numbers(Refusal::StateContradicts)),
+            refusal: refusal_words(numbers_of(Refusal::StateContradicts)),
         };
     }
     let t = (tag % 256) as u8;
     if at_server {
-        return step_words(server(state_of(s), t, verdict_of(ws)));
+        return step_words(server_step(state_of(s), t, verdict_of(ws)));
     }
-    step_words(client(state_of(s), t, verdict_of(ws)))
+    step_words(client_step(state_of(s), t, verdict_of(ws)))
 }
 
 // Answers the state that a tag leads to, with the caller's verdict.

@@ -21,8 +21,8 @@ answer-within p s piece e = rw e
 differ : false ≡ true → ⊥
 differ e = let z : _≡_ {A = ℕ} 0 1 = cc in omega arith
 
-pub turned-away : (ws b s piece r : List ℕ) → fits ws ≡ false → r ≡ contradicts (plainState ws b) .report → PlainAnswered (plainState ws b) s piece (handed ws b r) s
-turned-away ws b s piece r e d =
+pub words-refused : (ws b s piece r : List ℕ) → fits ws ≡ false → r ≡ contradicts (plainState ws b) .report → PlainAnswered (plainState ws b) s piece (handed ws b r) s
+words-refused ws b s piece r e d =
     let a = answer-beyond (plainState ws b) s piece e in
     record { received = rw a (ap (handed ws b) d); store = rw a; back = λ t. absurd (differ (sym e ∙ t)); tells = rw (e, d) }
 

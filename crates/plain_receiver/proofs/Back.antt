@@ -181,23 +181,23 @@ pub report-of : (t : ℕ) (r : Report) (q : List ℕ) → ReportTyped r → q �
 report-of t r q h e = record { words = e; back = ap reportOf e ∙ report-back t r h }
 
 -- words that tell of a refusal are those of no other report: read as they stand, without their low bits
-abbrev pub told : List ℕ → Report
-told q =
+abbrev pub refusedReport : List ℕ → Report
+refusedReport q =
     cond (eqb (getD q 0 0) 4) (report.Event (event.Refused (row (getD q 15 0) (getD q 16 0) (getD q 17 0) (getD q 18 0)))) report.More
 
 other : {n : Numbers} → report.More ≡ report.Event (event.Refused n) → ⊥
 other e = let z : _≡_ {A = ℕ} 0 1 = cc in omega arith
 
-pub told-refused : (t : ℕ) (r : Report) (n : Numbers) → told (reportWords t r) ≡ report.Event (event.Refused n) → r ≡ report.Event (event.Refused n)
-told-refused t report.More n e = e
-told-refused t (report.Event (event.Banner p v)) n e = absurd (other e)
-told-refused t (report.Event (event.First k)) n e = absurd (other e)
-told-refused t (report.Event (event.Frame k)) n e = absurd (other e)
-told-refused t (report.Event (event.Dropped k)) n e = absurd (other e)
-told-refused t (report.Event (event.Refused m)) n e = e
+pub refused-report : (t : ℕ) (r : Report) (n : Numbers) → refusedReport (reportWords t r) ≡ report.Event (event.Refused n) → r ≡ report.Event (event.Refused n)
+refused-report t report.More n e = e
+refused-report t (report.Event (event.Banner p v)) n e = absurd (other e)
+refused-report t (report.Event (event.First k)) n e = absurd (other e)
+refused-report t (report.Event (event.Frame k)) n e = absurd (other e)
+refused-report t (report.Event (event.Dropped k)) n e = absurd (other e)
+refused-report t (report.Event (event.Refused m)) n e = e
 
 pub refused-back : (t t′ : ℕ) (r : Report) (n : Numbers) → reportWords t r ≡ reportWords t′ (report.Event (event.Refused n)) → r ≡ report.Event (event.Refused n)
-refused-back t t′ r n e = told-refused t r n (ap told e)
+refused-back t t′ r n e = refused-report t r n (ap refusedReport e)
 
 pub reads-back : ReadsBack
 reads-back = record { state = state-back; fit = words-fit; words = words-back; report = report-back }

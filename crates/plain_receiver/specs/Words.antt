@@ -22,7 +22,7 @@ use Rattle.receiver.specs.declared.Report.the-variants as report
 use Rattle.receiver.specs.declared.Received.{Received}
 use Rattle.receiver.specs.State.{rank, noFeatures, noHeader}
 use Rattle.receiver.specs.Step.{stateAt, Answer, answer, contradiction}
-use Rattle.plain.specs.Words.{within, Within, maxU8, maxU16, lowU16, revisionNumber, revisionOf, markNumber, markOf, features, refusalWords, refusalAt, headerWords, headerAt, headerLimits}
+use Rattle.plain.specs.Words.{within, Within, maxU8, maxU16, lowU16, revisionNumber, revisionByNumber, markNumber, markOf, features, refusalWords, refusalAt, headerWords, headerAt, headerLimits}
 
 -- ---- states. Places of their numbers: 0 stage (its rank), 1 revision, 2 the mark of an early report, 3 payload, 4 to 13 header, 14 to 17 refusal, 18 got,
 -- 19 and 20 own features, 21 and 22 the peer's
@@ -59,7 +59,7 @@ knownWith revision ws = record {
 }
 
 abbrev pub knownOf : List ℕ → Known
-knownOf ws = knownWith (revisionOf (getD ws 1 0)) ws
+knownOf ws = knownWith (revisionByNumber (getD ws 1 0)) ws
 
 -- THE STATE THAT WORDS STAND FOR
 unfoldable pub stateOf : PlainState → State
@@ -127,7 +127,7 @@ abbrev pub reportAs : ℕ → List ℕ → Report
 reportAs kind q =
     cond (eqb kind 0) report.More
     (report.Event
-    (cond (eqb kind 1) (event.Banner (features (getD q 3 0) (getD q 4 0)) (revisionOf (getD q 2 0)))
+    (cond (eqb kind 1) (event.Banner (features (getD q 3 0) (getD q 4 0)) (revisionByNumber (getD q 2 0)))
     (cond (eqb kind 2) (event.Frame (headerAt 5 q))
     (cond (eqb kind 3) (event.Dropped (headerAt 5 q))
     (cond (eqb kind 4) (event.Refused (refusalAt 15 q)) (event.First (headerAt 5 q)))))))

@@ -32,7 +32,7 @@ pub fn plain_receive(
     let known = known_of(ws);
     let t = receive_in(stage_of(ws[0]), ws[18] as usize, known, block, piece, store);
     match t {
-        Taken::Held(to) => {
+        Taken::Partial(to) => {
             // for the proof: it does nothing
             typed_known(known);
             numbers[18] = to as u64;
@@ -42,9 +42,9 @@ pub fn plain_receive(
         Taken::Moved(m) => {
             let stage = m.stage;
             let learnt = m.known;
-            let told = m.report;
+            let reported = m.report;
             *numbers = numbers_of(stage, m.got, learnt);
-            let said = report_words(m.taken as u64, told);
+            let said = report_words(m.taken as u64, reported);
             *report = said;
             said[0]
         }

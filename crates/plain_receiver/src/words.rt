@@ -2,8 +2,8 @@
 use banner::Features;
 use banner::Revision;
 use plain::mark_number;
+use plain::revision_by_number;
 use plain::revision_number;
-use plain::revision_of;
 use plain::typed_header;
 use plain::typed_u8;
 use plain::typed_u16;
@@ -17,7 +17,6 @@ use receiver::states::rank;
 use refusal::Numbers;
 use refusal::Refusal;
 use refusal::Verdict;
-use refusal::in_numbers;
 use stream::Event;
 ghost use mathlib.Core.Path.{_≡_};
 ghost use mathlib.Core.List.{List};
@@ -113,7 +112,7 @@ fn known_with(revision: Revision, ws: [u64; 23]) -> Known
 pub fn known_of(ws: [u64; 23]) -> Known
     ensures { λ r. ⌜ (r ≡ knownOf ws) × (length ws ≡ 23) ⌝ }
 {
-    known_with(revision_of(ws[1]), ws)
+    known_with(revision_by_number(ws[1]), ws)
 }
 
 // The fields of what is known are of their types.
@@ -309,7 +308,7 @@ pub fn report_words(taken: u64, report: Report) -> [u64; 19]
 pub fn contradicts() -> [u64; 19]
     ensures { λ r. ⌜ r ≡ reportWords 0 (report.Event (event.Refused contradiction)) ⌝ }
 {
-    refused(0, in_numbers(Refusal::StateContradicts))
+    refused(0, refusal::numbers_of(Refusal::StateContradicts))
 }
 
 // The number of a refusal, or 0.
@@ -319,7 +318,7 @@ pub fn number_of(v: Verdict) -> u64
     match v {
         Verdict::Fine => 0,
         Verdict::Refused(why) => {
-            let n = in_numbers(why);
+            let n = refusal::numbers_of(why);
             n.number as u64
         }
     }

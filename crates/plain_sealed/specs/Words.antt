@@ -9,8 +9,7 @@ use Rattle.refusal.specs.Refusals.{numbersOf}
 use Rattle.sealed_builder.specs.declared.Sending.{Sending}
 use Rattle.sealed_builder.specs.Build as sealed
 use Rattle.plain.specs.declared.Written.{Written}
-use Rattle.plain.specs.Words.{within, markNumber, markOf, plainRefused, headerAt, headerLimits}
-use Rattle.plain_builder.specs.Words.{plainBuilt}
+use Rattle.plain.specs.Words.{within, markNumber, markOf, plainRefused, headerAt, headerLimits, plainResult}
 
 -- ---- sending states: 0 all nonces are spent, 1 a refused switch handed it back, 2 how many are spent
 
@@ -35,7 +34,7 @@ abbrev pub sealedWith : Written → List ℕ → List ℕ → List ℕ → Plain
 sealedWith w ws nonce l = record { answer = w; numbers = ws; nonce = nonce; buffer = l }
 
 abbrev pub inPlain : sealed.Done → PlainSealed
-inPlain d = sealedWith (plainBuilt (d .answer)) (sendingNumbers (d .sending)) (d .sending .nonce) (d .buffer)
+inPlain d = sealedWith (plainResult (d .answer)) (sendingNumbers (d .sending)) (d .sending .nonce) (d .buffer)
 
 -- WHAT BUILDING A SEALED FRAME COMES TO: 26, and nothing is changed or spent, where a word is beyond its field
 unfoldable pub plainSealed : List ℕ → List ℕ → List ℕ → List ℕ → Bool → List ℕ → List ℕ → ℕ → PlainSealed

@@ -3,17 +3,16 @@ use plain::Written;
 use plain::header_fits;
 use plain::header_of;
 use plain::mark_number;
-use plain::turned_away;
-use plain_builder::written_of;
+use plain::plain_refused;
+use plain::written_of;
 use refusal::Refusal;
 use refusal::both;
 use sealed_builder::Sealed;
 use sealed_builder::Sending;
 use sealed_builder::build_sealed;
 ghost use mathlib.Core.Path.{_≡_};
-ghost use Rattle.builder.specs.Build.{answered};
-ghost use Rattle.plain.specs.Words.{within, written};
-ghost use Rattle.plain_builder.specs.Words.{plainBuilt};
+ghost use Rattle.refusal.specs.Writes.{outcomeOf};
+ghost use Rattle.plain.specs.Words.{within, written, plainResult};
 ghost use Rattle.plain_sealed.specs.Words.{sendingOf, sendingNumbers, sendingLimits, sealedWith, PlainBuiltSealed};
 
 // An answer, and the numbers and the nonce of the state then.
@@ -48,7 +47,7 @@ fn sending_numbers(s: Sending) -> [u64; 3]
 }
 
 fn sealed_words(r: Sealed) -> Words
-    ensures { λ w. ⌜ (w .answer ≡ plainBuilt (answered (r .built))) × (w .numbers ≡ sendingNumbers (r .sending)) × (w .nonce ≡ r .sending .nonce) ⌝ }
+    ensures { λ w. ⌜ (w .answer ≡ plainResult (outcomeOf (r .built))) × (w .numbers ≡ sendingNumbers (r .sending)) × (w .nonce ≡ r .sending .nonce) ⌝ }
 {
     let built = r.built;
     let sending = r.sending;
@@ -74,7 +73,7 @@ fn sealed_written(
 {
     if !both(sending_fits(ws), header_fits(header)) {
         return Words {
-            answer: turned_away(Refusal::StateContradicts),
+            answer: plain_refused(Refusal::StateContradicts),
             numbers: ws,
             nonce: nonce,
         };

@@ -3,15 +3,16 @@ use mathlib.Core.Path.{_≡_, ap, _∙_}
 use mathlib.Core.List.{List}
 use Prim.Native.Nat.{ℕ}
 use Rattle.aes.specs.Aes.{keyExpansion}
-use Rattle.gcm.specs.declared.Outcome.{Outcome}
-use Rattle.gcm.specs.Calls.{answered, Sealing, Opening}
+use Rattle.refusal.specs.declared.WriteResult.{WriteResult}
+use Rattle.refusal.specs.Writes.{outcomeOf}
+use Rattle.gcm.specs.Calls.{Sealing, Opening}
 use Rattle.plain.specs.declared.Written.{Written}
-use Rattle.plain.specs.Words.{plainDone}
-use Rattle.plain_sealing.specs.Words.{plainAnswer, inPlain, PlainSealing, PlainOpening}
+use Rattle.plain.specs.Words.{plainDone, inPlain, plainResult}
+use Rattle.plain_sealing.specs.Words.{PlainSealing, PlainOpening}
 
-module _ {key nonce bytes buf : List ℕ} {o : Outcome} {w : Written} {after : List ℕ} where
-  pub sealed-words : Sealing (keyExpansion key) nonce bytes buf o after → w ≡ plainAnswer (answered o) → PlainSealing key nonce bytes buf w after
+module _ {key nonce bytes buf : List ℕ} {o : WriteResult} {w : Written} {after : List ℕ} where
+  pub sealed-words : Sealing (keyExpansion key) nonce bytes buf o after → w ≡ plainResult (outcomeOf o) → PlainSealing key nonce bytes buf w after
   sealed-words h e = record { promise = ap (λ (x : Written). plainDone x after) e ∙ ap inPlain (h .is) }
 
-  pub opened-words : Opening (keyExpansion key) nonce bytes buf o after → w ≡ plainAnswer (answered o) → PlainOpening key nonce bytes buf w after
+  pub opened-words : Opening (keyExpansion key) nonce bytes buf o after → w ≡ plainResult (outcomeOf o) → PlainOpening key nonce bytes buf w after
   opened-words h e = record { promise = ap (λ (x : Written). plainDone x after) e ∙ ap inPlain (h .is) }

@@ -5,14 +5,7 @@ use Prim.Native.Nat.{ℕ}
 use Rattle.aes.specs.Aes.{keyExpansion}
 use Rattle.gcm.specs.Calls as gcm
 use Rattle.plain.specs.declared.Written.{Written}
-use Rattle.plain.specs.Words.{plainWrote, plainRefused, PlainDone, plainDone}
-
-abbrev pub plainAnswer : gcm.Answer → Written
-plainAnswer (gcm.wrote n) = plainWrote n
-plainAnswer (gcm.refusedWith n) = plainRefused n
-
-abbrev pub inPlain : gcm.Done → PlainDone
-inPlain d = plainDone (plainAnswer (d .answer)) (d .buffer)
+use Rattle.plain.specs.Words.{plainDone, inPlain}
 
 -- THE PROMISES: a key, a nonce, the bytes to be sealed or opened, the buffer, the answer, and the buffer then
 pub record PlainSealing (key nonce text buf : List ℕ) (r : Written) (after : List ℕ) : Type 0 where

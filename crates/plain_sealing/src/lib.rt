@@ -1,23 +1,10 @@
 // Sealing and opening over pointers and words. Each promises the words of what `gcm` promises.
-use gcm::Outcome;
 use gcm::open;
 use gcm::seal;
-use plain::Written;
-use plain::turned_away;
-use plain::wrote;
+use plain::written_of;
 ghost use mathlib.Core.Path.{_≡_};
-ghost use Rattle.gcm.specs.Calls.{answered};
 ghost use Rattle.plain.specs.Words.{written};
-ghost use Rattle.plain_sealing.specs.Words.{plainAnswer, PlainSealing, PlainOpening};
-
-fn written_of(o: Outcome) -> Written
-    ensures { λ r. ⌜ r ≡ plainAnswer (answered o) ⌝ }
-{
-    match o {
-        Outcome::Wrote(n) => wrote(n),
-        Outcome::Refused(why) => turned_away(why),
-    }
-}
+ghost use Rattle.plain_sealing.specs.Words.{PlainSealing, PlainOpening};
 
 // Seals text into the front of out: the masked bytes, and then the tag. Answers the bytes written.
 pub fn plain_seal(

@@ -17,7 +17,7 @@ ghost use Rattle.session.specs.Laws.{callOf};
 ghost use Rattle.plain_session.specs.Words.{plainSession, sessionOf, sessionNumbers, plainOf, answering, answerWords, outcomeWith, plainOutcome, callBy, PlainCalled, heldWith, plainHeld, PlainFound};
 
 // The words of a session and of an answer.
-struct Told {
+struct OutcomeWords {
     numbers: [u64; 2],
     handles: [u64; 64],
     answer: [u64; 6],
@@ -51,7 +51,7 @@ pub fn answering(kind: u64, n: u64, r: Numbers) -> [u64; 6]
     [kind, n, r.number as u64, r.first, r.second, r.third]
 }
 
-fn told_number(kind: u64, n: u64) -> [u64; 6]
+fn answering_number(kind: u64, n: u64) -> [u64; 6]
     ensures { λ a. ⌜ a ≡ answering kind n noRefusal ⌝ }
 {
     [kind, n, 0, 0, 0, 0]
@@ -61,20 +61,20 @@ pub fn answer_words(report: Report) -> [u64; 6]
     ensures { λ a. ⌜ a ≡ answerWords report ⌝ }
 {
     match report {
-        Report::Done => told_number(1, 0),
-        Report::Accepted(n) => told_number(2, n),
-        Report::Resend(n) => told_number(3, n),
+        Report::Done => answering_number(1, 0),
+        Report::Accepted(n) => answering_number(2, n),
+        Report::Resend(n) => answering_number(3, n),
         Report::Refused(r) => answering(4, 0, r),
     }
 }
 
-fn outcome_words(o: Outcome) -> Told
+fn outcome_words(o: Outcome) -> OutcomeWords
     ensures { λ r. ⌜ outcomeWith (r .numbers) (r .handles) (r .answer) ≡ plainOutcome o ⌝ }
 {
     let s = o.session;
     let handles = s.handles;
     let report = o.report;
-    Told {
+    OutcomeWords {
         numbers: session_numbers(s),
         handles: handles,
         answer: answer_words(report),

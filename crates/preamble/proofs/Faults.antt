@@ -8,7 +8,7 @@ use borrow.Author.Tests.{ltb-true, ltb-false, le-leb, lt-leb}
 use Rattle.preamble.specs.declared.Header.{Header}
 use Rattle.preamble.specs.declared.Segment.{Segment}
 use Rattle.preamble.specs.Layout.{total}
-use Rattle.preamble.specs.Judge.{first, firstFault, countFault, faultWhen, lengthWrong, alignWrong, segmentFault, shapeFault, above, limitFault, segmentLimit, sumLimit}
+use Rattle.preamble.specs.Judge.{first, firstFault, countFault, faultWhen, lengthWrong, alignWrong, segmentFault, shapeFault, above, limitFault, segmentLimit, frameLimit}
 
 pub first-is : (a b : ℕ) → (a ≡ 0 → ⊥) → a ≡ first a b
 first-is zero b n = absurd (n refl)
@@ -83,17 +83,17 @@ above-none limit p n = none-when (ltb limit n) p ∙ not-above limit n
 
 pub limits-none : (h : Header) →
     (leb (h .s1 .len) segmentLimit && (leb (h .s2 .len) segmentLimit && (leb (h .s3 .len) segmentLimit && (leb (h .s4 .len) segmentLimit
-    && (leb (h .s1 .len) sumLimit && (leb (h .s1 .len + h .s2 .len) sumLimit && (leb (h .s1 .len + h .s2 .len + h .s3 .len) sumLimit && leb (total h) sumLimit)))))))
+    && (leb (h .s1 .len) frameLimit && (leb (h .s1 .len + h .s2 .len) frameLimit && (leb (h .s1 .len + h .s2 .len + h .s3 .len) frameLimit && leb (total h) frameLimit)))))))
     ≡ eqb (limitFault h) 0
 unfolding limitFault
 limits-none h =
     let a : ℕ = h .s1 .len in
     let b : ℕ = h .s2 .len in
     let c : ℕ = h .s3 .len in
-    let s1 : ℕ = above sumLimit 2 a in
-    let s2 : ℕ = above sumLimit 8 (a + b) in
-    let s3 : ℕ = above sumLimit 14 (a + b + c) in
-    let s4 : ℕ = above sumLimit 20 (total h) in
+    let s1 : ℕ = above frameLimit 2 a in
+    let s2 : ℕ = above frameLimit 8 (a + b) in
+    let s3 : ℕ = above frameLimit 14 (a + b + c) in
+    let s4 : ℕ = above frameLimit 20 (total h) in
     let n2 : ℕ = above segmentLimit 8 b in
     let n3 : ℕ = above segmentLimit 14 c in
     let n4 : ℕ = above segmentLimit 20 (h .s4 .len) in
@@ -102,7 +102,7 @@ limits-none h =
     (none-cons n2 (n3 ∷ n4 ∷ s1 ∷ s2 ∷ s3 ∷ s4 ∷ []) (above-none segmentLimit 7 b)
     (none-cons n3 (n4 ∷ s1 ∷ s2 ∷ s3 ∷ s4 ∷ []) (above-none segmentLimit 13 c)
     (none-cons n4 (s1 ∷ s2 ∷ s3 ∷ s4 ∷ []) (above-none segmentLimit 19 (h .s4 .len))
-    (none-cons s1 (s2 ∷ s3 ∷ s4 ∷ []) (above-none sumLimit 1 a)
-    (none-cons s2 (s3 ∷ s4 ∷ []) (above-none sumLimit 7 (a + b))
-    (none-cons s3 (s4 ∷ []) (above-none sumLimit 13 (a + b + c))
-    (none-cons s4 [] (above-none sumLimit 19 (total h)) refl ∙ and-true (leb (total h) sumLimit)))))))))
+    (none-cons s1 (s2 ∷ s3 ∷ s4 ∷ []) (above-none frameLimit 1 a)
+    (none-cons s2 (s3 ∷ s4 ∷ []) (above-none frameLimit 7 (a + b))
+    (none-cons s3 (s4 ∷ []) (above-none frameLimit 13 (a + b + c))
+    (none-cons s4 [] (above-none frameLimit 19 (total h)) refl ∙ and-true (leb (total h) frameLimit)))))))))

@@ -12,7 +12,7 @@ use Rattle.refusal.specs.Refusals.{fine}
 use Rattle.refusal.proofs.Judgements.{all-fine, passed}
 use Rattle.preamble.specs.declared.Header.{Header}
 use Rattle.preamble.specs.Layout.{total}
-use Rattle.preamble.specs.Judge.{first, firstFault, shapeFault, judgeShape, judgeTag, sumLimit, segmentLimit, above, limitFault, judgeLimits, judgeHeader}
+use Rattle.preamble.specs.Judge.{first, firstFault, shapeFault, judgeShape, judgeTag, frameLimit, segmentLimit, above, limitFault, judgeLimits, judgeHeader}
 
 pub first-zero : (a b : ℕ) → first a b ≡ 0 → (a ≡ 0) × (b ≡ 0)
 first-zero zero b e = (refl, e)
@@ -29,18 +29,18 @@ no-faults (f ∷ fs) (suc i) e = no-faults fs i (first-zero f (firstFault fs) e 
 
 -- ---- its limits
 
-pub within-limits : (h : Header) → judgeLimits h ≡ fine → total h ≤ sumLimit
+pub within-limits : (h : Header) → judgeLimits h ≡ fine → total h ≤ frameLimit
 unfolding limitFault
 within-limits h e =
     let z : limitFault h ≡ 0 = eqb-true (limitFault h) 0 (passed (eqb (limitFault h) 0) (refusal.Limit (limitFault h)) e) in
     let n : ℕ = h .s1 .len in
     let m : ℕ = h .s1 .len + h .s2 .len in
     let k : ℕ = h .s1 .len + h .s2 .len + h .s3 .len in
-    let last : above sumLimit 20 (total h) ≡ 0 =
+    let last : above frameLimit 20 (total h) ≡ 0 =
     no-faults
     (above segmentLimit 2 (h .s1 .len) ∷ above segmentLimit 8 (h .s2 .len) ∷ above segmentLimit 14 (h .s3 .len) ∷ above segmentLimit 20 (h .s4 .len)
-    ∷ above sumLimit 2 n ∷ above sumLimit 8 m ∷ above sumLimit 14 k ∷ above sumLimit 20 (total h) ∷ []) 7 z in
-    ltb-false sumLimit (total h) (no-fault (ltb sumLimit (total h)) 19 last)
+    ∷ above frameLimit 2 n ∷ above frameLimit 8 m ∷ above frameLimit 14 k ∷ above frameLimit 20 (total h) ∷ []) 7 z in
+    ltb-false frameLimit (total h) (no-fault (ltb frameLimit (total h)) 19 last)
 
 -- ---- its shape
 

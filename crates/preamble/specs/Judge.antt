@@ -77,8 +77,8 @@ judgeTag tag = unless (leb 1 tag && leb tag 20) (refusal.Tag tag)
 abbrev pub segmentLimit : ℕ
 segmentLimit = 1048576
 
-abbrev pub sumLimit : ℕ
-sumLimit = 2097152
+abbrev pub frameLimit : ℕ
+frameLimit = 2097152
 
 abbrev pub above : ℕ → ℕ → ℕ → ℕ
 above limit place n = faultWhen (ltb limit n) place
@@ -91,10 +91,10 @@ limitFault h =
     ∷ above segmentLimit 8 (h .s2 .len)
     ∷ above segmentLimit 14 (h .s3 .len)
     ∷ above segmentLimit 20 (h .s4 .len)
-    ∷ above sumLimit 2 (h .s1 .len)
-    ∷ above sumLimit 8 (h .s1 .len + h .s2 .len)
-    ∷ above sumLimit 14 (h .s1 .len + h .s2 .len + h .s3 .len)
-    ∷ above sumLimit 20 (total h)
+    ∷ above frameLimit 2 (h .s1 .len)
+    ∷ above frameLimit 8 (h .s1 .len + h .s2 .len)
+    ∷ above frameLimit 14 (h .s1 .len + h .s2 .len + h .s3 .len)
+    ∷ above frameLimit 20 (total h)
     ∷ [])
 
 abbrev pub judgeLimits : Header → Judged

@@ -8,7 +8,7 @@ use refusal::Refusal;
 use refusal::Verdict;
 use refusal::both;
 use refusal::or_else;
-use refusal::unless_ok;
+use refusal::unless;
 ghost use mathlib.Core.Path.{_≡_};
 ghost use mathlib.Core.Bool.{not, _&&_};
 ghost use Prim.Native.Nat.{_<_};
@@ -21,7 +21,7 @@ ghost use Rattle.preamble.specs.Judge.{first, faultWhen, lengthWrong, al
 // At most so many bytes in a segment, and in all segments of a frame.
 pub const SEGMENT_LIMIT: u64 = 1048576;
 
-pub const SUM_LIMIT: u64 = 2097152;
+pub const FRAME_LIMIT: u64 = 2097152;
 
 // A segment's two fields in a preamble.
 #[repr(C)]
@@ -97,20 +97,20 @@ fn judge_shape(h: Header) -> Verdict
     ensures { λ r. ⌜ judgedBy r ≡ judgeShape h ⌝ }
 {
     let place = shape_fault(h);
-    unless_ok(place == 0, Refusal::Shape(place))
+    unless(place == 0, Refusal::Shape(place))
 }
 
 fn judge_flags(flags: u8, reserved: u8) -> Verdict
     ensures { λ r. ⌜ judgedBy r ≡ judgeFlags flags reserved ⌝ }
 {
     let place = first(fault_when(flags != 0, 26), fault_when(reserved != 0, 27));
-    unless_ok(place == 0, Refusal::Flags(place))
+    unless(place == 0, Refusal::Flags(place))
 }
 
 fn judge_tag(tag: u8) -> Verdict
     ensures { λ r. ⌜ judgedBy r ≡ judgeTag tag ⌝ }
 {
-    unless_ok(both(1 <= tag, tag <= 20), Refusal::Tag(tag))
+    unless(both(1 <= tag, tag <= 20), Refusal::Tag(tag))
 }
 
 fn above(limit: u64, place: u8, n: u64) -> u8
@@ -138,11 +138,11 @@ fn limit_fault(h: Header) -> u8
     let c = h.s3.len as u64;
     let d = h.s4.len as u64;
     let s34 = first(
-        above(SUM_LIMIT, 14, a + b + c),
-        above(SUM_LIMIT, 20, a + b + c + d),
+        above(FRAME_LIMIT, 14, a + b + c),
+        above(FRAME_LIMIT, 20, a + b + c + d),
     );
-    let s24 = first(above(SUM_LIMIT, 8, a + b), s34);
-    let s14 = first(above(SUM_LIMIT, 2, a), s24);
+    let s24 = first(above(FRAME_LIMIT, 8, a + b), s34);
+    let s14 = first(above(FRAME_LIMIT, 2, a), s24);
     let n4 = first(above(SEGMENT_LIMIT, 20, d), s14);
     let n3 = first(above(SEGMENT_LIMIT, 14, c), n4);
     let n2 = first(above(SEGMENT_LIMIT, 8, b), n3);
@@ -153,14 +153,14 @@ fn judge_limits(h: Header) -> Verdict
     ensures { λ r. ⌜ judgedBy r ≡ judgeLimits h ⌝ }
 {
     let place = limit_fault(h);
-    unless_ok(place == 0, Refusal::Limit(place))
+    unless(place == 0, Refusal::Limit(place))
 }
 
 // The store has the bytes that a frame needs.
 fn judge_store(needed: u64, store: usize) -> Verdict
     ensures { λ r. ⌜ judgedBy r ≡ judgeStore needed store ⌝ }
 {
-    unless_ok(needed <= store as u64, Refusal::StoreShort(needed))
+    unless(needed <= store as u64, Refusal::StoreShort(needed))
 }
 
 // What the builder and the receiver both ask of a header: 6, 8, 9.
@@ -199,8 +199,8 @@ fn limits_are_kept(h: Header) -> bool
     let b = h.s2.len as u64;
     let c = h.s3.len as u64;
     let d = h.s4.len as u64;
-    let s34 = both(a + b + c <= SUM_LIMIT, a + b + c + d <= SUM_LIMIT);
-    let s14 = both(a <= SUM_LIMIT, both(a + b <= SUM_LIMIT, s34));
+    let s34 = both(a + b + c <= FRAME_LIMIT, a + b + c + d <= FRAME_LIMIT);
+    let s14 = both(a <= FRAME_LIMIT, both(a + b <= FRAME_LIMIT, s34));
     let n34 = both(c <= SEGMENT_LIMIT, both(d <= SEGMENT_LIMIT, s14));
     both(a <= SEGMENT_LIMIT, both(b <= SEGMENT_LIMIT, n34))
 }
@@ -286,7 +286,7 @@ pub fn judge_read(p: Preamble, bytes: &[u8], store: usize) -> Verdict
 {
     let sum = checksum(0, part(bytes, 0, 28));
     let stored = p.checksum;
-    let first = unless_ok(sum == stored, Refusal::PreambleChecksum);
+    let first = unless(sum == stored, Refusal::PreambleChecksum);
     or_else(first, judge_fields(p, store))
 }
 

@@ -17,7 +17,7 @@ use Rattle.banner.proofs.Lengths.{long-enough}
 use Rattle.preamble.specs.Layout.{total}
 use Rattle.preamble.specs.Judge.{headerOf, judgePreamble}
 use Rattle.body.specs.Body.{segmentSum, noFirstSum, firstSumLength, noEpilogue, wireLength}
-use Rattle.body.specs.End.{Ended, whole, dropped, turnedAway, ending}
+use Rattle.body.specs.End.{Ended, whole, dropped, refusedFor, ending}
 use Rattle.stream.specs.declared.Event.the-variants as event
 use Rattle.stream.specs.Events.{roleOf}
 use Rattle.stream.specs.Stream.{zeroed}
@@ -35,8 +35,8 @@ use Rattle.receiver.specs.Calls.{passing}
 use Rattle.receiver.specs.Every.{AnyCall, Handed, allTaken, roleLength, lengthOf, allReported, cameBefore, unfinished, unfinishedAfter, unfinishedBy, Refuses}
 use Rattle.body.proofs.Ends.{no-length}
 use Rattle.receiver.proofs.Frames.{rest-silent}
-use Rattle.receiver.proofs.Live.{Rules, Gone, After, live, inside-of, chunk-after, feed-after, after-agrees, refused-gone, agree-own}
-use Rattle.receiver.proofs.Every.{feeding, shortened, refuses, gone-answer}
+use Rattle.receiver.proofs.Live.{Rules, RefusedFor, After, live, inside-of, chunk-after, feed-after, after-agrees, refused-for, agree-own}
+use Rattle.receiver.proofs.Every.{feeding, shortened, refuses, refused-answer}
 
 -- n bytes of the stream since the last report, by the report and the state that it leaves
 abbrev Counts : Report → ℕ → State → Type 0
@@ -65,7 +65,7 @@ banner-counts v s n e =
 frame-counts : (x : Ended) (v : Known) (s : List ℕ) (n : ℕ) → n ≡ wireLength (v .revision) (v .header) → CountsStep n (endFrame x v s)
 frame-counts whole v s n e = e ∙ sym (add-zero (wireLength (v .revision) (v .header)))
 frame-counts dropped v s n e = e ∙ sym (add-zero (wireLength (v .revision) (v .header)))
-frame-counts (turnedAway m) v s n e = tt
+frame-counts (refusedFor m) v s n e = tt
 
 module _ (v : Known) (s : List ℕ) (n : ℕ) where
   abbrev sum : ℕ
@@ -187,16 +187,16 @@ record Next (n : ℕ) (r : Received) : Type 0 where
   adds : n + r .taken ≡ lengthOf (r .report) (r .state .known) + unfinishedAfter (r .report) n r
   stands : Stands (unfinishedAfter (r .report) n r) (r .state)
 
-refused-next : (n : ℕ) (m : Numbers) (st : State) (s : List ℕ) (r : Received) (s′ : List ℕ) → Gone m st → Refuses st m s r s′ → Next n r
+refused-next : (n : ℕ) (m : Numbers) (st : State) (s : List ℕ) (r : Received) (s′ : List ℕ) → RefusedFor m st → Refuses st m s r s′ → Next n r
 refused-next n m st s r s′ g a =
     let er : r ≡ record { state = r .state; taken = r .taken; report = report.Event (event.Refused m) } = ap (λ (x : Report). record { state = r .state; taken = r .taken; report = x }) (a .report) in
     rw er (record {
       adds = sym (zero-add (n + r .taken));
-      stands = record { agree = rw (a .state) (g .agree); counts = λ e. absurd (gone-live (r .state) (rw (a .state) (g .stage)) e) };
+      stands = record { agree = rw (a .state) (g .agree); counts = λ e. absurd (refused-live (r .state) (rw (a .state) (g .stage)) e) };
     })
   where
-    gone-live : (x : State) → x .position .stage ≡ stage.Refused → isRefused (x .position .stage) ≡ false → ⊥
-    gone-live x q e = let z : true ≡ false = sym (ap isRefused q) ∙ e in (let y : _≡_ {A = ℕ} 0 1 = cc in omega arith)
+    refused-live : (x : State) → x .position .stage ≡ stage.Refused → isRefused (x .position .stage) ≡ false → ⊥
+    refused-live x q e = let z : true ≡ false = sym (ap isRefused q) ∙ e in (let y : _≡_ {A = ℕ} 0 1 = cc in omega arith)
 
 fed-next : (n : ℕ) (r : Report) (taken : ℕ) (st : State) (s : List ℕ) → After r st s → Counts r (n + taken) st → Next n (record { state = st; taken = taken; report = r })
 fed-next n report.More taken st s a c = record { adds = c ∙ sym (zero-add (unfinished st)); stands = record { agree = a .agree; counts = λ _. refl } }
@@ -213,8 +213,8 @@ call-next n st s piece r s′ w a = go (isRefused (st .position .stage)) refl (l
   where
     go : (x : Bool) → isRefused (st .position .stage) ≡ x → (t : Bool) → ltb (length s) (neededBy st) ≡ t → Next n r
     go true x t u =
-        let g = refused-gone st (w .agree) x in
-        refused-next n (st .known .refusal) st s r s′ g (refuses st (st .known .refusal) a (gone-answer st s piece g))
+        let g = refused-for st (w .agree) x in
+        refused-next n (st .known .refusal) st s r s′ g (refuses st (st .known .refusal) a (refused-answer st s piece g))
     go false x true u =
         let g = agree-own st (w .agree) x (shortStore st) refl in
         refused-next n (shortStore st) (refusedState (st .known) (shortStore st)) s r s′ g (refuses (refusedState (st .known) (shortStore st)) (shortStore st) a (shortened st s piece (w .agree) x (ltb-true (length s) (neededBy st) u)))

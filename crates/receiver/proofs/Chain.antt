@@ -22,42 +22,42 @@ use Rattle.receiver.specs.Calls.{Call, Chained, takenBy, storeBy, report
 use Rattle.refusal.proofs.Booleans.{wrong}
 use Rattle.receiver.proofs.Machine.{Machine, refusedAgain}
 use Rattle.receiver.proofs.Machine as machine
-use Rattle.receiver.proofs.Lists.{Comes, Standing, running, gone, stays, every-list, uncut, same-end}
-use Rattle.receiver.proofs.Scan.{byteStep, scan, plain, plain-feed}
+use Rattle.receiver.proofs.Lists.{Comes, Standing, running, hasRefused, stays, every-list, uncut, same-end}
+use Rattle.receiver.proofs.Scan.{byteStep, scan, machineAnswer, machine-feed}
 use Rattle.receiver.proofs.Gathers.{traceBy}
 use Rattle.receiver.proofs.Stages as stages
 use Rattle.receiver.proofs.Streams.{stream-trace}
-use Rattle.receiver.proofs.Live.{Gone, byte-after, start-running, start-gone}
-use Rattle.receiver.proofs.Every.{feeding, gone-answer, sound}
+use Rattle.receiver.proofs.Live.{RefusedFor, byte-after, start-running, start-refused}
+use Rattle.receiver.proofs.Every.{feeding, refused-answer, sound}
 use Rattle.receiver.proofs.Adds.{bytes-add-up}
 
 -- ---- the receiver as a machine
 
 -- an answer as the promise tells it
-told : {st : State} {s piece : List ℕ} {r : Received} {s′ : List ℕ} → Answered st s piece r s′
+answer-given : {st : State} {s piece : List ℕ} {r : Received} {s′ : List ℕ} → Answered st s piece r s′
     → record { received = r; store = s′ } ≡ answer st s piece
-told a = rw (a .received, a .store)
+answer-given a = rw (a .received, a .store)
 
 feeds : (st : State) (s piece : List ℕ) (c : Call) → Running st s → Answered st s piece (c .received) (c .store)
-    → plain (record { received = c .received; store = c .store }) ≡ machine.feed byteStep st s piece
-feeds st s piece c l a = ap plain (told a ∙ feeding st s piece l) ∙ plain-feed st s piece
+    → machineAnswer (record { received = c .received; store = c .store }) ≡ machine.feed byteStep st s piece
+feeds st s piece c l a = ap machineAnswer (answer-given a ∙ feeding st s piece l) ∙ machine-feed st s piece
 
-repeats : (n : Numbers) (st : State) (s piece : List ℕ) (c : Call) → Gone n st → Answered st s piece (c .received) (c .store)
-    → plain (record { received = c .received; store = c .store }) ≡ refusedAgain n st s
-repeats n st s piece c g a = ap plain (told a ∙ gone-answer st s piece g)
+repeats : (n : Numbers) (st : State) (s piece : List ℕ) (c : Call) → RefusedFor n st → Answered st s piece (c .received) (c .store)
+    → machineAnswer (record { received = c .received; store = c .store }) ≡ refusedAgain n st s
+repeats n st s piece c g a = ap machineAnswer (answer-given a ∙ refused-answer st s piece g)
 
-silent : (n : Numbers) (st : State) (s : List ℕ) (P : ℕ) (bs : List ℕ) → Gone n st → (scan st s P bs .entries ≡ []) × (scan st s P bs .store ≡ s)
-silent n st s P bs g = let z = stages.gone st s P bs (g .stage) in (ap (λ (t : Trace). t .entries) z, ap (λ (t : Trace). t .store) z)
+silent : (n : Numbers) (st : State) (s : List ℕ) (P : ℕ) (bs : List ℕ) → RefusedFor n st → (scan st s P bs .entries ≡ []) × (scan st s P bs .store ≡ s)
+silent n st s P bs g = let z = stages.refused-ends st s P bs (g .stage) in (ap (λ (t : Trace). t .entries) z, ap (λ (t : Trace). t .store) z)
 
 abbrev receiver : Machine
 receiver = record {
   State = State;
   onByte = byteStep;
   Running = Running;
-  Gone = Gone;
+  RefusedFor = RefusedFor;
   Call = Call;
   size = λ c. c .size;
-  answer = λ c. plain (record { received = c .received; store = c .store });
+  answer = λ c. machineAnswer (record { received = c .received; store = c .store });
   Answered = λ st s piece c. Answered st s piece (c .received) (c .store);
   keeps = byte-after;
   silent = silent;
@@ -67,7 +67,7 @@ receiver = record {
 
 standing-agrees : {st : State} {s : List ℕ} {es : List Entry} → Standing receiver st s es → agrees st ≡ true
 standing-agrees (running l clean) = l .agree
-standing-agrees (gone n g) = g .agree
+standing-agrees (hasRefused n g) = g .agree
 
 -- ---- a start that is not refused
 
@@ -127,13 +127,13 @@ trace-refused : (own : Features) (stream store : List ℕ) (n : Numbers) → jud
 unfolding traceOf
 trace-refused own stream store n e = rw e
 
-gone-start : (own : Features) (n : Numbers) → judgeOwn (own .supported) (own .required) ≡ refused n → Gone n (started own)
-gone-start own n e = rw (started-refused own n e) (start-gone own n e)
+refused-start : (own : Features) (n : Numbers) → judgeOwn (own .supported) (own .required) ≡ refused n → RefusedFor n (started own)
+refused-start own n e = rw (started-refused own n e) (start-refused own n e)
 
 defined-refused : (own : Features) (stream store : List ℕ) (cs : List Call) (n : Numbers)
     → judgeOwn (own .supported) (own .required) ≡ refused n → Chained stream (started own) store 0 cs → AsDefined own stream store cs
 defined-refused own stream store cs n not16 ch =
-    let g = gone-start own n not16 in
+    let g = refused-start own n not16 in
     let r = stays receiver n stream 0 (started own) store cs g ch in
     let z = trace-refused own (take (takenBy 0 cs) stream) store n not16 in
     record {
@@ -155,7 +155,7 @@ start-agrees own = go (judgeOwn (own .supported) (own .required)) refl
   where
     go : (j : Judged) → judgeOwn (own .supported) (own .required) ≡ j → agrees (started own) ≡ true
     go fine e = rw (started-fine own e) (start-running own [] e .agree)
-    go (refused n) e = gone-start own n e .agree
+    go (refused n) e = refused-start own n e .agree
 
 -- and no byte is unfinished
 start-nothing : (own : Features) → isRefused (started own .position .stage) ≡ false → _≡_ {A = ℕ} 0 (unfinished (started own))

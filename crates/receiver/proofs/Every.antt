@@ -17,7 +17,7 @@ use Rattle.receiver.specs.State.{isRefused, given, agrees}
 use Rattle.receiver.specs.Step.{refusedState, Stepped, onByte, Answer, onward, feed, refuseUnchanged, contradiction, shortStore, neededBy, answer, Answered, Running}
 use Rattle.receiver.specs.Every.{Refuses, Sound}
 use Rattle.refusal.proofs.Booleans.{wrong}
-use Rattle.receiver.proofs.Live.{Gone, feed-after, after-agrees, refused-gone, agree-own}
+use Rattle.receiver.proofs.Live.{RefusedFor, feed-after, after-agrees, refused-for, agree-own}
 
 -- ---- the kinds of answer
 
@@ -39,8 +39,8 @@ module _ (st : State) (s piece : List ℕ) where
   unfolding answer
   feeding l = rw (l .agree, l .live, le-ltb (length s) (neededBy st) (l .fits))
 
-  pub gone-answer : {n : Numbers} → Gone n st → answer st s piece ≡ refuseUnchanged st n s
-  gone-answer g = repeating (g .agree) (ap isRefused (g .stage)) ∙ ap (λ (m : Numbers). refuseUnchanged st m s) (g .why)
+  pub refused-answer : {n : Numbers} → RefusedFor n st → answer st s piece ≡ refuseUnchanged st n s
+  refused-answer g = repeating (g .agree) (ap isRefused (g .stage)) ∙ ap (λ (m : Numbers). refuseUnchanged st m s) (g .why)
 
 pub refuses : {st : State} {s piece : List ℕ} {r : Received} {s′ : List ℕ} (st′ : State) (n : Numbers) → Answered st s piece r s′ → answer st s piece ≡ refuseUnchanged st′ n s → Refuses st′ n s r s′
 refuses {st} {s} {piece} {r} {s′} st′ n a e =
@@ -62,16 +62,16 @@ not26 n g e =
 
 record Well (x : Answer) : Type 0 where
   agree : agrees (x .received .state) ≡ true
-  gone : (n : Numbers) → x .received .report ≡ report.Event (event.Refused n) → Gone n (x .received .state)
+  hasRefused : (n : Numbers) → x .received .report ≡ report.Event (event.Refused n) → RefusedFor n (x .received .state)
 
-well-refused : (st : State) (n : Numbers) (s : List ℕ) → Gone n st → Well (refuseUnchanged st n s)
-well-refused st n s g = record { agree = g .agree; gone = λ m q. (let k : n ≡ m = cc in rw k at g) }
+well-refused : (st : State) (n : Numbers) (s : List ℕ) → RefusedFor n st → Well (refuseUnchanged st n s)
+well-refused st n s g = record { agree = g .agree; hasRefused = λ m q. (let k : n ≡ m = cc in rw k at g) }
 
 well : (st : State) (s piece : List ℕ) → agrees st ≡ true → Well (answer st s piece)
 well st s piece e = go (isRefused (st .position .stage)) refl (ltb (length s) (neededBy st)) refl
   where
     go : (r : Bool) → isRefused (st .position .stage) ≡ r → (t : Bool) → ltb (length s) (neededBy st) ≡ t → Well (answer st s piece)
-    go true r t u = rw (repeating st s piece e r) (well-refused st (st .known .refusal) s (refused-gone st e r))
+    go true r t u = rw (repeating st s piece e r) (well-refused st (st .known .refusal) s (refused-for st e r))
     go false r true u =
         rw (shortened st s piece e r (ltb-true (length s) (neededBy st) u))
         (well-refused (refusedState (st .known) (shortStore st)) (shortStore st) s (agree-own st e r (shortStore st) refl))
@@ -79,7 +79,7 @@ well st s piece e = go (isRefused (st .position .stage)) refl (ltb (length s) (n
         let l : Running st s = record { agree = e; live = r; fits = ltb-false (length s) (neededBy st) u } in
         let f = feed st s piece in
         let a = feed-after st s piece l in
-        rw (feeding st s piece l) (record { agree = after-agrees (f .received .report) (f .received .state) (f .store) a; gone = λ n q. rw q at a })
+        rw (feeding st s piece l) (record { agree = after-agrees (f .received .report) (f .received .state) (f .store) a; hasRefused = λ n q. rw q at a })
 
 -- ---- a piece is begun
 
@@ -100,14 +100,14 @@ feed-none st s (b ∷ bs) h = absurd (omega arith)
 pub sound : (st : State) (s piece : List ℕ) (r : Received) (s′ : List ℕ) → Answered st s piece r s′ → Sound st s piece r s′
 sound st s piece r s′ a =
     let back : (x : Answer) → answer st s piece ≡ x → r ≡ x .received = λ x e. a .received ∙ ap (λ (y : Answer). y .received) e in
-    let gone : agrees st ≡ true → (n : Numbers) → r .report ≡ report.Event (event.Refused n) → Gone n (r .state) =
-    λ e n q. rw (a .received) (well st s piece e .gone n (ap (λ (x : Received). x .report) (sym (a .received)) ∙ q))
+    let hasRefused : agrees st ≡ true → (n : Numbers) → r .report ≡ report.Event (event.Refused n) → RefusedFor n (r .state) =
+    λ e n q. rw (a .received) (well st s piece e .hasRefused n (ap (λ (x : Received). x .report) (sym (a .received)) ∙ q))
     in
     record {
       contradicts = λ e. refuses st contradiction a (contradicting st s piece e);
-      never26 = λ e q. not26 contradiction (gone e contradiction q .gives) refl;
+      never26 = λ e q. not26 contradiction (hasRefused e contradiction q .gives) refl;
       agreeing = λ e. ap (λ (x : Received). agrees (x .state)) (a .received) ∙ well st s piece e .agree;
-      stays = λ n e q s₂ piece₂ r₂ s₃ a₂. refuses (r .state) n a₂ (gone-answer (r .state) s₂ piece₂ (gone e n q));
+      stays = λ n e q s₂ piece₂ r₂ s₃ a₂. refuses (r .state) n a₂ (refused-answer (r .state) s₂ piece₂ (hasRefused e n q));
       short = λ e l t. refuses (refusedState (st .known) (shortStore st)) (shortStore st) a (shortened st s piece e l t);
       progress = λ l h. rw (back _ (feeding st s piece l)) (feed-some st s piece h);
       nothing = λ l h. rw (back _ (feeding st s piece l)) (feed-none st s piece h);

@@ -14,14 +14,14 @@ use Rattle.receiver.specs.declared.Place.the-variants as place
 use Rattle.receiver.specs.State.{placeOf}
 use Rattle.receiver.specs.Step.{stateAt, blockWith, absorbed, stored, size, onByte, isMore, Chunked, Running, Fed}
 use Rattle.receiver.proofs.Machine as machine
-use Rattle.receiver.proofs.Scan.{bare, plain-feed}
+use Rattle.receiver.proofs.Scan.{bare, machine-feed}
 use Rattle.receiver.proofs.Gathers as gathers
 use Rattle.receiver.proofs.Gathered.{stages}
-use Rattle.receiver.proofs.Live.{Gone, chunk-after, inside-of}
+use Rattle.receiver.proofs.Live.{RefusedFor, chunk-after, inside-of}
 use Rattle.receiver.proofs.Feeding as feeding
 
 abbrev pub lasting : feeding.Lasting stages
-lasting = record { Running = Running; Gone = Gone; unfilled = inside-of; keeps = chunk-after }
+lasting = record { Running = Running; RefusedFor = RefusedFor; unfilled = inside-of; keeps = chunk-after }
 
 abbrev pub Midway : List ℕ → List ℕ → State → List ℕ → State → ℕ → Type 0
 Midway = feeding.Midway lasting
@@ -38,7 +38,7 @@ fed : (st : State) (s piece : List ℕ) (o : Received) (s′ : List ℕ)
     → machine.feed (gathers.byteStep stages) st s piece ≡ record { state = o .state; taken = o .taken; report = o .report; store = s′ } → Fed st s piece o s′
 unfolding onByte
 fed st s piece o s′ e =
-    let a = sym (plain-feed st s piece ∙ e) in
+    let a = sym (machine-feed st s piece ∙ e) in
     record {
       received = ap (λ (x : machine.Answer State). record { state = x .state; taken = x .taken; report = x .report }) a;
       store = ap (λ (x : machine.Answer State). x .store) a;

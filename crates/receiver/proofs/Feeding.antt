@@ -109,9 +109,9 @@ module _ (g : Gathering) where
 
 pub record Lasting (g : Gathering) : Type 1 where
   pub Running : g .State → List ℕ → Type 0
-  pub Gone : Numbers → g .State → Type 0
+  pub RefusedFor : Numbers → g .State → Type 0
   pub unfilled : {x : g .State} {s : List ℕ} → Running x s → g .got x < g .size x
-  pub keeps : (x : g .State) (s xs : List ℕ) → Running x s → (let y = chunk g x s xs in After Running Gone (y .report) (y .state) (y .store))
+  pub keeps : (x : g .State) (s xs : List ℕ) → Running x s → (let y = chunk g x s xs in After Running RefusedFor (y .report) (y .state) (y .store))
 
 -- ---- in the middle of a piece: what is left of it, from the state that the last chunk left, gives what the whole gives
 
@@ -184,8 +184,8 @@ module _ {g : Gathering} {w : Lasting g} {piece store₀ : List ℕ} {x₀ : g .
   again e =
       let q = is-more (y .report) e in
       let f = feed (byteStep g) (y .state) (y .store) (drop (at + n) piece) in
-      let after : After (w .Running) (w .Gone) (y .report) (y .state) (y .store) =
-      subst (λ (z : Stepped (g .State)). After (w .Running) (w .Gone) (z .report) (z .state) (z .store)) (sym chunked)
+      let after : After (w .Running) (w .RefusedFor) (y .report) (y .state) (y .store) =
+      subst (λ (z : Stepped (g .State)). After (w .Running) (w .RefusedFor) (z .report) (z .state) (z .store)) (sym chunked)
       (w .keeps x store (take n left) (t .midway .running))
       in
       record {

@@ -17,7 +17,7 @@ use Rattle.banner.specs.declared.Revision.the-variants.{Msgr20, Msgr21}
 use Rattle.preamble.specs.declared.Header.{Header}
 use Rattle.preamble.specs.Layout.{total}
 use Rattle.body.specs.Body.{segmentSum, restLength, noFirstSum, noEpilogue, firstSumLength, epilogueLength, bodyLength, wireLength}
-use Rattle.body.specs.End.{Ended, whole, dropped, turnedAway, segmentBytes, ending}
+use Rattle.body.specs.End.{Ended, whole, dropped, refusedFor, segmentBytes, ending}
 use Rattle.stream.specs.declared.Event.the-variants as event
 use Rattle.stream.specs.Stream.{Trace, ended, after, refusedAt, zeroed, firstWrong, firstReported, reportedFirst, atEnd, bodyTrace}
 use Rattle.receiver.specs.declared.Stage.the-variants as stage
@@ -33,7 +33,7 @@ use Rattle.buffer.proofs.Numbers.{number-take, number-drop}
 use Rattle.buffer.proofs.Parts.{over-longer}
 use Rattle.body.proofs.Ends.{no-length, has-length, ending-take, ending-none}
 use Rattle.receiver.proofs.Gathers.{traceBy, noteTrace}
-use Rattle.receiver.proofs.Stages.{run, short, full, gone}
+use Rattle.receiver.proofs.Stages.{run, short, full, refused-ends}
 
 -- ---- an epilogue is read by its own bytes
 
@@ -56,12 +56,12 @@ After revision Q ys next = (z : Known) (s : List ℕ) → z .revision ≡ revisi
 abbrev closeTrace : Ended → Header → ℕ → List ℕ → (List ℕ → Trace) → Trace
 closeTrace whole h at s next = after (event.Frame h) at s (next s)
 closeTrace dropped h at s next = after (event.Dropped h) at (zeroed h s) (next (zeroed h s))
-closeTrace (turnedAway n) h at s next = refusedAt n at (zeroed h s)
+closeTrace (refusedFor n) h at s next = refusedAt n at (zeroed h s)
 
 end-run : (x : Ended) (y : Known) (s : List ℕ) (Q : ℕ) (ys : List ℕ) (next : List ℕ → Trace) → After (y .revision) Q ys next → run (endFrame x y s) Q ys ≡ closeTrace x (y .header) Q s next
 end-run whole y s Q ys next a = ap (after (event.Frame (y .header)) Q s) (a y s refl)
 end-run dropped y s Q ys next a = ap (after (event.Dropped (y .header)) Q (zeroed (y .header) s)) (a y (zeroed (y .header) s) refl)
-end-run (turnedAway n) y s Q ys next a = ap (after (event.Refused n) Q (zeroed (y .header) s)) (gone (refusedState y n) (zeroed (y .header) s) Q ys refl)
+end-run (refusedFor n) y s Q ys next a = ap (after (event.Refused n) Q (zeroed (y .header) s)) (refused-ends (refusedState y n) (zeroed (y .header) s) Q ys refl)
 
 -- ---- behind the segments
 
@@ -175,7 +175,7 @@ module _ (y : Known) (got : ℕ) (s : List ℕ) (Q : ℕ) (b : List ℕ) (next :
 end-same : (x : Ended) (h : Header) (at : ℕ) (s p : List ℕ) (next : List ℕ → Trace) → length p ≡ total h → closeTrace x h at (replaceFront p s) next ≡ atEnd x h at s p next
 end-same whole h at s p next e = refl
 end-same dropped h at s p next e = rw (over-longer p (replicate (total h) 0) s (omega (arith, e, length-replicate {A = ℕ} (total h) 0)))
-end-same (turnedAway n) h at s p next e = rw (over-longer p (replicate (total h) 0) s (omega (arith, e, length-replicate {A = ℕ} (total h) 0)))
+end-same (refusedFor n) h at s p next e = rw (over-longer p (replicate (total h) 0) s (omega (arith, e, length-replicate {A = ℕ} (total h) 0)))
 
 -- a body behind segment 1's checksum
 abbrev restTrace : Revision → Header → ℕ → List ℕ → List ℕ → (List ℕ → Trace) → Trace
@@ -386,7 +386,7 @@ module _ (y : Known) (P : ℕ) (b s : List ℕ) (next : List ℕ → Trace)
             let p : P + 32 + n₁ + 4 ≡ P + 36 + n₁ = omega arith in
             let z : length f ≤ length (replicate {A = ℕ} (total h) 0) = (let r : length (replicate {A = ℕ} (total h) 0) ≡ total h = length-replicate (total h) 0 in omega (arith, lf)) in
             rw (wrong-is, e)
-            (to-judge ∙ rw e (rw (p, over-longer f (replicate (total h) 0) s z) (ap (after (event.Refused (row 11 1 0 0)) (P + 36 + n₁) (zeroed h s)) (gone (refusedState y (row 11 1 0 0)) (zeroed h s) (P + 36 + n₁) (drop 4 d₁) refl))))
+            (to-judge ∙ rw e (rw (p, over-longer f (replicate (total h) 0) s z) (ap (after (event.Refused (row 11 1 0 0)) (P + 36 + n₁) (zeroed h s)) (refused-ends (refusedState y (row 11 1 0 0)) (zeroed h s) (P + 36 + n₁) (drop 4 d₁) refl))))
 
         abbrev w : Known
         w = withFirst y

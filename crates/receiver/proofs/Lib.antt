@@ -17,4 +17,4 @@ pub mod Chain
 pub mod Feeding
 pub mod FeedLoop
 pub mod CallLoop
-pub mod Tied
+pub mod ReceiveContract

@@ -55,7 +55,7 @@ module _ (m : Machine) where
   -- the machine runs and gave no refusal, or is refused
   pub data Standing (x : m .State) (s : List ℕ) (es : List Entry) : Type 0 where
     running : m .Running x s → refusedIn es ≡ false → Standing x s es
-    gone : (n : Numbers) → m .Gone n x → Standing x s es
+    hasRefused : (n : Numbers) → m .RefusedFor n x → Standing x s es
 
   -- ---- after a refusal
 
@@ -66,7 +66,7 @@ module _ (m : Machine) where
     pub repeats : Repeats n cs
 
   pub stays : (n : Numbers) (stream : List ℕ) (t : ℕ) (x : m .State) (s : List ℕ) (cs : List (m .Call))
-      → m .Gone n x → Chained stream x s t cs → Stays n t x s cs
+      → m .RefusedFor n x → Chained stream x s t cs → Stays n t x s cs
   stays n stream t x s [] g ch = record { taken = refl; state = refl; store = refl; repeats = tt }
   stays n stream t x s (c ∷ cs) g ch =
       let a = m .answer c in
@@ -130,18 +130,18 @@ module _ (m : Machine) where
       ahead = ap (scan (m .onByte) x₀ s₀ P₀) (sym (take-append-drop (t - P₀) (drop P₀ stream)) ∙ rw left) ∙ goes-on (drop t stream)
 
       -- nothing more comes of a refused stream
-      nothing-more : (n : Numbers) → m .Gone n x → (es ≡ all .entries) × (s ≡ all .store)
+      nothing-more : (n : Numbers) → m .RefusedFor n x → (es ≡ all .entries) × (s ≡ all .store)
       nothing-more n g =
           let z = m .silent n x s t (drop t stream) g in
           (rw (ahead, z .0) (sym (append-nil es)), rw (ahead, z .1))
 
-      after-refusal : (n : Numbers) (cs : List (m .Call)) → m .Gone n x → Stops n t es → Chained stream x s t cs → Comes t x s cs es
+      after-refusal : (n : Numbers) (cs : List (m .Call)) → m .RefusedFor n x → Stops n t es → Chained stream x s t cs → Comes t x s cs es
       after-refusal n cs g stop ch =
           let r = stays n stream t x s cs g ch in
           record {
             reached = rw (r .taken, r .state, r .store) h;
             each = rw ahead (each-repeats n stream t es (scan (m .onByte) x s t (drop t stream) .entries) cs stop (r .repeats));
-            standing = gone n (rw (r .state) g);
+            standing = hasRefused n (rw (r .state) g);
           }
 
     -- a call of a running machine
@@ -165,8 +165,8 @@ module _ (m : Machine) where
       takes : AsScan (m .onByte) x s piece t a
       takes = rw fed (feed-scan (m .onByte) x s piece t)
 
-      after : After (m .Running) (m .Gone) (a .report) (a .state) (a .store)
-      after = rw fed (feed-after (m .Running) (m .Gone) (m .onByte) (m .keeps) x s piece live)
+      after : After (m .Running) (m .RefusedFor) (a .report) (a .state) (a .store)
+      after = rw fed (feed-after (m .Running) (m .RefusedFor) (m .onByte) (m .keeps) x s piece live)
 
       next : Reached t′ (a .state) (a .store) es′
       next =
@@ -201,7 +201,7 @@ module _ (m : Machine) where
             → Comes t x s (c ∷ cs) (es ++ entered (a .report) t′ (a .store) (reportedBy t′ cs))
         by-kind (goesOn p) clean ih =
             let l : t ≤ t′ = omega arith in
-            let live′ = passed-running (m .Running) (m .Gone) (a .report) (a .state) (a .store) p after in
+            let live′ = passed-running (m .Running) (m .RefusedFor) (a .report) (a .state) (a .store) p after in
             joined (rw (enters (a .report) t′ (a .store) (reportedBy t′ cs) p, ← append-assoc))
             (ih live′ (skips-noted (a .report) t t′ (a .store) es p l sk) (clean-noted (a .report) t′ (a .store) es p clean))
         by-kind (ends n q) clean ih =
@@ -226,12 +226,12 @@ module _ (m : Machine) where
 
     -- once a refusal is reported the machine is refused, and the reports and the store are those of the uncut stream
     module _ {t : ℕ} {x : m .State} {s : List ℕ} (cs : List (m .Call)) {es : List Entry} (r : Comes t x s cs es) (e : refusedIn es ≡ true) where
-      pub stopped : (n : Numbers) × m .Gone n (stateBy x cs)
+      pub stopped : (n : Numbers) × m .RefusedFor n (stateBy x cs)
       stopped = go (r .standing)
         where
-          go : Standing (stateBy x cs) (storeBy s cs) es → (n : Numbers) × m .Gone n (stateBy x cs)
+          go : Standing (stateBy x cs) (storeBy s cs) es → (n : Numbers) × m .RefusedFor n (stateBy x cs)
           go (running live clean) = wrong (sym clean ∙ e)
-          go (gone n g) = (n, g)
+          go (hasRefused n g) = (n, g)
 
       pub uncut : (es ≡ all .entries) × (storeBy s cs ≡ all .store)
       uncut = nothing-more (r .reached) (stopped .0) (stopped .1)

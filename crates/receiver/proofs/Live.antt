@@ -26,7 +26,7 @@ use Rattle.body.specs.declared.Late.{Late}
 use Rattle.body.specs.declared.Late.the-variants as late
 use Rattle.body.specs.Body.{segmentSum, segments, epilogueFrom, inEpilogue, noFirstSum, noEpilogue}
 use Rattle.body.specs.End as ended
-use Rattle.body.specs.End.{Ended, whole, dropped, turnedAway, compareFrom, compared, unusedFrom, judgeSpelling, byLate, unlessTurnedAway, lateOf, ending}
+use Rattle.body.specs.End.{Ended, whole, dropped, refusedFor, compareFrom, compared, unusedFrom, judgeSpelling, byLate, endUnlessRefused, lateOf, ending}
 use Rattle.stream.specs.Stream.{zeroed}
 use Rattle.receiver.specs.declared.Stage.{Stage}
 use Rattle.receiver.specs.declared.Stage.the-variants as stage
@@ -45,7 +45,7 @@ use Rattle.body.proofs.Allowed.{AllowedEnd, end-whole, end-dropped, end-turned,
 use Rattle.body.proofs.Ends.{has-length}
 use Rattle.receiver.proofs.Frames.{first-some, rest-silent}
 use Rattle.receiver.proofs.Machine as machine
-use Rattle.receiver.proofs.Scan.{byteStep, plain-feed}
+use Rattle.receiver.proofs.Scan.{byteStep, machine-feed}
 
 -- ---- refusals that a receiver gives
 
@@ -110,7 +110,7 @@ given-ending : (revision : Revision) (h : Header) (e p : List ℕ) → GivenEnd 
 unfolding ending
 given-ending revision h e p = go (noEpilogue revision h)
   where
-    go : (b : Bool) → GivenEnd (cond b whole (unlessTurnedAway (judgeSpelling revision h e) (byLate (lateOf revision (getD e 0 0)) (getD e 0 0) (compared revision h e p))))
+    go : (b : Bool) → GivenEnd (cond b whole (endUnlessRefused (judgeSpelling revision h e) (byLate (lateOf revision (getD e 0 0)) (getD e 0 0) (compared revision h e p))))
     go true = end-whole ofBytes
     go false = end-or ofBytes (judgeSpelling revision h e) (given-spelling revision h e) (end-of (lateOf revision (getD e 0 0)) (getD e 0 0) (given-compared revision h e p))
 
@@ -181,14 +181,14 @@ inside-of r = live r .inside
 
 -- ---- what a step leaves
 
-pub record Gone (n : Numbers) (st : State) : Type 0 where
+pub record RefusedFor (n : Numbers) (st : State) : Type 0 where
   pub stage : st .position .stage ≡ stage.Refused
   pub why : st .known .refusal ≡ n
   pub agree : agrees st ≡ true
   pub gives : given n ≡ true
 
 abbrev pub After : Report → State → List ℕ → Type 0
-After = machine.After Running Gone
+After = machine.After Running RefusedFor
 
 abbrev AfterStep : Stepped → Type 0
 AfterStep x = After (x .report) (x .state) (x .store)
@@ -198,16 +198,16 @@ abbrev OwnFine : Known → Type 0
 OwnFine v = isFine (judgeOwn (v .own .supported) (v .own .required)) ≡ true
 
 -- the state of a refusal
-pub gone-at : (own : Features) (n : Numbers) → given n ≡ true → cond (eqb (n .number) 16) true (isFine (judgeOwn (own .supported) (own .required))) ≡ true → Gone n (at stage.Refused 0 (onlyOwn own n))
+pub refused-at : (own : Features) (n : Numbers) → given n ≡ true → cond (eqb (n .number) 16) true (isFine (judgeOwn (own .supported) (own .required))) ≡ true → RefusedFor n (at stage.Refused 0 (onlyOwn own n))
 unfolding agreesAt
-gone-at own n g o = record { stage = refl; why = refl; agree = rw (o, g); gives = g }
+refused-at own n g o = record { stage = refl; why = refl; agree = rw (o, g); gives = g }
 
 own-cond : (b : Bool) (c : Bool) → c ≡ true → cond b true c ≡ true
 own-cond true c e = refl
 own-cond false c e = e
 
 pub refused-after : (v : Known) (n : Numbers) (s : List ℕ) → OwnFine v → given n ≡ true → AfterStep (refuse v n s)
-refused-after v n s o g = gone-at (v .own) n g (own-cond (eqb (n .number) 16) (isFine (judgeOwn (v .own .supported) (v .own .required))) o)
+refused-after v n s o g = refused-at (v .own) n g (own-cond (eqb (n .number) 16) (isFine (judgeOwn (v .own .supported) (v .own .required))) o)
 
 judged-after : (j : Judged) (v : Known) (s : List ℕ) (x : Stepped) → OwnFine v → Given j → (j ≡ fine → AfterStep x) → AfterStep (unlessRefused j v s x)
 judged-after fine v s x o k f = f refl
@@ -262,7 +262,7 @@ next-after v s f =
 frame-after : (x : Ended) (v : Known) (s : List ℕ) → Framed v → GivenEnd x → AfterStep (endFrame x v s)
 frame-after whole v s f k = next-after v s f
 frame-after dropped v s f k = next-after v (zeroed (v .header) s) f
-frame-after (turnedAway n) v s f k = refused-after v n (zeroed (v .header) s) (f .own) (both-left (given n) (not (eqb (n .number) 16)) (k .gives n refl))
+frame-after (refusedFor n) v s f k = refused-after v n (zeroed (v .header) s) (f .own) (both-left (given n) (not (eqb (n .number) 16)) (k .gives n refl))
 
 least-other : (b : Bool) (n m : ℕ) → n ≤ m → cond b n 0 ≤ m
 least-other true n m h = h
@@ -397,12 +397,12 @@ unfolding onByte
 byte-after st s b = chunk-after st s (b ∷ [])
 
 pub feed-after : (st : State) (s piece : List ℕ) → Running st s → After (feed st s piece .received .report) (feed st s piece .received .state) (feed st s piece .store)
-feed-after st s piece r = rw (← (plain-feed st s piece)) at (machine.feed-after Running Gone byteStep byte-after st s piece r)
+feed-after st s piece r = rw (← (machine-feed st s piece)) at (machine.feed-after Running RefusedFor byteStep byte-after st s piece r)
 
 -- ---- and so a state that a call hands back agrees with itself
 
 pub after-agrees : (r : Report) (st : State) (s : List ℕ) → After r st s → agrees st ≡ true
-after-agrees r st s = machine.by-after Running Gone r st s (λ a. a .agree) (λ n a. a .agree)
+after-agrees r st s = machine.by-after Running RefusedFor r st s (λ a. a .agree) (λ n a. a .agree)
 
 -- ---- refused states
 
@@ -426,11 +426,11 @@ rules-agreed st e =
     let v = st .known in
     rules-of k v (both-left (rules k v) (countRule k v (p .got)) (both-left (rules k v && countRule k v (p .got)) (blockRule k (p .got) (p .block)) e))
 
-pub refused-gone : (st : State) → agrees st ≡ true → isRefused (st .position .stage) ≡ true → Gone (st .known .refusal) st
-refused-gone st e r =
+pub refused-for : (st : State) → agrees st ≡ true → isRefused (st .position .stage) ≡ true → RefusedFor (st .known .refusal) st
+refused-for st e r =
     record { stage = stage-refused (st .position .stage) r; why = refl; agree = e; gives = rw r at (rules-agreed st e .refusal) }
 
-pub agree-own : (st : State) → agrees st ≡ true → isRefused (st .position .stage) ≡ false → (n : Numbers) → given n ≡ true → Gone n (refusedState (st .known) n)
+pub agree-own : (st : State) → agrees st ≡ true → isRefused (st .position .stage) ≡ false → (n : Numbers) → given n ≡ true → RefusedFor n (refusedState (st .known) n)
 agree-own st e r n g = refused-after (st .known) n [] (rw r at (rules-agreed st e .own)) g
 
 -- ---- the start
@@ -439,9 +439,9 @@ pub start-running : (own : Features) (s : List ℕ) → judgeOwn (own .supported
 start-running own s e =
     running-at stage.Magic 0 (onlyOwn own noRefusal) s refl (record { own = fine-true e; payload = refl; peer = refl; revision = refl; header = refl; first = refl; mark = refl; refusal = refl }) zero-le (lit< tt) zero-le refl
 
-pub start-gone : (own : Features) (n : Numbers) → judgeOwn (own .supported) (own .required) ≡ refused n → Gone n (at stage.Refused 0 (onlyOwn own n))
-start-gone own n e = go (ltb (own .supported) 2 && ltb (own .required) 2 && eqb (missing 64 (own .required) (own .supported)) 0) e
+pub start-refused : (own : Features) (n : Numbers) → judgeOwn (own .supported) (own .required) ≡ refused n → RefusedFor n (at stage.Refused 0 (onlyOwn own n))
+start-refused own n e = go (ltb (own .supported) 2 && ltb (own .required) 2 && eqb (missing 64 (own .required) (own .supported)) 0) e
   where
-    go : (b : Bool) → cond b fine (refused (row 16 0 0 0)) ≡ refused n → Gone n (at stage.Refused 0 (onlyOwn own n))
+    go : (b : Bool) → cond b fine (refused (row 16 0 0 0)) ≡ refused n → RefusedFor n (at stage.Refused 0 (onlyOwn own n))
     go true q = absurd (let z : _≡_ {A = ℕ} 0 1 = cc in omega arith)
-    go false q = (let k : row 16 0 0 0 ≡ n = cc in rw k at (gone-at own (row 16 0 0 0) refl refl))
+    go false q = (let k : row 16 0 0 0 ≡ n = cc in rw k at (refused-at own (row 16 0 0 0) refl refl))

@@ -128,17 +128,17 @@ module _ {State : Type 0} (onByte : State → List ℕ → ℕ → Stepped State
 
 -- ---- a machine that runs, until it is refused
 
-module _ {State : Type 0} (Running : State → List ℕ → Type 0) (Gone : Numbers → State → Type 0) where
+module _ {State : Type 0} (Running : State → List ℕ → Type 0) (RefusedFor : Numbers → State → Type 0) where
   -- what holds behind a report
   abbrev pub After : Report → State → List ℕ → Type 0
   After report.More x s = Running x s
-  After (report.Event e) x s = passing e (Running x s) (λ n. Gone n x)
+  After (report.Event e) x s = passing e (Running x s) (λ n. RefusedFor n x)
 
   pub passed-running : (r : Report) (x : State) (s : List ℕ) → Passes r → After r x s → Running x s
   passed-running report.More x s p a = a
   passed-running (report.Event e) x s p a = rw p at a
 
-  pub by-after : {C : Type 0} (r : Report) (x : State) (s : List ℕ) → (Running x s → C) → ((n : Numbers) → Gone n x → C) → After r x s → C
+  pub by-after : {C : Type 0} (r : Report) (x : State) (s : List ℕ) → (Running x s → C) → ((n : Numbers) → RefusedFor n x → C) → After r x s → C
   by-after report.More x s f g a = f a
   by-after {C} (report.Event e) x s f g a = by-event (λ w. After (report.Event w) x s → C) (λ w p b. f (rw p at b)) g e a
 
@@ -173,16 +173,16 @@ pub record Machine : Type 1 where
   pub onByte : State → List ℕ → ℕ → Stepped State
   -- it runs, with a store; or it is refused, with these numbers
   pub Running : State → List ℕ → Type 0
-  pub Gone : Numbers → State → Type 0
+  pub RefusedFor : Numbers → State → Type 0
   -- a call: the size of the piece that it was lent, and its answer; what it promises, from a state and a store, on a piece
   pub Call : Type 0
   pub size : Call → ℕ
   pub answer : Call → Answer State
   pub Answered : State → List ℕ → List ℕ → Call → Type 0
   -- a byte leaves it running, or refused by a refusal; behind that no byte gives a report or changes the store
-  pub keeps : (x : State) (s : List ℕ) (b : ℕ) → Running x s → After Running Gone (onByte x s b .report) (onByte x s b .state) (onByte x s b .store)
-  pub silent : (n : Numbers) (x : State) (s : List ℕ) (P : ℕ) (bs : List ℕ) → Gone n x
+  pub keeps : (x : State) (s : List ℕ) (b : ℕ) → Running x s → After Running RefusedFor (onByte x s b .report) (onByte x s b .state) (onByte x s b .store)
+  pub silent : (n : Numbers) (x : State) (s : List ℕ) (P : ℕ) (bs : List ℕ) → RefusedFor n x
       → (scan onByte x s P bs .entries ≡ []) × (scan onByte x s P bs .store ≡ s)
   -- a call takes its piece byte by byte; behind a refusal it repeats it
   pub feeds : (x : State) (s piece : List ℕ) (c : Call) → Running x s → Answered x s piece c → answer c ≡ feed onByte x s piece
-  pub repeats : (n : Numbers) (x : State) (s piece : List ℕ) (c : Call) → Gone n x → Answered x s piece c → answer c ≡ refusedAgain n x s
+  pub repeats : (n : Numbers) (x : State) (s piece : List ℕ) (c : Call) → RefusedFor n x → Answered x s piece c → answer c ≡ refusedAgain n x s

@@ -23,21 +23,21 @@ abbrev pub scan : State → List ℕ → ℕ → List ℕ → Scanned
 scan = machine.scan byteStep
 
 -- an answer of the receiver is one of the machine
-abbrev pub plain : Answer → machine.Answer State
-plain a = record { state = a .received .state; taken = a .received .taken; report = a .received .report; store = a .store }
+abbrev pub machineAnswer : Answer → machine.Answer State
+machineAnswer a = record { state = a .received .state; taken = a .received .taken; report = a .received .report; store = a .store }
 
-plain-onward : (r : Report) (x : Stepped) (a : Answer) → plain (onward r 1 x a) ≡ machine.onward r (bare x) (plain a)
-plain-onward report.More x a = refl
-plain-onward (report.Event e) x a = refl
+machine-onward : (r : Report) (x : Stepped) (a : Answer) → machineAnswer (onward r 1 x a) ≡ machine.onward r (bare x) (machineAnswer a)
+machine-onward report.More x a = refl
+machine-onward (report.Event e) x a = refl
 
-pub plain-feed : (st : State) (s piece : List ℕ) → plain (feed st s piece) ≡ machine.feed byteStep st s piece
+pub machine-feed : (st : State) (s piece : List ℕ) → machineAnswer (feed st s piece) ≡ machine.feed byteStep st s piece
 unfolding feed machine.feed
-plain-feed st s [] = refl
-plain-feed st s (b ∷ bs) =
+machine-feed st s [] = refl
+machine-feed st s (b ∷ bs) =
     let x = onByte st s b in
-    plain-onward (x .report) x (feed (x .state) (x .store) bs)
-    ∙ ap (machine.onward (x .report) (byteStep st s b)) (plain-feed (x .state) (x .store) bs)
+    machine-onward (x .report) x (feed (x .state) (x .store) bs)
+    ∙ ap (machine.onward (x .report) (byteStep st s b)) (machine-feed (x .state) (x .store) bs)
 
 -- no more is taken than the piece has
 pub feed-within : (st : State) (s piece : List ℕ) → feed st s piece .received .taken ≤ length piece
-feed-within st s piece = rw (← (plain-feed st s piece)) at (machine.feed-scan byteStep st s piece 0 .le)
+feed-within st s piece = rw (← (machine-feed st s piece)) at (machine.feed-scan byteStep st s piece 0 .le)

@@ -34,13 +34,13 @@ unfolding onByte
 full = gathers.full stages
 
 -- a refused receiver is silent
-gone-byte : (st : State) (s : List ℕ) (b : ℕ) → st .position .stage ≡ stage.Refused → Silent (λ st. st .position .stage ≡ stage.Refused) s (byteStep st s b)
+refused-byte : (st : State) (s : List ℕ) (b : ℕ) → st .position .stage ≡ stage.Refused → Silent (λ st. st .position .stage ≡ stage.Refused) s (byteStep st s b)
 unfolding onByte finish
-gone-byte st s b e =
+refused-byte st s b e =
     let l = le-ltb (st .position .got + 1) 0 zero-le in
     record { state = rw (e, l); store = rw (e, l); report = rw (e, l) }
 
-pub gone : (st : State) (s : List ℕ) (P : ℕ) (bs : List ℕ) → st .position .stage ≡ stage.Refused → traceBy (scan st s P bs) ≡ ended s
-gone st s P bs e =
-    let z = scan-silent byteStep (λ st. st .position .stage ≡ stage.Refused) gone-byte st s P bs e in
+pub refused-ends : (st : State) (s : List ℕ) (P : ℕ) (bs : List ℕ) → st .position .stage ≡ stage.Refused → traceBy (scan st s P bs) ≡ ended s
+refused-ends st s P bs e =
+    let z = scan-silent byteStep (λ st. st .position .stage ≡ stage.Refused) refused-byte st s P bs e in
     rw (z .0, z .1)

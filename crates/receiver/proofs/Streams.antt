@@ -31,14 +31,14 @@ use Rattle.receiver.proofs.Scan.{byteStep, scan}
 use Rattle.buffer.proofs.Sets.{sets-whole, take-sets}
 use Rattle.buffer.proofs.Numbers.{number-take, number-drop}
 use Rattle.receiver.proofs.Gathers.{traceBy}
-use Rattle.receiver.proofs.Stages.{run, short, full, gone}
+use Rattle.receiver.proofs.Stages.{run, short, full, refused-ends}
 use Rattle.receiver.proofs.Frames.{After, body-run}
 
 -- a judgement, on both sides
 judged : (j : Judged) (v : Known) (s : List ℕ) (x : Stepped) (Q : ℕ) (ys : List ℕ) (t : Trace) → (j ≡ fine → run x Q ys ≡ t)
     → run (unlessRefused j v s x) Q ys ≡ stream.unlessRefused j Q s t
 judged fine v s x Q ys t f = f refl
-judged (refused n) v s x Q ys t f = ap (after (event.Refused n) Q s) (gone (refusedState v n) s Q ys refl)
+judged (refused n) v s x Q ys t f = ap (after (event.Refused n) Q s) (refused-ends (refusedState v n) s Q ys refl)
 
 -- ---- frames
 

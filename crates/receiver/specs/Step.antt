@@ -18,7 +18,7 @@ use Rattle.preamble.specs.declared.Header.{Header}
 use Rattle.preamble.specs.Layout.{total}
 use Rattle.preamble.specs.Judge.{headerOf, judgePreamble}
 use Rattle.body.specs.Body.{segmentSum, noEpilogue}
-use Rattle.body.specs.End.{Ended, whole, dropped, turnedAway, ending}
+use Rattle.body.specs.End.{Ended, whole, dropped, refusedFor, ending}
 use Rattle.stream.specs.declared.Event.{Event}
 use Rattle.stream.specs.declared.Event.the-variants as event
 use Rattle.stream.specs.Stream.{zeroed}
@@ -112,7 +112,7 @@ endBanner v s =
 abbrev pub endFrame : Ended → Known → List ℕ → Stepped
 endFrame whole v s = stepped (nextFrame v) s (report.Event (event.Frame (v .header)))
 endFrame dropped v s = stepped (nextFrame v) (zeroed (v .header) s) (report.Event (event.Dropped (v .header)))
-endFrame (turnedAway n) v s = refuse v n (zeroed (v .header) s)
+endFrame (refusedFor n) v s = refuse v n (zeroed (v .header) s)
 
 -- behind the segments: the epilogue, where there is one
 abbrev pub beginEpilogue : Known → List ℕ → Stepped
@@ -240,7 +240,7 @@ refusing k got v n = taken.Moved (record { stage = k; got = got; known = v; take
 
 -- and, where the piece may have been held, with the stage and what was known before, and the piece's length
 abbrev pub receivedBy : Stage → Known → List ℕ → ℕ → Taken → Received
-receivedBy k v block n (taken.Held got) = record { state = stateAt k got block v; taken = n; report = report.More }
+receivedBy k v block n (taken.Partial got) = record { state = stateAt k got block v; taken = n; report = report.More }
 receivedBy k v block n (taken.Moved m) = movedTo m block
 
 -- ---- the start

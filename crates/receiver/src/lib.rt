@@ -13,7 +13,7 @@ use preamble::Header;
 use refusal::Numbers;
 use refusal::Refusal;
 use refusal::Verdict;
-use refusal::in_numbers;
+use refusal::numbers_of;
 use states::agree;
 use states::fresh;
 use states::is_refused;
@@ -109,7 +109,7 @@ pub struct Moved {
 
 pub enum Taken {
     // The whole piece was taken and does not end the stage, of which so many bytes have come in all: nothing else changes. `Moved` may say the same.
-    Held(usize),
+    Partial(usize),
     Moved(Moved),
 }
 
@@ -130,7 +130,7 @@ pub fn start(own: Features) -> Started
             verdict: v,
         },
         Verdict::Refused(why) => Started {
-            state: refused_state(own, in_numbers(why)),
+            state: refused_state(own, numbers_of(why)),
             verdict: Verdict::Refused(why),
         },
     }
@@ -154,7 +154,7 @@ fn received_with(stage: Stage, known: Known, block: [u8; 32], n: usize, t: Taken
     ensures { λ r. ⌜ r ≡ receivedBy stage known block n t ⌝ }
 {
     match t {
-        Taken::Held(to) => Received {
+        Taken::Partial(to) => Received {
             state: State {
                 position: Position {
                     stage: stage,
@@ -198,20 +198,20 @@ pub fn receive_in(
     ensures { λ r. ⌜ Answered (stateAt stage got (now (block .entry)) known) (now (store .entry)) (now (piece .entry)) (receivedBy stage known (now (block .exit)) (length (now (piece .entry))) r) (now (store .exit)) ⌝ }
 {
     if !agree(stage, got, block, known) {
-        return refuse_unchanged(stage, got, known, in_numbers(Refusal::StateContradicts));
+        return refuse_unchanged(stage, got, known, numbers_of(Refusal::StateContradicts));
     }
     if is_refused(stage) {
         return refuse_unchanged(stage, got, known, known.refusal);
     }
     let need = needed_by(stage, known);
     if (store.len() as u64) < need {
-        let n = in_numbers(Refusal::StoreShort(need));
+        let n = numbers_of(Refusal::StoreShort(need));
         *block = [0u8; 32];
         return refuse_unchanged(Stage::Refused, 0, only_own(known.own, n), n);
     }
     if piece.len() < size_of(stage, known) - got {
         fill(place_of(stage), got, block, piece, store);
-        return Taken::Held(got + piece.len());
+        return Taken::Partial(got + piece.len());
     }
     Taken::Moved(feed(stage, got, known, block, piece, store))
 }

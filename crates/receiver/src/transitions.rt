@@ -31,7 +31,7 @@ use preamble::total_of;
 use refusal::Numbers;
 use refusal::Refusal;
 use refusal::Verdict;
-use refusal::in_numbers;
+use refusal::numbers_of;
 use stream::Event;
 ghost use mathlib.Core.Path.{_≡_};
 ghost use mathlib.Core.List.{List};
@@ -39,7 +39,7 @@ ghost use Prim.Native.Nat.{ℕ, _≤_};
 ghost use lib.ListN.{length};
 ghost use Rattle.refusal.specs.Refusals.{judgedBy};
 ghost use Rattle.preamble.specs.Layout.{total};
-ghost use Rattle.body.specs.End.{whole, dropped, turnedAway};
+ghost use Rattle.body.specs.End.{whole, dropped, refusedFor};
 ghost use Rattle.stream.specs.Stream.{zeroed};
 ghost use Rattle.receiver.specs.declared.Stage.the-variants as stage;
 ghost use Rattle.receiver.specs.declared.Report.the-variants as report;
@@ -87,7 +87,7 @@ fn unless_refused(verdict: Verdict, v: Known, t: Transition) -> Transition
 {
     match verdict {
         Verdict::Fine => t,
-        Verdict::Refused(why) => refuse(v, in_numbers(why)),
+        Verdict::Refused(why) => refuse(v, numbers_of(why)),
     }
 }
 
@@ -177,7 +177,7 @@ fn end_preamble(block: &[u8; 32], v: Known, store: usize) -> Transition
     let verdict = judge_read(p, block, store);
     match verdict {
         Verdict::Fine => begin_body(with_header(v, p.header)),
-        Verdict::Refused(why) => refuse(v, in_numbers(why)),
+        Verdict::Refused(why) => refuse(v, numbers_of(why)),
     }
 }
 
@@ -191,7 +191,7 @@ fn zero_payload(store: &mut [u8], h: Header)
 
 fn refuse_frame(v: Known, n: Numbers, store: &mut [u8]) -> Transition
     requires { ⌜ total (v .header) ≤ length (now store) ⌝ }
-    ensures { λ r. ⌜ steppedBy r (now (store .exit)) ≡ endFrame (turnedAway n) v (now (store .entry)) ⌝ }
+    ensures { λ r. ⌜ steppedBy r (now (store .exit)) ≡ endFrame (refusedFor n) v (now (store .entry)) ⌝ }
 {
     zero_payload(store, v.header);
     refuse(v, n)
@@ -236,7 +236,7 @@ fn end_first_sum(block: &[u8], v: Known, store: &mut [u8]) -> Transition
     if stored == sum {
         return behind_first_sum(v, n);
     }
-    refuse_frame(v, in_numbers(Refusal::SegmentChecksum(1)), store)
+    refuse_frame(v, numbers_of(Refusal::SegmentChecksum(1)), store)
 }
 
 fn end_epilogue(block: &[u8], v: Known, store: &mut [u8]) -> Transition
@@ -250,7 +250,7 @@ fn end_epilogue(block: &[u8], v: Known, store: &mut [u8]) -> Transition
     match end {
         Ending::Whole => end_whole(v),
         Ending::Dropped => drop_frame(v, store),
-        Ending::Refused(why) => refuse_frame(v, in_numbers(why), store),
+        Ending::Refused(why) => refuse_frame(v, numbers_of(why), store),
     }
 }
 

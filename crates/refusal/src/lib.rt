@@ -53,6 +53,12 @@ pub enum Verdict {
     Refused(Refusal),
 }
 
+// What a call that writes into a lent buffer comes to: so many bytes, or a refusal.
+pub enum WriteResult {
+    Wrote(usize),
+    Refused(Refusal),
+}
+
 // A refusal as numbers.
 #[repr(C)]
 pub struct Numbers {
@@ -85,7 +91,7 @@ fn three(number: u8, m: Missing) -> Numbers
 }
 
 // A refusal's number and details.
-pub fn in_numbers(refusal: Refusal) -> Numbers
+pub fn numbers_of(refusal: Refusal) -> Numbers
     ensures { λ r. ⌜ r ≡ numbersOf refusal ⌝ }
 {
     match refusal {
@@ -140,7 +146,7 @@ pub fn or_else(a: Verdict, b: Verdict) -> Verdict
 }
 
 // The refusal, unless a test held.
-pub fn unless_ok(ok: bool, refusal: Refusal) -> Verdict
+pub fn unless(ok: bool, refusal: Refusal) -> Verdict
     ensures { λ r. ⌜ judgedBy r ≡ unless ok refusal ⌝ }
 {
     if ok {

@@ -7,7 +7,7 @@ use lib.ListN.{drop, getD}
 use mathlib.Core.Path.{_≡_, refl, ap, ap₂, _∙_}
 use Rattle.sbox.specs.Sbox.{xtime, mulBits, power, inverse, affine, sbox}
 use Rattle.aes.specs.Aes.{State, columnAt, stateOf, subColumn, subBytes, shiftRows, mixed, mixColumn, mixColumns, addColumn, addRoundKey, rcon, rotWord, firstWord, following, nextKey, roundKey, roundKeys, keyExpansion, cipher}
-use Rattle.aes.specs.Counter.{counterBlock, streamBlock, byteOf, streamByte, gctrFrom, gctr}
+use Rattle.aes.specs.Counter.{counterBlock, keystreamBlock, byteOf, keystreamByte, gctrFrom, gctr}
 use Rattle.aes.proofs.Computed.{sub, mix, cipherBy, keysBy, cipher-is, keys-are}
 use Rattle.ghash.specs.Ghash.{step, mulFrom, quadAt, blockAt, ghashFrom, ghash}
 use Rattle.gcm.specs.Gcm.{plain, fail, columnNumber, blockNumber, blockBytes, hashKey, tagOf, sealedBy, sealed, sameAs, tagFits, openedBy, opened}
@@ -58,12 +58,12 @@ first = 0x58 ∷ 0xe2 ∷ 0xfc ∷ 0xce ∷ 0xfa ∷ 0x7e ∷ 0x30 ∷ 0x61 ∷ 
 second : List ℕ
 second = 0x03 ∷ 0x88 ∷ 0xda ∷ 0xce ∷ 0x60 ∷ 0xb6 ∷ 0xa3 ∷ 0x92 ∷ 0xf3 ∷ 0x28 ∷ 0xc2 ∷ 0xb9 ∷ 0x71 ∷ 0xb2 ∷ 0xfe ∷ 0x78 ∷ []
 
-first-block : streamBlock w (zeros 12) 1 ≡ stateOf first
-unfolding w first xtime columnAt stateOf shiftRows addColumn addRoundKey rotWord following counterBlock streamBlock
+first-block : keystreamBlock w (zeros 12) 1 ≡ stateOf first
+unfolding w first xtime columnAt stateOf shiftRows addColumn addRoundKey rotWord following counterBlock keystreamBlock
 first-block = encrypted (zeros 16) (counterBlock (zeros 12) 1) ∙ refl
 
-second-block : streamBlock w (zeros 12) 2 ≡ stateOf second
-unfolding w second xtime columnAt stateOf shiftRows addColumn addRoundKey rotWord following counterBlock streamBlock
+second-block : keystreamBlock w (zeros 12) 2 ≡ stateOf second
+unfolding w second xtime columnAt stateOf shiftRows addColumn addRoundKey rotWord following counterBlock keystreamBlock
 second-block = encrypted (zeros 16) (counterBlock (zeros 12) 2) ∙ refl
 
 -- the tag of a masked text, from the two
@@ -80,7 +80,7 @@ masked s =
     bitXor 0 (byteOf s 0) ∷ bitXor 0 (byteOf s 1) ∷ bitXor 0 (byteOf s 2) ∷ bitXor 0 (byteOf s 3) ∷ bitXor 0 (byteOf s 4) ∷ bitXor 0 (byteOf s 5) ∷ bitXor 0 (byteOf s 6) ∷ bitXor 0 (byteOf s 7) ∷ bitXor 0 (byteOf s 8) ∷ bitXor 0 (byteOf s 9) ∷ bitXor 0 (byteOf s 10) ∷ bitXor 0 (byteOf s 11) ∷ bitXor 0 (byteOf s 12) ∷ bitXor 0 (byteOf s 13) ∷ bitXor 0 (byteOf s 14) ∷ bitXor 0 (byteOf s 15) ∷ []
 
 masked-is : gctr w (zeros 12) (zeros 16) ≡ second
-unfolding gctrFrom streamByte masked second columnAt stateOf
+unfolding gctrFrom keystreamByte masked second columnAt stateOf
 masked-is = ap masked second-block
 
 empty-tag : tagOf w (zeros 12) [] ≡ emptySealed

@@ -4,10 +4,11 @@ use mathlib.Core.List.{List, [], _∷_}
 use Prim.Native.Nat.{ℕ, _+_, _-_}
 use lib.ListN.{replicate}
 use Rattle.refusal.specs.Refusals.{fine, refused, row}
+use Rattle.refusal.specs.Writes.{refusedFor, done}
 use Rattle.sbox.specs.Sbox.{mul, sbox}
 use Rattle.aes.specs.Aes.{stateOf, subBytes, shiftRows, mixColumns, addRoundKey, roundKey, keyExpansion, cipher}
 use Rattle.gcm.specs.Gcm.{plain, fail, sealed, opened}
-use Rattle.gcm.specs.Calls.{limit, judgeSeal, judgeOpen, done, refusedWith, byBoth}
+use Rattle.gcm.specs.Calls.{limit, judgeSeal, judgeOpen, byBoth}
 
 -- appendix B of FIPS 197: the key, the input, and the first round
 abbrev pub key : List ℕ
@@ -86,8 +87,8 @@ pub record Orders : Type 0 where
   pub open-short : judgeOpen 21 4 ≡ refused (row 14 5 0 0)
   pub open-fits : judgeOpen 21 5 ≡ fine
   -- a wrong tag leaves zeros over the text's length; behind it the buffer stays
-  pub zeroed : byBoth fine fail 2 (7 ∷ 7 ∷ 7 ∷ []) ≡ done (refusedWith (row 17 0 0 0)) (0 ∷ 0 ∷ 7 ∷ [])
-  pub kept : byBoth (refused (row 17 0 0 0)) fail 0 (7 ∷ 7 ∷ []) ≡ done (refusedWith (row 17 0 0 0)) (7 ∷ 7 ∷ [])
+  pub zeroed : byBoth fine fail 2 (7 ∷ 7 ∷ 7 ∷ []) ≡ done (refusedFor (row 17 0 0 0)) (0 ∷ 0 ∷ 7 ∷ [])
+  pub kept : byBoth (refused (row 17 0 0 0)) fail 0 (7 ∷ 7 ∷ []) ≡ done (refusedFor (row 17 0 0 0)) (7 ∷ 7 ∷ [])
 
 pub record Worked : Type 0 where
   pub fips : Fips197

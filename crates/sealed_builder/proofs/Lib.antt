@@ -1,6 +1,6 @@
 pub mod Texts
 pub mod Accepted
-pub mod Different
-pub mod Once
-pub mod Eighteen
+pub mod NoncesDiffer
+pub mod NoNonceTwice
+pub mod Refusals18And26
 pub mod Trip

@@ -12,13 +12,14 @@ use Rattle.buffer.specs.Splice.{splice}
 use Rattle.refusal.specs.declared.Refusal.the-variants as refusal
 use Rattle.refusal.specs.Refusals.{fine}
 use Rattle.refusal.proofs.Judgements.{by-judgement, passed}
+use Rattle.refusal.specs.Writes.{wrote, outcomeOf}
 use Rattle.preamble.specs.declared.Header.{Header}
 use Rattle.preamble.specs.Judge.{judgeHeader}
 use Rattle.preamble.specs.Reading.{HeaderFits}
 use Rattle.preamble.proofs.Headers.{some-segment}
 use Rattle.banner.specs.declared.Revision.the-variants.{Msgr21}
 use Rattle.aes.specs.Aes.{State, keyExpansion}
-use Rattle.builder.specs.Build.{wrote, answered, judgeAbort}
+use Rattle.builder.specs.Build.{judgeAbort}
 use Rattle.secure.specs.Layout.{allNonces, nonceAfter, sealedFrame, sealedLength, partCount, needed}
 use Rattle.secure.specs.Reading.{frames}
 use Rattle.secure.specs.Trip.{Sent, SealedTrip}
@@ -29,7 +30,7 @@ use Rattle.sealed_builder.specs.Build.{Done, sentMore}
 use Rattle.sealed_builder.specs.Nonces.{Build, Meets}
 use Rattle.sealed_builder.specs.Trip.{reported, SentBack}
 use Rattle.sealed_builder.proofs.Accepted.{accepted}
-use Rattle.sealed_builder.proofs.Once.{judged, came, when-fine, when-refused}
+use Rattle.sealed_builder.proofs.NoNonceTwice.{judged, came, when-fine, when-refused}
 
 -- what was spliced in
 spliced : (l : List ℕ) (i k : ℕ) (xs : List ℕ) → length xs ≡ k → i ≤ length l → take k (drop i (splice l i xs)) ≡ xs
@@ -65,7 +66,7 @@ module _ (s : Sending) (b : Build) (n f P : ℕ) (tail store : List ℕ) (m : Me
   read-as false t j a = trip w (s .nonce) n h (b .source) store t .whole f P tail
   read-as true t j a = trip w (s .nonce) n h (b .source) store t .aborted (several h j a) f P tail
 
-  built-back : (k : ℕ) → judged s b ≡ fine → answered (b .answer .built) ≡ wrote k
+  built-back : (k : ℕ) → judged s b ≡ fine → outcomeOf (b .answer .built) ≡ wrote k
       → frames (suc f) w (s .nonce) n P (take k (drop (b .queued) (b .after)) ++ tail) store
       ≡ reported (b .abort) h (P + k) (b .source) store (frames f w (b .answer .sending .nonce) (n + partCount h) (P + k) tail)
   unfolding sentMore sealedFrame

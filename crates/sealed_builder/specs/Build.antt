@@ -8,11 +8,12 @@ use lib.Dec.{leb, eqb}
 use Rattle.buffer.specs.Splice.{splice}
 use Rattle.refusal.specs.declared.Refusal.the-variants as refusal
 use Rattle.refusal.specs.Refusals.{Judged, fine, refused, orElse, firstOf, unless}
+use Rattle.refusal.specs.Writes.{Outcome, wrote, refusedFor, outcomeOf}
 use Rattle.banner.specs.declared.Revision.the-variants.{Msgr21}
 use Rattle.preamble.specs.declared.Header.{Header}
 use Rattle.preamble.specs.Layout.{total}
 use Rattle.preamble.specs.Judge.{judgeHeader}
-use Rattle.builder.specs.Build.{Answer, wrote, turnedAway, answered, judgeSource, judgeAbort, judgeRoom}
+use Rattle.builder.specs.Build.{judgeSource, judgeAbort, judgeRoom}
 use Rattle.aes.specs.Aes.{keyExpansion}
 use Rattle.secure.specs.Layout.{allNonces, nonceAfter, Part, frameParts, sealedParts, sealedLength, partCount}
 use Rattle.buffer.specs.Zeros.{allZero}
@@ -85,17 +86,17 @@ judgeSealed s h abort source space queued =
 -- ---- the answer, in 01's numbers, the sending state and the buffer
 
 pub record Done : Type 0 where
-  pub answer : Answer
+  pub answer : Outcome
   pub sending : Sending
   pub buffer : List ℕ
 
-abbrev pub done : Answer → Sending → List ℕ → Done
+abbrev pub done : Outcome → Sending → List ℕ → Done
 done a s b = record { answer = a; sending = s; buffer = b }
 
 -- a refused build changes nothing and spends no nonce; another one puts its bytes behind the queued ones
 abbrev pub outcome : Judged → Sending → Header → List ℕ → ℕ → List ℕ → Done
 outcome fine s h buf queued bytes = done (wrote (sealedLength h)) (sentMore s (partCount h)) (splice buf queued bytes)
-outcome (refused r) s h buf queued bytes = done (turnedAway r) s buf
+outcome (refused r) s h buf queued bytes = done (refusedFor r) s buf
 
 -- the parts that a build seals, with their nonces
 abbrev pub sentParts : Sending → Header → Bool → List ℕ → List Part
@@ -109,4 +110,4 @@ sealedDone s h abort source buf queued =
 
 -- THE PROMISE of the builder: a buffer buf with so many bytes queued, the answer, and the buffer then
 pub record BuiltSealed (s : Sending) (h : Header) (abort : Bool) (source buf : List ℕ) (queued : ℕ) (answer : Sealed) (after : List ℕ) : Type 0 where
-  pub promise : done (answered (answer .built)) (answer .sending) after ≡ sealedDone s h abort source buf queued
+  pub promise : done (outcomeOf (answer .built)) (answer .sending) after ≡ sealedDone s h abort source buf queued

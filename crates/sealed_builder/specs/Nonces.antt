@@ -7,10 +7,10 @@ use lib.ListN.{length}
 use Rattle.refusal.specs.declared.Numbers.{Numbers}
 use Rattle.refusal.specs.declared.Refusal.the-variants as refusal
 use Rattle.refusal.specs.Refusals.{fine, numbersOf}
+use Rattle.refusal.specs.Writes.{Outcome, wrote, refusedFor, outcomeOf}
 use Rattle.preamble.specs.declared.Header.{Header}
 use Rattle.buffer.specs.Splice.{splice}
 use Rattle.aes.specs.Aes.{keyExpansion}
-use Rattle.builder.specs.Build.{Answer, wrote, turnedAway, answered}
 use Rattle.secure.specs.Layout.{allNonces, Part, noncesOf, sealedParts, partCount}
 use Rattle.sealed_builder.specs.declared.Sending.{Sending}
 use Rattle.sealed_builder.specs.declared.Sealed.{Sealed}
@@ -18,7 +18,7 @@ use Rattle.sealed_builder.specs.Build.{spentOf, freshSending, sentParts,
 
 -- ---- a list of builds, each given the state that the last one handed back
 
--- what was asked, what was answered, and the buffer then
+-- what was asked, what was outcomeOf, and the buffer then
 pub record Build : Type 0 where
   pub header : Header
   pub abort : Bool
@@ -37,12 +37,12 @@ Chained s (b ∷ bs) = Meets s b × Chained (b .answer .sending) bs
 
 -- ---- the nonces that they used for sealing: those of the parts that their promise has the written bytes be
 
-abbrev pub usedIn : Answer → List Part → List (List ℕ)
+abbrev pub usedIn : Outcome → List Part → List (List ℕ)
 usedIn (wrote n) parts = noncesOf parts
-usedIn (turnedAway r) parts = []
+usedIn (refusedFor r) parts = []
 
 abbrev pub usedBy : Sending → Build → List (List ℕ)
-usedBy s b = usedIn (answered (b .answer .built)) (sentParts s (b .header) (b .abort) (b .source))
+usedBy s b = usedIn (outcomeOf (b .answer .built)) (sentParts s (b .header) (b .abort) (b .source))
 
 abbrev pub used : Sending → List Build → List (List ℕ)
 used s [] = []
@@ -67,10 +67,10 @@ left s = allNonces - spentOf s
 
 -- 18 is given exactly when nothing earlier in the order applies and the frame needs more nonces than are left
 pub record Exactly (s : Sending) (b : Build) : Type 0 where
-  pub given : answered (b .answer .built) ≡ turnedAway (numbersOf refusal.NoncesSpent)
+  pub given : outcomeOf (b .answer .built) ≡ refusedFor (numbersOf refusal.NoncesSpent)
       → (judgeEarlier s (b .header) (b .abort) (length (b .source)) (length (b .buffer)) (b .queued) ≡ fine) × (left s < partCount (b .header))
   pub due : judgeEarlier s (b .header) (b .abort) (length (b .source)) (length (b .buffer)) (b .queued) ≡ fine → left s < partCount (b .header)
-      → answered (b .answer .built) ≡ turnedAway (numbersOf refusal.NoncesSpent)
+      → outcomeOf (b .answer .built) ≡ refusedFor (numbersOf refusal.NoncesSpent)
 
 -- what a build wrote behind the queued bytes are parts, sealed each with its own nonce, and the nonces used are theirs
 pub record SealedWith (s : Sending) (b : Build) : Type 0 where
@@ -81,7 +81,7 @@ pub record SealedWith (s : Sending) (b : Build) : Type 0 where
 pub record NoNonceTwice : Type 0 where
   pub different : (key nonce : List ℕ) (bs : List Build) → Chained (freshSending key nonce) bs → AllDifferent (used (freshSending key nonce) bs)
   -- they are those of the bytes that were written, which are all sealed under one key
-  pub wrote : (s : Sending) (b : Build) (n : ℕ) → Meets s b → answered (b .answer .built) ≡ wrote n → SealedWith s b
+  pub wrote : (s : Sending) (b : Build) (n : ℕ) → Meets s b → outcomeOf (b .answer .built) ≡ wrote n → SealedWith s b
   pub oneKey : (s : Sending) (bs : List Build) → Chained s bs → sendingAfter s bs .key ≡ s .key
   -- a switch's state has spent none, and from then on as many are spent as were used
   pub counted : (key nonce : List ℕ) (bs : List Build) → Chained (freshSending key nonce) bs
@@ -90,4 +90,4 @@ pub record NoNonceTwice : Type 0 where
   pub needs : (s : Sending) (h : Header) (abort : Bool) (source : List ℕ) → length (noncesOf (sentParts s h abort source)) ≡ partCount h
   pub eighteen : (s : Sending) (b : Build) → Meets s b → Exactly s b
   -- and a refused build spends none
-  pub unspent : (s : Sending) (b : Build) (r : Numbers) → Meets s b → answered (b .answer .built) ≡ turnedAway r → b .answer .sending ≡ s
+  pub unspent : (s : Sending) (b : Build) (r : Numbers) → Meets s b → outcomeOf (b .answer .built) ≡ refusedFor r → b .answer .sending ≡ s

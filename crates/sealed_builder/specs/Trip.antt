@@ -4,12 +4,12 @@ use mathlib.Core.List.{List, _++_}
 use mathlib.Core.Bool.{Bool, true, false}
 use Prim.Native.Nat.{ℕ, suc, _+_, _≤_}
 use lib.ListN.{length, take, drop}
+use Rattle.refusal.specs.Writes.{wrote, outcomeOf}
 use Rattle.preamble.specs.declared.Header.{Header}
 use Rattle.preamble.specs.Reading.{HeaderFits}
 use Rattle.stream.specs.declared.Event.the-variants.{Frame, Dropped}
 use Rattle.stream.specs.Stream.{Trace, after}
 use Rattle.aes.specs.Aes.{keyExpansion}
-use Rattle.builder.specs.Build.{wrote, answered}
 use Rattle.secure.specs.Layout.{allNonces, partCount, needed}
 use Rattle.secure.specs.Reading.{zeroed, holding, frames}
 use Rattle.sealed_builder.specs.declared.Sending.{Sending}
@@ -23,7 +23,7 @@ reported true h at source store next = after (Dropped h) at (zeroed h store) (ne
 -- the reader's next nonce is then the builder's
 unfoldable pub SentBack : Type 0
 SentBack =
-    (s : Sending) (b : Build) (k n f P : ℕ) (tail store : List ℕ) → Meets s b → answered (b .answer .built) ≡ wrote k → HeaderFits (b .header)
+    (s : Sending) (b : Build) (k n f P : ℕ) (tail store : List ℕ) → Meets s b → outcomeOf (b .answer .built) ≡ wrote k → HeaderFits (b .header)
     → n + partCount (b .header) ≤ allNonces → needed (b .header) ≤ length store
     → frames (suc f) (keyExpansion (s .key)) (s .nonce) n P (take k (drop (b .queued) (b .after)) ++ tail) store
     ≡ reported (b .abort) (b .header) (P + k) (b .source) store

@@ -7,7 +7,6 @@ use buffer::part;
 use buffer::put;
 use buffer::put_zeros;
 use buffer::u32_bytes;
-use builder::Built;
 use builder::judge_abort;
 use builder::room;
 use crc32c::checksum;
@@ -18,10 +17,11 @@ use preamble::preamble_front;
 use preamble::total_of;
 use refusal::Refusal;
 use refusal::Verdict;
+use refusal::WriteResult;
 use refusal::both;
 use refusal::either;
 use refusal::or_else;
-use refusal::unless_ok;
+use refusal::unless;
 use secure::all_zero;
 use secure::last_part_length;
 use secure::next_nonce;
@@ -63,7 +63,7 @@ pub struct Sending {
 
 // What a build comes to.
 pub struct Sealed {
-    pub built: Built,
+    pub built: WriteResult,
     pub sending: Sending,
 }
 
@@ -163,13 +163,13 @@ fn judge_earlier(
     ensures { λ r. ⌜ judgedBy r ≡ judgeEarlier s h abort source space queued ⌝ }
 {
     let n = sealed_length(h);
-    let v14 = unless_ok(room(n, space, queued), Refusal::NoRoom(n));
+    let v14 = unless(room(n, space, queued), Refusal::NoRoom(n));
     let v15 = or_else(judge_abort(Revision::Msgr21, h.count, abort), v14);
     let t = total_of(h);
-    let v13 = or_else(unless_ok(source as u64 == t, Refusal::SourceLength), v15);
+    let v13 = or_else(unless(source as u64 == t, Refusal::SourceLength), v15);
     let v6 = or_else(judge_header(h), v13);
-    let v27 = or_else(unless_ok(!s.refused, Refusal::SwitchRefused), v6);
-    let v26 = unless_ok(agrees_with_itself(s), Refusal::StateContradicts);
+    let v27 = or_else(unless(!s.refused, Refusal::SwitchRefused), v6);
+    let v26 = unless(agrees_with_itself(s), Refusal::StateContradicts);
     or_else(v26, v27)
 }
 
@@ -185,7 +185,7 @@ fn judge_sealed(
 {
     let earlier = judge_earlier(s, h, abort, source, space, queued);
     let left = nonces_left(s, part_count(h));
-    or_else(earlier, unless_ok(left, Refusal::NoncesSpent))
+    or_else(earlier, unless(left, Refusal::NoncesSpent))
 }
 
 // ---- texts, each laid into the front of the part that is lent
@@ -389,7 +389,7 @@ pub fn build_sealed(
     let verdict = judge_sealed(sending, header, abort, source.len(), buf.len(), queued);
     match verdict {
         Verdict::Refused(why) => {
-            let built = Built::Refused(why);
+            let built = WriteResult::Refused(why);
             Sealed { built, sending }
         }
         Verdict::Fine => {
@@ -397,7 +397,7 @@ pub fn build_sealed(
             let nonce = sending.nonce;
             let w = expand(key);
             put_sealed(&mut buf[queued..], &w, nonce, header, abort, source);
-            let built = Built::Wrote(sealed_length(header) as usize);
+            let built = WriteResult::Wrote(sealed_length(header) as usize);
             let sending = sent_more(sending, part_count(header));
             Sealed { built, sending }
         }

@@ -12,7 +12,7 @@ use Rattle.banner.specs.declared.Features.{Features}
 use Rattle.banner.specs.declared.Revision.{Revision}
 use Rattle.preamble.specs.declared.Header.{Header}
 use Rattle.preamble.specs.Judge.{headerOf}
-use Rattle.body.specs.End.{Ended, whole, dropped, turnedAway}
+use Rattle.body.specs.End.{Ended, whole, dropped, refusedFor}
 use Rattle.stream.specs.Events.{Role, bannerEnd, firstEnd, frameEnd, streamEnd, roleOf, isFrameEnd}
 use Rattle.stream.specs.Stream.{Entry, Trace, ended, unlessRefused, traceOf}
 use Rattle.stream.specs.Adds.{AddsAt, Adds, AddsUp, AllAddUp}
@@ -21,7 +21,7 @@ use Rattle.stream.proofs.Events.{by-front}
 use Rattle.aes.specs.Aes.{State, keyExpansion}
 use Rattle.gcm.specs.Gcm.{Opened, plain, fail, openedBy}
 use Rattle.secure.specs.Layout.{nextNonce, padding, inlineLength, lastLengths, firstLength, noRest, noLast, restPart, restPartLength, lastPart, lastPartLength, sealedLength}
-use Rattle.secure.specs.Reading.{judgeNonce, judgePadding, judgeFirst, unpadded, lastEnded, zeroed, byOpening, partTrace, Next, atEnd, lastTrace, restTrace, frames, sealedTrace}
+use Rattle.secure.specs.Reading.{judgeNonce, judgePadding, judgeFirst, unpadded, lastEnded, zeroed, byOpening, partTrace, Continuation, atEnd, lastTrace, restTrace, frames, sealedTrace}
 use Rattle.connection.specs.Switched.{Switch, none, behind, spliced, traceWith}
 use Rattle.connection.specs.Calls.{takenBy, switchBy, SwitchedDemand3}
 use Rattle.connection.proofs.Chain.{switched-demand3}
@@ -45,16 +45,16 @@ part : (P : ℕ) (w : List State) (nonce : List ℕ) (n : ℕ) (bytes : List ℕ
 part P w nonce n bytes at s next l g = judged P at (judgeNonce n) s _ l (opening P at (openedBy w nonce bytes) s next l g)
 
 -- what follows a frame, wherever it ends
-abbrev Later : Next → Type 0
+abbrev Later : Continuation → Type 0
 Later next = (nonce : List ℕ) (n Q : ℕ) (rest s : List ℕ) → Good Q (next nonce n Q rest s)
 
 finished : (x : Ended) (h : Header) (P at : ℕ) (payload s : List ℕ) (next : List ℕ → Trace) → at ≡ P + sealedLength h → P < at
     → ((t : List ℕ) → Good at (next t)) → Good P (atEnd x h at payload s next)
 finished whole h P at payload s next e l g = (e, g _)
 finished dropped h P at payload s next e l g = (e, g _)
-finished (turnedAway n) h P at payload s next e l g = l
+finished (refusedFor n) h P at payload s next e l g = l
 
-module _ (w : List State) (h : Header) (P : ℕ) (next : Next) (g : Later next) where
+module _ (w : List State) (h : Header) (P : ℕ) (next : Continuation) (g : Later next) where
   last-adds : (nonce : List ℕ) (n Q : ℕ) (rest first s : List ℕ) → Q + lastPartLength h ≡ P + sealedLength h → P < Q
       → Good P (lastTrace w h nonce n Q rest first s next)
   last-adds nonce n Q rest first s e l = go (noLast h) (ltb (length rest) (lastPart h)) refl

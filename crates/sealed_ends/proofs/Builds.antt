@@ -9,15 +9,15 @@ use Rattle.buffer.specs.Splice.{splice}
 use Rattle.buffer.proofs.Parts.{length-splice, splice-next, written}
 use Rattle.refusal.specs.Refusals.{fine}
 use Rattle.refusal.proofs.Judgements.{by-judgement}
+use Rattle.refusal.specs.Writes.{wrote}
 use Rattle.aes.specs.Aes.{keyExpansion}
-use Rattle.builder.specs.Build.{wrote}
 use Rattle.secure.specs.Layout.{sealedFrame, sealedLength, partCount}
 use Rattle.secure.proofs.Lengths.{length-frame}
 use Rattle.sealed_builder.specs.declared.Sending.{Sending}
 use Rattle.sealed_builder.specs.Build.{Done, sentMore}
 use Rattle.sealed_builder.specs.Nonces.{Build}
 use Rattle.sealed_builder.proofs.Accepted.{Accepted, accepted}
-use Rattle.sealed_builder.proofs.Once.{judged, came, when-fine, when-refused}
+use Rattle.sealed_builder.proofs.NoNonceTwice.{judged, came, when-fine, when-refused}
 use Rattle.sealed_ends.specs.Trip.{writtenBy, bytesOf, Accepts}
 use Rattle.sealed_ends.specs.Ends.{Queued, bufferBy, queuedBy}
 

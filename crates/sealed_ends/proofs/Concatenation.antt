@@ -7,7 +7,7 @@ use native.Mathlib.Omega.{arith}
 use lib.ListN.{length, drop, replicate, length-append, length-drop, length-replicate}
 use Rattle.buffer.proofs.Parts.{length-replaceFront}
 use Rattle.preamble.specs.declared.Header.{Header}
-use Rattle.body.specs.End.{Ended, whole, dropped, turnedAway}
+use Rattle.body.specs.End.{Ended, whole, dropped, refusedFor}
 use Rattle.stream.specs.declared.Event.{Event}
 use Rattle.stream.specs.declared.Event.the-variants.{Frame, Dropped}
 use Rattle.stream.specs.Stream.{Trace, ended, after}
@@ -32,7 +32,7 @@ none (suc f) w nonce n P s = refl
 at-end : (x : Ended) (h : Header) (at : ℕ) (p s : List ℕ) (next next′ : List ℕ → Trace) → ((t : List ℕ) → next t ≡ next′ t) → atEnd x h at p s next ≡ atEnd x h at p s next′
 at-end whole h at p s next next′ e = ap (after (Frame h) at (holding h p s)) (e (holding h p s))
 at-end dropped h at p s next next′ e = ap (after (Dropped h) at (zeroed h s)) (e (zeroed h s))
-at-end (turnedAway n) h at p s next next′ e = refl
+at-end (refusedFor n) h at p s next next′ e = refl
 
 -- the bytes behind the first frame
 shorter : (h : Header) (X : List ℕ) (f : ℕ) → sealedLength h ≤ length X → length X ≤ suc f → length (drop (sealedLength h) X) ≤ f

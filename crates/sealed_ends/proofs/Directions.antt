@@ -9,15 +9,15 @@ use Rattle.secure.specs.Layout.{nextNonce, nonceAfter}
 use Rattle.sealed_receiver.specs.State.{freshReceiving}
 use Rattle.sealed_builder.specs.declared.Sending.{Sending}
 use Rattle.sealed_builder.specs.Build.{Done, spentOf, freshSending, refusedSending, agrees, judgeEarlier, judgeSealed}
-use Rattle.builder.specs.Build.{turnedAway, answered}
 use Rattle.sealed_builder.specs.Nonces.{Build, Meets, Chained, used, sendingAfter, NoneIs, AllDifferent}
 use Rattle.secure.proofs.Runs.{run, length-run, after-next, counter, counter-after}
-use Rattle.sealed_builder.proofs.Once.{judged, came, when-refused, Line, line, different, counted-all, one-key}
+use Rattle.sealed_builder.proofs.NoNonceTwice.{judged, came, when-refused, Line, line, different, counted-all, one-key}
 use Rattle.connection.specs.declared.State.{State}
 use Rattle.connection.specs.Step.{switchedSending}
 use Rattle.connection.specs.Calls.{Try}
 use Rattle.refusal.specs.declared.Refusal.the-variants.{SwitchRefused}
 use Rattle.refusal.specs.Refusals.{Judged, refused, numbersOf}
+use Rattle.refusal.specs.Writes.{refusedFor, outcomeOf}
 use Rattle.sealed_ends.specs.Openings.{openings, noncesOf, Made}
 use Rattle.sealed_ends.specs.Directions.{fixedPart, counterAt, Apart, fixed, ranges, NoneShared, TwoDirections}
 use Rattle.sealed_ends.proofs.Openings.{from-switch}
@@ -90,7 +90,7 @@ unfolding judgeSealed judgeEarlier refusedSending agrees
 not-sealed b = refl
 
 with-refused : (s : Sending) (b : Build) → s ≡ refusedSending → Meets s b
-    → (answered (b .answer .built) ≡ turnedAway (numbersOf SwitchRefused)) × (b .answer .sending ≡ s) × (b .after ≡ b .buffer)
+    → (outcomeOf (b .answer .built) ≡ refusedFor (numbersOf SwitchRefused)) × (b .answer .sending ≡ s) × (b .after ≡ b .buffer)
 with-refused s b q m =
     let j : judged s b ≡ refused (numbersOf SwitchRefused) = ap (λ (x : Sending). judged x b) q ∙ not-sealed b in
     let k = when-refused s b m (numbersOf SwitchRefused) j in

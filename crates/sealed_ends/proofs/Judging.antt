@@ -23,7 +23,7 @@ use Rattle.aes.specs.Aes.{State}
 use Rattle.gcm.specs.Gcm.{Opened, plain, fail, openedBy}
 use Rattle.gcm.proofs.Opened.{text-length}
 use Rattle.secure.specs.Layout.{nextNonce, nonceAfter, padding, roundUp, inlineLength, lastLengths, firstLength, noRest, noLast, restPart, restPartLength, lastPart, lastPartLength, sealedLength, partCount, needed}
-use Rattle.secure.specs.Reading.{Next, judgeNonce, judgePadding, judgeFirst, unpadded, lastEnded, zeroed, byOpening, partTrace, atEnd, lastTrace, restTrace, frames}
+use Rattle.secure.specs.Reading.{Continuation, judgeNonce, judgePadding, judgeFirst, unpadded, lastEnded, zeroed, byOpening, partTrace, atEnd, lastTrace, restTrace, frames}
 use Rattle.secure.proofs.Trip.{one-segment, without-rest, at-end-same}
 use Rattle.secure.proofs.Runs.{after-add}
 use Rattle.sealed_receiver.specs.Step.{textOf}
@@ -88,7 +88,7 @@ module _ (w : List State) (nonce : List ℕ) (n P : ℕ) (X s : List ℕ) where
   unfolding frames
   first-cut f e = rw e
 
-module _ (w : List State) (h : Header) (nonce : List ℕ) (n P : ℕ) (ys first s : List ℕ) (next : Next) where
+module _ (w : List State) (h : Header) (nonce : List ℕ) (n P : ℕ) (ys first s : List ℕ) (next : Continuation) where
   abbrev m₁ : ℕ
   m₁ = h .s1 .len - inlineLength
 
@@ -237,7 +237,7 @@ module _ (w : List State) (nonce : List ℕ) (n : ℕ) (X : List ℕ) where
 
 -- ---- behind the first part
 
-module _ (w : List State) (nonce : List ℕ) (n P : ℕ) (h : Header) (X first s : List ℕ) (next : Next) where
+module _ (w : List State) (nonce : List ℕ) (n P : ℕ) (h : Header) (X first s : List ℕ) (next : Continuation) where
   abbrev m : ℕ
   m = h .s1 .len - inlineLength
 
@@ -280,7 +280,7 @@ module _ (w : List State) (nonce : List ℕ) (n P : ℕ) (h : Header) (X first s
       let p = padding-lt m in
       omega arith
 
-module _ (w : List State) (h : Header) (nonce : List ℕ) (n P : ℕ) (ys first s : List ℕ) (next : Next) where
+module _ (w : List State) (h : Header) (nonce : List ℕ) (n P : ℕ) (ys first s : List ℕ) (next : Continuation) where
   -- c: there is no last part
   abbrev lastText : Bool → List ℕ
   lastText c = textIn w nonce (take (cond c 0 (lastPart h)) ys)

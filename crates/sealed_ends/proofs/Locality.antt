@@ -13,7 +13,7 @@ use Rattle.refusal.specs.Refusals.{Judged, fine, refused}
 use Rattle.refusal.proofs.Booleans.{wrong}
 use Rattle.preamble.specs.declared.Header.{Header}
 use Rattle.preamble.specs.Judge.{headerOf}
-use Rattle.body.specs.End.{Ended, whole, dropped, turnedAway}
+use Rattle.body.specs.End.{Ended, whole, dropped, refusedFor}
 use Rattle.stream.specs.Stream.{Trace, ended, refusedAt}
 use Rattle.aes.specs.Aes.{State}
 use Rattle.secure.specs.Layout.{nextNonce, nonceAfter, inlineLength, lastLengths, firstLength, noRest, noLast, restPart, restPartLength, lastPart, lastPartLength, sealedLength, partCount}
@@ -121,7 +121,7 @@ module _ (w : List State) (nonce : List ℕ) (n P : ℕ) (X s : List ℕ) where
           hands (judged (rw size i) (λ z. rw size r) (ap (λ (b : Bool). cond b whole (lastEnded header (lastIn w nonce header X))) e ∙ rw size u))
       by-ended i r dropped u =
           drops (judged (rw size i) (λ z. rw size r) (ap (λ (b : Bool). cond b whole (lastEnded header (lastIn w nonce header X))) e ∙ rw size u))
-      by-ended i r (turnedAway m) u =
+      by-ended i r (refusedFor m) u =
           refuses m _ _
           (λ f. up-to-last w nonce n P X s f l p j q d
           ∙ last-step w header (lastNonce header nonce) n₂ (P + k) (drop k X) (segment1 w nonce n P X s) (left w nonce n P X s) (frames f w) e i r

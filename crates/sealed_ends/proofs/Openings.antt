@@ -16,7 +16,7 @@ use Rattle.refusal.specs.Refusals.{Judged, fine, refused, numbersOf, orElse, fi
 use Rattle.refusal.proofs.Booleans.{wrong}
 use Rattle.refusal.proofs.Judgements.{passed}
 use Rattle.preamble.specs.Judge.{headerOf}
-use Rattle.body.specs.End.{Ended, whole, dropped, turnedAway}
+use Rattle.body.specs.End.{Ended, whole, dropped, refusedFor}
 use Rattle.receiver.specs.declared.Report.{Report}
 use Rattle.receiver.specs.declared.Report.the-variants as report
 use Rattle.receiver.specs.State.{isMsgr21}
@@ -35,7 +35,7 @@ use Rattle.sealed_receiver.specs.Step.{at, withOpened, withHeader, switched, St
 use Rattle.sealed_receiver.proofs.Openings.{opened-next}
 use Rattle.sealed_builder.specs.Nonces.{AllDifferent}
 use Rattle.secure.proofs.Runs.{run, length-run, run-on, after-add}
-use Rattle.sealed_builder.proofs.Different.{all-different}
+use Rattle.sealed_builder.proofs.NoncesDiffer.{all-different}
 use Rattle.connection.specs.declared.State.{State}
 use Rattle.connection.specs.declared.Received.{Received}
 use Rattle.connection.specs.declared.Mode.the-variants as mode
@@ -57,7 +57,7 @@ keeps-unless (refused n) s x k = refusing n s refl
 keeps-end : (x : Ended) (v : Known) (p s : List ℕ) → Keeps (v .receiving) (endFrame x v p s)
 keeps-end whole v p s = kept refl refl
 keeps-end dropped v p s = kept refl refl
-keeps-end (turnedAway n) v p s = refusing n (zeroed (v .header) s) refl
+keeps-end (refusedFor n) v p s = refusing n (zeroed (v .header) s) refl
 
 keeps-either : {r : Receiving} (b : Bool) (x y : Stepped) → Keeps r x → Keeps r y → Keeps r (cond b x y)
 keeps-either true x y k l = k
@@ -288,9 +288,9 @@ module _ (st : sealed.State) (s piece : List ℕ) where
       go true true = over (ran-none (st .known .receiving) l) refl
       go true false = after-feed st s piece e l
 
-  call-gone : isRefused (st .position .stage) ≡ true → (openingsOn st s piece ≡ []) × (isRefused (step.answer st s piece .received .state .position .stage) ≡ true)
+  call-refused : isRefused (st .position .stage) ≡ true → (openingsOn st s piece ≡ []) × (isRefused (step.answer st s piece .received .state .position .stage) ≡ true)
   unfolding step.answer
-  call-gone e =
+  call-refused e =
       subst (λ (r : Bool). (opens (sealed-states.agrees st) r short ≡ []) × (isRefused (answers (sealed-states.agrees st) r short .received .state .position .stage) ≡ true)) (sym e)
       (go (sealed-states.agrees st) short)
     where
@@ -313,9 +313,9 @@ unfolding answer openingsBy
 secure-answer st s piece z = (rw (z .ready, z .mode), rw (z .ready, z .mode))
 
 -- a try to switch is refused and leaves everything as it is
-denied : (st : State) → st .ready ≡ false → (n : Numbers) × (judgeSwitch st ≡ refused n)
+switch-refused : (st : State) → st .ready ≡ false → (n : Numbers) × (judgeSwitch st ≡ refused n)
 unfolding judgeSwitch
-denied st e = go (agrees st) refl
+switch-refused st e = go (agrees st) refl
   where
     tests : Bool → Bool → Judged
     tests a q = firstOf (unless a refusal.StateContradicts ∷ unless (q && isMsgr21 (st .crc .known .revision)) refusal.SwitchRefused ∷ [])
@@ -325,7 +325,7 @@ denied st e = go (agrees st) refl
     go false q = (numbersOf refusal.StateContradicts, ap₂ tests q e)
 
 still : (st : State) (c : Try) → st .ready ≡ false → SwitchedWith st (c .key) (c .receiving) (c .sending) (c .switched) → c .switched .state ≡ st
-still st c e w = (let d = denied st e in w .state ∙ ap (λ (j : Judged). switchedState j st (c .key) (c .receiving)) (d .1))
+still st c e w = (let d = switch-refused st e in w .state ∙ ap (λ (j : Judged). switchedState j st (c .key) (c .receiving)) (d .1))
 
 -- the state that a call hands back
 module _ (st : State) (c : Lent) (z : Secured st) (a : Answered st (c .store) (c .piece) (c .received) (c .after)) where
@@ -342,31 +342,31 @@ module _ (st : State) (c : Lent) (z : Secured st) (a : Answered st (c .store) (c
       (subst (λ (os : List Opening). AfterOpenings (st .secure .known .receiving) os (step.answer (st .secure) (c .store) (c .piece) .received .state)) (sym (secure-answer st (c .store) (c .piece) z .1))
       (after-call (st .secure) (c .store) (c .piece) e l))
 
-  secured-gone : isRefused (st .secure .position .stage) ≡ true → (openingsBy st (c .store) (c .piece) ≡ []) × (isRefused (c .received .state .secure .position .stage) ≡ true)
-  secured-gone e =
-      let g = call-gone (st .secure) (c .store) (c .piece) e in
+  secured-refused : isRefused (st .secure .position .stage) ≡ true → (openingsBy st (c .store) (c .piece) ≡ []) × (isRefused (c .received .state .secure .position .stage) ≡ true)
+  secured-refused e =
+      let g = call-refused (st .secure) (c .store) (c .piece) e in
       (secure-answer st (c .store) (c .piece) z .1 ∙ g .0, ap (λ (y : State). isRefused (y .secure .position .stage)) handed-back ∙ g .1)
 
 -- ---- lists of calls
 
-gone-list : (st : State) (cs : List AnyCall) → Secured st → Handed st cs → isRefused (st .secure .position .stage) ≡ true
+refused-list : (st : State) (cs : List AnyCall) → Secured st → Handed st cs → isRefused (st .secure .position .stage) ≡ true
     → (openings st cs ≡ []) × (isRefused (stateAfter st cs .secure .position .stage) ≡ true)
-gone-list st [] z ch e = (refl, e)
-gone-list st (taking c ∷ cs) z ch e =
-    let g = secured-gone st c z (ch .0) e in
-    let rest = gone-list (c .received .state) cs (still-secured st c z (ch .0)) (ch .1) (g .1) in
+refused-list st [] z ch e = (refl, e)
+refused-list st (taking c ∷ cs) z ch e =
+    let g = secured-refused st c z (ch .0) e in
+    let rest = refused-list (c .received .state) cs (still-secured st c z (ch .0)) (ch .1) (g .1) in
     (ap₂ (λ (os ps : List Opening). os ++ ps) (g .0) (rest .0), rest .1)
-gone-list st (switching c ∷ cs) z ch e =
+refused-list st (switching c ∷ cs) z ch e =
     let q = still st c (z .ready) (ch .0) in
     subst (λ (y : State). (openings y cs ≡ []) × (isRefused (stateAfter y cs .secure .position .stage) ≡ true)) (sym q)
-    (gone-list st cs z (subst (λ (y : State). Handed y cs) q (ch .1)) e)
+    (refused-list st cs z (subst (λ (y : State). Handed y cs) q (ch .1)) e)
 
 by-after : (r : Receiving) (os ps : List Opening) (x y : sealed.State)
     → (isRefused (x .position .stage) ≡ false → openedOf (x .known .receiving) ≤ allNonces → AfterOpenings (x .known .receiving) ps y)
     → (isRefused (x .position .stage) ≡ true → (ps ≡ []) × (isRefused (y .position .stage) ≡ true)) → AfterOpenings r os x → AfterOpenings r (os ++ ps) y
-by-after r os ps x y live gone (further a o) = after-more r os ps x y a o (live (o .live) (fewer r os x a o))
-by-after r os ps x y live gone (over a e) =
-    let g = gone e in
+by-after r os ps x y live hasRefused (further a o) = after-more r os ps x y a o (live (o .live) (fewer r os x a o))
+by-after r os ps x y live hasRefused (over a e) =
+    let g = hasRefused e in
     over (subst (Ran r) (sym (ap (λ (l : List Opening). os ++ l) (g .0) ∙ append-nil os)) a) (g .1)
 
 after-list : (st : State) (cs : List AnyCall) → Secured st → Handed st cs → isRefused (st .secure .position .stage) ≡ false → openedOf (st .secure .known .receiving) ≤ allNonces
@@ -375,7 +375,7 @@ after-list st [] z ch e l = after-none (st .secure) e l
 after-list st (taking c ∷ cs) z ch e l =
     let z′ = still-secured st c z (ch .0) in
     by-after (st .secure .known .receiving) (openingsBy st (c .store) (c .piece)) (openings (c .received .state) cs) (c .received .state .secure) (stateAfter (c .received .state) cs .secure)
-    (λ u v. after-list (c .received .state) cs z′ (ch .1) u v) (λ u. gone-list (c .received .state) cs z′ (ch .1) u) (after-secured st c z (ch .0) e l)
+    (λ u v. after-list (c .received .state) cs z′ (ch .1) u v) (λ u. refused-list (c .received .state) cs z′ (ch .1) u) (after-secured st c z (ch .0) e l)
 after-list st (switching c ∷ cs) z ch e l =
     let q = still st c (z .ready) (ch .0) in
     subst (λ (y : State). AfterOpenings (st .secure .known .receiving) (openings y cs) (stateAfter y cs .secure)) (sym q) (after-list st cs z (subst (λ (y : State). Handed y cs) q (ch .1)) e l)

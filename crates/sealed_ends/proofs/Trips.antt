@@ -29,7 +29,7 @@ use Rattle.sealed_builder.specs.Build.{spentOf, freshSending, sentMore}
 use Rattle.sealed_builder.specs.Nonces.{Build, sendingAfter}
 use Rattle.sealed_builder.specs.Trip as sealed
 use Rattle.sealed_builder.specs.Trip.{SentBack}
-use Rattle.sealed_builder.proofs.Once.{spent-more}
+use Rattle.sealed_builder.proofs.NoNonceTwice.{spent-more}
 use Rattle.sealed_builder.proofs.Trip.{sent-back}
 use Rattle.ends.specs.Handed.{isEarly}
 use Rattle.ends.specs.Trip as plain

@@ -7,7 +7,7 @@ use Rattle.buffer.specs.Le.{numberAt}
 use Rattle.refusal.specs.declared.Numbers.{Numbers}
 use Rattle.refusal.specs.declared.Refusal.the-variants.{SwitchRefused}
 use Rattle.refusal.specs.Refusals.{refused, numbersOf, judgedBy}
-use Rattle.builder.specs.Build.{turnedAway, answered}
+use Rattle.refusal.specs.Writes.{refusedFor, outcomeOf}
 use Rattle.sealed_builder.specs.Build.{spentOf}
 use Rattle.sealed_builder.specs.Nonces.{Build, Meets, Chained, used, sendingAfter, NoneIs, AllDifferent}
 use Rattle.connection.specs.declared.State.{State}
@@ -51,4 +51,4 @@ pub record TwoDirections : Type 0 where
   -- nothing is sealed with what a refused try hands back: every build gives 27 and changes nothing
   pub none : (st : State) (c : Try) (n : Numbers) (b : Build) → SwitchedWith st (c .key) (c .receiving) (c .sending) (c .switched) → judgedBy (c .switched .verdict) ≡ refused n
       → Meets (c .switched .sending) b
-      → (answered (b .answer .built) ≡ turnedAway (numbersOf SwitchRefused)) × (b .answer .sending ≡ c .switched .sending) × (b .after ≡ b .buffer)
+      → (outcomeOf (b .answer .built) ≡ refusedFor (numbersOf SwitchRefused)) × (b .answer .sending ≡ c .switched .sending) × (b .after ≡ b .buffer)

@@ -5,11 +5,11 @@ use mathlib.Core.List.{List, _∷_, _++_}
 use mathlib.Core.Bool.{cond}
 use Prim.Native.Nat.{ℕ, _+_, _-_, _≤_}
 use lib.ListN.{length, take, drop}
+use Rattle.refusal.specs.Writes.{wrote, outcomeOf, countIn}
 use Rattle.banner.specs.declared.Features.{Features}
 use Rattle.banner.specs.declared.Revision.{Revision}
 use Rattle.banner.specs.Banner.{judgeOwn}
 use Rattle.preamble.specs.Reading.{HeaderFits}
-use Rattle.builder.specs.Build.{wrote, answered, countIn}
 use Rattle.stream.specs.declared.Event.{Event}
 use Rattle.stream.specs.declared.Event.the-variants.{Frame, Dropped}
 use Rattle.stream.specs.Stream.{entry}
@@ -23,7 +23,7 @@ use Rattle.sealed_ends.specs.Fronts.{Front, bytesIn, sealedIn, switchIn,
 
 -- the bytes that a build wrote, behind the queued ones
 abbrev pub writtenBy : Build → ℕ
-writtenBy b = countIn (answered (b .answer .built))
+writtenBy b = countIn (outcomeOf (b .answer .built))
 
 abbrev pub bytesOf : Build → List ℕ
 bytesOf b = take (writtenBy b) (drop (b .queued) (b .after))
@@ -31,7 +31,7 @@ bytesOf b = take (writtenBy b) (drop (b .queued) (b .after))
 -- `build_sealed` promised it, and did not refuse; its header is what its type holds
 pub record Accepts (s : Sending) (b : Build) : Type 0 where
   pub promised : Meets s b
-  pub wrote : answered (b .answer .built) ≡ wrote (writtenBy b)
+  pub wrote : outcomeOf (b .answer .built) ≡ wrote (writtenBy b)
   pub header : HeaderFits (b .header)
 
 -- what comes back, and the store then: the segments at its front with zeros behind them, or zeros where the frame was built aborted

@@ -18,7 +18,7 @@ use Rattle.sealed_receiver.specs.declared.Stage.the-variants as stage
 use Rattle.sealed_receiver.specs.declared.State.{State}
 use Rattle.sealed_receiver.specs.State.{isRefused, given, agrees}
 use Rattle.sealed_receiver.specs.Step.{refusedState, Answer, feed, refuseUnchanged, neededBy, shortStore, answer, Running}
-use Rattle.sealed_receiver.proofs.Live.{Gone, After, gone-at, rules-agreed}
+use Rattle.sealed_receiver.proofs.Live.{RefusedFor, After, refused-at, rules-agreed}
 use Rattle.sealed_receiver.proofs.Gathered.{feed-after}
 
 -- ---- the kinds of answer
@@ -54,8 +54,8 @@ module _ (st : State) (s piece : List ℕ) where
   feeding l = tested (l .agree) (l .live) (le-ltb (length s) (neededBy st) (l .fits))
 
   -- a refused receiver takes nothing, changes nothing and repeats its refusal
-  pub gone-answer : {n : Numbers} → Gone n st → answer st s piece ≡ refuseUnchanged st n s
-  gone-answer g = repeating (g .agree) (ap isRefused (g .stage)) ∙ ap (λ (m : Numbers). refuseUnchanged st m s) (g .why)
+  pub refused-answer : {n : Numbers} → RefusedFor n st → answer st s piece ≡ refuseUnchanged st n s
+  refused-answer g = repeating (g .agree) (ap isRefused (g .stage)) ∙ ap (λ (m : Numbers). refuseUnchanged st m s) (g .why)
 
 stage-refused : (k : Stage) → isRefused k ≡ true → k ≡ stage.Refused
 stage-refused stage.First e = wrong e
@@ -63,36 +63,36 @@ stage-refused stage.Rest e = wrong e
 stage-refused stage.Last e = wrong e
 stage-refused stage.Refused e = refl
 
-pub refused-gone : (st : State) → agrees st ≡ true → isRefused (st .position .stage) ≡ true → Gone (st .known .refusal) st
-refused-gone st e r =
+pub refused-for : (st : State) → agrees st ≡ true → isRefused (st .position .stage) ≡ true → RefusedFor (st .known .refusal) st
+refused-for st e r =
     record { stage = stage-refused (st .position .stage) r; why = refl; agree = e; gives = rw r at (rules-agreed st e .refusal) }
 
 -- ---- what an answer to a state that agrees with itself comes to: one that agrees, and is refused for good behind a refusal
 
 after-agrees : (r : Report) (st : State) (s : List ℕ) → After r st s → agrees st ≡ true
-after-agrees r st s = by-after Running Gone r st s (λ a. a .agree) (λ n a. a .agree)
+after-agrees r st s = by-after Running RefusedFor r st s (λ a. a .agree) (λ n a. a .agree)
 
 pub record Well (x : Answer) : Type 0 where
   pub agree : agrees (x .received .state) ≡ true
-  pub gone : (n : Numbers) → x .received .report ≡ report.Event (event.Refused n) → Gone n (x .received .state)
+  pub hasRefused : (n : Numbers) → x .received .report ≡ report.Event (event.Refused n) → RefusedFor n (x .received .state)
 
-well-refused : (st : State) (n : Numbers) (s : List ℕ) → Gone n st → Well (refuseUnchanged st n s)
-well-refused st n s g = record { agree = g .agree; gone = λ m q. (let k : n ≡ m = cc in rw k at g) }
+well-refused : (st : State) (n : Numbers) (s : List ℕ) → RefusedFor n st → Well (refuseUnchanged st n s)
+well-refused st n s g = record { agree = g .agree; hasRefused = λ m q. (let k : n ≡ m = cc in rw k at g) }
 
 pub well : (st : State) (s piece : List ℕ) → agrees st ≡ true → Well (answer st s piece)
 well st s piece e = go (isRefused (st .position .stage)) refl (ltb (length s) (neededBy st)) refl
   where
     go : (r : Bool) → isRefused (st .position .stage) ≡ r → (t : Bool) → ltb (length s) (neededBy st) ≡ t → Well (answer st s piece)
-    go true r t u = rw (repeating st s piece e r) (well-refused st (st .known .refusal) s (refused-gone st e r))
+    go true r t u = rw (repeating st s piece e r) (well-refused st (st .known .refusal) s (refused-for st e r))
     go false r true u =
         rw (shortened st s piece e r (ltb-true (length s) (neededBy st) u))
-        (well-refused (refusedState (shortStore st)) (shortStore st) s (gone-at (shortStore st) refl))
+        (well-refused (refusedState (shortStore st)) (shortStore st) s (refused-at (shortStore st) refl))
     go false r false u =
         let l : Running st s = record { agree = e; live = r; fits = ltb-false (length s) (neededBy st) u } in
         let f = feed st s piece in
         let a = feed-after st s piece l in
-        rw (feeding st s piece l) (record { agree = after-agrees (f .received .report) (f .received .state) (f .store) a; gone = λ n q. rw q at a })
+        rw (feeding st s piece l) (record { agree = after-agrees (f .received .report) (f .received .state) (f .store) a; hasRefused = λ n q. rw q at a })
 
 -- and so 26 is for a state that does not agree with itself, and for no other
 pub never26 : (st : State) (s piece : List ℕ) → agrees st ≡ true → answer st s piece .received .report ≡ report.Event (event.Refused contradiction) → ⊥
-never26 st s piece e q = (let g : given contradiction ≡ true = well st s piece e .gone contradiction q .gives in wrong g)
+never26 st s piece e q = (let g : given contradiction ≡ true = well st s piece e .hasRefused contradiction q .gives in wrong g)

@@ -13,7 +13,7 @@ use Rattle.receiver.proofs.Feeding as feeding
 use Rattle.sealed_receiver.specs.declared.State.{State}
 use Rattle.sealed_receiver.specs.declared.Received.{Received}
 use Rattle.sealed_receiver.specs.Step.{Chunked, Fed}
-use Rattle.sealed_receiver.proofs.Gathered.{bare, parts, lasting, plain-feed}
+use Rattle.sealed_receiver.proofs.Gathered.{bare, parts, lasting, machine-feed}
 
 abbrev pub Midway : List ℕ → List ℕ → State → List ℕ → State → ℕ → Type 0
 Midway = feeding.Midway lasting
@@ -29,7 +29,7 @@ turn m l c e = record { midway = m; some = l; taken = c .taken; step = ap bare (
 fed : (st : State) (s piece : List ℕ) (o : Received) (s′ : List ℕ)
     → machine.feed (byteStep parts) st s piece ≡ record { state = o .state; taken = o .taken; report = o .report; store = s′ } → Fed st s piece o s′
 fed st s piece o s′ e =
-    let a = sym (plain-feed st s piece ∙ e) in
+    let a = sym (machine-feed st s piece ∙ e) in
     record {
       received = ap (λ (x : machine.Answer State). record { state = x .state; taken = x .taken; report = x .report }) a;
       store = ap (λ (x : machine.Answer State). x .store) a;

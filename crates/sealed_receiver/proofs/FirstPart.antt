@@ -15,7 +15,7 @@ use Rattle.refusal.specs.Refusals.{Judged, fine, refused, orElse, unless}
 use Rattle.refusal.proofs.Judgements.{all-fine, fine-all, or-else-last}
 use Rattle.preamble.specs.declared.Header.{Header}
 use Rattle.preamble.specs.Layout.{total}
-use Rattle.preamble.specs.Judge.{sumLimit, headerOf, judgeChecksum, judgeShape, judgeFlags, judgeTag, judgeLimits, judgeStore, judgeHeader, judgeFields, judgePreamble}
+use Rattle.preamble.specs.Judge.{frameLimit, headerOf, judgeChecksum, judgeShape, judgeFlags, judgeTag, judgeLimits, judgeStore, judgeHeader, judgeFields, judgePreamble}
 use Rattle.preamble.proofs.Laws.{store-fits}
 use Rattle.preamble.proofs.Headers.{within-limits}
 use Rattle.secure.specs.Layout.{needed}
@@ -31,7 +31,7 @@ use Rattle.secure.proofs.Bounds.{segments-fit}
 
 total-fits : (h : Header) → judgeLimits h ≡ fine → judgeStore (total h) 4294967296 ≡ fine
 total-fits h e =
-    let l : total h ≤ sumLimit = within-limits h e in
+    let l : total h ≤ frameLimit = within-limits h e in
     ap (λ (b : Bool). unless b (refusal.StoreShort (total h))) (le-leb (total h) 4294967296 (omega arith))
 
 -- ---- all judgements as one list

@@ -15,7 +15,7 @@ use Rattle.receiver.proofs.Feeding.{Lasting}
 use Rattle.sealed_receiver.specs.declared.State.{State}
 use Rattle.sealed_receiver.specs.State.{isFirst, inFrame, placeOf}
 use Rattle.sealed_receiver.specs.Step.{Stepped, blockWith, storeWith, absorbed, stored, reached, size, chunk, onByte, Answer, onward, feed, Running}
-use Rattle.sealed_receiver.proofs.Live.{Gone, After, inside-of, chunk-leaves}
+use Rattle.sealed_receiver.proofs.Live.{RefusedFor, After, inside-of, chunk-leaves}
 
 abbrev pub bare : Stepped → machine.Stepped State
 bare y = record { state = y .state; store = y .store; report = y .report }
@@ -61,26 +61,26 @@ pub chunk-keeps : (st : State) (s xs : List ℕ) → Running st s → (let y = c
 chunk-keeps st s xs r = chunk-leaves st s xs r .after
 
 abbrev pub lasting : Lasting parts
-lasting = record { Running = Running; Gone = Gone; unfilled = inside-of; keeps = chunk-keeps }
+lasting = record { Running = Running; RefusedFor = RefusedFor; unfilled = inside-of; keeps = chunk-keeps }
 
 -- and an answer of the receiver is one of the machine
-abbrev pub plain : Answer → machine.Answer State
-plain a = record { state = a .received .state; taken = a .received .taken; report = a .received .report; store = a .store }
+abbrev pub machineAnswer : Answer → machine.Answer State
+machineAnswer a = record { state = a .received .state; taken = a .received .taken; report = a .received .report; store = a .store }
 
-plain-onward : (r : Report) (x : Stepped) (a : Answer) → plain (onward r 1 x a) ≡ machine.onward r (bare x) (plain a)
-plain-onward report.More x a = refl
-plain-onward (report.Event e) x a = refl
+machine-onward : (r : Report) (x : Stepped) (a : Answer) → machineAnswer (onward r 1 x a) ≡ machine.onward r (bare x) (machineAnswer a)
+machine-onward report.More x a = refl
+machine-onward (report.Event e) x a = refl
 
-pub plain-feed : (st : State) (s piece : List ℕ) → plain (feed st s piece) ≡ machine.feed (byteStep parts) st s piece
+pub machine-feed : (st : State) (s piece : List ℕ) → machineAnswer (feed st s piece) ≡ machine.feed (byteStep parts) st s piece
 unfolding feed machine.feed onByte
-plain-feed st s [] = refl
-plain-feed st s (b ∷ bs) =
+machine-feed st s [] = refl
+machine-feed st s (b ∷ bs) =
     let x = chunk st s (b ∷ []) in
-    plain-onward (x .report) x (feed (x .state) (x .store) bs)
-    ∙ ap (machine.onward (x .report) (bare x)) (plain-feed (x .state) (x .store) bs)
+    machine-onward (x .report) x (feed (x .state) (x .store) bs)
+    ∙ ap (machine.onward (x .report) (bare x)) (machine-feed (x .state) (x .store) bs)
 
 pub feed-after : (st : State) (s piece : List ℕ) → Running st s
     → After (feed st s piece .received .report) (feed st s piece .received .state) (feed st s piece .store)
 feed-after st s piece r =
-    subst (λ (a : machine.Answer State). After (a .report) (a .state) (a .store)) (sym (plain-feed st s piece))
-    (machine.feed-after Running Gone (byteStep parts) (λ x t b q. chunk-keeps x t (b ∷ []) q) st s piece r)
+    subst (λ (a : machine.Answer State). After (a .report) (a .state) (a .store)) (sym (machine-feed st s piece))
+    (machine.feed-after Running RefusedFor (byteStep parts) (λ x t b q. chunk-keeps x t (b ∷ []) q) st s piece r)

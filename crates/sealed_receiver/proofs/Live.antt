@@ -22,7 +22,7 @@ use Rattle.preamble.specs.Judge.{shapeFault, flagFault, limitFault, headerOf, j
 use Rattle.body.specs.declared.Late.{Late}
 use Rattle.body.specs.declared.Late.the-variants as late
 use Rattle.banner.specs.declared.Revision.the-variants.{Msgr21}
-use Rattle.body.specs.End.{Ended, whole, dropped, turnedAway, lateOf}
+use Rattle.body.specs.End.{Ended, whole, dropped, refusedFor, lateOf}
 use Rattle.receiver.specs.declared.Report.{Report}
 use Rattle.receiver.specs.State.{noHeader, isNoRefusal}
 use Rattle.receiver.proofs.Zeros.{zeros-later, drop-sets}
@@ -179,15 +179,15 @@ header-of r e = rw e at (live r .rule .header)
 
 -- ---- states
 
-pub record Gone (n : Numbers) (st : State) : Type 0 where
+pub record RefusedFor (n : Numbers) (st : State) : Type 0 where
   pub stage : st .position .stage ≡ stage.Refused
   pub why : st .known .refusal ≡ n
   pub agree : agrees st ≡ true
   pub gives : given n ≡ true
 
-pub gone-at : (n : Numbers) → given n ≡ true → Gone n (refusedState n)
+pub refused-at : (n : Numbers) → given n ≡ true → RefusedFor n (refusedState n)
 unfolding agreesAt noReceiving
-gone-at n g = record { stage = refl; why = refl; agree = rw g; gives = g }
+refused-at n g = record { stage = refl; why = refl; agree = rw g; gives = g }
 
 blank-zeros : (k : Stage) → blockRule k 0 blank ≡ true
 blank-zeros stage.First = refl
@@ -212,7 +212,7 @@ switched-running key nonce s = between (knowing (freshReceiving key nonce) noHea
 -- ---- what a step leaves
 
 abbrev pub After : Report → State → List ℕ → Type 0
-After = machine.After Running Gone
+After = machine.After Running RefusedFor
 
 -- by its report a receiver that runs, or one that is refused; and a store of so many bytes
 pub record Leaves (n : ℕ) (x : Stepped) : Type 0 where
@@ -220,7 +220,7 @@ pub record Leaves (n : ℕ) (x : Stepped) : Type 0 where
   pub same : length (x .store) ≡ n
 
 refuse-leaves : (n : Numbers) (s : List ℕ) → given n ≡ true → Leaves (length s) (refuse n s)
-refuse-leaves n s g = record { after = gone-at n g; same = refl }
+refuse-leaves n s g = record { after = refused-at n g; same = refl }
 
 judged-leaves : (j : Judged) (s : List ℕ) (x : Stepped) (m : ℕ) → Allowed given j → length s ≡ m → (j ≡ fine → Leaves m x) → Leaves m (unlessRefused j s x)
 judged-leaves fine s x m k e f = f refl
@@ -248,7 +248,7 @@ frame-leaves : (x : Ended) (v : Known) (p s : List ℕ) → Opens v → AllowedE
     → layout.needed (v .header) ≤ length s → Leaves (length s) (endFrame x v p s)
 frame-leaves whole v p s o k l f = record { after = between v (holding (v .header) p s) o; same = length-holding (v .header) p s l f }
 frame-leaves dropped v p s o k l f = record { after = between v (zeroed (v .header) s) o; same = length-zeroed (v .header) s f }
-frame-leaves (turnedAway n) v p s o k l f = record { after = gone-at n (k .gives n refl); same = length-zeroed (v .header) s f }
+frame-leaves (refusedFor n) v p s o k l f = record { after = refused-at n (k .gives n refl); same = length-zeroed (v .header) s f }
 
 module _ (v : Known) (s : List ℕ) (o : Opens v) (e : isFine (judgeHeader (v .header)) ≡ true) (f : layout.needed (v .header) ≤ length s) where
   abbrev r : Receiving

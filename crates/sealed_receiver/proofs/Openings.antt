@@ -16,10 +16,11 @@ use Rattle.refusal.specs.Refusals.{Judged, fine, refused, numbersOf, refusedWit
 use Rattle.refusal.proofs.Judgements.{both-fine, passed}
 use Rattle.aes.specs.Aes.{State, keyExpansion}
 use Rattle.gcm.specs.Gcm.{Opened, plain, fail, openedBy, opened}
-use Rattle.gcm.specs.Calls as calls
-use Rattle.gcm.specs.Calls.{wrote, Done, done, answered, limit, judgeOpen, byTag, byBoth, openDone, Opening}
-use Rattle.gcm.specs.declared.Outcome.{Outcome}
-use Rattle.gcm.specs.declared.Outcome.the-variants as outcome
+use Rattle.refusal.specs.Writes as writes
+use Rattle.gcm.specs.Calls.{limit, judgeOpen, byTag, byBoth, openDone, Opening}
+use Rattle.refusal.specs.declared.WriteResult.{WriteResult}
+use Rattle.refusal.specs.declared.WriteResult.the-variants as outcome
+use Rattle.refusal.specs.Writes.{wrote, Done, done, outcomeOf}
 use Rattle.gcm.proofs.Opened.{text-length}
 use Rattle.secure.specs.Layout.{allNonces}
 use Rattle.secure.specs.Reading.{judgeNonce}
@@ -75,11 +76,11 @@ none-left r bytes after e =
 
 -- ---- the answers of an opening
 
-wrote-is : (o : Outcome) (n : ℕ) → answered o ≡ wrote n → judgedAs o ≡ fine
+wrote-is : (o : WriteResult) (n : ℕ) → outcomeOf o ≡ wrote n → judgedAs o ≡ fine
 wrote-is (outcome.Wrote m) n e = refl
 wrote-is (outcome.Refused x) n e = cc
 
-refused-is : (o : Outcome) (n : Numbers) → answered o ≡ calls.refusedWith n → judgedAs o ≡ refused n
+refused-is : (o : WriteResult) (n : Numbers) → outcomeOf o ≡ writes.refusedFor n → judgedAs o ≡ refused n
 refused-is (outcome.Wrote m) n e = cc
 refused-is (outcome.Refused x) n e = cc
 
@@ -91,18 +92,18 @@ in-place w nonce s h k =
     simp (le-leb 16 (length s) h, le-leb (length s - 16) limit (omega arith), le-leb (length s - 16) (length s) (omega arith)) in
     ap (λ (x : Judged). byBoth x (openedBy w nonce s) (length s - 16) s) j
 
-module _ (r : Receiving) (bytes after : List ℕ) (v : Verdict) (o : Outcome) (ev : judgedBy v ≡ judgedAs o) where
+module _ (r : Receiving) (bytes after : List ℕ) (v : Verdict) (o : WriteResult) (ev : judgedBy v ≡ judgedAs o) where
   by-opened : (x : Opened) → opened (r .key) (r .nonce) bytes ≡ x → judgePart r bytes ≡ judgeOpened x → partText r bytes ≡ textOf x
-      → done (answered o) after ≡ byTag x (length bytes - 16) bytes → OpenedPart r bytes v after
+      → done (outcomeOf o) after ≡ byTag x (length bytes - 16) bytes → OpenedPart r bytes v after
   by-opened (plain text) ex j t d =
       let n : length text ≡ length bytes - 16 = text-length (keyExpansion (r .key)) (r .nonce) bytes text ex in
       record {
-        judged = ev ∙ wrote-is o (length bytes - 16) (ap (λ (x : Done). x .answer) d) ∙ sym j;
+        judged = ev ∙ wrote-is o (length bytes - 16) (ap (λ (x : Done). x .outcome) d) ∙ sym j;
         text = λ f. ap (λ (x : Done). x .buffer) d ∙ ap₂ (λ (y : List ℕ) (k : ℕ). y ++ drop k bytes) (sym t) n;
       }
   by-opened fail ex j t d =
       record {
-        judged = ev ∙ refused-is o (numbersOf refusal.AuthTag) (ap (λ (x : Done). x .answer) d) ∙ sym j;
+        judged = ev ∙ refused-is o (numbersOf refusal.AuthTag) (ap (λ (x : Done). x .outcome) d) ∙ sym j;
         text = λ f. differ (sym j ∙ f);
       }
 

@@ -11,7 +11,7 @@ use Rattle.refusal.specs.declared.Numbers.{Numbers}
 use Rattle.refusal.specs.Refusals.{Judged, fine, refused}
 use Rattle.preamble.specs.declared.Header.{Header}
 use Rattle.preamble.specs.Layout.{total}
-use Rattle.body.specs.End.{Ended, whole, dropped, turnedAway}
+use Rattle.body.specs.End.{Ended, whole, dropped, refusedFor}
 use Rattle.stream.specs.declared.Event.the-variants as event
 use Rattle.receiver.specs.declared.Report.the-variants as report
 use Rattle.secure.specs.Layout.{needed}
@@ -45,7 +45,7 @@ end-same v s s′ d whole payload l =
     ap (λ (t : List ℕ). stepped (nextFrame v) t (report.Event (event.Frame (v .header)))) (holding-same (v .header) s s′ d payload l)
 end-same v s s′ d dropped payload l =
     ap (λ (t : List ℕ). stepped (nextFrame v) t (report.Event (event.Dropped (v .header)))) (zeroed-same (v .header) s s′ d)
-end-same v s s′ d (turnedAway n) payload l = ap (refuse n) (zeroed-same (v .header) s s′ d)
+end-same v s s′ d (refusedFor n) payload l = ap (refuse n) (zeroed-same (v .header) s s′ d)
 
 -- zeros over all that the frame needs
 pub zeros-over : (h : Header) (s zs : List ℕ) (n : ℕ) → n ≡ needed h → needed h ≤ length s → zs ≡ overwrite (replicate n 0) s → zs ≡ zeroed h s

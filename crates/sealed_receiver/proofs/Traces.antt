@@ -14,7 +14,7 @@ use Rattle.buffer.proofs.Parts.{replaceFront-next, length-replaceFront, over-lo
 use Rattle.refusal.specs.Refusals.{Judged, fine, refused, orElse}
 use Rattle.preamble.specs.declared.Header.{Header}
 use Rattle.preamble.specs.Judge.{headerOf}
-use Rattle.body.specs.End.{Ended, whole, dropped, turnedAway}
+use Rattle.body.specs.End.{Ended, whole, dropped, refusedFor}
 use Rattle.stream.specs.declared.Event.the-variants as event
 use Rattle.stream.specs.Stream.{Trace, ended, after}
 use Rattle.stream.specs.Stream as stream
@@ -49,13 +49,13 @@ runs y P ys = run parts (bare y) P ys
 
 -- ---- a refused receiver is silent
 
-pub gone-byte : (st : State) (s : List ℕ) (b : ℕ) → st .position .stage ≡ stage.Refused → Silent {State = State} (λ x. x .position .stage ≡ stage.Refused) s (byteStep parts st s b)
+pub refused-byte : (st : State) (s : List ℕ) (b : ℕ) → st .position .stage ≡ stage.Refused → Silent {State = State} (λ x. x .position .stage ≡ stage.Refused) s (byteStep parts st s b)
 unfolding finish
-gone-byte st s b e = rw (e, le-ltb (st .position .got + 1) 0 zero-le) (record { state = refl; store = refl; report = refl })
+refused-byte st s b e = rw (e, le-ltb (st .position .got + 1) 0 zero-le) (record { state = refl; store = refl; report = refl })
 
 pub silent-trace : (st : State) (s : List ℕ) (P : ℕ) (ys : List ℕ) → st .position .stage ≡ stage.Refused → traced st s P ys ≡ ended s
 silent-trace st s P ys e =
-    let z = scan-silent (byteStep parts) (λ x. x .position .stage ≡ stage.Refused) gone-byte st s P ys e in
+    let z = scan-silent (byteStep parts) (λ x. x .position .stage ≡ stage.Refused) refused-byte st s P ys e in
     ap₂ (λ (es : List stream.Entry) (l : List ℕ). record { entries = es; store = l }) (z .0) (z .1)
 
 run-unless : (j : Judged) (s : List ℕ) (x : Stepped) (P : ℕ) (ys : List ℕ) → runs (unlessRefused j s x) P ys ≡ stream.unlessRefused j P s (runs x P ys)
@@ -97,7 +97,7 @@ end-over : (x : Ended) (v : Known) (p s xs : List ℕ) (i : ℕ) → i ≤ lengt
     → endFrame x v p (splice s i xs) ≡ endFrame x v p s
 end-over whole v p s xs i k l = rw (holding-over (v .header) p s xs i k l)
 end-over dropped v p s xs i k l = rw (zeroed-over (v .header) s xs i k l)
-end-over (turnedAway n) v p s xs i k l = rw (zeroed-over (v .header) s xs i k l)
+end-over (refusedFor n) v p s xs i k l = rw (zeroed-over (v .header) s xs i k l)
 
 module _ (f : ℕ) (below : Below f) where
   end-run : (x : Ended) (v : Known) (P : ℕ) (ys p s : List ℕ) → length ys ≤ f
@@ -106,7 +106,7 @@ module _ (f : ℕ) (below : Below f) where
   unfolding Below
   end-run whole v P ys p s l = ap (after (event.Frame (v .header)) P (holding (v .header) p s)) (below v P ys (holding (v .header) p s) l)
   end-run dropped v P ys p s l = ap (after (event.Dropped (v .header)) P (zeroed (v .header) s)) (below v P ys (zeroed (v .header) s) l)
-  end-run (turnedAway n) v P ys p s l =
+  end-run (refusedFor n) v P ys p s l =
       ap (after (event.Refused n) P (zeroed (v .header) s)) (silent-trace (refusedState n) (zeroed (v .header) s) P ys refl)
 
   -- ---- the last part

@@ -14,14 +14,14 @@ use Rattle.refusal.specs.Refusals.{Judged, fine, refused, numbersOf, refusedWit
 use Rattle.preamble.specs.declared.Header.{Header}
 use Rattle.preamble.specs.Layout.{total}
 use Rattle.preamble.specs.Judge.{headerOf, judgeHeader}
-use Rattle.body.specs.End.{Ended, whole, dropped, turnedAway}
+use Rattle.body.specs.End.{Ended, whole, dropped, refusedFor}
 use Rattle.stream.specs.declared.Event.{Event}
 use Rattle.stream.specs.declared.Event.the-variants as event
 use Rattle.receiver.specs.declared.Report.{Report}
 use Rattle.receiver.specs.declared.Report.the-variants as report
 use Rattle.receiver.specs.State.{noHeader}
-use Rattle.gcm.specs.declared.Outcome.{Outcome}
-use Rattle.gcm.specs.declared.Outcome.the-variants as outcome
+use Rattle.refusal.specs.declared.WriteResult.{WriteResult}
+use Rattle.refusal.specs.declared.WriteResult.the-variants as outcome
 use Rattle.gcm.specs.Gcm.{Opened, plain, fail, opened}
 use Rattle.secure.specs.Layout as layout
 use Rattle.secure.specs.Layout.{padding, inlineLength, noRest, noLast, lastLengths}
@@ -109,7 +109,7 @@ partText r bytes = textOf (opened (r .key) (r .nonce) bytes)
 abbrev pub endFrame : Ended → Known → List ℕ → List ℕ → Stepped
 endFrame whole v segments s = stepped (nextFrame v) (holding (v .header) segments s) (report.Event (event.Frame (v .header)))
 endFrame dropped v segments s = stepped (nextFrame v) (zeroed (v .header) s) (report.Event (event.Dropped (v .header)))
-endFrame (turnedAway n) v segments s = refuse n (zeroed (v .header) s)
+endFrame (refusedFor n) v segments s = refuse n (zeroed (v .header) s)
 
 -- behind segment 1: the last part, where there is one
 abbrev pub beginLast : Known → List ℕ → Stepped
@@ -231,7 +231,7 @@ pub record OpenedPart (r : Receiving) (bytes : List ℕ) (v : Verdict) (after : 
   pub judged : judgedBy v ≡ judgePart r bytes
   pub text : judgePart r bytes ≡ fine → after ≡ partText r bytes ++ drop (length bytes - 16) bytes
 
-abbrev pub judgedAs : Outcome → Judged
+abbrev pub judgedAs : WriteResult → Judged
 judgedAs (outcome.Wrote n) = fine
 judgedAs (outcome.Refused r) = refusedWith r
 

@@ -8,7 +8,7 @@ use preamble::Header;
 use receiver::Report;
 use refusal::Numbers;
 use refusal::Refusal;
-use refusal::in_numbers;
+use refusal::numbers_of;
 use states::agrees_with_itself;
 use states::fresh_receiving;
 use states::is_refused;
@@ -102,7 +102,7 @@ pub fn receive(state: State, piece: &[u8], store: &mut [u8]) -> Received
     ensures { λ r. ⌜ Answered state (now (store .entry)) (now (piece .entry)) r (now (store .exit)) ⌝ }
 {
     if !agrees_with_itself(state) {
-        return refuse_unchanged(state, in_numbers(Refusal::StateContradicts));
+        return refuse_unchanged(state, numbers_of(Refusal::StateContradicts));
     }
     let position = state.position;
     let stage = position.stage;
@@ -112,7 +112,7 @@ pub fn receive(state: State, piece: &[u8], store: &mut [u8]) -> Received
     }
     let need = needed_by(stage, known.header);
     if (store.len() as u64) < need {
-        let n = in_numbers(Refusal::StoreShort(need));
+        let n = numbers_of(Refusal::StoreShort(need));
         return refuse_unchanged(refused_state(n), n);
     }
     take_piece(state, piece, store)

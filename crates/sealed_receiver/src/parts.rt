@@ -19,7 +19,6 @@ use buffer::byte_at;
 use buffer::part;
 use buffer::put;
 use buffer::put_zeros;
-use gcm::Outcome;
 use gcm::open_in_place;
 use preamble::Header;
 use preamble::judge_preamble;
@@ -29,10 +28,11 @@ use receiver::Report;
 use refusal::Numbers;
 use refusal::Refusal;
 use refusal::Verdict;
+use refusal::WriteResult;
 use refusal::both;
-use refusal::in_numbers;
+use refusal::numbers_of;
 use refusal::or_else;
-use refusal::unless_ok;
+use refusal::unless;
 use secure::all_zero;
 use secure::last_part_length;
 use secure::needed_of;
@@ -78,12 +78,12 @@ fn refuse(n: Numbers) -> Transition
 
 // ---- opening
 
-fn verdict_of(o: Outcome) -> Verdict
+fn verdict_of(o: WriteResult) -> Verdict
     ensures { λ v. ⌜ judgedBy v ≡ judgedAs o ⌝ }
 {
     match o {
-        Outcome::Wrote(_) => Verdict::Fine,
-        Outcome::Refused(why) => Verdict::Refused(why),
+        WriteResult::Wrote(_) => Verdict::Fine,
+        WriteResult::Refused(why) => Verdict::Refused(why),
     }
 }
 
@@ -116,7 +116,7 @@ fn refuse_frame(h: Header, why: Refusal, store: &mut [u8]) -> Transition
     ensures { λ r. ⌜ stepped (r .state) (now (store .exit)) (r .report) ≡ refuse (numbersOf why) (zeroed h (now (store .entry))) ⌝ }
 {
     zero_needed(store, h);
-    refuse(in_numbers(why))
+    refuse(numbers_of(why))
 }
 
 fn drop_frame(v: Known, store: &mut [u8]) -> Transition
@@ -177,8 +177,8 @@ fn judge_first(text: &[u8], store: usize) -> Verdict
     let n = h.s1.len as usize;
     let pad = all_zero(behind(text, 32 + n));
     let need = needed_of(h);
-    let room = unless_ok(need <= store as u64, Refusal::StoreShort(need));
-    let last = or_else(room, unless_ok(pad, Refusal::Padding));
+    let room = unless(need <= store as u64, Refusal::StoreShort(need));
+    let last = or_else(room, unless(pad, Refusal::Padding));
     // 5 to 9: every frame within the limits fits into a store of this length.
     or_else(judge_preamble(text, 4294967296), last)
 }
@@ -194,7 +194,7 @@ fn behind_first(v: Known, text: &[u8], store: &mut [u8]) -> Transition
             put(store, part(text, 32, h.s1.len as usize));
             begin_rest(with_header(v, h), store)
         }
-        Verdict::Refused(why) => refuse(in_numbers(why)),
+        Verdict::Refused(why) => refuse(numbers_of(why)),
     }
 }
 
@@ -206,7 +206,7 @@ fn end_first(block: [u8; 96], v: Known, store: &mut [u8]) -> Transition
     let opened = open_part(r, &mut b[0..]);
     match opened {
         Verdict::Fine => behind_first(with_opened(v), part(&b, 0, 80), store),
-        Verdict::Refused(why) => refuse(in_numbers(why)),
+        Verdict::Refused(why) => refuse(numbers_of(why)),
     }
 }
 

@@ -13,8 +13,8 @@ use Rattle.buffer.specs.Le.{numberAt}
 use Rattle.buffer.specs.Splice.{overwrite}
 use Rattle.buffer.proofs.Parts.{overwrite-fits}
 use Rattle.crc32c.specs.Crc.{crcOf}
-use Rattle.gcm.specs.declared.Outcome.{Outcome}
-use Rattle.gcm.specs.Calls.{Done, done, answered}
+use Rattle.refusal.specs.declared.WriteResult.{WriteResult}
+use Rattle.refusal.specs.Writes.{Done, done, outcomeOf}
 use Rattle.records.specs.Records.{isWhole, allowed}
 use Rattle.records.proofs.Laws.{sized-good, whole-within}
 use Rattle.sealing_cases.specs.Sealing.{answerLine, doneLine, sealingSize, keyOf, nonceOf, givenOf, bufferOf, doneBy, doneOf}
@@ -49,5 +49,5 @@ unfolding doneOf
 sealing-done opens s key nonce text buf ek en et eb = rw (ek, en, et, eb)
 
 -- the line as code comes to it
-pub outcome-line : (o : Outcome) (sum : ℕ) (buf : List ℕ) (d : Done) → done (answered o) buf ≡ d → sum ≡ crcOf 4294967295 buf → answerLine (answered o) sum ≡ doneLine d
-outcome-line o sum buf d e k = ap (answerLine (answered o)) k ∙ ap doneLine e
+pub outcome-line : (o : WriteResult) (sum : ℕ) (buf : List ℕ) (d : Done) → done (outcomeOf o) buf ≡ d → sum ≡ crcOf 4294967295 buf → answerLine (outcomeOf o) sum ≡ doneLine d
+outcome-line o sum buf d e k = ap (answerLine (outcomeOf o)) k ∙ ap doneLine e

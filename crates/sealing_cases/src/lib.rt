@@ -4,7 +4,6 @@ use buffer::part;
 use buffer::put;
 use buffer::u32_at;
 use crc32c::checksum;
-use gcm::Outcome;
 use gcm::open;
 use gcm::seal;
 use records::LARGEST;
@@ -15,22 +14,23 @@ use records::is_whole;
 use records::print_refused;
 use records::print_wrote;
 use records::sized;
+use refusal::WriteResult;
 use refusal::both;
-use refusal::in_numbers;
+use refusal::numbers_of;
 ghost use mathlib.Core.Path.{_≡_};
 ghost use Prim.Native.Nat.{_+_, _≤_};
 ghost use lib.ListN.{length, take, drop};
-ghost use Rattle.gcm.specs.Calls.{done, answered};
+ghost use Rattle.refusal.specs.Writes.{done, outcomeOf};
 ghost use Rattle.text.specs.Page.{page};
 ghost use Rattle.records.specs.Records.{Did, print};
 ghost use Rattle.sealing_cases.specs.Sealing.{answerLine, sealingSize, doneBy, sealingRecord};
 
-fn print_outcome(text: &mut [u8], at: usize, outcome: Outcome, sum: u32) -> usize
-    ensures { λ r. ⌜ page (now (text .exit)) r ≡ print (answerLine (answered outcome) sum) (page (now (text .entry)) at) ⌝ }
+fn print_outcome(text: &mut [u8], at: usize, outcome: WriteResult, sum: u32) -> usize
+    ensures { λ r. ⌜ page (now (text .exit)) r ≡ print (answerLine (outcomeOf outcome) sum) (page (now (text .entry)) at) ⌝ }
 {
     match outcome {
-        Outcome::Wrote(n) => print_wrote(text, at, n, sum),
-        Outcome::Refused(why) => print_refused(text, at, in_numbers(why), sum),
+        WriteResult::Wrote(n) => print_wrote(text, at, n, sum),
+        WriteResult::Refused(why) => print_refused(text, at, numbers_of(why), sum),
     }
 }
 
@@ -65,8 +65,8 @@ fn seal_or_open(
     nonce: [u8; 12],
     given: &[u8],
     buf: &mut [u8],
-) -> Outcome
-    ensures { λ r. ⌜ done (answered r) (now (buf .exit)) ≡ doneBy opens key nonce (now (given .entry)) (now (buf .entry)) ⌝ }
+) -> WriteResult
+    ensures { λ r. ⌜ done (outcomeOf r) (now (buf .exit)) ≡ doneBy opens key nonce (now (given .entry)) (now (buf .entry)) ⌝ }
 {
     if opens {
         return open(key, nonce, given, buf);

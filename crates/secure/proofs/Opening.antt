@@ -14,7 +14,7 @@ use Rattle.stream.specs.Stream.{ended, unlessRefused}
 use Rattle.aes.specs.Aes.{State, keyExpansion}
 use Rattle.gcm.specs.Gcm.{Opened, openedBy}
 use Rattle.secure.specs.Layout.{nextNonce, padding, inlineLength, firstLength, lastLengths, noRest, noLast, restPart, lastPart}
-use Rattle.secure.specs.Reading.{Next, judgeNonce, judgePadding, judgeFirst, unpadded, lastEnded, zeroed, byOpening, atEnd, lastTrace, restTrace, frames, sealedTrace}
+use Rattle.secure.specs.Reading.{Continuation, judgeNonce, judgePadding, judgeFirst, unpadded, lastEnded, zeroed, byOpening, atEnd, lastTrace, restTrace, frames, sealedTrace}
 
 module _ (w : List State) (nonce : List ℕ) (n P : ℕ) (bytes : List ℕ) (o : Opened) where
   pub read-first : (f : ℕ) (store : List ℕ) → openedBy w nonce (take firstLength bytes) ≡ o
@@ -37,7 +37,7 @@ module _ (w : List State) (nonce : List ℕ) (n P : ℕ) (bytes : List ℕ) (o :
       (take (headerOf text .s1 .len) (drop 32 text)) store (frames f w))))))
       e
 
-  module _ (h : Header) (first store : List ℕ) (next : Next) where
+  module _ (h : Header) (first store : List ℕ) (next : Continuation) where
     pub read-rest : openedBy w nonce (take (restPart h) bytes) ≡ o
         → restTrace w h nonce n P bytes first store next
         ≡ cond (noRest h) (lastTrace w h nonce n P bytes first (replaceFront first store) next)

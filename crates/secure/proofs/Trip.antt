@@ -1,4 +1,4 @@
--- There and back: a sealed frame read part by part.
+-- The round trip: a sealed frame read part by part.
 use mathlib.Core.Path.{_≡_, refl, sym, ap, ap₂, _∙_}
 use mathlib.Core.Bool.{Bool, true, false, not, cond, _&&_}
 use mathlib.Core.List.{List, [], _∷_, _++_, append-assoc, append-nil}
@@ -27,18 +27,18 @@ use Rattle.preamble.proofs.Back.{reads-back}
 use Rattle.preamble.proofs.Headers.{first-zero, no-fault, shape-fine}
 use Rattle.body.specs.Body.{restLength, lateByte, restSent}
 use Rattle.body.proofs.Laws.{length-sent}
-use Rattle.body.specs.End.{Ended, whole, dropped, turnedAway, lateOf}
+use Rattle.body.specs.End.{Ended, whole, dropped, refusedFor, lateOf}
 use Rattle.banner.specs.declared.Revision.the-variants.{Msgr21}
 use Rattle.stream.specs.declared.Event.the-variants.{Frame, Dropped}
 use Rattle.stream.specs.Stream.{Trace, ended, after, refusedAt, unlessRefused}
 use Rattle.aes.specs.Aes.{State}
 use Rattle.gcm.specs.Gcm.{Opened, sealedBy, openedBy}
 use Rattle.gcm.proofs.Placing.{sealed-length}
-use Rattle.gcm.proofs.There.{lists}
+use Rattle.gcm.proofs.RoundTrip.{lists}
 use Rattle.secure.specs.Layout.{allNonces, nextNonce, nonceAfter, padding, roundUp, padded, inlined, paddedFrom, firstText, restText, lastText, lastLengths, noRest, noLast, unlessNone, laterTexts, texts, partsFrom, sealedParts, sealedFrame, restPart, lastPart, sealedLength, partCount, needed}
 use Rattle.secure.proofs.Lengths.{length-segment, length-inlined, length-first-text, length-rest-text, length-last-text}
 use Rattle.buffer.specs.Zeros.{allZero}
-use Rattle.secure.specs.Reading.{Next, judgePadding, judgeFirst, unpadded, paddingOf, lateIn, byLateStatus, lastEnded, zeroed, holding, byOpening, partTrace, atEnd, lastTrace, restTrace, frames}
+use Rattle.secure.specs.Reading.{Continuation, judgePadding, judgeFirst, unpadded, paddingOf, lateIn, byLateStatus, lastEnded, zeroed, holding, byOpening, partTrace, atEnd, lastTrace, restTrace, frames}
 use Rattle.secure.specs.Trip.{Sent, ComesBack, SealedTrip}
 
 -- ---- zeros and padding
@@ -177,7 +177,7 @@ module _ (h : Header) (first : List ℕ) (e : length first ≡ h .s1 .len) where
   tail-length : length (drop 48 first) ≡ h .s1 .len - 48
   tail-length = length-drop 48 first ∙ ap (λ (k : ℕ). k - 48) e
 
-  pub rest-read : (w : List State) (nonce : List ℕ) (n P : ℕ) (tail store : List ℕ) (next : Next) → noRest h ≡ false → n < allNonces
+  pub rest-read : (w : List State) (nonce : List ℕ) (n P : ℕ) (tail store : List ℕ) (next : Continuation) → noRest h ≡ false → n < allNonces
       → restTrace w h nonce n P (sealedBy w nonce (restText first) ++ tail) (take 48 first) store next
       ≡ lastTrace w h (nextNonce nonce) (suc n) (P + restPart h) tail first (replaceFront (first ++ replicate (padding (h .s1 .len - 48) + 16) 0) store) next
   rest-read w nonce n P tail store next there l =
@@ -283,7 +283,7 @@ module _ (h : Header) (late : ℕ) (bytes : List ℕ) (e : length bytes ≡ rest
   unfolding lastText
   last-bytes = bytes-back (lastLengths h) late bytes summed
 
-  pub last-read : (w : List State) (nonce : List ℕ) (n P : ℕ) (tail first store : List ℕ) (next : Next) → noLast h ≡ false → n < allNonces
+  pub last-read : (w : List State) (nonce : List ℕ) (n P : ℕ) (tail first store : List ℕ) (next : Continuation) → noLast h ≡ false → n < allNonces
       → lastTrace w h nonce n P (sealedBy w nonce (lastText h late bytes) ++ tail) first store next
       ≡ atEnd (byLateStatus (lateOf Msgr21 late) late fine) h (P + lastPart h) (first ++ bytes) store (next (nextNonce nonce) (suc n) (P + lastPart h) tail)
   last-read w nonce n P tail first store next there l =
@@ -315,7 +315,7 @@ module _ (h : Header) (payload xs store : List ℕ) (p : length payload ≤ need
   pub at-end-same : (o : Ended) (at : ℕ) (next : List ℕ → Trace) → atEnd o h at payload (replaceFront xs store) next ≡ atEnd o h at payload store next
   at-end-same whole at next = ap (λ (s : List ℕ). after (Frame h) at s (next s)) holding-same
   at-end-same dropped at next = ap (λ (s : List ℕ). after (Dropped h) at s (next s)) zeroed-same
-  at-end-same (turnedAway n) at next = ap (refusedAt n at) zeroed-same
+  at-end-same (refusedFor n) at next = ap (refusedAt n at) zeroed-same
 
 -- ---- all parts behind the first one
 
@@ -323,11 +323,11 @@ room-for : (h : Header) (l m k : ℕ) → l ≡ h .s1 .len → k ≡ l + (paddin
 unfolding needed
 room-for h l m k e f = omega (arith, mod-lt (16 - m % 16) {m = 16} (omega arith))
 
-pub without-rest : (w : List State) (h : Header) (nonce : List ℕ) (n P : ℕ) (bytes first store : List ℕ) (next : Next) → noRest h ≡ true
+pub without-rest : (w : List State) (h : Header) (nonce : List ℕ) (n P : ℕ) (bytes first store : List ℕ) (next : Continuation) → noRest h ≡ true
     → restTrace w h nonce n P bytes first store next ≡ lastTrace w h nonce n P bytes first (replaceFront first store) next
 without-rest w h nonce n P bytes first store next e = simp e
 
-module _ (w : List State) (h : Header) (late : ℕ) (first bytes tail store : List ℕ) (next : Next)
+module _ (w : List State) (h : Header) (late : ℕ) (first bytes tail store : List ℕ) (next : Continuation)
     (e₁ : length first ≡ h .s1 .len) (e₂ : length bytes ≡ restLength h) (fits : length (first ++ bytes) ≤ needed h) where
   abbrev out : Bool → Ended
   out none = cond none whole (byLateStatus (lateOf Msgr21 late) late fine)

@@ -14,7 +14,7 @@ use Rattle.preamble.specs.declared.Header.{Header}
 use Rattle.preamble.specs.Judge.{headerOf, judgeChecksum, judgeShape, judgeFlags, judgeTag, judgeLimits, judgeStore}
 use Rattle.body.specs.declared.Late.{Late}
 use Rattle.body.specs.declared.Late.the-variants as late
-use Rattle.body.specs.End.{Ended, whole, dropped, turnedAway, endedBy, lateOf}
+use Rattle.body.specs.End.{Ended, whole, dropped, refusedFor, endedBy, lateOf}
 use Rattle.stream.specs.declared.Event.the-variants.{Frame, Dropped}
 use Rattle.stream.specs.Stream.{Trace, ended, after, refusedAt, unlessRefused}
 use Rattle.aes.specs.Aes.{State, keyExpansion}
@@ -59,10 +59,10 @@ lateIn (n ∷ ns) text = lateIn ns (drop (roundUp n) text)
 -- THE ORDER at the end of a last part, behind 18 and 17: 12, 19, drop
 abbrev pub droppedBy : Judged → Ended
 droppedBy fine = dropped
-droppedBy (refused n) = turnedAway n
+droppedBy (refused n) = refusedFor n
 
 abbrev pub byLateStatus : Late → ℕ → Judged → Ended
-byLateStatus late.Wrong b j = turnedAway (numbersOf (refusal.LateStatus b))
+byLateStatus late.Wrong b j = refusedFor (numbersOf (refusal.LateStatus b))
 byLateStatus late.Aborted b j = droppedBy j
 byLateStatus late.Complete b j = endedBy j
 
@@ -91,16 +91,16 @@ abbrev pub partTrace : List State → List ℕ → ℕ → List ℕ → ℕ → 
 partTrace w nonce n bytes at store next = unlessRefused (judgeNonce n) at store (byOpening (openedBy w nonce bytes) at store next)
 
 -- what follows a frame: from its nonce, the parts before it, its place, its bytes and its store on
-abbrev pub Next : Type 0
-Next = List ℕ → ℕ → ℕ → List ℕ → List ℕ → Trace
+abbrev pub Continuation : Type 0
+Continuation = List ℕ → ℕ → ℕ → List ℕ → List ℕ → Trace
 
 abbrev pub atEnd : Ended → Header → ℕ → List ℕ → List ℕ → (List ℕ → Trace) → Trace
 atEnd whole h at payload store next = after (Frame h) at (holding h payload store) (next (holding h payload store))
 atEnd dropped h at payload store next = after (Dropped h) at (zeroed h store) (next (zeroed h store))
-atEnd (turnedAway n) h at payload store next = refusedAt n at (zeroed h store)
+atEnd (refusedFor n) h at payload store next = refusedAt n at (zeroed h store)
 
 -- the last part, from P on, where the frame has one; first is segment 1. Its sealed bytes go behind segment 1
-abbrev pub lastTrace : List State → Header → List ℕ → ℕ → ℕ → List ℕ → List ℕ → List ℕ → Next → Trace
+abbrev pub lastTrace : List State → Header → List ℕ → ℕ → ℕ → List ℕ → List ℕ → List ℕ → Continuation → Trace
 lastTrace w h nonce n P rest first store next =
     cond (noLast h) (atEnd whole h P first store (next nonce n P rest))
     (cond (ltb (length rest) (lastPart h)) (ended (splice store (h .s1 .len) rest))
@@ -109,7 +109,7 @@ lastTrace w h nonce n P rest first store next =
     (next (nextNonce nonce) (suc n) (P + lastPart h) (drop (lastPart h) rest)))))
 
 -- the rest of segment 1, from P on, where there is one; first is what the inline buffer had of it. Its sealed bytes go behind that
-abbrev pub restTrace : List State → Header → List ℕ → ℕ → ℕ → List ℕ → List ℕ → List ℕ → Next → Trace
+abbrev pub restTrace : List State → Header → List ℕ → ℕ → ℕ → List ℕ → List ℕ → List ℕ → Continuation → Trace
 restTrace w h nonce n P rest first store next =
     cond (noRest h) (lastTrace w h nonce n P rest first (replaceFront first store) next)
     (cond (ltb (length rest) (restPart h)) (ended (splice (replaceFront first store) inlineLength rest))

@@ -5,7 +5,7 @@ use Prim.Native.Nat.{ℕ, zero, suc}
 use lib.ListN.{replicate}
 use Rattle.sbox.specs.Sbox.{xtime}
 use Rattle.aes.specs.Aes.{State, columnAt, stateOf, shiftRows, addColumn, addRoundKey, rotWord, following, keyExpansion}
-use Rattle.aes.specs.Counter.{counterBlock, streamBlock}
+use Rattle.aes.specs.Counter.{counterBlock, keystreamBlock}
 use Rattle.gcm.specs.Gcm.{columnNumber, blockNumber, hashKey}
 use Rattle.secure_examples.specs.Parts.{key, nonce0, nonce1, nonce2}
 use Rattle.aes.proofs.Computed.{sub, mix, cipherBy, cipher-is, keys-are}
@@ -53,15 +53,15 @@ found-is f (suc n) zero = refl
 found-is f (suc n) (suc i) = found-is (λ j. f (suc j)) n i
 
 abbrev pub block : List ℕ → List State → ℕ → State
-block nonce t zero = streamBlock w nonce zero
-block nonce t (suc i) = found (λ j. streamBlock w nonce (suc j)) t i
+block nonce t zero = keystreamBlock w nonce zero
+block nonce t (suc i) = found (λ j. keystreamBlock w nonce (suc j)) t i
 
-blocks : (nonce : List ℕ) (t : List State) (n : ℕ) → listed n (λ j. cipherBy sub mix w (counterBlock nonce (suc j))) ≡ t → (i : ℕ) → streamBlock w nonce i ≡ block nonce t i
-unfolding streamBlock
+blocks : (nonce : List ℕ) (t : List State) (n : ℕ) → listed n (λ j. cipherBy sub mix w (counterBlock nonce (suc j))) ≡ t → (i : ℕ) → keystreamBlock w nonce i ≡ block nonce t i
+unfolding keystreamBlock
 blocks nonce t n e zero = refl
 blocks nonce t n e (suc i) =
-    found-is (λ j. streamBlock w nonce (suc j)) n i
-    ∙ ap (λ (ss : List State). found (λ j. streamBlock w nonce (suc j)) ss i)
+    found-is (λ j. keystreamBlock w nonce (suc j)) n i
+    ∙ ap (λ (ss : List State). found (λ j. keystreamBlock w nonce (suc j)) ss i)
     (ap (listed n) (fun-ext (λ j. cipher-is w (counterBlock nonce (suc j)))) ∙ e)
 
 abbrev pub table0 : List State
@@ -74,7 +74,7 @@ table0 =
     ∷ ((0x76 ∷ 0xe4 ∷ 0x82 ∷ 0x87 ∷ []) ∷ (0x73 ∷ 0xcf ∷ 0xc1 ∷ 0xdd ∷ []) ∷ (0xc2 ∷ 0x76 ∷ 0xd0 ∷ 0x08 ∷ []) ∷ (0xd5 ∷ 0x9f ∷ 0x73 ∷ 0xd7 ∷ []) ∷ [])
     ∷ []
 
-pub blocks0 : streamBlock w nonce0 ≡ block nonce0 table0
+pub blocks0 : keystreamBlock w nonce0 ≡ block nonce0 table0
 unfolding columnAt counterBlock shiftRows addColumn addRoundKey
 blocks0 = fun-ext (blocks nonce0 table0 6 refl)
 
@@ -88,7 +88,7 @@ table1 =
     ∷ ((0xdc ∷ 0x25 ∷ 0x00 ∷ 0x83 ∷ []) ∷ (0x7d ∷ 0xe1 ∷ 0xe5 ∷ 0x0f ∷ []) ∷ (0x16 ∷ 0x95 ∷ 0x0f ∷ 0xa3 ∷ []) ∷ (0x3f ∷ 0x0b ∷ 0xb2 ∷ 0x91 ∷ []) ∷ [])
     ∷ []
 
-pub blocks1 : streamBlock w nonce1 ≡ block nonce1 table1
+pub blocks1 : keystreamBlock w nonce1 ≡ block nonce1 table1
 unfolding columnAt counterBlock shiftRows addColumn addRoundKey
 blocks1 = fun-ext (blocks nonce1 table1 6 refl)
 
@@ -99,6 +99,6 @@ table2 =
     ∷ ((0x7f ∷ 0xd7 ∷ 0xd7 ∷ 0x59 ∷ []) ∷ (0x02 ∷ 0xda ∷ 0x0e ∷ 0x59 ∷ []) ∷ (0xf2 ∷ 0x58 ∷ 0x53 ∷ 0x13 ∷ []) ∷ (0x09 ∷ 0x84 ∷ 0x70 ∷ 0x61 ∷ []) ∷ [])
     ∷ []
 
-pub blocks2 : streamBlock w nonce2 ≡ block nonce2 table2
+pub blocks2 : keystreamBlock w nonce2 ≡ block nonce2 table2
 unfolding columnAt counterBlock shiftRows addColumn addRoundKey
 blocks2 = fun-ext (blocks nonce2 table2 3 refl)

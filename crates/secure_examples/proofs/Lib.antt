@@ -3,4 +3,4 @@ pub mod Seals
 pub mod Rows
 pub mod Clear
 pub mod Switched
-pub mod Made
+pub mod ComputedBuilds

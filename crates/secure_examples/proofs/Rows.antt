@@ -17,7 +17,7 @@ use Rattle.aes.specs.Aes.{keyExpansion}
 use Rattle.ghash.specs.Ghash.{quadAt, blockAt}
 use Rattle.gcm.specs.Gcm.{Opened, columnNumber, blockNumber, blockBytes, sameAs, openedBy}
 use Rattle.secure.specs.Layout.{nextNonce, padding, inlineLength, firstLength, lastLengths, noRest, noLast, restPart, lastPart, needed}
-use Rattle.secure.specs.Reading.{Next, judgeNonce, judgePadding, judgeFirst, unpadded, lastEnded, zeroed, byOpening, atEnd, frames, sealedTrace}
+use Rattle.secure.specs.Reading.{Continuation, judgeNonce, judgePadding, judgeFirst, unpadded, lastEnded, zeroed, byOpening, atEnd, frames, sealedTrace}
 use Rattle.secure_examples.specs.Parts.{key, nonce0, nonce1, two0, none0, sumAndShape0, shapeAndFlags0, flagsAndTag0, tagAndLimit0, limitAndStore0, padded0, full0, blocks0, two1, padded1, blocks1, full1, late1, none1, two2, aborted2, high2, highAborted2, lateAndPadding2, paddingAndDrop2, padded2, single0, one0, first1}
 use Rattle.secure_examples.specs.Examples.{seg1, two, store, frameRows, firstRows, judgeRows, paddingRows, laterRows, cutRows}
 use Rattle.secure_examples.proofs.Seals.{opening, opened-by}
@@ -25,7 +25,7 @@ use Rattle.secure_examples.proofs.Seals.{opening, opened-by}
 -- ---- frames read by any way of opening a part
 
 module _ (opens : List ℕ → List ℕ → Opened) where
-  abbrev pub lastBy : Header → List ℕ → ℕ → ℕ → List ℕ → List ℕ → List ℕ → Next → Trace
+  abbrev pub lastBy : Header → List ℕ → ℕ → ℕ → List ℕ → List ℕ → List ℕ → Continuation → Trace
   lastBy h nonce n P rest first store next =
       cond (noLast h) (atEnd whole h P first store (next nonce n P rest))
       (cond (ltb (length rest) (lastPart h)) (ended (splice store (h .s1 .len) rest))
@@ -34,7 +34,7 @@ module _ (opens : List ℕ → List ℕ → Opened) where
       (λ text. atEnd (lastEnded h text) h (P + lastPart h) (first ++ unpadded (lastLengths h) text) store
       (next (nextNonce nonce) (suc n) (P + lastPart h) (drop (lastPart h) rest))))))
 
-  abbrev pub restBy : Header → List ℕ → ℕ → ℕ → List ℕ → List ℕ → List ℕ → Next → Trace
+  abbrev pub restBy : Header → List ℕ → ℕ → ℕ → List ℕ → List ℕ → List ℕ → Continuation → Trace
   restBy h nonce n P rest first store next =
       cond (noRest h) (lastBy h nonce n P rest first (replaceFront first store) next)
       (cond (ltb (length rest) (restPart h)) (ended (splice (replaceFront first store) inlineLength rest))
@@ -46,7 +46,7 @@ module _ (opens : List ℕ → List ℕ → Opened) where
       (replaceFront (first ++ take (h .s1 .len - inlineLength) text ++ replicate (padding (h .s1 .len - inlineLength) + 16) 0) store)
       next)))))
 
-  abbrev pub frameBy : Next → Next
+  abbrev pub frameBy : Continuation → Continuation
   frameBy next nonce n P rest store =
       cond (ltb (length rest) firstLength) (ended store)
       (unlessRefused (judgeNonce n) (P + firstLength) store
@@ -55,7 +55,7 @@ module _ (opens : List ℕ → List ℕ → Opened) where
       (restBy (headerOf text) (nextNonce nonce) (suc n) (P + firstLength) (drop firstLength rest)
       (take (headerOf text .s1 .len) (drop 32 text)) store next))))
 
-  abbrev pub framesBy : ℕ → Next
+  abbrev pub framesBy : ℕ → Continuation
   framesBy zero nonce n P rest store = ended store
   framesBy (suc f) nonce n P rest store = frameBy (framesBy f) nonce n P rest store
 
@@ -70,7 +70,7 @@ traceBy n P rest store = framesBy opening (length rest) nonce0 n P rest store
 pub trace-by : (n P : ℕ) (rest store : List ℕ) → sealedTrace key nonce0 n P rest store ≡ traceBy n P rest store
 unfolding sealedTrace
 trace-by n P rest store =
-    ap (λ (next : Next). next nonce0 n P rest store)
+    ap (λ (next : Continuation). next nonce0 n P rest store)
     (frames-by (length rest) ∙ ap (λ (opens : List ℕ → List ℕ → Opened). framesBy opens (length rest)) (λ i nonce s. opened-by nonce s i))
 
 -- ---- tables, row by row

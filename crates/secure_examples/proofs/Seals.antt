@@ -8,7 +8,7 @@ use lib.Bits.{bitXor}
 use lib.Dec.{eqb, leb, lit<}
 use lib.ListN.{length, take, drop}
 use Rattle.aes.specs.Aes.{State, keyExpansion}
-use Rattle.aes.specs.Counter.{streamBlock, byteOf, streamByte, gctrFrom}
+use Rattle.aes.specs.Counter.{keystreamBlock, byteOf, keystreamByte, gctrFrom}
 use Rattle.ghash.specs.Ghash.{ghash}
 use Rattle.gcm.specs.Gcm.{Opened, plain, fail, blockNumber, blockBytes, tagOf, sealedBy, sameAs, tagFits, openedBy}
 use Rattle.secure_examples.specs.Parts.{key, nonce0, nonce1, nonce2}
@@ -32,15 +32,15 @@ module _ (f : ℕ → State) where
   openBy s =
       cond (leb 16 (length s) && sameAs (tagBy (take (length s - 16) s)) (drop (length s - 16) s)) (plain (maskBy 0 (take (length s - 16) s))) fail
 
-mask-by : (nonce : List ℕ) (j : ℕ) (bs : List ℕ) → gctrFrom w nonce j bs ≡ maskBy (streamBlock w nonce) j bs
-unfolding gctrFrom streamByte
+mask-by : (nonce : List ℕ) (j : ℕ) (bs : List ℕ) → gctrFrom w nonce j bs ≡ maskBy (keystreamBlock w nonce) j bs
+unfolding gctrFrom keystreamByte
 mask-by nonce j [] = refl
-mask-by nonce j (b ∷ bs) = ap (λ (t : List ℕ). bitXor b (streamByte w nonce j) ∷ t) (mask-by nonce (suc j) bs)
+mask-by nonce j (b ∷ bs) = ap (λ (t : List ℕ). bitXor b (keystreamByte w nonce j) ∷ t) (mask-by nonce (suc j) bs)
 
-tag-by : (nonce c : List ℕ) → tagOf w nonce c ≡ tagBy (streamBlock w nonce) c
+tag-by : (nonce c : List ℕ) → tagOf w nonce c ≡ tagBy (keystreamBlock w nonce) c
 unfolding tagOf
 tag-by nonce c =
-    ap (λ (y : ℕ). blockBytes (bitXor y (blockNumber (streamBlock w nonce 1))))
+    ap (λ (y : ℕ). blockBytes (bitXor y (blockNumber (keystreamBlock w nonce 1))))
     (ap (λ (k : ℕ). ghash k c) hash-key ∙ hash-is h c (lit< tt))
 
 -- ---- by the blocks of a nonce
@@ -61,13 +61,13 @@ tableOf nonce = cond (sameAs nonce nonce0) table0 (cond (sameAs nonce nonce1) ta
 
 -- the table has blocks of this nonce
 InTable : List ℕ → List State → Type 0
-InTable nonce t = streamBlock w nonce ≡ block nonce t
+InTable nonce t = keystreamBlock w nonce ≡ block nonce t
 
 none : (nonce : List ℕ) → InTable nonce []
 unfolding InTable
 none nonce = fun-ext go
   where
-    go : (i : ℕ) → streamBlock w nonce i ≡ block nonce [] i
+    go : (i : ℕ) → keystreamBlock w nonce i ≡ block nonce [] i
     go zero = refl
     go (suc i) = refl
 
@@ -93,7 +93,7 @@ unfolding sealedBy InTable
 sealed-by nonce text =
     ap (λ (k : List State). sealedBy k nonce text) keys
     ∙ ap (λ (c : List ℕ). c ++ tagOf w nonce c) (mask-by nonce 0 text)
-    ∙ ap (λ (t : List ℕ). maskBy (streamBlock w nonce) 0 text ++ t) (tag-by nonce (maskBy (streamBlock w nonce) 0 text))
+    ∙ ap (λ (t : List ℕ). maskBy (keystreamBlock w nonce) 0 text ++ t) (tag-by nonce (maskBy (keystreamBlock w nonce) 0 text))
     ∙ ap (λ (f : ℕ → State). sealBy f text) (in-table nonce)
 
 pub opened-by : (nonce s : List ℕ) → openedBy (keyExpansion key) nonce s ≡ opening nonce s

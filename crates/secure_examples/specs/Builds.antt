@@ -4,10 +4,10 @@ use mathlib.Core.List.{List, [], _∷_, _++_}
 use Prim.Native.Nat.{ℕ}
 use lib.ListN.{take, replicate}
 use Rattle.refusal.specs.Refusals.{Judged, fine, refused, row}
+use Rattle.refusal.specs.Writes.{wrote, refusedFor}
 use Rattle.preamble.specs.declared.Header.{Header}
 use Rattle.stream.specs.Rows.{Row, _⇒_, segment, header, sized}
 use Rattle.aes.specs.Aes.{keyExpansion}
-use Rattle.builder.specs.Build.{wrote, turnedAway}
 use Rattle.secure.specs.Layout.{nextNonce, sealedLength, partCount, needed, texts, sealedFrame}
 use Rattle.sealed_builder.specs.declared.Sending.{Sending}
 use Rattle.sealed_builder.specs.Build.{Done, done, sendingState, freshSending, refusedSending, agrees, sentMore, judgeSealed, sealedDone}
@@ -173,11 +173,11 @@ buildRows =
     sealedDone (sending 0 false false) two false (seg1 ++ seg2) buffer 2
     ⇒ done (wrote 176) (sendingState key nonce3 3 false false) ((0xbb ∷ 0xbb ∷ []) ++ (two0 ++ two1 ++ two2) ++ (0xbb ∷ 0xbb ∷ []))
     ∷ sealedDone (sending 18446744073709551614 false false) two false (seg1 ++ seg2) buffer 2
-    ⇒ done (turnedAway (row 18 0 0 0)) (sending 18446744073709551614 false false) buffer
+    ⇒ done (refusedFor (row 18 0 0 0)) (sending 18446744073709551614 false false) buffer
     -- 13 and 14
-    ∷ sealedDone (sending 0 false false) two false seg1 buffer 0 ⇒ done (turnedAway (row 13 0 0 0)) (sending 0 false false) buffer
+    ∷ sealedDone (sending 0 false false) two false seg1 buffer 0 ⇒ done (refusedFor (row 13 0 0 0)) (sending 0 false false) buffer
     ∷ sealedDone (sending 0 false false) two false (seg1 ++ seg2) (replicate 175 0xbb) 0
-    ⇒ done (turnedAway (row 14 176 0 0)) (sending 0 false false) (replicate 175 0xbb)
+    ⇒ done (refusedFor (row 14 176 0 0)) (sending 0 false false) (replicate 175 0xbb)
     -- aborted
     ∷ sealedDone (sending 0 false false) two true (seg1 ++ seg2) buffer 2
     ⇒ done (wrote 176) (sendingState key nonce3 3 false false) ((0xbb ∷ 0xbb ∷ []) ++ (two0 ++ two1 ++ aborted2) ++ (0xbb ∷ 0xbb ∷ []))

@@ -5,7 +5,7 @@ use lib.ListN.{length, take, drop, set, replicate}
 use Rattle.refusal.specs.Refusals.{Judged, fine, refused, row}
 use Rattle.banner.specs.declared.Revision.the-variants.{Msgr21}
 use Rattle.preamble.specs.declared.Header.{Header}
-use Rattle.body.specs.End.{Ended, turnedAway}
+use Rattle.body.specs.End.{Ended, refusedFor}
 use Rattle.stream.specs.declared.Event.the-variants.{Banner}
 use Rattle.stream.specs.Stream.{Entry, entry, Trace}
 use Rattle.stream.specs.Rows.{Row, _⇒_, features, segment, header, frameAt, dropAt, refusalAt}
@@ -139,7 +139,7 @@ judgeRows =
 -- the first and the last byte of each padding of a last part, in a complete frame and in an aborted one
 abbrev pub padded : List ℕ → List ℕ → List (Row Ended)
 padded text [] = []
-padded text (i ∷ is) = lastEnded full (set text i 1) ⇒ turnedAway (row 19 0 0 0) ∷ padded text is
+padded text (i ∷ is) = lastEnded full (set text i 1) ⇒ refusedFor (row 19 0 0 0) ∷ padded text is
 
 abbrev pub paddings : List ℕ
 paddings = 1 ∷ 15 ∷ 33 ∷ 47 ∷ 51 ∷ 63 ∷ 65 ∷ 79 ∷ []

@@ -1,6 +1,6 @@
 -- What the proofs of several functions cite.
-mod Lent
-mod Past
+mod InPlaceCalls
+mod Histories
 mod Single
 pub mod Table
 pub mod Releases

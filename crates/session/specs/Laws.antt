@@ -41,20 +41,20 @@ pub data Event : Type 0 where
   dropped : Event
   nothing : Event
 
-abbrev pub unlessTurnedAway : Report → Event → Event
-unlessTurnedAway (report.Accepted n) e = e
-unlessTurnedAway report.Done e = e
-unlessTurnedAway (report.Resend k) e = e
-unlessTurnedAway (report.Refused n) e = nothing
+abbrev pub eventUnlessRefused : Report → Event → Event
+eventUnlessRefused (report.Accepted n) e = e
+eventUnlessRefused report.Done e = e
+eventUnlessRefused (report.Resend k) e = e
+eventUnlessRefused (report.Refused n) e = nothing
 
 abbrev pub eventOf : Call → Report → Event
 eventOf (accept h) (report.Accepted n) = accepted (message n h)
 eventOf (accept h) report.Done = nothing
 eventOf (accept h) (report.Resend k) = nothing
 eventOf (accept h) (report.Refused n) = nothing
-eventOf (ack n) r = unlessTurnedAway r (acknowledged n)
-eventOf (reconnect n) r = unlessTurnedAway r (acknowledged n)
-eventOf (reset true) r = unlessTurnedAway r dropped
+eventOf (ack n) r = eventUnlessRefused r (acknowledged n)
+eventOf (reconnect n) r = eventUnlessRefused r (acknowledged n)
+eventOf (reset true) r = eventUnlessRefused r dropped
 eventOf (reset false) r = nothing
 
 -- the messages with a number above n

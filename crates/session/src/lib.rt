@@ -3,9 +3,9 @@ use refusal::Numbers;
 use refusal::Refusal;
 use refusal::Verdict;
 use refusal::both;
-use refusal::in_numbers;
+use refusal::numbers_of;
 use refusal::or_else;
-use refusal::unless_ok;
+use refusal::unless;
 ghost use mathlib.Core.Path.{_≡_};
 ghost use Prim.Native.Nat.{_-_};
 ghost use Rattle.refusal.specs.Refusals.{numbersOf, judgedBy};
@@ -72,24 +72,21 @@ fn agrees_with_itself(s: Session) -> bool
 fn judge_state(s: Session) -> Verdict
     ensures { λ r. ⌜ judgedBy r ≡ judgeState s ⌝ }
 {
-    unless_ok(agrees_with_itself(s), Refusal::StateContradicts)
+    unless(agrees_with_itself(s), Refusal::StateContradicts)
 }
 
 fn judge_accept(s: Session) -> Verdict
     ensures { λ r. ⌜ judgedBy r ≡ judgeAccept s ⌝ }
 {
-    let spent = unless_ok(s.last < 0xFFFFFFFFFFFFFFFF, Refusal::NumbersSpent);
-    let full = unless_ok(held_count(s) < 64, Refusal::TableFull);
+    let spent = unless(s.last < 0xFFFFFFFFFFFFFFFF, Refusal::NumbersSpent);
+    let full = unless(held_count(s) < 64, Refusal::TableFull);
     or_else(judge_state(s), or_else(spent, full))
 }
 
 fn judge_ack(s: Session, number: u64) -> Verdict
     ensures { λ r. ⌜ judgedBy r ≡ judgeAck s number ⌝ }
 {
-    or_else(
-        judge_state(s),
-        unless_ok(number <= s.last, Refusal::AckAhead),
-    )
+    or_else(judge_state(s), unless(number <= s.last, Refusal::AckAhead))
 }
 
 fn refuse(s: Session, why: Refusal) -> Outcome
@@ -97,7 +94,7 @@ fn refuse(s: Session, why: Refusal) -> Outcome
 {
     Outcome {
         session: s,
-        report: Report::Refused(in_numbers(why)),
+        report: Report::Refused(numbers_of(why)),
     }
 }
 
@@ -231,7 +228,7 @@ pub fn held_at(s: Session, i: u64) -> Held
                 handle: handles[place],
             })
         }
-        Verdict::Refused(why) => Held::Refused(in_numbers(why)),
+        Verdict::Refused(why) => Held::Refused(numbers_of(why)),
     }
 }
 

@@ -10,7 +10,7 @@ use Rattle.buffer.proofs.Numbers.{number-append}
 use Rattle.banner.specs.declared.Revision.{Revision}
 use Rattle.banner.specs.Banner.{featuresOf}
 use Rattle.preamble.specs.declared.Header.{Header}
-use Rattle.body.specs.End.{Ended, whole, dropped, turnedAway}
+use Rattle.body.specs.End.{Ended, whole, dropped, refusedFor}
 use Rattle.stream.specs.Stream.{Trace, ended, after, zeroed, atEnd, frames, payloadOf, peerOf}
 
 pub none : (f : ℕ) (r : Revision) (P : ℕ) (s : List ℕ) → frames f r P [] s ≡ ended s
@@ -22,7 +22,7 @@ none (suc f) r P s = refl
 pub at-end : (x : Ended) (h : Header) (at : ℕ) (s p : List ℕ) (next next′ : List ℕ → Trace) → ((t : List ℕ) → next t ≡ next′ t) → atEnd x h at s p next ≡ atEnd x h at s p next′
 at-end whole h at s p next next′ e = ap (after _ at (replaceFront p s)) (e (replaceFront p s))
 at-end dropped h at s p next next′ e = ap (after _ at (zeroed h s)) (e (zeroed h s))
-at-end (turnedAway n) h at s p next next′ e = refl
+at-end (refusedFor n) h at s p next next′ e = refl
 
 -- a banner's payload and the peer's features, with more bytes behind them
 pub more-payload : (F X : List ℕ) → 10 ≤ length F → payloadOf (F ++ X) ≡ payloadOf F

@@ -15,7 +15,7 @@ use Rattle.preamble.specs.declared.Header.{Header}
 use Rattle.preamble.specs.Layout.{total}
 use Rattle.preamble.specs.Judge.{headerOf, judgePreamble}
 use Rattle.body.specs.Body.{bodyLength, firstSumLength, wireLength}
-use Rattle.body.specs.End.{Ended, whole, dropped, turnedAway, segmentBytes, ending}
+use Rattle.body.specs.End.{Ended, whole, dropped, refusedFor, segmentBytes, ending}
 use Rattle.stream.specs.Stream.{Trace, ended, unlessRefused, refusedAt, zeroed, firstSumEnd, firstWrong, firstReported, reportedFirst, atEnd, bodyTrace, frames, bannerTrace, payloadOf, peerOf, streamTrace, byOwn, traceOf}
 use Rattle.stream.specs.Adds.{Adds, AddsUp, AllAddUp}
 
@@ -33,7 +33,7 @@ module _ (revision : Revision) (h : Header) (P : ℕ) (b s : List ℕ) (next : L
   end-adds : (x : Ended) (p : List ℕ) → AddsTrace revision P (atEnd x h (P + wireLength revision h) s p next)
   end-adds whole p = (refl, a _)
   end-adds dropped p = (refl, a _)
-  end-adds (turnedAway n) p = (let w = least revision h in omega arith)
+  end-adds (refusedFor n) p = (let w = least revision h in omega arith)
 
   first-adds : (f : Bool) (at : ℕ) (x : List ℕ) (t : Trace) → at ≡ firstSumEnd P h → AddsTrace revision P t → AddsTrace revision P (reportedFirst f h at x t)
   first-adds true at x t e u = (e, u)

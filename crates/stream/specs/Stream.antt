@@ -19,7 +19,7 @@ use Rattle.preamble.specs.Judge.{headerOf, judgePreamble}
 use Rattle.body.specs.Body.{segmentSum, noFirstSum, firstSumLength, bodyLength, wireLength}
 use Rattle.stream.specs.declared.Event.{Event}
 use Rattle.stream.specs.declared.Event.the-variants.{Banner, First, Frame, Dropped, Refused}
-use Rattle.body.specs.End.{Ended, whole, dropped, turnedAway, segmentBytes, ending}
+use Rattle.body.specs.End.{Ended, whole, dropped, refusedFor, segmentBytes, ending}
 
 -- ---- entries
 
@@ -76,7 +76,7 @@ firstReported revision h b = not (noFirstSum revision h) && (leb (h .s1 .len + 4
 abbrev pub atEnd : Ended → Header → ℕ → List ℕ → List ℕ → (List ℕ → Trace) → Trace
 atEnd whole h at store payload next = after (Frame h) at (replaceFront payload store) (next (replaceFront payload store))
 atEnd dropped h at store payload next = after (Dropped h) at (zeroed h store) (next (zeroed h store))
-atEnd (turnedAway n) h at store payload next = refusedAt n at (zeroed h store)
+atEnd (refusedFor n) h at store payload next = refusedAt n at (zeroed h store)
 
 abbrev pub reportedFirst : Bool → Header → ℕ → List ℕ → Trace → Trace
 reportedFirst b h at store t = cond b (after (First h) at store t) t

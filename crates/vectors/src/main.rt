@@ -1,7 +1,7 @@
 // Published vectors, run: FIPS 197's two examples of AES-128, and the test cases 1 to 3 of the GCM specification (McGrew and Viega), sealed, opened and refused. Hexadecimal.
-use gcm::Outcome;
 use libc::STDOUT_FILENO;
-use refusal::in_numbers;
+use refusal::WriteResult;
+use refusal::numbers_of;
 ghost use Prim.Native.Nat.{_<_};
 
 fn digit(n: u8) -> u8
@@ -41,14 +41,14 @@ fn put_block(key: [u8; 16], block: [[u8; 4]; 4]) {
     io::write_all(STDOUT_FILENO, b"\n");
 }
 
-fn put_outcome(o: Outcome) {
+fn put_outcome(o: WriteResult) {
     match o {
-        Outcome::Wrote(n) => {
+        WriteResult::Wrote(n) => {
             io::write_all(STDOUT_FILENO, b"wrote ");
             put_byte((n % 256) as u8);
         }
-        Outcome::Refused(refusal) => {
-            let numbers = in_numbers(refusal);
+        WriteResult::Refused(refusal) => {
+            let numbers = numbers_of(refusal);
             io::write_all(STDOUT_FILENO, b"refused ");
             put_byte(numbers.number);
             io::write_all(STDOUT_FILENO, b" detail ");

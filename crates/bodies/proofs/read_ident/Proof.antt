@@ -1,4 +1,4 @@
-use Rattle.bodies.proofs.Made.{row-read, step, end}
+use Rattle.bodies.proofs.Bodies.{row-read, step, end}
 use Rattle.bodies.proofs.ByTags.{ident-is}
 use borrow.Author.Needs.{needs}
 use Rattle.bodies.proofs.read_ident.Statement.{statement}

@@ -1,5 +1,5 @@
 use mathlib.Core.Path.{_∙_}
-use Rattle.bodies.proofs.Tags.{as-served, serves-hello, serves-auth-request, serves-bad-method, serves-more, serves-auth-done, serves-identity, serves-resume, serves-number, serves-reset, serves-stamp}
+use Rattle.bodies.proofs.Tags.{as-served, serves-hello, serves-auth-request, serves-bad-method, serves-more, serves-auth-done, serves-ident, serves-reconnect, serves-number, serves-reset, serves-stamp}
 use borrow.Author.Needs.{needs}
 use Rattle.bodies.proofs.serves.Statement.{statement}
 use Rattle.bodies.proofs.serves.Tie as tie
@@ -23,10 +23,10 @@ returns-5 : tie.Need-returns-5
 returns-5 c = as-served _ (c .enum-told5 .given .1) (serves-auth-done _ _ _ (search needs))
 
 returns-6 : tie.Need-returns-6
-returns-6 c = c .either2 .ensures ∙ as-served _ (c .before .enum-told6 .given .1) (serves-identity _ _ _ (search needs))
+returns-6 c = c .either2 .ensures ∙ as-served _ (c .before .enum-told6 .given .1) (serves-ident _ _ _ (search needs))
 
 returns-7 : tie.Need-returns-7
-returns-7 c = as-served _ (c .enum-told7 .given .1) (serves-resume _ _ _ (search needs))
+returns-7 c = as-served _ (c .enum-told7 .given .1) (serves-reconnect _ _ _ (search needs))
 
 returns-8 : tie.Need-returns-8
 returns-8 c = c .either4 .ensures ∙ rw (c .before .either3 .ensures) (as-served _ (c .before .before .enum-told8 .given .1) (serves-number _ _ (search needs)))

@@ -1,4 +1,4 @@
-use Rattle.bodies.proofs.Made.{malformed-at, left-over, all-read}
+use Rattle.bodies.proofs.Bodies.{malformed-at, left-over, all-read}
 use Rattle.bodies.proofs.settle.Statement.{statement}
 use Rattle.bodies.proofs.settle.Tie as tie
 

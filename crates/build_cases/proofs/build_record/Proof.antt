@@ -7,8 +7,8 @@ use borrow.Author.Tests.{not-true, not-false}
 use lib.Dec.{eqb}
 use lib.ListN.{length, take, drop}
 use lib.Seq.{length-take-le}
+use Rattle.refusal.specs.Writes.{outcomeOf}
 use Rattle.buffer.specs.Le.{numberAt}
-use Rattle.builder.specs.Build.{answered}
 use Rattle.sealed_builder.specs.Build.{done}
 use Rattle.records.specs.Records.{isWhole, print, prints, counted}
 use Rattle.text.specs.Line.{Piece}
@@ -52,7 +52,7 @@ returns-2 c = let a = c .before .before .before .before .before .before .before 
     let n : length (take m (a .space .now)) ≡ numberAt 4 27 s = length-take-le m (a .space .now) (omega (arith, c .before .before .before .before .before .before .before .before .before .before .before .before .before .before .before .before .before .before .before .before .before .before .before .before .before .u32-at .ensures)) ∙ c .before .before .before .before .before .before .before .before .before .before .before .before .before .before .before .before .before .before .before .before .before .before .before .before .before .u32-at .ensures in
     let o = c .before .before .before .before .before .before .before .before .before .before .before .before .build-sealed .result in
     let buf = c .before .before .before .before .before .before .before .before .before .before .before .before .build-sealed .last .0 in
-    let d : done (answered (o .built)) (o .sending) buf ≡ doneBy (a .builds .sending) s =
+    let d : done (outcomeOf (o .built)) (o .sending) buf ≡ doneBy (a .builds .sending) s =
     c .before .before .before .before .before .before .before .before .before .before .before .before .build-sealed .ensures .promise
     ∙ build-done (a .builds .sending) s (c .before .before .before .before .before .before .before .before .before .before .before .before .before .before .before .before .before .before .before .before .before .count-up .last .0) (c .before .before .before .before .before .before .before .before .before .before .before .before .before .before .before .part .result .now) (c .before .before .before .before .before .before .before .before .before .before .before .before .before .before .before .before .before .before .u64-at .result) (c .before .before .before .before .before .before .before .before .before .before .before .before .before .before .before .before .before .read-header .result) (eqb (c .before .before .before .before .before .before .before .before .before .before .before .before .before .before .byte-at2 .result) 1)
     (c .before .before .before .before .before .before .before .before .before .before .before .before .before .before .before .before .before .read-header .ensures)

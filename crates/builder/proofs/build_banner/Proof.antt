@@ -5,8 +5,9 @@ use native.Mathlib.Omega.{arith}
 use lib.ListN.{length}
 use Rattle.buffer.proofs.Parts.{rest, length-rest, placed, overwrite-fits}
 use Rattle.refusal.specs.Refusals.{judgedBy}
+use Rattle.refusal.specs.Writes.{wrote, done}
 use Rattle.banner.specs.Banner.{bannerBytes}
-use Rattle.builder.specs.Build.{bannerDone, done, wrote}
+use Rattle.builder.specs.Build.{bannerDone}
 use Rattle.builder.proofs.Accepted.{banner-fits}
 use borrow.Author.Needs.{needs}
 use Rattle.builder.proofs.build_banner.Statement.{statement}

@@ -5,8 +5,9 @@ use native.Mathlib.Omega.{arith}
 use lib.ListN.{length}
 use Rattle.buffer.proofs.Parts.{rest, length-rest, placed}
 use Rattle.refusal.specs.Refusals.{judgedBy}
+use Rattle.refusal.specs.Writes.{wrote, done}
 use Rattle.body.specs.Body.{frameBytes}
-use Rattle.builder.specs.Build.{frameDone, done, wrote}
+use Rattle.builder.specs.Build.{frameDone}
 use Rattle.builder.proofs.Accepted.{accepted}
 use borrow.Author.Needs.{needs}
 use Rattle.builder.proofs.build_frame.Statement.{statement}

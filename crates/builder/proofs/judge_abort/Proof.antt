@@ -3,7 +3,7 @@ use Rattle.builder.proofs.judge_abort.Statement.{statement}
 use Rattle.builder.proofs.judge_abort.Tie as tie
 
 returns-2 : tie.Need-returns-2
-returns-2 c = simp (c .before .before .enum-told2 .given .1, c .unless-ok .ensures, c .before .both .ensures)
+returns-2 c = simp (c .before .before .enum-told2 .given .1, c .unless .ensures, c .before .both .ensures)
 
 pub judge-abort-spec : {M : Type 1} → statement M
 judge-abort-spec =

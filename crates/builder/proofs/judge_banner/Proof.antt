@@ -7,7 +7,7 @@ use Rattle.builder.proofs.judge_banner.Tie as tie
 
 returns : tie.Need-returns
 unfolding judgeBanner
-returns c = cc (or-else-last (judgedBy (c .before .before .unless-ok .result)))
+returns c = cc (or-else-last (judgedBy (c .before .before .unless .result)))
 
 pub judge-banner-spec : {M : Type 1} → statement M
 judge-banner-spec =

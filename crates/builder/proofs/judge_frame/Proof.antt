@@ -12,13 +12,13 @@ returns : tie.Need-returns
 unfolding judgeFrame
 returns c =
     let a = c .before .before .before .before .before .before .before .before .before .before .args in
-    let room : judgedBy (c .before .before .before .before .before .before .before .unless-ok .result) ≡ judgeRoom (wireLength (a .revision) (a .h)) (a .space) (a .queued) =
-    rw (c .before .before .before .before .before .before .before .before .room .ensures, c .before .before .before .before .before .before .before .before .before .wire-length .ensures) at (c .before .before .before .before .before .before .before .unless-ok .ensures)
+    let room : judgedBy (c .before .before .before .before .before .before .before .unless .result) ≡ judgeRoom (wireLength (a .revision) (a .h)) (a .space) (a .queued) =
+    rw (c .before .before .before .before .before .before .before .before .room .ensures, c .before .before .before .before .before .before .before .before .before .wire-length .ensures) at (c .before .before .before .before .before .before .before .unless .ensures)
     in
-    let source : judgedBy (c .before .before .before .unless-ok2 .result) ≡ judgeSource (a .source) (total (a .h)) =
-    rw (c .before .before .before .before .total-of .ensures) at (c .before .before .before .unless-ok2 .ensures)
+    let source : judgedBy (c .before .before .before .unless2 .result) ≡ judgeSource (a .source) (total (a .h)) =
+    rw (c .before .before .before .before .total-of .ensures) at (c .before .before .before .unless2 .ensures)
     in
-    let last = sym (or-else-last (judgedBy (c .before .before .before .before .before .before .before .unless-ok .result))) ∙ ap₂ orElse room refl in
+    let last = sym (or-else-last (judgedBy (c .before .before .before .before .before .before .before .unless .result))) ∙ ap₂ orElse room refl in
     let v15 = c .before .before .before .before .before .or-else .ensures ∙ ap₂ orElse (c .before .before .before .before .before .before .judge-abort .ensures) last in
     let v13 = c .before .before .or-else2 .ensures ∙ ap₂ orElse source v15 in
     c .or-else3 .ensures ∙ ap₂ orElse (c .before .judge-header .ensures) v13

@@ -2,12 +2,12 @@ use mathlib.Core.Path.{_≡_, _∙_, refl}
 use native.Mathlib.Omega.{arith}
 use borrow.Author.Needs.{needs}
 use lib.ListN.{length}
-use Rattle.cases.specs.Between.{Between}
+use Rattle.cases.specs.LoopInvariant.{LoopInvariant}
 use Rattle.cases.proofs.run.Statement.{statement}
 use Rattle.cases.proofs.run.Tie as tie
 
 abbrev Inv-loop : tie.InvT-loop
-Inv-loop held₀ space₀ text₀ s₀ held space text s = Between s (length held₀) (length space₀) × (length held ≡ length held₀) × (length space ≡ length space₀) × (length text ≡ length text₀)
+Inv-loop held₀ space₀ text₀ s₀ held space text s = LoopInvariant s (length held₀) (length space₀) × (length held ≡ length held₀) × (length space ≡ length space₀) × (length text ≡ length text₀)
 
 abbrev μ-loop : tie.MeasureT-loop
 μ-loop held₀ space₀ text₀ s₀ held space text s = s .left

@@ -12,11 +12,11 @@ returns c =
     let st = c .before .before .before .before .before .before .before .args .st in
     c .or-else .ensures
     ∙ ap₂ orElse
-    (c .before .before .before .unless-ok .ensures
+    (c .before .before .before .unless .ensures
     ∙ ap (λ (b : Bool). unless b refusal.StateContradicts)
     (c .before .before .before .before .both .ensures
     ∙ ap₂ _&&_ (c .before .before .before .before .before .before .ready-rule .ensures) (c .before .before .before .before .before .agrees-in-use .ensures)))
-    (c .before .unless-ok2 .ensures ∙ ap (λ (b : Bool). unless b refusal.SwitchRefused) (c .before .before .may-be-switched .ensures))
+    (c .before .unless2 .ensures ∙ ap (λ (b : Bool). unless b refusal.SwitchRefused) (c .before .before .may-be-switched .ensures))
     ∙ switch-judged st
 
 pub judge-switch-spec : {M : Type 1} → statement M

@@ -12,7 +12,7 @@ returns : tie.Need-returns
 returns c =
     let z = c .before .before .before .before .before .args in
     let e : readyRule (z .state) ≡ false = sym (c .before .before .ready-rule .ensures) ∙ not-true _ (c .before .if1 .taken) in
-    contradicted (z .state) (now (z .store)) (now (z .piece)) _ e (c .in-numbers .ensures)
+    contradicted (z .state) (now (z .store)) (now (z .piece)) _ e (c .numbers-of .ensures)
 
 returns-2 : tie.Need-returns-2
 returns-2 c =

@@ -74,9 +74,9 @@ returns-2 c =
     (c .before .before .before .before .before .before .before .before .before .before .before .before .before .before .before .before .before .before .before .before .before .before .before .before .before .before .calls-of .ensures .0)
     (c .before .before .before .before .before .before .before .before .before .before .before .before .before .before .before .before .before .before .before .before .before .before .before .before .before .calls-at .ensures .0)
     (c .before .before .before .before .before .before .before .before .before .before .before .before .before .before .before .before .before .before .before .before .before .before .part .ensures ∙ rw (c .before .before .before .before .before .before .before .before .before .before .before .before .before .before .before .before .before .before .before .before .before .before .before .u32-at .ensures, c .before .before .before .before .before .before .before .before .before .before .before .before .before .before .before .before .before .before .before .before .before .before .before .before .stream-at .ensures .0))
-    (c .before .before .before .before .before .before .before .before .before .before .before .before .begin .ensures .state ∙ ap begun (own-is own s (c .before .before .before .before .before .before .before .before .before .before .before .before .before .before .u64-at .ensures) (c .before .before .before .before .before .before .before .before .before .before .before .before .before .u64-at2 .ensures)))
+    (c .before .before .before .before .before .before .before .before .before .before .before .before .start .ensures .state ∙ ap begun (own-is own s (c .before .before .before .before .before .before .before .before .before .before .before .before .before .before .u64-at .ensures) (c .before .before .before .before .before .before .before .before .before .before .before .before .before .u64-at2 .ensures)))
     (c .before .before .before .before .before .before .before .before .before .before .before .before .before .before .before .before .before .count-up .ensures ∙ ap₂ counted (c .before .before .before .before .before .before .before .before .before .before .before .before .before .before .before .before .before .before .byte-at .ensures) n)
-    (c .before .before .before .before .before .before .before .before .before .before .before .before .begin .ensures .verdict ∙ ap₂ judgeOwn (c .before .before .before .before .before .before .before .before .before .before .before .before .before .before .u64-at .ensures) (c .before .before .before .before .before .before .before .before .before .before .before .before .before .u64-at2 .ensures))
+    (c .before .before .before .before .before .before .before .before .before .before .before .before .start .ensures .verdict ∙ ap₂ judgeOwn (c .before .before .before .before .before .before .before .before .before .before .before .before .before .before .u64-at .ensures) (c .before .before .before .before .before .before .before .before .before .before .before .before .before .u64-at2 .ensures))
     (c .before .before .before .before .before .before .before .before .print-verdict .ensures)
     (c .before .before .before .before .make-calls .ensures)))
 

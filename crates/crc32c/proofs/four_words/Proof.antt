@@ -2,7 +2,7 @@ use mathlib.Core.Path.{_≡_}
 use Prim.Native.Nat.{ℕ, _+_, _*_, _-_, _≤_}
 use native.Mathlib.Omega.{arith}
 use borrow.Author.Needs.{needs}
-use Rattle.crc32c.specs.Left.{Left}
+use Rattle.crc32c.specs.Lanes.{Left}
 use Rattle.crc32c.proofs.Words.{far, word-length}
 use Rattle.crc32c.proofs.four_words.Statement.{statement}
 use Rattle.crc32c.proofs.four_words.Tie as tie

@@ -2,7 +2,7 @@ use Prim.Native.Nat.{_-_}
 use native.Mathlib.Omega.{arith}
 use borrow.Author.Needs.{needs}
 use lib.ListN.{length}
-use Rattle.crc32c.specs.Left.{LeftBy}
+use Rattle.crc32c.specs.Lanes.{LeftBy}
 use Rattle.crc32c.proofs.Words.{begins}
 use Rattle.crc32c.proofs.over_fours.Statement.{statement}
 use Rattle.crc32c.proofs.over_fours.Tie as tie

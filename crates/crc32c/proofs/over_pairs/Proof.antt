@@ -2,7 +2,7 @@ use Prim.Native.Nat.{ℕ, _+_, _-_, _≤_}
 use native.Mathlib.Omega.{arith}
 use borrow.Author.Needs.{needs}
 use lib.ListN.{length}
-use Rattle.crc32c.specs.Left.{Left}
+use Rattle.crc32c.specs.Lanes.{Left}
 use Rattle.crc32c.proofs.Words.{pair, word-length}
 use Rattle.crc32c.proofs.over_pairs.Statement.{statement}
 use Rattle.crc32c.proofs.over_pairs.Tie as tie

@@ -12,7 +12,7 @@ returns-2 : tie.Need-returns-2
 returns-2 c = λ s. rw (c .before .before .body2 .given .1) (c .asked-by-number2 .ensures)
 
 returns-3 : tie.Need-returns-3
-returns-3 c = λ s. rw (c .before .before .body3 .given .1) (ap asked.Malformed (c .in-numbers .ensures))
+returns-3 c = λ s. rw (c .before .before .body3 .given .1) (ap asked.Malformed (c .numbers-of .ensures))
 
 returns-4 : tie.Need-returns-4
 returns-4 c = λ s. no-number (c .before .args .h) s (c .before .args .body) (c .match .keys4)

@@ -9,7 +9,7 @@ returns : tie.Need-returns
 returns c = rw (eq-eqb _ _ (c .before .if1 .taken)) (c .asking .ensures)
 
 returns-2 : tie.Need-returns-2
-returns-2 c = rw (ne-eqb _ _ (c .before .before .before .if1 .left)) (ap asked.Malformed (c .in-numbers .ensures))
+returns-2 c = rw (ne-eqb _ _ (c .before .before .before .if1 .left)) (ap asked.Malformed (c .numbers-of .ensures))
 
 pub asked-by-number-spec : {M : Type 1} → statement M
 asked-by-number-spec =

@@ -6,7 +6,7 @@ use Rattle.delivery.proofs.connect.Statement.{statement}
 use Rattle.delivery.proofs.connect.Tie as tie
 
 returns : tie.Need-returns
-returns c = record { state = ap (λ (t : State). delivery t (c .before .before .args .s)) (c .before .begin .ensures .state); verdict = c .before .begin .ensures .verdict }
+returns c = record { state = ap (λ (t : State). delivery t (c .before .before .args .s)) (c .before .start .ensures .state); verdict = c .before .start .ensures .verdict }
 
 pub connect-spec : {M : Type 1} → statement M
 connect-spec = tie.close (tie.spec (λ c κs. search needs) returns)

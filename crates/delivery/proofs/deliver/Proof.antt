@@ -8,7 +8,7 @@ returns : tie.Need-returns
 returns c = record {
   received = c .before .before .before .before .before .before .before .receive .ensures;
   done =
-      c .before .before .settle .ensures
+      c .before .before .apply .ensures
       ∙ ap (doneTo (c .before .before .before .before .before .before .before .before .before .before .before .args .state .session)) (c .before .before .before .asked-by-report .ensures);
 }
 

@@ -28,11 +28,11 @@ use Rattle.session.specs.Laws.{callOf, answersOf}
 use Rattle.delivery.specs.Asked.{askedByFrame, ConnectedWith}
 use Rattle.delivery.specs.Calls.{Chained, sessionAfter, Connection, Connects, Cause, sends, hands, receives, callsDue}
 use Rattle.delivery.specs.Worked.{ours, store, ack1, split, acked, Any, faultRows, second, heldRows, resultRows, brokenRows, answerRows, reading, resumed, Resumes, frameRows, tagRows, resetRows, segmentRows, reset0, reset2, twoWhole, twoAborted, tag10, Reasons, Worked}
-use Rattle.connection.proofs.Earlier.{upTo}
+use Rattle.connection.proofs.Prefixes.{upTo}
 use Rattle.delivery.proofs.Reasons.{afterCalls}
-use Rattle.delivery.proofs.Played.{all-played}
-use Rattle.delivery.proofs.Uncovered.{Holding, uncovered, quiet-holds}
-use Rattle.delivery.proofs.Quiet.{Quiet, QuietBehind, quiet-spliced, releases-nothing}
+use Rattle.delivery.proofs.OneRequest.{all-played}
+use Rattle.delivery.proofs.NoReason.{Holding, uncovered, no-requests-holds}
+use Rattle.delivery.proofs.NoRequests.{NoRequests, NoRequestsBehind, no-requests-spliced, releases-nothing}
 use Rattle.delivery.proofs.Acks.{sealed-ack}
 use borrow.Author.Needs.{needs}
 use Rattle.delivery.proofs.worked_deliveries.Statement.{statement}
@@ -50,11 +50,11 @@ tag-rows-hold : Holds tagRows
 unfolding tagRows numberAt stepOf layoutIn settled readBody askedByFrame
 tag-rows-hold = refl
 
-split-quiet : Quiet (traceOf ours split store .entries)
+split-no-requests : NoRequests (traceOf ours split store .entries)
 unfolding numberAt crcOf steps step missing lowestBit bitCount judgeFeatures shapeFault limitFault headerOf judgeFields judgePreamble ending frames streamTrace traceOf askedByFrame
-split-quiet = (refl, (refl, tt))
+split-no-requests = (refl, (refl, tt))
 
-split-behind : (key nonce : List ℕ) → QuietBehind (λ at s. sealedTrace key nonce 0 at (drop at split) s) (traceOf ours split store .entries)
+split-behind : (key nonce : List ℕ) → NoRequestsBehind (λ at s. sealedTrace key nonce 0 at (drop at split) s) (traceOf ours split store .entries)
 unfolding numberAt crcOf steps step missing lowestBit bitCount judgeFeatures shapeFault limitFault headerOf judgeFields judgePreamble ending frames streamTrace traceOf askedByFrame
 split-behind key nonce = (
   refl,
@@ -62,10 +62,10 @@ split-behind key nonce = (
   (refl, (λ e. ap (λ (y : Trace). y .entries) (short key nonce 106 _ (take 43 ack1) (omega arith))), tt),
 )
 
-split-any : (sw : Switch) → Any sw → Quiet (traceWith sw ours split store .entries)
-split-any none x = split-quiet
+split-any : (sw : Switch) → Any sw → NoRequests (traceWith sw ours split store .entries)
+split-any none x = split-no-requests
 split-any (behind n key nonce) x =
-    quiet-spliced n (λ at s. sealedTrace key nonce 0 at (drop at split) s) (traceOf ours split store .entries) (traceOf ours split store .store) (split-behind key nonce)
+    no-requests-spliced n (λ at s. sealedTrace key nonce 0 at (drop at split) s) (traceOf ours split store .entries) (traceOf ours split store .store) (split-behind key nonce)
 
 held-rows-hold : Holds heldRows
 unfolding heldRows numberAt crcOf steps step missing lowestBit bitCount judgeFeatures shapeFault limitFault headerOf judgeFields judgePreamble ending frames streamTrace traceOf stepOf layoutIn settled readBody askedByFrame agrees judgeState judgeAccept judgeAck acceptOf ackOf heldFrom
@@ -117,9 +117,9 @@ held-two : heldOf (callOf two (session.reconnect 1) .session) ≡ second ∷ []
 unfolding agrees judgeState judgeAccept judgeAck acceptOf reconnectOf heldFrom
 held-two = refl
 
-told-two : callOf two (session.reconnect 1) .report ≡ Resend 1
+reported-two : callOf two (session.reconnect 1) .report ≡ Resend 1
 unfolding agrees judgeState judgeAccept judgeAck acceptOf reconnectOf heldFrom
-told-two = refl
+reported-two = refl
 
 connected : (s : Session) (k : Connection) (ks : List Connection) → Connects s (k ∷ ks) → ConnectedWith s (k .own) (k .connected)
 connected s k ks c = c .0
@@ -142,7 +142,7 @@ resumes demand k l cs ds c sent switch own all =
     let r =
     all-played demand none resumed (length resumed) (session.reconnect 1) (traceOf ours resumed store .entries) refl resumed-none resumed-once s l ds (connected s b [] later) (chained s b [] later) switch own all in (
       ap heldOf (r .0 ∙ ap (λ (x : Session). callOf x (session.reconnect 1) .session) q) ∙ held-two,
-      r .1 ∙ ap (λ (x : Session). callOf x (session.reconnect 1) .report ∷ []) q ∙ ap (λ (x : Report). x ∷ []) told-two,
+      r .1 ∙ ap (λ (x : Session). callOf x (session.reconnect 1) .report ∷ []) q ∙ ap (λ (x : Report). x ∷ []) reported-two,
     )
 
 -- ---- what is no reason
@@ -180,7 +180,7 @@ damaged-holds m = (refl, (refl, tt))
 
 reasons : Reasons
 reasons = record {
-  unfinished = λ sw m. uncovered m (map receives (traceWith sw ours split store .entries)) (quiet-holds m (traceWith sw ours split store .entries) (split-any sw tt));
+  unfinished = λ sw m. uncovered m (map receives (traceWith sw ours split store .entries)) (no-requests-holds m (traceWith sw ours split store .entries) (split-any sw tt));
   other = uncovered 2 (map receives (traceOf ours acked store .entries)) acked-holds;
   lower = uncovered 3 (sends 9 ∷ hands 2 ∷ []) (refl, (refl, tt));
   notFull = λ m. uncovered m (entriesBehind reset0) (reset0-holds m);

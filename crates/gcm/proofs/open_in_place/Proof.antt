@@ -2,10 +2,11 @@ use mathlib.Core.Path.{_≡_, sym, ap, _∙_}
 use Prim.Native.Nat.{ℕ, _-_, _<_, _≤_}
 use native.Mathlib.Omega.{arith}
 use lib.ListN.{length, replicate, length-replicate}
-use Rattle.gcm.specs.Calls.{limit, done, wrote, refusedWith}
+use Rattle.gcm.specs.Calls.{limit}
 use mathlib.Core.Bool.{true, false}
 use Rattle.buffer.proofs.Parts.{overwrite-fits}
 use Rattle.refusal.specs.Refusals.{row}
+use Rattle.refusal.specs.Writes.{wrote, refusedFor, done}
 use Rattle.gcm.specs.Gcm.{tagFits}
 use Rattle.gcm.proofs.Answers.{open-none, open-long, open-right, open-wrong}
 use Rattle.gcm.proofs.Placing.{masked-over}
@@ -35,7 +36,7 @@ returns-3 c =
     let l : length s - 16 ≤ length s = omega arith in
     let g : tagFits (a .w .now) (a .nonce) (length s - 16) s ≡ true = cc in
     record {
-      is = ap (done (wrote (length s - 16))) (m .mask .ensures ∙ masked-over (a .w .now) (a .nonce) s (length s - 16) l)
+      is = ap (done (wrote (length s - 16))) (m .xor-keystream .ensures ∙ masked-over (a .w .now) (a .nonce) s (length s - 16) l)
           ∙ sym (open-right (a .w .now) (a .nonce) s s h k l g);
     }
 
@@ -50,7 +51,7 @@ returns-4 c =
     let g : tagFits (a .w .now) (a .nonce) (length s - 16) s ≡ false = cc in
     let r : length (replicate {A = ℕ} (length s - 16) 0) ≤ length s = rw (length-replicate {A = ℕ} (length s - 16) 0) l in
     record {
-      is = ap (done (refusedWith (row 17 0 0 0))) (z .put-zeros .ensures ∙ overwrite-fits (replicate (length s - 16) 0) s r)
+      is = ap (done (refusedFor (row 17 0 0 0))) (z .put-zeros .ensures ∙ overwrite-fits (replicate (length s - 16) 0) s r)
           ∙ sym (open-wrong (a .w .now) (a .nonce) s s h k l g);
     }
 

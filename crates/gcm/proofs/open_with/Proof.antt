@@ -4,10 +4,11 @@ use native.Mathlib.Omega.{arith}
 use mathlib.Core.List.{List}
 use lib.ListN.{length, take, replicate, length-replicate}
 use lib.Seq.{length-take-le}
-use Rattle.gcm.specs.Calls.{limit, done, wrote, refusedWith}
+use Rattle.gcm.specs.Calls.{limit}
 use mathlib.Core.Bool.{true, false}
 use Rattle.buffer.proofs.Parts.{overwrite-fits}
 use Rattle.refusal.specs.Refusals.{row}
+use Rattle.refusal.specs.Writes.{wrote, refusedFor, done}
 use Rattle.gcm.specs.Gcm.{tagFits}
 use Rattle.gcm.proofs.Answers.{open-none, open-long, open-short, open-right, open-wrong}
 use Rattle.gcm.proofs.Placing.{opened-over}
@@ -56,7 +57,7 @@ returns-4 c =
     let g : tagFits (a .w .now) (a .nonce) (length s - 16) s ≡ true = cc in
     record {
       is = ap (done (wrote (length s - 16)))
-          (m .mask .ensures ∙ opened-over (a .w .now) (a .nonce) (take (length s - 16) s) (a .out .now) under (length s - 16) (length-take-le (length s - 16) s n) l (p .put .ensures))
+          (m .xor-keystream .ensures ∙ opened-over (a .w .now) (a .nonce) (take (length s - 16) s) (a .out .now) under (length s - 16) (length-take-le (length s - 16) s n) l (p .put .ensures))
           ∙ sym (open-right (a .w .now) (a .nonce) s (a .out .now) h k l g);
     }
 
@@ -72,7 +73,7 @@ returns-5 c =
     let g : tagFits (a .w .now) (a .nonce) (length s - 16) s ≡ false = cc in
     let r : length (replicate {A = ℕ} (length s - 16) 0) ≤ length (a .out .now) = rw (length-replicate {A = ℕ} (length s - 16) 0) l in
     record {
-      is = ap (done (refusedWith (row 17 0 0 0))) (z .put-zeros .ensures ∙ overwrite-fits (replicate (length s - 16) 0) (a .out .now) r)
+      is = ap (done (refusedFor (row 17 0 0 0))) (z .put-zeros .ensures ∙ overwrite-fits (replicate (length s - 16) 0) (a .out .now) r)
           ∙ sym (open-wrong (a .w .now) (a .nonce) s (a .out .now) h k l g);
     }
 

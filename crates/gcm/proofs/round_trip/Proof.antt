@@ -1,4 +1,4 @@
-use Rattle.gcm.proofs.There.{lists, calls}
+use Rattle.gcm.proofs.RoundTrip.{lists, calls}
 use Rattle.gcm.proofs.round_trip.Statement.{statement}
 use Rattle.gcm.proofs.round_trip.Tie as tie
 

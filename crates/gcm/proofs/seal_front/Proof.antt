@@ -18,7 +18,7 @@ slice-aggregate-tag : tie.Need-slice-aggregate-tag
 slice-aggregate-tag c =
     let mask = c .before .before .before in
     let n = mask .before .before .before .args .n in
-    let l = mask .mask .last .1 .1 .0 in
+    let l = mask .xor-keystream .last .1 .1 .0 in
     let h : n ≤ length l = search needs in
     sym (length-take-le n l h)
 
@@ -30,11 +30,11 @@ returns c =
     let a = mask .before .before .before .args in
     let w = a .w .now in
     let l₀ : List ℕ = a .buf .now in
-    let l : List ℕ = mask .mask .last .1 .1 .0 in
+    let l : List ℕ = mask .xor-keystream .last .1 .1 .0 in
     let h : a .n ≤ length l₀ = omega arith in
     let m : List ℕ = gctr w (a .nonce) (take (a .n) l₀) in
     let en : length m ≡ a .n = gctr-length w (a .nonce) 0 (take (a .n) l₀) ∙ length-take-le (a .n) l₀ h in
-    let e₁ : l ≡ replaceFront m l₀ = mask .mask .ensures ∙ masked-over w (a .nonce) l₀ (a .n) h in
+    let e₁ : l ≡ replaceFront m l₀ = mask .xor-keystream .ensures ∙ masked-over w (a .nonce) l₀ (a .n) h in
     let et : take (a .n) l ≡ m = ap (take (a .n)) e₁ ∙ take-at m (drop (length m) l₀) (a .n) en in
     let t : tag .tag .result ≡ tagOf w (a .nonce) m = tag .tag .ensures ∙ ap (tagOf w (a .nonce)) et in
     let e₂ : c .before .before .put .last .0 ≡ overwrite (tagOf w (a .nonce) m) (rest l (a .n)) = c .before .before .put .ensures ∙ ap (λ (x : List ℕ). overwrite x (rest l (a .n))) t in

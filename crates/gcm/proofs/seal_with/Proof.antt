@@ -3,7 +3,8 @@ use Prim.Native.Nat.{ℕ, _+_, _-_, _<_, _≤_}
 use native.Mathlib.Omega.{arith}
 use mathlib.Core.List.{List}
 use lib.ListN.{length}
-use Rattle.gcm.specs.Calls.{limit, done, wrote}
+use Rattle.refusal.specs.Writes.{wrote, done}
+use Rattle.gcm.specs.Calls.{limit}
 use Rattle.gcm.proofs.Answers.{seal-long, seal-short, seal-fits}
 use Rattle.gcm.proofs.Placing.{sealed-over}
 use borrow.Author.Needs.{needs}

@@ -14,7 +14,7 @@ returns c =
     c .xor-bytes .ensures
     ∙ ap₂ (λ (x y : ℕ). blockBytes (bitXor x y))
     (c .before .before .before .hash .ensures ∙ ap (λ (h : ℕ). ghash h text) (c .before .before .before .before .hash-key .ensures))
-    (c .before .block-of .ensures ∙ ap blockNumber (c .before .before .stream-block .ensures))
+    (c .before .block-of .ensures ∙ ap blockNumber (c .before .before .keystream-block .ensures))
 
 pub tag-spec : {M : Type 1} → statement M
 tag-spec =

@@ -6,11 +6,11 @@ use Rattle.handshake_cases.proofs.make_step.Tie as tie
 
 returns : tie.Need-returns
 unfolding stepOf
-returns c = rw (eq-eqb (c .before .before .before .args .side) 1 (c .before .if1 .taken)) (rw (c .before .before .verdict-of .ensures) at (c .server .ensures .step))
+returns c = rw (eq-eqb (c .before .before .before .args .side) 1 (c .before .if1 .taken)) (rw (c .before .before .verdict-of .ensures) at (c .server-step .ensures .step))
 
 returns-2 : tie.Need-returns-2
 unfolding stepOf
-returns-2 c = rw (ne-eqb (c .before .before .before .args .side) 1 (c .before .if1 .left)) (rw (c .before .before .verdict-of .ensures) at (c .client .ensures .step))
+returns-2 c = rw (ne-eqb (c .before .before .before .args .side) 1 (c .before .if1 .left)) (rw (c .before .before .verdict-of .ensures) at (c .client-step .ensures .step))
 
 pub make-step-spec : {M : Type 1} → statement M
 make-step-spec =

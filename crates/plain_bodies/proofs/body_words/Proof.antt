@@ -33,7 +33,7 @@ returns-10 : tie.Need-returns-10
 returns-10 c = rw (c .before .before .b10 .given .1) (c .says-bytes4 .ensures)
 
 returns-11 : tie.Need-returns-11
-returns-11 c = rw (c .before .before .before .b11 .given .1, ← (c .before .in-numbers .ensures)) (c .says-refused .ensures)
+returns-11 c = rw (c .before .before .before .b11 .given .1, ← (c .before .numbers-of .ensures)) (c .says-refused .ensures)
 
 pub body-words-spec : {M : Type 1} → statement M
 body-words-spec =

@@ -6,7 +6,7 @@ use Rattle.plain_bodies.proofs.write_any.Tie as tie
 returns : tie.Need-returns
 returns c =
     let f = c .before .before .fits2 in
-    write-beyond _ _ _ _ _ _ (f .result) _ (f .ensures) (c .before .if1 .taken) (c .turned-away .ensures)
+    write-beyond _ _ _ _ _ _ (f .result) _ (f .ensures) (c .before .if1 .taken) (c .plain-refused .ensures)
 
 returns-2 : tie.Need-returns-2
 returns-2 c =

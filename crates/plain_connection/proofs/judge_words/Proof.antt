@@ -7,7 +7,7 @@ use Rattle.plain_connection.proofs.judge_words.Tie as tie
 returns : tie.Need-returns
 returns c =
     let z = c .before .before .before .before .args in
-    judged-by (plainConnection (z .t1) (z .t2) (z .block) (z .sealed) (z .first) (z .key) (z .nonce)) _ _ _ _ (c .or-else .ensures) (c .before .before .unless-ok .ensures) (c .before .before .before .agrees .ensures) (c .before .unless-ok2 .ensures)
+    judged-by (plainConnection (z .t1) (z .t2) (z .block) (z .sealed) (z .first) (z .key) (z .nonce)) _ _ _ _ (c .or-else .ensures) (c .before .before .unless .ensures) (c .before .before .before .agrees .ensures) (c .before .unless2 .ensures)
 
 pub judge-words-spec : {M : Type 1} → statement M
 judge-words-spec =

@@ -1,6 +1,6 @@
 use mathlib.Core.Path.{_∙_, sym}
 use borrow.Author.Tests.{not-true, not-false}
-use Rattle.plain_connection.proofs.Answers.{turned-away, answered}
+use Rattle.plain_connection.proofs.Answers.{words-refused, answered}
 use borrow.Author.Needs.{needs}
 use Rattle.plain_connection.proofs.secure_answer.Statement.{statement}
 use Rattle.plain_connection.proofs.secure_answer.Tie as tie
@@ -8,7 +8,7 @@ use Rattle.plain_connection.proofs.secure_answer.Tie as tie
 returns : tie.Need-returns
 returns c =
     let f = c .before .before .fits2 in
-    turned-away _ _ _ _ (sym (f .ensures) ∙ not-true (f .result) (c .before .if1 .taken)) (c .contradicts .ensures)
+    words-refused _ _ _ _ (sym (f .ensures) ∙ not-true (f .result) (c .before .if1 .taken)) (c .contradicts .ensures)
 
 returns-2 : tie.Need-returns-2
 returns-2 c =

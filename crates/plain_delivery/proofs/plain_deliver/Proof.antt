@@ -8,7 +8,7 @@ returns c =
     let r = c .before .before .before .before .before .before .before .before .before .plain-receive in
     record {
       received = r .ensures;
-      done = joined _ _ (r .ensures .answered .tells) (c .before .before .before .asked-by-words .ensures) (c .before .before .settle-words .ensures);
+      done = joined _ _ (r .ensures .answered .tells) (c .before .before .before .asked-by-words .ensures) (c .before .before .apply-words .ensures);
     }
 
 pub plain-deliver-spec : {M : Type 1} → statement M

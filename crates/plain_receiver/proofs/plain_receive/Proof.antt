@@ -5,7 +5,7 @@ use Rattle.plain_receiver.specs.Words.{plainState}
 use Rattle.plain_receiver.proofs.Back.{counted, plain-of}
 use borrow.Author.Tests.{not-true, not-false}
 use Rattle.plain_receiver.specs.Words as words
-use Rattle.plain_receiver.proofs.Answers.{turned-away, answered}
+use Rattle.plain_receiver.proofs.Answers.{words-refused, answered}
 use borrow.Author.Needs.{needs}
 use Rattle.plain_receiver.proofs.plain_receive.Statement.{statement}
 use Rattle.plain_receiver.proofs.plain_receive.Tie as tie
@@ -16,7 +16,7 @@ returns c =
     let f = c .before .before .fits2 in
     record {
       kind = rw (c .contradicts .ensures);
-      answered = turned-away (g .numbers .now) (g .block .now) (g .store .now) (g .piece .now) _ (sym (f .ensures) ∙ not-true (f .result) (c .before .if1 .taken)) (c .contradicts .ensures);
+      answered = words-refused (g .numbers .now) (g .block .now) (g .store .now) (g .piece .now) _ (sym (f .ensures) ∙ not-true (f .result) (c .before .if1 .taken)) (c .contradicts .ensures);
     }
 
 returns-2 : tie.Need-returns-2

@@ -8,7 +8,7 @@ use Rattle.plain_sealed.proofs.sealed_written.Tie as tie
 returns : tie.Need-returns
 returns c =
     let f = c .before .before in
-    sealed-beyond _ _ _ _ _ _ _ _ _ (both-as (f .both .ensures) (f .before .before .sending-fits .ensures) (f .before .header-fits .ensures) ∙ not-true (f .both .result) (c .before .if1 .taken)) (c .turned-away .ensures)
+    sealed-beyond _ _ _ _ _ _ _ _ _ (both-as (f .both .ensures) (f .before .before .sending-fits .ensures) (f .before .header-fits .ensures) ∙ not-true (f .both .result) (c .before .if1 .taken)) (c .plain-refused .ensures)
 
 returns-2 : tie.Need-returns-2
 returns-2 c =

@@ -6,13 +6,13 @@ enum-told : tie.Need-enum-told
 enum-told c = search needs
 
 returns : tie.Need-returns
-returns c = rw (c .before .enum-told .given .1) (c .told-number .ensures)
+returns c = rw (c .before .enum-told .given .1) (c .answering-number .ensures)
 
 returns-2 : tie.Need-returns-2
-returns-2 c = rw (c .before .before .report .given .1) (c .told-number2 .ensures)
+returns-2 c = rw (c .before .before .report .given .1) (c .answering-number2 .ensures)
 
 returns-3 : tie.Need-returns-3
-returns-3 c = rw (c .before .before .report2 .given .1) (c .told-number3 .ensures)
+returns-3 c = rw (c .before .before .report2 .given .1) (c .answering-number3 .ensures)
 
 returns-4 : tie.Need-returns-4
 returns-4 c = rw (c .before .before .report3 .given .1) (c .answering .ensures)

@@ -13,7 +13,7 @@ returns c =
     let s = c .before .before .before .checksum .ensures ∙ ap (crcOf 0) (c .before .before .before .before .part .ensures) in
     let p = c .before .before .before .before .before .before .args .p in
     c .or-else .ensures
-    ∙ ap₂ orElse (c .before .before .unless-ok .ensures ∙ ap (λ (x : ℕ). unless (eqb x (p .checksum)) PreambleChecksum) s) (c .before .judge-fields .ensures)
+    ∙ ap₂ orElse (c .before .before .unless .ensures ∙ ap (λ (x : ℕ). unless (eqb x (p .checksum)) PreambleChecksum) s) (c .before .judge-fields .ensures)
 
 pub judge-read-spec : {M : Type 1} → statement M
 judge-read-spec =

@@ -22,7 +22,7 @@ returns c =
     let st = step.stateAt (g .stage) (g .got) (g .block .now) (g .known) in
     let s = g .store .now in
     let a = sym (c .before .before .before .agree .ensures) ∙ not-true (c .before .before .before .agree .result) (c .before .before .if1 .taken) in
-    record { received = rw (a, c .refuse-unchanged .ensures, c .before .in-numbers .ensures); store = rw a }
+    record { received = rw (a, c .refuse-unchanged .ensures, c .before .numbers-of .ensures); store = rw a }
 
 returns-2 : tie.Need-returns-2
 unfolding step.answer
@@ -43,7 +43,7 @@ returns-3 c =
     let a = sym (c .before .before .before .before .before .before .before .before .before .agree .ensures) ∙ not-false (c .before .before .before .before .before .before .before .before .before .agree .result) (c .before .before .before .before .before .before .before .before .if1 .left) in
     let r = sym (c .before .before .before .before .before .before .before .is-refused .ensures) ∙ c .before .before .before .before .before .before .if2 .left in
     let t : ltb (length s) (step.neededBy st) ≡ true = lt-ltb (length s) (step.neededBy st) (rw (c .before .before .before .before .before .needed-by .ensures) at (c .before .before .before .before .if3 .taken)) in
-    let n : c .before .before .before .in-numbers2 .result ≡ step.shortStore st = c .before .before .before .in-numbers2 .ensures ∙ ap (λ (k : ℕ). row 10 k 0 0) (c .before .before .before .before .before .needed-by .ensures) in
+    let n : c .before .before .before .numbers-of2 .result ≡ step.shortStore st = c .before .before .before .numbers-of2 .ensures ∙ ap (λ (k : ℕ). row 10 k 0 0) (c .before .before .before .before .before .needed-by .ensures) in
     record { received = rw (a, r, t, c .refuse-unchanged3 .ensures, c .before .only-own .ensures, n); store = rw (a, r, t) }
 
 sub-if4 : tie.Need-sub-if4

@@ -20,7 +20,7 @@ returns-2 : tie.Need-returns-2
 unfolding step.started
 returns-2 c =
     let e = sym (c .before .before .before .before .before .judge-own .ensures) ∙ ap judgedBy (c .before .before .before .v .given .1) in
-    record { state = rw e (c .refused-state .ensures ∙ rw (c .before .in-numbers .ensures)); verdict = sym e }
+    record { state = rw e (c .refused-state .ensures ∙ rw (c .before .numbers-of .ensures)); verdict = sym e }
 
 pub start-spec : {M : Type 1} → statement M
 start-spec =

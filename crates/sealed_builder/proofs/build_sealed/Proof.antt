@@ -6,8 +6,8 @@ use lib.ListN.{length}
 use Rattle.buffer.specs.Splice.{replaceFront}
 use Rattle.buffer.proofs.Parts.{rest, back, length-rest, placed}
 use Rattle.refusal.specs.Refusals.{judgedBy}
+use Rattle.refusal.specs.Writes.{wrote}
 use Rattle.aes.specs.Aes.{State, keyExpansion}
-use Rattle.builder.specs.Build.{wrote}
 use Rattle.secure.specs.Layout.{allNonces, frameParts, sealedParts, sealedLength, partCount}
 use Rattle.sealed_builder.specs.declared.Sending.{Sending}
 use Rattle.sealed_builder.specs.Build.{spentOf, sentMore, done, sealedDone}

@@ -1,6 +1,6 @@
 use mathlib.Core.Path.{refl}
 use Rattle.sealed_builder.specs.Build.{freshSending, refusedSending, agrees}
-use Rattle.sealed_builder.proofs.Eighteen.{sound}
+use Rattle.sealed_builder.proofs.Refusals18And26.{sound}
 use Rattle.sealed_builder.proofs.every_build.Statement.{statement}
 use Rattle.sealed_builder.proofs.every_build.Tie as tie
 

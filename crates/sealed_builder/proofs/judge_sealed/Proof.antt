@@ -10,7 +10,7 @@ returns : tie.Need-returns
 unfolding judgeSealed
 returns c =
     let a = c .before .before .before .before .before .args in
-    let left : judgedBy (c .before .unless-ok .result) ≡ judgeNonces (a .s) (partCount (a .h)) = rw (c .before .before .nonces-left .ensures, c .before .before .before .part-count .ensures .0) at (c .before .unless-ok .ensures) in
+    let left : judgedBy (c .before .unless .result) ≡ judgeNonces (a .s) (partCount (a .h)) = rw (c .before .before .nonces-left .ensures, c .before .before .before .part-count .ensures .0) at (c .before .unless .ensures) in
     c .or-else .ensures ∙ ap₂ orElse (c .before .before .before .before .judge-earlier .ensures) left
 
 pub judge-sealed-spec : {M : Type 1} → statement M

@@ -1,5 +1,5 @@
-use Rattle.sealed_builder.proofs.Once.{different, sealed-with, one-key, counted-all, needs, unspent}
-use Rattle.sealed_builder.proofs.Eighteen.{exactly}
+use Rattle.sealed_builder.proofs.NoNonceTwice.{different, sealed-with, one-key, counted-all, needs, unspent}
+use Rattle.sealed_builder.proofs.Refusals18And26.{exactly}
 use Rattle.sealed_builder.proofs.no_nonce_twice.Statement.{statement}
 use Rattle.sealed_builder.proofs.no_nonce_twice.Tie as tie
 

@@ -39,7 +39,7 @@ returns c =
     record {
       received =
           c .refuse-unchanged .ensures s
-          ∙ ap (λ (n : Numbers). step.refuseUnchanged st n s .received) (c .before .in-numbers .ensures)
+          ∙ ap (λ (n : Numbers). step.refuseUnchanged st n s .received) (c .before .numbers-of .ensures)
           ∙ ap (λ (x : step.Answer). x .received) e;
       store = ap (λ (x : step.Answer). x .store) e;
     }
@@ -62,7 +62,7 @@ returns-3 c =
     let t : length s < step.neededBy st = rw q at (c .before .before .before .if3 .taken) in
     let r = live (c .before .before .before .before .before) in
     let e = sym (shortened st s (z .args .piece .now) (agreed (c .before .before .before .before .before .before .before .before .before)) r t) in
-    let numbers = c .before .before .in-numbers2 in
+    let numbers = c .before .before .numbers-of2 in
     let n : numbers .result ≡ step.shortStore st = numbers .ensures ∙ ap (λ (k : ℕ). row 10 k 0 0) q in
     record {
       received = c .refuse-unchanged3 .ensures s ∙ rw (c .before .refused-state .ensures, n) (ap (λ (x : step.Answer). x .received) e);

@@ -6,7 +6,7 @@ returns : tie.Need-returns
 returns c = rw (c .before .before .before .before .before .outcome .given .1) (c .before .before .print-wrote .ensures)
 
 returns-2 : tie.Need-returns-2
-returns-2 c = rw (c .before .before .before .before .before .before .outcome2 .given .1) (rw (c .before .before .before .in-numbers .ensures) at (c .before .before .print-refused .ensures))
+returns-2 c = rw (c .before .before .before .before .before .before .outcome2 .given .1) (rw (c .before .before .before .numbers-of .ensures) at (c .before .before .print-refused .ensures))
 
 pub print-outcome-spec : {M : Type 1} → statement M
 print-outcome-spec =

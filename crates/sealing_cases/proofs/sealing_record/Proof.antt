@@ -7,8 +7,8 @@ use borrow.Author.Needs.{needs}
 use borrow.Author.Tests.{not-true, not-false}
 use lib.ListN.{length, take, drop}
 use lib.Seq.{length-take-le}
+use Rattle.refusal.specs.Writes.{done, outcomeOf}
 use Rattle.buffer.specs.Le.{numberAt}
-use Rattle.gcm.specs.Calls.{done, answered}
 use Rattle.records.proofs.Laws.{did-bad, did-whole}
 use Rattle.records.specs.Records.{isWhole, print, prints, counted}
 use Rattle.sealing_cases.proofs.Laws.{sealing-buffer, sealing-long, sealing-done, outcome-line}
@@ -47,7 +47,7 @@ returns-2 c = let s = c .before .before .before .before .before .before .before 
     let h = sealing-buffer room s e in
     let long = sealing-long room s e in
     let n : length (take (c .before .before .before .before .before .before .before .before .before .before .before .before .before .before .before .before .before .before .before .before .before .before .u32-at .result) (c .before .before .before .before .before .before .before .before .before .before .before .before .before .before .before .before .before .before .before .before .before .before .before .before .before .before .before .before .before .args .space .now)) ≡ numberAt 4 29 s = length-take-le (c .before .before .before .before .before .before .before .before .before .before .before .before .before .before .before .before .before .before .before .before .before .before .u32-at .result) (c .before .before .before .before .before .before .before .before .before .before .before .before .before .before .before .before .before .before .before .before .before .before .before .before .before .before .before .before .before .args .space .now) (omega (arith, c .before .before .before .before .before .before .before .before .before .before .before .before .before .before .before .before .before .before .before .before .before .before .u32-at .ensures)) ∙ c .before .before .before .before .before .before .before .before .before .before .before .before .before .before .before .before .before .before .before .before .before .before .u32-at .ensures in
-    let d : done (answered (c .before .before .before .before .before .before .before .before .before .before .seal-or-open .result)) (c .before .before .before .before .before .before .before .before .before .before .seal-or-open .last .1 .1 .1 .1 .0) ≡ doneOf (c .before .before .before .before .before .before .before .before .before .before .before .before .before .before .before .before .before .before .before .before .before .before .before .before .before .before .before .before .before .args .opens) s =
+    let d : done (outcomeOf (c .before .before .before .before .before .before .before .before .before .before .seal-or-open .result)) (c .before .before .before .before .before .before .before .before .before .before .seal-or-open .last .1 .1 .1 .1 .0) ≡ doneOf (c .before .before .before .before .before .before .before .before .before .before .before .before .before .before .before .before .before .before .before .before .before .before .before .before .before .before .before .before .before .args .opens) s =
     c .before .before .before .before .before .before .before .before .before .before .seal-or-open .ensures
     ∙ sealing-done (c .before .before .before .before .before .before .before .before .before .before .before .before .before .before .before .before .before .before .before .before .before .before .before .before .before .before .before .before .before .args .opens) s (c .before .before .before .before .before .before .before .before .before .before .before .before .before .key-at .result) (c .before .before .before .before .before .before .before .before .before .before .before .before .nonce-at .result) (c .before .before .before .before .before .before .before .before .before .before .before .before .before .before .part .result .now) (c .before .before .before .before .before .before .before .before .before .before .before .before .before .before .before .before .before .before .count-up .last .0)
     (c .before .before .before .before .before .before .before .before .before .before .before .before .before .key-at .ensures (omega arith))

@@ -1,6 +1,6 @@
 use Rattle.secure_examples.proofs.Rows.{frameRows-hold, firstRows-hold, judgeRows-hold, paddingRows-hold, laterRows-hold, cutRows-hold}
 use Rattle.secure_examples.proofs.Switched.{switchedRows-hold}
-use Rattle.secure_examples.proofs.Made.{lengthRows-hold, nonceRows-hold, textRows-hold, sealedRows-hold, agreeRows-hold, spendRows-hold, orderRows-hold, buildRows-hold}
+use Rattle.secure_examples.proofs.ComputedBuilds.{lengthRows-hold, nonceRows-hold, textRows-hold, sealedRows-hold, agreeRows-hold, spendRows-hold, orderRows-hold, buildRows-hold}
 use Rattle.secure_examples.proofs.worked.Statement.{statement}
 use Rattle.secure_examples.proofs.worked.Tie as tie
 

@@ -2,7 +2,7 @@ use contract.Running.{givenOf, tables, tablesOf}
 use denote.Triple.Spec.{tripleOf}
 use denote.Triple.Table.{entered, cited}
 use Rattle.session.specs.Calls.{acceptOf}
-use Rattle.session.proofs.Lent.{a-number, lent-meets}
+use Rattle.session.proofs.InPlaceCalls.{a-number, lent-meets}
 use Rattle.session.proofs.accept as callee
 use Rattle.session.proofs.accept.Symbol as callee-def
 use Rattle.session.proofs.accept.Symbol.{name as #callee}

@@ -2,7 +2,7 @@ use contract.Running.{givenOf, tables, tablesOf}
 use denote.Triple.Spec.{tripleOf}
 use denote.Triple.Table.{entered, cited}
 use Rattle.session.specs.Calls.{ackOf}
-use Rattle.session.proofs.Lent.{a-number, lent-meets}
+use Rattle.session.proofs.InPlaceCalls.{a-number, lent-meets}
 use Rattle.session.proofs.ack as callee
 use Rattle.session.proofs.ack.Symbol as callee-def
 use Rattle.session.proofs.ack.Symbol.{name as #callee}

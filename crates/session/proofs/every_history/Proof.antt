@@ -1,4 +1,4 @@
-use Rattle.session.proofs.Past.{every-history}
+use Rattle.session.proofs.Histories.{every-history}
 use Rattle.session.proofs.every_history.Statement.{statement}
 use Rattle.session.proofs.every_history.Tie as tie
 

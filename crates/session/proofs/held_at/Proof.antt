@@ -26,7 +26,7 @@ returns-2 c =
 
 returns-3 : tie.Need-returns-3
 unfolding heldAt
-returns-3 c = when-refused _ _ _ _ _ (c .before .before .before .before .judge-state .ensures) _ (c .before .before .v .given .1) (ap Refused (c .in-numbers .ensures))
+returns-3 c = when-refused _ _ _ _ _ (c .before .before .before .before .judge-state .ensures) _ (c .before .before .v .given .1) (ap Refused (c .numbers-of .ensures))
 
 pub held-at-spec : {M : Type 1} → statement M
 held-at-spec =

@@ -9,7 +9,7 @@ use Rattle.session.proofs.judge_accept.Tie as tie
 
 returns : tie.Need-returns
 unfolding judgeAccept
-returns c = cc (or-else-last (judgedBy (c .before .before .before .unless-ok2 .result)), held-length (c .before .before .before .before .before .before .before .args .s .handles) (c .before .before .before .before .before .before .before .args .s .released) (c .before .before .before .before .before .before .before .args .s .last - c .before .before .before .before .before .before .before .args .s .released))
+returns c = cc (or-else-last (judgedBy (c .before .before .before .unless2 .result)), held-length (c .before .before .before .before .before .before .before .args .s .handles) (c .before .before .before .before .before .before .before .args .s .released) (c .before .before .before .before .before .before .before .args .s .last - c .before .before .before .before .before .before .before .args .s .released))
 
 pub judge-accept-spec : {M : Type 1} → statement M
 judge-accept-spec =

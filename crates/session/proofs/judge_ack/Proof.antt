@@ -7,7 +7,7 @@ use Rattle.session.proofs.judge_ack.Tie as tie
 
 returns : tie.Need-returns
 unfolding judgeAck
-returns c = cc (or-else-last (judgedBy (c .before .unless-ok .result)))
+returns c = cc (or-else-last (judgedBy (c .before .unless .result)))
 
 pub judge-ack-spec : {M : Type 1} → statement M
 judge-ack-spec =

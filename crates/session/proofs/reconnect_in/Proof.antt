@@ -2,7 +2,7 @@ use contract.Running.{givenOf, tables, tablesOf}
 use denote.Triple.Spec.{tripleOf}
 use denote.Triple.Table.{entered, cited}
 use Rattle.session.specs.Calls.{reconnectOf}
-use Rattle.session.proofs.Lent.{a-number, lent-meets}
+use Rattle.session.proofs.InPlaceCalls.{a-number, lent-meets}
 use Rattle.session.proofs.reconnect as callee
 use Rattle.session.proofs.reconnect.Symbol as callee-def
 use Rattle.session.proofs.reconnect.Symbol.{name as #callee}

@@ -2,7 +2,7 @@ use contract.Running.{givenOf, tables, tablesOf}
 use denote.Triple.Spec.{tripleOf}
 use denote.Triple.Table.{entered, cited}
 use Rattle.session.specs.Calls.{resetOf}
-use Rattle.session.proofs.Lent.{a-bool, lent-meets}
+use Rattle.session.proofs.InPlaceCalls.{a-bool, lent-meets}
 use Rattle.session.proofs.reset as callee
 use Rattle.session.proofs.reset.Symbol as callee-def
 use Rattle.session.proofs.reset.Symbol.{name as #callee}

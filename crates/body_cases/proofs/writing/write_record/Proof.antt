@@ -7,7 +7,7 @@ use borrow.Author.Needs.{needs}
 use borrow.Author.Tests.{not-true, not-false}
 use lib.ListN.{length, take}
 use lib.Seq.{length-take-le}
-use Rattle.bodies.specs.Write.{done, outcomeOf}
+use Rattle.refusal.specs.Writes.{done, outcomeOf}
 use Rattle.body_cases.proofs.Requests.{size-is, write-buffer, write-done, written-line}
 use Rattle.body_cases.specs.Writing.{doneLine, writeSize, writeOf, writeRecord}
 use Rattle.buffer.specs.Le.{numberAt}

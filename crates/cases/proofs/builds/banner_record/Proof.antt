@@ -6,8 +6,8 @@ use native.Mathlib.Omega.{arith}
 use borrow.Author.Tests.{not-true, not-false}
 use lib.ListN.{length, take}
 use lib.Seq.{length-take-le}
+use Rattle.refusal.specs.Writes.{done, outcomeOf}
 use Rattle.buffer.specs.Le.{numberAt}
-use Rattle.builder.specs.Build.{done, answered}
 use Rattle.text.specs.Line.{Piece}
 use Rattle.text.specs.Page.{page}
 use Rattle.records.specs.Records.{isWhole, print, prints, counted}
@@ -47,7 +47,7 @@ returns-2 c =
     let e : isWhole (bannerSize s) s ≡ true = ap (λ (k : ℕ). isWhole k s) (sym (c .before .before .before .before .before .before .before .before .before .before .before .before .before .before .before .before .before .before .before .before .before .before .before .before .banner-size .ensures)) ∙ sym (c .before .before .before .before .before .before .before .before .before .before .before .before .before .before .before .before .before .before .before .before .before .before .before .is-whole .ensures) ∙ not-false (c .before .before .before .before .before .before .before .before .before .before .before .before .before .before .before .before .before .before .before .before .before .before .before .is-whole .result) (c .before .before .before .before .before .before .before .before .before .before .before .before .before .before .before .before .before .before .before .before .before .before .if1 .left) in
     let h = banner-buffer s e in
     let n : length (take (c .before .before .before .before .before .before .before .before .before .before .before .before .before .before .before .before .before .before .before .before .before .u32-at .result) (a .space .now)) ≡ numberAt 4 17 s = length-take-le (c .before .before .before .before .before .before .before .before .before .before .before .before .before .before .before .before .before .before .before .before .before .u32-at .result) (a .space .now) (omega (arith, c .before .before .before .before .before .before .before .before .before .before .before .before .before .before .before .before .before .before .before .before .before .u32-at .ensures, c .before .before .before .before .before .before .before .before .before .before .before .before .before .before .before .before .before .before .before .before .before .before .before .before .before .before .before .before .pre)) ∙ c .before .before .before .before .before .before .before .before .before .before .before .before .before .before .before .before .before .before .before .before .before .u32-at .ensures in
-    let d : done (answered (c .before .before .before .before .before .before .before .before .before .before .build-banner .result)) (c .before .before .before .before .before .before .before .before .before .before .build-banner .last .0) ≡ bannerDoneOf s = c .before .before .before .before .before .before .before .before .before .before .build-banner .ensures .promise ∙ banner-done s (c .before .before .before .before .before .before .before .before .before .before .before .before .before .before .before .before .before .count-up .last .0) (c .before .before .before .before .before .before .before .before .before .before .before .before .u64-at2 .result) (c .before .before .before .before .before .before .before .before .before .before .before .u64-at3 .result) (c .before .before .before .before .before .before .before .before .before .before .before .before .before .u64-at .result) (c .before .before .before .before .before .before .before .before .before .before .before .before .u64-at2 .ensures) (c .before .before .before .before .before .before .before .before .before .before .before .u64-at3 .ensures) (c .before .before .before .before .before .before .before .before .before .before .before .before .before .before .before .before .before .count-up .ensures ∙ ap₂ counted (c .before .before .before .before .before .before .before .before .before .before .before .before .before .before .before .before .before .before .byte-at .ensures) n) (c .before .before .before .before .before .before .before .before .before .before .before .before .before .u64-at .ensures) in
+    let d : done (outcomeOf (c .before .before .before .before .before .before .before .before .before .before .build-banner .result)) (c .before .before .before .before .before .before .before .before .before .before .build-banner .last .0) ≡ bannerDoneOf s = c .before .before .before .before .before .before .before .before .before .before .build-banner .ensures .promise ∙ banner-done s (c .before .before .before .before .before .before .before .before .before .before .before .before .before .before .before .before .before .count-up .last .0) (c .before .before .before .before .before .before .before .before .before .before .before .before .u64-at2 .result) (c .before .before .before .before .before .before .before .before .before .before .before .u64-at3 .result) (c .before .before .before .before .before .before .before .before .before .before .before .before .before .u64-at .result) (c .before .before .before .before .before .before .before .before .before .before .before .before .u64-at2 .ensures) (c .before .before .before .before .before .before .before .before .before .before .before .u64-at3 .ensures) (c .before .before .before .before .before .before .before .before .before .before .before .before .before .before .before .before .before .count-up .ensures ∙ ap₂ counted (c .before .before .before .before .before .before .before .before .before .before .before .before .before .before .before .before .before .before .byte-at .ensures) n) (c .before .before .before .before .before .before .before .before .before .before .before .before .before .u64-at .ensures) in
     let k = built-line (c .before .before .before .before .before .before .before .before .before .before .build-banner .result) (c .before .before .before .before .before .before .checksum .result) (c .before .before .before .before .before .before .before .before .before .before .build-banner .last .0) (bannerDoneOf s) d (c .before .before .before .before .before .before .checksum .ensures) in
     did-whole (bannerSize s) (doneLine (bannerDoneOf s) ∷ []) e (c .before .before .before .before .before .before .before .before .before .before .before .before .before .before .before .before .before .before .before .before .before .before .before .before .banner-size .ensures) (c .before .before .print-built .ensures ∙ ap (λ (x : List Piece). print x (page (a .text .now) (a .at))) k)
 

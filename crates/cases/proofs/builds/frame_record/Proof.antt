@@ -7,13 +7,13 @@ use borrow.Author.Tests.{not-true, not-false}
 use lib.Dec.{eqb}
 use lib.ListN.{length, take, drop}
 use lib.Seq.{length-take-le}
+use Rattle.refusal.specs.Writes.{done, outcomeOf}
 use Rattle.buffer.specs.Le.{numberAt}
 use Rattle.preamble.specs.Judge.{headerOf}
-use Rattle.builder.specs.Build.{done, answered}
 use Rattle.text.specs.Line.{Piece}
 use Rattle.text.specs.Page.{page}
 use Rattle.records.specs.Records.{isWhole, print, prints, counted}
-use Rattle.cases.specs.Builds.{doneLine, revisionOf, frameSize, frameDoneOf, frameRecord}
+use Rattle.cases.specs.Builds.{doneLine, revisionByByte, frameSize, frameDoneOf, frameRecord}
 use Rattle.records.proofs.Laws.{did-bad, did-whole}
 use Rattle.cases.proofs.Laws.{frame-buffer, frame-done, built-line}
 use borrow.Author.Needs.{needs}
@@ -49,7 +49,7 @@ returns-2 c =
     let e : isWhole (frameSize s) s ≡ true = ap (λ (k : ℕ). isWhole k s) (sym (c .before .before .before .before .before .before .before .before .before .before .before .before .before .before .before .before .before .before .before .before .before .before .before .before .before .before .before .before .before .frame-size .ensures)) ∙ sym (c .before .before .before .before .before .before .before .before .before .before .before .before .before .before .before .before .before .before .before .before .before .before .before .before .before .before .before .before .is-whole .ensures) ∙ not-false (c .before .before .before .before .before .before .before .before .before .before .before .before .before .before .before .before .before .before .before .before .before .before .before .before .before .before .before .before .is-whole .result) (c .before .before .before .before .before .before .before .before .before .before .before .before .before .before .before .before .before .before .before .before .before .before .before .before .before .before .before .if1 .left) in
     let h = frame-buffer s e in
     let n : length (take (c .before .before .before .before .before .before .before .before .before .before .before .before .before .before .before .before .before .before .before .before .before .before .before .before .before .before .u32-at .result) (a .space .now)) ≡ numberAt 4 29 s = length-take-le (c .before .before .before .before .before .before .before .before .before .before .before .before .before .before .before .before .before .before .before .before .before .before .before .before .before .before .u32-at .result) (a .space .now) (omega (arith, c .before .before .before .before .before .before .before .before .before .before .before .before .before .before .before .before .before .before .before .before .before .before .before .before .before .before .u32-at .ensures, c .before .before .before .before .before .before .before .before .before .before .before .before .before .before .before .before .before .before .before .before .before .before .before .before .before .before .before .before .before .before .before .before .before .pre)) ∙ c .before .before .before .before .before .before .before .before .before .before .before .before .before .before .before .before .before .before .before .before .before .before .before .before .before .before .u32-at .ensures in
-    let d : done (answered (c .before .before .before .before .before .before .before .before .before .before .build-frame .result)) (c .before .before .before .before .before .before .before .before .before .before .build-frame .last .0) ≡ frameDoneOf s = c .before .before .before .before .before .before .before .before .before .before .build-frame .ensures .promise ∙ frame-done s (c .before .before .before .before .before .before .before .before .before .before .before .before .before .before .before .before .before .before .before .before .before .before .count-up .last .0) (c .before .before .before .before .before .before .before .before .before .before .before .before .before .part .result .now) (c .before .before .before .before .before .before .before .before .before .before .before .before .before .before .before .before .before .before .before .u64-at .result) (c .before .before .before .before .before .before .before .before .before .before .before .before .before .before .before .before .before .revision-of .result) (c .before .before .before .before .before .before .before .before .before .before .before .before .before .before .before .read-header .result) (eqb (c .before .before .before .before .before .before .before .before .before .before .before .before .byte-at3 .result) 1) (c .before .before .before .before .before .before .before .before .before .before .before .before .before .before .before .before .before .revision-of .ensures ∙ ap revisionOf (c .before .before .before .before .before .before .before .before .before .before .before .before .before .before .before .before .before .before .byte-at2 .ensures)) (c .before .before .before .before .before .before .before .before .before .before .before .before .before .before .before .read-header .ensures ∙ ap headerOf (c .before .before .before .before .before .before .before .before .before .before .before .before .before .before .before .before .behind .ensures)) (ap (λ (b : ℕ). eqb b 1) (c .before .before .before .before .before .before .before .before .before .before .before .before .byte-at3 .ensures)) (c .before .before .before .before .before .before .before .before .before .before .before .before .before .part .ensures ∙ ap (λ (k : ℕ). take k (drop 46 s)) (c .before .before .before .before .before .before .before .before .before .before .before .before .before .before .u32-at2 .ensures)) (c .before .before .before .before .before .before .before .before .before .before .before .before .before .before .before .before .before .before .before .before .before .before .count-up .ensures ∙ ap₂ counted (c .before .before .before .before .before .before .before .before .before .before .before .before .before .before .before .before .before .before .before .before .before .before .before .byte-at .ensures) n) (c .before .before .before .before .before .before .before .before .before .before .before .before .before .before .before .before .before .before .before .u64-at .ensures) in
+    let d : done (outcomeOf (c .before .before .before .before .before .before .before .before .before .before .build-frame .result)) (c .before .before .before .before .before .before .before .before .before .before .build-frame .last .0) ≡ frameDoneOf s = c .before .before .before .before .before .before .before .before .before .before .build-frame .ensures .promise ∙ frame-done s (c .before .before .before .before .before .before .before .before .before .before .before .before .before .before .before .before .before .before .before .before .before .before .count-up .last .0) (c .before .before .before .before .before .before .before .before .before .before .before .before .before .part .result .now) (c .before .before .before .before .before .before .before .before .before .before .before .before .before .before .before .before .before .before .before .u64-at .result) (c .before .before .before .before .before .before .before .before .before .before .before .before .before .before .before .before .before .revision-by-byte .result) (c .before .before .before .before .before .before .before .before .before .before .before .before .before .before .before .read-header .result) (eqb (c .before .before .before .before .before .before .before .before .before .before .before .before .byte-at3 .result) 1) (c .before .before .before .before .before .before .before .before .before .before .before .before .before .before .before .before .before .revision-by-byte .ensures ∙ ap revisionByByte (c .before .before .before .before .before .before .before .before .before .before .before .before .before .before .before .before .before .before .byte-at2 .ensures)) (c .before .before .before .before .before .before .before .before .before .before .before .before .before .before .before .read-header .ensures ∙ ap headerOf (c .before .before .before .before .before .before .before .before .before .before .before .before .before .before .before .before .behind .ensures)) (ap (λ (b : ℕ). eqb b 1) (c .before .before .before .before .before .before .before .before .before .before .before .before .byte-at3 .ensures)) (c .before .before .before .before .before .before .before .before .before .before .before .before .before .part .ensures ∙ ap (λ (k : ℕ). take k (drop 46 s)) (c .before .before .before .before .before .before .before .before .before .before .before .before .before .before .u32-at2 .ensures)) (c .before .before .before .before .before .before .before .before .before .before .before .before .before .before .before .before .before .before .before .before .before .before .count-up .ensures ∙ ap₂ counted (c .before .before .before .before .before .before .before .before .before .before .before .before .before .before .before .before .before .before .before .before .before .before .before .byte-at .ensures) n) (c .before .before .before .before .before .before .before .before .before .before .before .before .before .before .before .before .before .before .before .u64-at .ensures) in
     let k = built-line (c .before .before .before .before .before .before .before .before .before .before .build-frame .result) (c .before .before .before .before .before .before .checksum .result) (c .before .before .before .before .before .before .before .before .before .before .build-frame .last .0) (frameDoneOf s) d (c .before .before .before .before .before .before .checksum .ensures) in
     did-whole (frameSize s) (doneLine (frameDoneOf s) ∷ []) e (c .before .before .before .before .before .before .before .before .before .before .before .before .before .before .before .before .before .before .before .before .before .before .before .before .before .before .before .before .before .frame-size .ensures) (c .before .before .print-built .ensures ∙ ap (λ (x : List Piece). print x (page (a .text .now) (a .at))) k)
 

@@ -9,7 +9,7 @@ returns : tie.Need-returns
 returns c = rw (c .before .before .before .before .enum-told .given .1) (c .before .before .print-fine .ensures)
 
 returns-2 : tie.Need-returns-2
-returns-2 c = rw (c .before .before .before .before .before .before .verdict .given .1) (rw (c .before .before .before .in-numbers .ensures) at (c .before .before .print-verdict-refused .ensures))
+returns-2 c = rw (c .before .before .before .before .before .before .verdict .given .1) (rw (c .before .before .before .numbers-of .ensures) at (c .before .before .print-verdict-refused .ensures))
 
 pub print-verdict-spec : {M : Type 1} → statement M
 print-verdict-spec = tie.close (tie.spec enum-told (λ c κs. search needs) (λ c. search needs) (λ c κs. search needs) (λ c κs. search needs) (λ c. search needs) returns (λ c. search needs) returns-2)

@@ -4,7 +4,7 @@ use Rattle.plain_receiver.proofs.words.known_of.Statement.{statement}
 use Rattle.plain_receiver.proofs.words.known_of.Tie as tie
 
 returns : tie.Need-returns
-returns c = (c .known-with .ensures ∙ rw (c .before .revision-of .ensures), c .before .before .good .0 .1 .0 .1)
+returns c = (c .known-with .ensures ∙ rw (c .before .revision-by-number .ensures), c .before .before .good .0 .1 .0 .1)
 
 pub known-of-spec : {M : Type 1} → statement M
 known-of-spec =

@@ -5,7 +5,7 @@ use Rattle.plain_receiver.proofs.words.number_of.Statement.{statement}
 use Rattle.plain_receiver.proofs.words.number_of.Tie as tie
 
 returns-2 : tie.Need-returns-2
-returns-2 c = rw (c .before .before .before .v .given .1) (ap (λ (n : Numbers). n .number) (c .before .in-numbers .ensures))
+returns-2 c = rw (c .before .before .before .v .given .1) (ap (λ (n : Numbers). n .number) (c .before .numbers-of .ensures))
 
 pub number-of-spec : {M : Type 1} → statement M
 number-of-spec =

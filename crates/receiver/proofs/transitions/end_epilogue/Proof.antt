@@ -1,5 +1,5 @@
 use Rattle.refusal.specs.declared.Numbers.{Numbers}
-use Rattle.body.specs.End.{turnedAway, ending, endedAs}
+use Rattle.body.specs.End.{refusedFor, ending, endedAs}
 use Rattle.preamble.specs.Layout.{total}
 use lib.ListN.{take}
 use Prim.Native.Nat.{ℕ}
@@ -38,7 +38,7 @@ returns-3 c =
     let s = g .store .now in
     let p : now (c .before .before .before .before .before .before .before .before .before .part .result) ≡ take (total (g .v .header)) s = c .before .before .before .before .before .before .before .before .before .part .ensures ∙ ap (λ (n : ℕ). take n s) (c .before .before .before .before .before .before .before .before .before .before .before .total-of .ensures) in
     let e = sym (c .before .before .before .before .before .before .before .before .end-of .ensures ∙ ap (ending (g .v .revision) (g .v .header) (g .block .now)) p) ∙ ap endedAs (c .before .before .before .before .before .before .end .given .1) in
-    rw e (c .before .before .refuse-frame .ensures ∙ ap (λ (n : Numbers). step.endFrame (turnedAway n) (g .v) s) (c .before .before .before .before .in-numbers .ensures))
+    rw e (c .before .before .refuse-frame .ensures ∙ ap (λ (n : Numbers). step.endFrame (refusedFor n) (g .v) s) (c .before .before .before .before .numbers-of .ensures))
 
 pub end-epilogue-spec : {M : Type 1} → statement M
 end-epilogue-spec =

@@ -1,4 +1,4 @@
-use Rattle.body.specs.End.{turnedAway}
+use Rattle.body.specs.End.{refusedFor}
 use Rattle.refusal.specs.declared.Numbers.{Numbers}
 use Rattle.body.specs.Body.{segmentSum}
 use Rattle.buffer.specs.Le.{numberAt}
@@ -33,7 +33,7 @@ returns-2 c =
     let n = g .v .header .s1 .len in
     let own : c .before .before .before .before .before .before .segment-sum .result ≡ segmentSum (take n s) = c .before .before .before .before .before .before .segment-sum .ensures ∙ ap segmentSum (c .before .before .before .before .before .before .before .part .ensures) in
     let t : eqb (numberAt 4 0 (g .block .now)) (segmentSum (take n s)) ≡ false = ne-eqb _ _ (λ e. c .before .before .before .before .before .if1 .left (c .before .before .before .before .before .before .before .before .before .u32-at .ensures ∙ e ∙ sym own)) in
-    rw t (c .before .before .refuse-frame .ensures ∙ ap (λ (m : Numbers). step.endFrame (turnedAway m) (g .v) s) (c .before .before .before .before .in-numbers .ensures))
+    rw t (c .before .before .refuse-frame .ensures ∙ ap (λ (m : Numbers). step.endFrame (refusedFor m) (g .v) s) (c .before .before .before .before .numbers-of .ensures))
 
 pub end-first-sum-spec : {M : Type 1} → statement M
 end-first-sum-spec =

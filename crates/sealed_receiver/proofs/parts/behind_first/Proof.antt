@@ -36,7 +36,7 @@ returns c =
 returns-2 : tie.Need-returns-2
 returns-2 c =
     let g = c .before .before .before .before .before .before .before .before .args in
-    c .refuse .ensures (g .store .now) ∙ ap (λ (n : Numbers). step.refuse n (g .store .now)) (c .before .in-numbers .ensures) ∙ first-refused (g .v) (g .text .now) (g .store .now) _ (sym (c .before .before .before .before .before .judge-first .ensures) ∙ ap judgedBy (c .before .before .before .judged .given .1))
+    c .refuse .ensures (g .store .now) ∙ ap (λ (n : Numbers). step.refuse n (g .store .now)) (c .before .numbers-of .ensures) ∙ first-refused (g .v) (g .text .now) (g .store .now) _ (sym (c .before .before .before .before .before .judge-first .ensures) ∙ ap judgedBy (c .before .before .before .judged .given .1))
 
 pub behind-first-spec : {M : Type 1} → statement M
 behind-first-spec =

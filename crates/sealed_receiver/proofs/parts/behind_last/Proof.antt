@@ -1,7 +1,7 @@
 use mathlib.Core.Path.{_≡_, _∙_, ap}
 use Prim.Native.Nat.{ℕ, _-_}
 use native.Mathlib.Omega.{arith}
-use Rattle.body.specs.End.{dropped, turnedAway, endedAs}
+use Rattle.body.specs.End.{dropped, refusedFor, endedAs}
 use Rattle.secure.specs.Layout.{lastPart}
 use Rattle.secure.specs.Reading.{lastEnded}
 use Rattle.sealed_receiver.proofs.LastPart.{last-whole, last-ends}
@@ -44,7 +44,7 @@ returns-3 c =
     let n = c .before .before .before .before .before .before .before .before .before .before .last-part-length .result in
     let em : n - 16 ≡ lastPart (g .v .header) - 16 = ap (λ (k : ℕ). k - 16) (c .before .before .before .before .before .before .before .before .before .before .last-part-length .ensures .0 ∙ e) in
     c .before .before .refuse-frame .ensures
-    ∙ last-ends (g .v) s (n - 16) em (endedAs (c .before .before .before .before .before .before .before .end-of-last .result)) (c .before .before .before .before .before .before .before .end-of-last .ensures ∙ ap (lastEnded (g .v .header)) (c .before .before .before .before .before .before .before .before .part .ensures)) (turnedAway _) (ap endedAs (c .before .before .before .before .before .end .given .1))
+    ∙ last-ends (g .v) s (n - 16) em (endedAs (c .before .before .before .before .before .before .before .end-of-last .result)) (c .before .before .before .before .before .before .before .end-of-last .ensures ∙ ap (lastEnded (g .v .header)) (c .before .before .before .before .before .before .before .before .part .ensures)) (refusedFor _) (ap endedAs (c .before .before .before .before .before .end .given .1))
 
 pub behind-last-spec : {M : Type 1} → statement M
 behind-last-spec =

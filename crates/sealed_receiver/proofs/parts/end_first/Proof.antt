@@ -40,7 +40,7 @@ returns-2 c =
     let g = c .before .before .before .before .before .before .before .before .before .before .args in
     let l : length (g .block) ≡ 96 = c .before .before .before .before .before .before .before .before .before .before .good .0 .1 .0 .1 in
     let same : take 96 (g .block) ≡ g .block = take-all 96 (g .block) (omega arith) in
-    c .refuse .ensures (g .store .now) ∙ ap (λ (n : Numbers). step.refuse n (g .store .now)) (c .before .in-numbers .ensures)
+    c .refuse .ensures (g .store .now) ∙ ap (λ (n : Numbers). step.refuse n (g .store .now)) (c .before .numbers-of .ensures)
     ∙ first-unopened (g .v) (g .block) (take 96 (g .block)) (g .store .now) same _ (sym (c .before .before .before .before .before .before .open-part .ensures .judged) ∙ ap judgedBy (c .before .before .before .opened .given .1))
 
 pub end-first-spec : {M : Type 1} → statement M

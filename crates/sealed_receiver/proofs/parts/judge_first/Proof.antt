@@ -21,8 +21,8 @@ returns c =
     ∙ ap₂ orElse (c .before .judge-preamble .ensures)
     (c .before .before .or-else .ensures
     ∙ ap₂ orElse
-    (c .before .before .before .before .unless-ok .ensures ∙ ap (λ (k : ℕ). judgeStore k store) (c .before .before .before .before .before .needed-of .ensures .0 ∙ ap needed (c .before .before .before .before .before .before .before .before .before .read-header .ensures)))
-    (c .before .before .before .unless-ok2 .ensures ∙ ap (λ (b : Bool). unless b refusal.Padding) (c .before .before .before .before .before .before .all-zero .ensures ∙ ap allZero (c .before .before .before .before .before .before .before .behind .ensures ∙ ap (λ (x : Header). drop (32 + x .s1 .len) text) (c .before .before .before .before .before .before .before .before .before .read-header .ensures)))))
+    (c .before .before .before .before .unless .ensures ∙ ap (λ (k : ℕ). judgeStore k store) (c .before .before .before .before .before .needed-of .ensures .0 ∙ ap needed (c .before .before .before .before .before .before .before .before .before .read-header .ensures)))
+    (c .before .before .before .unless2 .ensures ∙ ap (λ (b : Bool). unless b refusal.Padding) (c .before .before .before .before .before .before .all-zero .ensures ∙ ap allZero (c .before .before .before .before .before .before .before .behind .ensures ∙ ap (λ (x : Header). drop (32 + x .s1 .len) text) (c .before .before .before .before .before .before .before .before .before .read-header .ensures)))))
     ∙ judged-first text store
 
 pub judge-first-spec : {M : Type 1} → statement M

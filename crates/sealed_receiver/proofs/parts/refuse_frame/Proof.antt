@@ -5,7 +5,7 @@ use Rattle.sealed_receiver.proofs.parts.refuse_frame.Statement.{stateme
 use Rattle.sealed_receiver.proofs.parts.refuse_frame.Tie as tie
 
 returns : tie.Need-returns
-returns c = c .refuse .ensures (c .before .before .before .before .zero-needed .last .0) ∙ ap₂ step.refuse (c .before .in-numbers .ensures) (c .before .before .before .before .zero-needed .ensures)
+returns c = c .refuse .ensures (c .before .before .before .before .zero-needed .last .0) ∙ ap₂ step.refuse (c .before .numbers-of .ensures) (c .before .before .before .before .zero-needed .ensures)
 
 pub refuse-frame-spec : {M : Type 1} → statement M
 refuse-frame-spec =

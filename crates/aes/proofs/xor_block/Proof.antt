@@ -1,0 +1,87 @@
+use mathlib.Core.List.{List, _++_}
+use mathlib.Core.Path.{_≡_, refl, sym, ap, _∙_}
+use Prim.Native.Nat.{ℕ, _+_, _-_, _/_, _≤_}
+use native.Mathlib.Nat.{add-zero}
+use native.Mathlib.Omega.{arith}
+use borrow.Author.Needs.{needs}
+use lib.Bits.{bitXor}
+use lib.ListN.{length, getD, take, drop, length-set}
+use Rattle.aes.specs.Aes.{State}
+use Rattle.aes.specs.Counter.{keystreamBlock, gctr}
+use Rattle.aes.proofs.Counters.{xor-more, front-length}
+use Rattle.aes.proofs.xor_block.Statement.{statement}
+use Rattle.aes.proofs.xor_block.Tie as tie
+
+abbrev Inv-loop : tie.InvT-loop
+Inv-loop s buf₀ i n k₀ buf k =
+    (k ≤ n)
+    × (length buf ≡ length buf₀)
+    × ((w : List State) (nonce d : List ℕ) → s ≡ keystreamBlock w nonce (i / 16 + 2) → buf₀ ≡ take i (gctr w nonce d) ++ drop i d
+    → buf ≡ take (i + k) (gctr w nonce d) ++ drop (i + k) d)
+
+abbrev μ-loop : tie.MeasureT-loop
+μ-loop s buf₀ i n k₀ buf k = n - k
+
+loop-holds : tie.Need-loop-holds Inv-loop μ-loop
+loop-holds c = (search needs, refl, λ w nonce d es e. e ∙ ap (λ (m : ℕ). take m (gctr w nonce d) ++ drop m d) (sym (add-zero (c .before .args .i))))
+
+add-buf : tie.Need-add-buf Inv-loop μ-loop
+add-buf c = search needs
+
+slice-read-buf : tie.Need-slice-read-buf Inv-loop μ-loop
+slice-read-buf c = search needs
+
+byte-of-requires : tie.Need-byte-of-requires Inv-loop μ-loop
+byte-of-requires c κs = search needs
+
+add-buf-2 : tie.Need-add-buf-2 Inv-loop μ-loop
+add-buf-2 c = search needs
+
+slice-write-buf : tie.Need-slice-write-buf Inv-loop μ-loop
+slice-write-buf c = search needs
+
+add-k : tie.Need-add-k Inv-loop μ-loop
+add-k c = search needs
+
+loop-less : tie.Need-loop-less Inv-loop μ-loop
+loop-less c = search needs
+
+loop-again : tie.Need-loop-again Inv-loop μ-loop
+loop-again c =
+    let l = c .before .before .before .loop in
+    let a = c .before .before .before .before .before .args in (
+      search needs,
+      length-set (l .buf) (a .i + l .k) (bitXor (getD (l .buf) (a .i + l .k) 0) (c .byte-of .result)) ∙ l .inv .1,
+      λ w nonce d es e.
+          let before = l .inv .2 w nonce d es e in
+          let n : length (l .buf) ≡ length d = front-length w nonce d (l .buf) (a .i + l .k) before in
+          xor-more w nonce d (l .buf) (a .s) (a .i) (l .k) (c .byte-of .result) (search needs) (omega arith) (omega arith) es (c .byte-of .ensures) before,
+    )
+
+same-length : tie.Need-same-length Inv-loop μ-loop
+same-length c = c .before .loop .inv .1
+
+returns : tie.Need-returns Inv-loop μ-loop
+returns c =
+    let l = c .before .loop in
+    let a = c .before .before .before .args in
+    let k : l .k ≡ a .n = omega arith in
+    λ w nonce d es e. l .inv .2 w nonce d es e ∙ ap (λ (m : ℕ). take (a .i + m) (gctr w nonce d) ++ drop (a .i + m) d) k
+
+pub xor-block-spec : {M : Type 1} → statement M
+xor-block-spec =
+    tie.close
+    (tie.spec
+    Inv-loop
+    μ-loop
+    loop-holds
+    add-buf
+    slice-read-buf
+    byte-of-requires
+    add-buf-2
+    slice-write-buf
+    add-k
+    loop-less
+    loop-again
+    same-length
+    returns)

@@ -1,0 +1,55 @@
+-- No reason among causes: a reason asks the session for a call that releases the message.
+use mathlib.Core.Path.{_≡_, refl, sym, ap, _∙_}
+use mathlib.Core.Logic.{inl, inr}
+use mathlib.Core.List.{List, [], _∷_, map}
+use mathlib.Core.Bool.{Bool, true, false, cond, true≢false}
+use Prim.Native.Nat.{ℕ}
+use lib.Dec.{leb, eqb}
+use borrow.Author.Tests.{le-leb}
+use Rattle.refusal.specs.Refusals.{row}
+use Rattle.preamble.specs.declared.Header.{Header}
+use Rattle.fields.specs.Field.{number}
+use Rattle.bodies.specs.Read.{Answer, whole}
+use Rattle.stream.specs.Stream.{Entry}
+use Rattle.session.proofs.Releases.{oneReleases}
+use Rattle.delivery.specs.declared.Asked.{Asked}
+use Rattle.delivery.specs.declared.Asked.the-variants as asked
+use Rattle.delivery.specs.Asked.{forSession, asking, byBody, bodyOf, askedByFrame}
+use Rattle.delivery.specs.Calls.{Cause, receives, callsAsked, callsBy, Reason, acknowledged, dropped, handedIn, Covered, here, later}
+use Rattle.delivery.proofs.NoRequests.{NoRequests}
+
+-- a whole body of one number, with one of the session's tags, asks what the tag says
+frame-asked : (h : Header) (s : List ℕ) (t w n : ℕ) → h .tag ≡ t → forSession t ≡ true → h .count ≡ 1 → bodyOf h s ≡ whole (number w n ∷ []) → askedByFrame h s ≡ asking t n
+unfolding askedByFrame
+frame-asked h s t w n e f c b =
+    let other = asked.Malformed (row 20 (h .s1 .len) 0 0) in
+    ap (λ (a : Answer). cond (forSession (h .tag)) (byBody h a) asked.Nothing) b
+    ∙ ap (λ (x : ℕ). cond (forSession x) (cond (eqb (h .count) 1) (asking x n) other) asked.Nothing) e
+    ∙ ap (λ (y : Bool). cond y (cond (eqb (h .count) 1) (asking t n) other) asked.Nothing) f
+    ∙ ap (λ (x : ℕ). cond (eqb x 1) (asking t n) other) c
+
+one-of : (b : Bool) → b ≡ true → cond b true false ≡ true
+one-of true e = refl
+one-of false e = e
+
+reason-releases : (m : ℕ) (c : Cause) → Reason m c → oneReleases m (callsBy c) ≡ true
+reason-releases m c (acknowledged h at n s (inl t) q b l) =
+    ap (λ (a : Asked). oneReleases m (callsAsked a)) (frame-asked h s 20 8 n t refl q b) ∙ one-of (leb m n) (le-leb m n l)
+reason-releases m c (acknowledged h at n s (inr t) q b l) =
+    ap (λ (a : Asked). oneReleases m (callsAsked a)) (frame-asked h s 15 8 n t refl q b) ∙ one-of (leb m n) (le-leb m n l)
+reason-releases m c (dropped h at s t q b) = ap (λ (a : Asked). oneReleases m (callsAsked a)) (frame-asked h s 12 1 1 t refl q b)
+reason-releases m c (handedIn n l) = one-of (leb m n) (le-leb m n l)
+
+-- none of the calls that causes make due releases the message
+abbrev pub Holding : ℕ → List Cause → Type 0
+Holding m [] = Unit {0}
+Holding m (c ∷ cs) = (oneReleases m (callsBy c) ≡ false) × Holding m cs
+
+pub uncovered : (m : ℕ) (cs : List Cause) → Holding m cs → Covered m cs → ⊥
+uncovered m (c ∷ cs) h (here r) = true≢false (sym (reason-releases m c r) ∙ h .0)
+uncovered m (c ∷ cs) h (later k) = uncovered m cs (h .1) k
+
+-- what asks nothing releases nothing
+pub no-requests-holds : (m : ℕ) (es : List Entry) → NoRequests es → Holding m (map receives es)
+no-requests-holds m [] q = tt
+no-requests-holds m (e ∷ es) q = (ap (λ (a : Asked). oneReleases m (callsAsked a)) (q .0), no-requests-holds m es (q .1))
