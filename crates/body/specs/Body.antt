@@ -67,7 +67,7 @@ abbrev pub noEpilogue : Revision → Header → Bool
 noEpilogue Msgr20 h = false
 noEpilogue Msgr21 h = leb (h .count) 1
 
--- how many checksums an epilogue holds, and its length: the late byte, and four bytes for each
+-- how many checksums an epilogue holds, up to that of the fourth segment, and its length: the late byte, and four bytes for each
 abbrev pub epilogueSums : Revision → ℕ
 epilogueSums revision = 5 - epilogueFrom revision
 

@@ -46,7 +46,7 @@ byBoth (refused r) o n buf = done (refusedFor r) buf
 unfoldable pub openDone : List State → List ℕ → List ℕ → List ℕ → Done
 openDone w nonce s buf = byBoth (judgeOpen (length s) (length buf)) (openedBy w nonce s) (length s - 16) buf
 
--- ---- THE PROMISES of a call that was lent buf, outcomeOf r and left `after`
+-- ---- THE PROMISES of a call that was lent buf, answered r and left `after`
 
 pub record Sealing (w : List State) (nonce text buf : List ℕ) (r : WriteResult) (after : List ℕ) : Type 0 where
   pub is : done (outcomeOf r) after ≡ sealDone w nonce text buf

@@ -1,4 +1,4 @@
--- Reading what was laid out.
+-- Reading what was built.
 use mathlib.Core.Path.{_≡_, refl, ap, _∙_, sym, ap₂}
 use mathlib.Core.List.{List, _++_, append-assoc, [], _∷_, append-nil}
 use Prim.Native.Nat.{ℕ, _≤_}
@@ -55,7 +55,7 @@ pub reads-back : ReadsBack
 unfolding ReadsBack
 reads-back h rest f = record { fields = ap preambleOf (whole h rest) ∙ fields h rest f; checked = ap judgeChecksum (whole h rest) ∙ checked h rest f }
 
--- ---- a preamble that was laid out is accepted
+-- ---- a preamble that was built is accepted
 
 pub fields-fine : (h : Header) (n : ℕ) → judgeHeader h ≡ fine → total h ≤ n → judgeFields (builtPreamble h) n ≡ fine
 unfolding judgeHeader judgeFields

@@ -1,4 +1,4 @@
--- Reading a preamble that was laid out gives its fields back: the claim.
+-- Reading a preamble that was built gives its fields back: the claim.
 use mathlib.Core.Path.{_≡_}
 use mathlib.Core.List.{List, _++_}
 use Prim.Native.Nat.{ℕ, _^_, _<_}

@@ -50,7 +50,7 @@ refusalNumber r = numbersOf r .number
 abbrev pub noMissing : Missing
 noMissing = record { bits = 0; lowest = 0; count = 0 }
 
--- the words of none
+-- the numbers of none
 abbrev pub noRefusal : Numbers
 noRefusal = row 0 0 0 0
 

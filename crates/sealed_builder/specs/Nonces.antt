@@ -18,7 +18,7 @@ use Rattle.sealed_builder.specs.Build.{spentOf, freshSending, sentParts,
 
 -- ---- a list of builds, each given the state that the last one handed back
 
--- what was asked, what was outcomeOf, and the buffer then
+-- what was asked, what was answered, and the buffer then
 pub record Build : Type 0 where
   pub header : Header
   pub abort : Bool

@@ -104,7 +104,7 @@ frames (suc f) revision P rest store =
 abbrev pub payloadOf : List ℕ → ℕ
 payloadOf stream = numberAt 2 8 stream
 
--- the byte behind the banner
+-- the length of the banner: the frames begin behind so many bytes
 abbrev pub framesStart : List ℕ → ℕ
 framesStart stream = 10 + payloadOf stream
 
