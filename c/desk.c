@@ -1,7 +1,7 @@
 /*
- * A desk's receiving side: it reads what the store sends on standard input, and
- * frees a take when an acknowledgement has the session no longer hold its
- * message. What a full reset has it no longer hold was not acknowledged: that
+ * A desk's receiving side: it reads what the peer, a Ceph store, sends on standard
+ * input, and frees a take when an acknowledgement has the session no longer hold
+ * its message. What a full reset has it no longer hold was not acknowledged: that
  * take is kept, to be sent as a new message.
  *
  * usage: desk [MESSAGES]    so many messages were sent before, 8 where not given

@@ -1,5 +1,5 @@
 /*
- * Sealing, sealed builds, sessions, the joined call, the switch and sealed frames,
+ * Sealing, sealed builds, sessions, mahuixen_deliver, the switch and sealed frames,
  * the handshake and bodies from C, against known values: GCM's published vectors,
  * and what the rules say. Prints a line for each that differs; the exit status is
  * 0 only if there is none.
@@ -136,7 +136,7 @@ static void sessions(void)
     check(mahuixen_session_accept(&session, 1, &answer) == MAHUIXEN_SESSION_REFUSED && answer.refusal.number == 26, "26");
 }
 
-/* ---- the joined call: an ack, a malformed one, a reconnect_ok and a full reset of two messages */
+/* ---- mahuixen_deliver: an ack, a malformed one, a reconnect_ok and a full reset of two messages */
 
 static uint64_t delivered(mahuixen_state *state, mahuixen_session *session, uint64_t tag, uint64_t length, uint8_t number,
                           mahuixen_answer *effect)
@@ -198,7 +198,8 @@ static const uint8_t of_us[12] = {1, 0, 0, 0, 0xFF, 0xFF, 0xFF, 0xFF, 0xFF, 0xFF
 static const uint8_t of_the_peer[12] = {2};
 
 /* A receiver behind a banner and a crc frame, switched, and what its side then builds with. */
-static void switched(mahuixen_state *state, const uint8_t receiving[12], const uint8_t sending[12], mahuixen_sending *sends)
+static void switched(mahuixen_state *state, const uint8_t receiving_nonce[12], const uint8_t sending_nonce[12],
+                     mahuixen_sending *sending)
 {
     static const mahuixen_header header = {MAHUIXEN_TAG_AUTH_SIGNATURE, 1, {{4, 8}, {0, 0}, {0, 0}, {0, 0}}};
     static const uint8_t source[4] = {1, 2, 3, 4};
@@ -209,12 +210,12 @@ static void switched(mahuixen_state *state, const uint8_t receiving[12], const u
     uint64_t frame = mahuixen_build_frame(wire, sizeof wire, banner, MAHUIXEN_MSGR21, &header, source, 4, &refusal);
 
     (void)mahuixen_start(state, MAHUIXEN_FEATURE_REVISION_1, 0);
-    check(mahuixen_switch(state, the_key, receiving, sending, sends) == 27, "a switch before a frame");
+    check(mahuixen_switch(state, the_key, receiving_nonce, sending_nonce, sending) == 27, "a switch before a frame");
     check(mahuixen_receive(state, &report, wire, banner, NULL, 0) == MAHUIXEN_BANNER, "a banner before a switch");
     check(mahuixen_receive(state, &report, wire + banner, frame, store, sizeof store) == MAHUIXEN_FRAME,
           "a frame before a switch");
-    check(mahuixen_switch(state, the_key, receiving, sending, sends) == 0, "a switch behind a frame");
-    check(memcmp(sends->key, the_key, 16) == 0 && memcmp(sends->nonce, sending, 12) == 0, "what it hands out");
+    check(mahuixen_switch(state, the_key, receiving_nonce, sending_nonce, sending) == 0, "a switch behind a frame");
+    check(memcmp(sending->key, the_key, 16) == 0 && memcmp(sending->nonce, sending_nonce, 12) == 0, "what it hands out");
 }
 
 /* Two segments, the first longer than what stands in a first part: three parts, cut at every byte. */
@@ -225,7 +226,7 @@ static void sealed_frames(void)
     static mahuixen_state theirs;
     static mahuixen_state state;
     mahuixen_sending unused;
-    mahuixen_sending sends;
+    mahuixen_sending sending;
     mahuixen_report report;
     uint8_t source[70];
     uint8_t store[128];
@@ -238,10 +239,10 @@ static void sealed_frames(void)
     for (i = 0; i < sizeof source; i++)
         source[i] = (uint8_t)(i + 1);
     switched(&ours, of_the_peer, of_us, &unused);
-    switched(&theirs, of_us, of_the_peer, &sends);
-    whole = mahuixen_build_sealed(wire, sizeof wire, 0, &sends, &header, source, sizeof source, &refusal);
-    aborted = mahuixen_abort_sealed(wire, sizeof wire, whole, &sends, &header, source, sizeof source, &refusal);
-    check(whole == 96 + 32 + 64 && aborted == whole && sends.spent == 6, "two sealed frames of three parts");
+    switched(&theirs, of_us, of_the_peer, &sending);
+    whole = mahuixen_build_sealed(wire, sizeof wire, 0, &sending, &header, source, sizeof source, &refusal);
+    aborted = mahuixen_abort_sealed(wire, sizeof wire, whole, &sending, &header, source, sizeof source, &refusal);
+    check(whole == 96 + 32 + 64 && aborted == whole && sending.spent == 6, "two sealed frames of three parts");
     for (cut = 0; cut < whole; cut++) {
         state = ours;
         check(mahuixen_receive(&state, &report, wire, cut, store, sizeof store) == MAHUIXEN_MORE && report.taken == cut,
@@ -276,7 +277,7 @@ static void sealed_ack(void)
     static mahuixen_state theirs;
     static mahuixen_state state;
     mahuixen_sending unused;
-    mahuixen_sending sends;
+    mahuixen_sending sending;
     mahuixen_session before;
     mahuixen_session session;
     mahuixen_answer effect;
@@ -290,8 +291,8 @@ static void sealed_ack(void)
     (void)mahuixen_session_accept(&before, 700, &effect);
     (void)mahuixen_session_accept(&before, 701, &effect);
     switched(&ours, of_the_peer, of_us, &unused);
-    switched(&theirs, of_us, of_the_peer, &sends);
-    check(mahuixen_build_sealed(wire, sizeof wire, 0, &sends, &header, number, 8, &refusal) == 96, "a sealed ack");
+    switched(&theirs, of_us, of_the_peer, &sending);
+    check(mahuixen_build_sealed(wire, sizeof wire, 0, &sending, &header, number, 8, &refusal) == 96, "a sealed ack");
     for (cut = 0; cut < sizeof wire; cut++) {
         state = ours;
         session = before;

@@ -54,14 +54,14 @@ static uint64_t total(const mahuixen_header *header)
     return sum;
 }
 
-static void add(int link, mahuixen_sending *sends, const mahuixen_header *header, int aborted)
+static void add(int link, mahuixen_sending *sending, const mahuixen_header *header, int aborted)
 {
     uint8_t *out = sent[link];
     uint64_t at = length[link];
     uint64_t all = total(header);
     uint64_t n;
     if (link == SEALED)
-        n = (aborted ? mahuixen_abort_sealed : mahuixen_build_sealed)(out, sizeof sent[0], at, sends, header, source, all,
+        n = (aborted ? mahuixen_abort_sealed : mahuixen_build_sealed)(out, sizeof sent[0], at, sending, header, source, all,
                                                                     &refusal);
     else
         n = (aborted ? mahuixen_abort_frame : mahuixen_build_frame)(out, sizeof sent[0], at, (uint64_t)link, header, source,
@@ -90,21 +90,21 @@ static mahuixen_state behind_a_frame(void)
 
 static void links(void)
 {
-    static mahuixen_sending sends;
+    static mahuixen_sending sending;
     for (size_t i = 0; i < sizeof source; i++)
         source[i] = (uint8_t)(i * 7);
     for (int link = 0; link < LINKS; link++) {
         if (link == SEALED) {
             switched = behind_a_frame();
-            if (mahuixen_switch(&switched, key, nonce, nonce, &sends) != 0)
+            if (mahuixen_switch(&switched, key, nonce, nonce, &sending) != 0)
                 exit(1);
         } else {
             length[link] = (size_t)mahuixen_build_banner(sent[link], sizeof sent[0], 0, (uint64_t)link, 0, &refusal);
         }
         for (int i = 0; i < FRAMES; i++)
-            add(link, &sends, &frames[i], 0);
-        add(link, &sends, &frames[0], 1);
-        add(link, &sends, &frames[0], 0);
+            add(link, &sending, &frames[i], 0);
+        add(link, &sending, &frames[0], 1);
+        add(link, &sending, &frames[0], 0);
         sent[link][length[link] - 60] ^= 1;
     }
 }
@@ -179,13 +179,13 @@ static mahuixen_state framed;
 
 static void switch_to_secure(void)
 {
-    static mahuixen_sending sends;
+    static mahuixen_sending sending;
     static mahuixen_state state;
     state = framed;
-    (void)mahuixen_switch(&state, key, nonce, nonce, &sends);
-    (void)mahuixen_switch(&state, key, nonce, nonce, &sends);
+    (void)mahuixen_switch(&state, key, nonce, nonce, &sending);
+    (void)mahuixen_switch(&state, key, nonce, nonce, &sending);
     state.mode = 2;
-    (void)mahuixen_switch(&state, key, nonce, nonce, &sends);
+    (void)mahuixen_switch(&state, key, nonce, nonce, &sending);
 }
 
 /* ---- building: the longest frame, and one that is refused */
@@ -216,18 +216,18 @@ static void abort_frame(void)
 
 static void build_sealed(void)
 {
-    static mahuixen_sending sends;
-    (void)mahuixen_build_sealed(wire, sizeof wire, 0, &sends, &longest, source, sizeof source, &refusal);
-    (void)mahuixen_build_sealed(wire, sizeof wire, 0, &sends, &frames[1], source, total(&frames[1]), &refusal);
-    (void)mahuixen_build_sealed(wire, 9, 0, &sends, &longest, source, sizeof source, &refusal);
+    static mahuixen_sending sending;
+    (void)mahuixen_build_sealed(wire, sizeof wire, 0, &sending, &longest, source, sizeof source, &refusal);
+    (void)mahuixen_build_sealed(wire, sizeof wire, 0, &sending, &frames[1], source, total(&frames[1]), &refusal);
+    (void)mahuixen_build_sealed(wire, 9, 0, &sending, &longest, source, sizeof source, &refusal);
 }
 
 static void abort_sealed(void)
 {
-    static mahuixen_sending sends;
-    (void)mahuixen_abort_sealed(wire, sizeof wire, 0, &sends, &longest, source, sizeof source, &refusal);
-    (void)mahuixen_abort_sealed(wire, sizeof wire, 0, &sends, &frames[1], source, total(&frames[1]), &refusal);
-    (void)mahuixen_abort_sealed(wire, 9, 0, &sends, &longest, source, sizeof source, &refusal);
+    static mahuixen_sending sending;
+    (void)mahuixen_abort_sealed(wire, sizeof wire, 0, &sending, &longest, source, sizeof source, &refusal);
+    (void)mahuixen_abort_sealed(wire, sizeof wire, 0, &sending, &frames[1], source, total(&frames[1]), &refusal);
+    (void)mahuixen_abort_sealed(wire, 9, 0, &sending, &longest, source, sizeof source, &refusal);
 }
 
 static uint8_t sealed[PLAIN + 16];

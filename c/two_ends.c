@@ -186,27 +186,9 @@ static int send_frames(end *e, uint64_t supported)
 
 /* ---- the receiving end */
 
-static const char *tag_name(uint64_t tag)
-{
-    switch (tag) {
-    case MAHUIXEN_TAG_HELLO:
-        return "hello";
-    case MAHUIXEN_TAG_WAIT:
-        return "wait";
-    case MAHUIXEN_TAG_MESSAGE:
-        return "message";
-    case MAHUIXEN_TAG_KEEPALIVE2:
-        return "keepalive";
-    case MAHUIXEN_TAG_ACK:
-        return "ack";
-    default:
-        return "of another tag";
-    }
-}
-
 static void print_header(const char *word, const mahuixen_header *h)
 {
-    printf("  %s: %s, segments of", word, tag_name(h->tag));
+    printf("  %s: %s, segments of", word, mahuixen_tag_text(h->tag));
     for (uint64_t i = 0; i < h->count; i++) {
         printf("%s %" PRIu64, i == 0 ? "" : ",", h->segments[i].len);
     }
@@ -473,7 +455,7 @@ static void switch_to_secure(void)
     mahuixen_header header = {MAHUIXEN_TAG_AUTH_SIGNATURE, 1, {{1, 8}, {0, 0}, {0, 0}, {0, 0}}};
     mahuixen_state state;
     mahuixen_state before;
-    mahuixen_sending sends;
+    mahuixen_sending sending;
     mahuixen_report r;
     mahuixen_refusal n;
     uint8_t bytes[MAHUIXEN_BANNER_LENGTH + 1 + MAHUIXEN_FRAME_OVERHEAD];
@@ -485,16 +467,16 @@ static void switch_to_secure(void)
     (void)mahuixen_start(&state, 1, 0);
     (void)mahuixen_receive(&state, &r, bytes, banner, store, sizeof store);
     before = state;
-    check(mahuixen_switch(&state, key, nonces[0], nonces[1], &sends) == MAHUIXEN_REFUSAL_SWITCH_REFUSED, "no frame yet");
-    check(memcmp(&state, &before, sizeof before) == 0 && sends.refused == 1 && sends.key[0] == 0, "nothing changed");
+    check(mahuixen_switch(&state, key, nonces[0], nonces[1], &sending) == MAHUIXEN_REFUSAL_SWITCH_REFUSED, "no frame yet");
+    check(memcmp(&state, &before, sizeof before) == 0 && sending.refused == 1 && sending.key[0] == 0, "nothing changed");
     check(mahuixen_receive(&state, &r, bytes + banner, frame, store, sizeof store) == MAHUIXEN_FRAME, "a frame");
     before = state;
     before.mode = 2;
-    check(mahuixen_switch(&before, key, nonces[0], nonces[1], &sends) == MAHUIXEN_REFUSAL_STATE_CONTRADICTS, "no such mode");
-    check(mahuixen_switch(&state, key, nonces[0], nonces[1], &sends) == 0 && state.mode == 1, "a switch");
-    check(sends.refused == 0 && sends.spent == 0 && memcmp(sends.key, key, 16) == 0, "what frames are built with");
-    check(memcmp(sends.nonce, nonces[1], 12) == 0 && memcmp(state.sealed.nonce, nonces[0], 12) == 0, "a nonce each");
-    check(mahuixen_switch(&state, key, nonces[0], nonces[1], &sends) == MAHUIXEN_REFUSAL_SWITCH_REFUSED, "a second switch");
+    check(mahuixen_switch(&before, key, nonces[0], nonces[1], &sending) == MAHUIXEN_REFUSAL_STATE_CONTRADICTS, "no such mode");
+    check(mahuixen_switch(&state, key, nonces[0], nonces[1], &sending) == 0 && state.mode == 1, "a switch");
+    check(sending.refused == 0 && sending.spent == 0 && memcmp(sending.key, key, 16) == 0, "what frames are built with");
+    check(memcmp(sending.nonce, nonces[1], 12) == 0 && memcmp(state.sealed.nonce, nonces[0], 12) == 0, "a nonce each");
+    check(mahuixen_switch(&state, key, nonces[0], nonces[1], &sending) == MAHUIXEN_REFUSAL_SWITCH_REFUSED, "a second switch");
     check(mahuixen_receive(&state, &r, part, 95, store, sizeof store) == MAHUIXEN_MORE && r.taken == 95, "most of a part");
     check(mahuixen_receive(&state, &r, part, 2, store, sizeof store) == MAHUIXEN_REFUSED && r.taken == 1, "its last byte");
     check(r.refusal.number == MAHUIXEN_REFUSAL_AUTH_TAG && state.sealed.key[0] == 0, "17, and no key is kept");

@@ -127,20 +127,22 @@ enum {
     MAHUIXEN_REFUSAL_FLAGS = 7,             /* a preamble's flags or its reserved byte are not 0; first: 26 or 27, its place */
     MAHUIXEN_REFUSAL_TAG = 8,               /* a tag outside 1 to 20; first: the tag */
     MAHUIXEN_REFUSAL_LIMIT = 9,             /* a segment, or all of them, above the limit; first: the place of the first
-                                               length that is too long, or of the one at which the sum is */
+                                               length that is too long, or of the one at which the sum is;
+                                               or a text to be sealed or opened above its limit; first: 0 */
     MAHUIXEN_REFUSAL_STORE_SHORT = 10,      /* the store is too short for the frame; first: the bytes that it needs, which
                                                are those of its segments, or, sealed, of its segments each rounded up to
                                                a multiple of 16, and 32 more */
     MAHUIXEN_REFUSAL_SEGMENT_CHECKSUM = 11, /* a segment's checksum differs; first: the segment, 1 to 4 */
     MAHUIXEN_REFUSAL_LATE_STATUS = 12,      /* the low four bits of an epilogue's late status are no code word; first: the byte */
     MAHUIXEN_REFUSAL_SOURCE_LENGTH = 13,    /* build: the source is not as long as the segments */
-    MAHUIXEN_REFUSAL_NO_ROOM = 14,          /* build: no room behind the queued bytes; first: the bytes to be written */
+    MAHUIXEN_REFUSAL_NO_ROOM = 14,          /* the buffer has no room, of a build behind its queued bytes; first: the bytes
+                                               to be written */
     MAHUIXEN_REFUSAL_ABORT_ONE_SEGMENT = 15, /* build: an msgr2.1 frame of one segment cannot be aborted */
     MAHUIXEN_REFUSAL_OWN_FEATURES = 16,     /* our own features: an unknown bit, or required and not supported */
     MAHUIXEN_REFUSAL_AUTH_TAG = 17,         /* sealed bytes fewer than 16, or their authentication tag differs */
     MAHUIXEN_REFUSAL_NONCES_SPENT = 18,     /* build: fewer nonces are left than the sealed frame has parts;
                                                receive: a sealed part came, and no nonce is left to open it with */
-    MAHUIXEN_REFUSAL_PADDING = 19,          /* the padding of a sealed frame's segment is not 0 */
+    MAHUIXEN_REFUSAL_PADDING = 19,          /* padding in a sealed frame is not 0 */
     MAHUIXEN_REFUSAL_BODY_MALFORMED = 20,   /* a body that is not its tag's; first: the place of the first fault in it */
     MAHUIXEN_REFUSAL_UNEXPECTED_TAG = 21,   /* a tag that the side's state does not wait for; first: the tag */
     MAHUIXEN_REFUSAL_TABLE_FULL = 22,       /* the session holds 64 messages */
@@ -397,8 +399,8 @@ uint64_t mahuixen_receive_in(mahuixen_state *state, mahuixen_crc *crc, uint8_t *
                              const uint8_t *piece, uint64_t piece_len, uint8_t *store, uint64_t store_len);
 uint64_t mahuixen_switch_in(mahuixen_state *state, const mahuixen_crc *crc, const uint8_t *block,
                             mahuixen_sealed *sealed, uint8_t *first, uint8_t *key, uint8_t *nonce,
-                            const uint8_t *with, const uint8_t *receiving, const uint8_t *sending,
-                            mahuixen_sending *sends, uint8_t *sends_key, uint8_t *sends_nonce);
+                            const uint8_t *with, const uint8_t *receiving_nonce, const uint8_t *sending_nonce,
+                            mahuixen_sending *sending, uint8_t *out_key, uint8_t *out_nonce);
 
 /*
  * Makes *state a receiver for a new stream, with our own features. Answers 0; or
@@ -433,19 +435,19 @@ static inline uint64_t mahuixen_receive(mahuixen_state *state, mahuixen_report *
 
 /*
  * Switches a msgr2.1 stream to secure, behind a reported or dropped frame and
- * before any byte of the next: sealed frames come from then on, and *sends is
+ * before any byte of the next: sealed frames come from then on, and *sending is
  * what ours are built with. One key of 16 bytes, and 12 bytes each for the nonce
  * of the peer's first part and of ours. Answers 0; or 26, or 27 anywhere else,
- * and then the state is as it was and nothing can be built with *sends.
+ * and then the state is as it was and nothing can be built with *sending.
  */
-static inline uint64_t mahuixen_switch(mahuixen_state *state, const uint8_t key[16], const uint8_t receiving[12],
-                                       const uint8_t sending[12], mahuixen_sending *sends)
+static inline uint64_t mahuixen_switch(mahuixen_state *state, const uint8_t key[16], const uint8_t receiving_nonce[12],
+                                       const uint8_t sending_nonce[12], mahuixen_sending *sending)
 {
-    sends->nonce[1] = 0;
+    sending->nonce[1] = 0;
     return mahuixen_switch_in(state, &state->crc, (const uint8_t *)state->crc.block, &state->sealed,
                               (uint8_t *)state->sealed.first, (uint8_t *)state->sealed.key,
-                              (uint8_t *)state->sealed.nonce, key, receiving, sending, sends,
-                              (uint8_t *)sends->key, (uint8_t *)sends->nonce);
+                              (uint8_t *)state->sealed.nonce, key, receiving_nonce, sending_nonce, sending,
+                              (uint8_t *)sending->key, (uint8_t *)sending->nonce);
 }
 
 /* ---- building: each answers how many bytes it wrote, and writes the refusal, all 0 where there is none.
@@ -475,8 +477,8 @@ uint64_t mahuixen_abort_frame(uint8_t *buf, uint64_t buf_len, uint64_t queued, u
 
 /* ---- secure mode */
 
-/* Seals a text into the front of out, 16 bytes longer than the text: the masked bytes, and then the authentication tag
- * (AES-128-GCM, no further data). A nonce must never be used twice with one key: the sealed builds below see to that
+/* Seals a text into the front of out, 16 bytes longer than the text: the ciphertext, and then the authentication tag
+ * (AES-128-GCM, no associated data). A nonce must never be used twice with one key: the sealed builds below see to that
  * themselves. Refused with 9, for a text above 2^36 - 32 bytes, or 14. */
 uint64_t mahuixen_seal(const uint8_t key[16], const uint8_t nonce[12], const uint8_t *text, uint64_t text_len,
                        uint8_t *out, uint64_t out_len, mahuixen_refusal *refusal);
@@ -667,7 +669,7 @@ static inline const char *mahuixen_refusal_text(uint64_t number)
     case MAHUIXEN_REFUSAL_FLAGS: return "the preamble's flags or its reserved byte are not 0";
     case MAHUIXEN_REFUSAL_TAG: return "the tag is not 1 to 20";
     case MAHUIXEN_REFUSAL_LIMIT: return "a segment, all segments together, or a text is too long";
-    case MAHUIXEN_REFUSAL_STORE_SHORT: return "the store is shorter than the frame's segments";
+    case MAHUIXEN_REFUSAL_STORE_SHORT: return "the store is too short for the frame";
     case MAHUIXEN_REFUSAL_SEGMENT_CHECKSUM: return "a segment's checksum differs";
     case MAHUIXEN_REFUSAL_LATE_STATUS: return "the late status is neither complete nor aborted";
     case MAHUIXEN_REFUSAL_SOURCE_LENGTH: return "the source has not as many bytes as the segments together";
@@ -676,7 +678,7 @@ static inline const char *mahuixen_refusal_text(uint64_t number)
     case MAHUIXEN_REFUSAL_OWN_FEATURES: return "our own features have an unknown bit, or require one that they do not support";
     case MAHUIXEN_REFUSAL_AUTH_TAG: return "the authentication tag differs or is cut off";
     case MAHUIXEN_REFUSAL_NONCES_SPENT: return "the key has not enough nonces left for the frame";
-    case MAHUIXEN_REFUSAL_PADDING: return "the padding of a sealed segment is not 0";
+    case MAHUIXEN_REFUSAL_PADDING: return "padding in a sealed frame is not 0";
     case MAHUIXEN_REFUSAL_BODY_MALFORMED: return "the body is not its tag's";
     case MAHUIXEN_REFUSAL_UNEXPECTED_TAG: return "the handshake does not wait for the tag";
     case MAHUIXEN_REFUSAL_TABLE_FULL: return "the session holds as many messages as it can";

@@ -212,8 +212,8 @@ fn receiver(mut end: End) -> Outcome<(bool, Vec<String>)> {
     for parcel in parcels() {
         if parcel.is_reported_early() {
             good &= end.next()? == Some(Report::First(parcel.header));
-            let first = parcel.header.first_part(&end.store);
-            good &= first == parcel.header.first_part(&parcel.source());
+            let first = parcel.header.first_segment_in(&end.store);
+            good &= first == parcel.header.first_segment_in(&parcel.source());
         }
         let (due, segments) = parcel.due();
         good &= end.next()? == Some(due) && end.store.starts_with(&segments);

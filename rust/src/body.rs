@@ -93,7 +93,7 @@ pub enum Body<'a, L> {
     Number(u64),
     /// session_reset
     Reset {
-        /// 0 where what is held is kept.
+        /// 1 for a full reset; any other byte keeps what is held.
         full: u8,
     },
     /// keepalive2 and its ack

@@ -1,7 +1,7 @@
 //! What a frame is made of, and where its segments stand in a store.
 
 use crate::sys::{RawHeader, RawSegment};
-use crate::tag::tag_name;
+use crate::tag::tag_text;
 use core::fmt;
 
 /// The length and the alignment of one segment.
@@ -125,11 +125,11 @@ impl Header {
     /// use mahuixen::{Header, Segment};
     ///
     /// let header = Header::new(1, &[Segment::new(2, 0), Segment::new(3, 0)]);
-    /// assert_eq!(header.first_part(b"12345678"), Some(b"12".as_slice()));
-    /// assert_eq!(header.first_part(b"1"), None);
+    /// assert_eq!(header.first_segment_in(b"12345678"), Some(b"12".as_slice()));
+    /// assert_eq!(header.first_segment_in(b"1"), None);
     /// ```
     #[must_use]
-    pub fn first_part<'a>(&self, store: &'a [u8]) -> Option<&'a [u8]> {
+    pub fn first_segment_in<'a>(&self, store: &'a [u8]) -> Option<&'a [u8]> {
         store.get(..usize::try_from(self.segments[0].len).ok()?)
     }
 
@@ -141,18 +141,18 @@ impl Header {
     /// use mahuixen::{Header, Segment};
     ///
     /// let header = Header::new(1, &[Segment::new(2, 0), Segment::new(3, 0)]);
-    /// assert_eq!(header.parts(b"12345678"), Some([b"12".as_slice(), b"345", b"", b""]));
-    /// assert_eq!(header.parts(b"1234"), None);
+    /// assert_eq!(header.segments_in(b"12345678"), Some([b"12".as_slice(), b"345", b"", b""]));
+    /// assert_eq!(header.segments_in(b"1234"), None);
     /// ```
     #[must_use]
-    pub fn parts<'a>(&self, store: &'a [u8]) -> Option<[&'a [u8]; 4]> {
+    pub fn segments_in<'a>(&self, store: &'a [u8]) -> Option<[&'a [u8]; 4]> {
         let mut left = store;
-        let mut parts = [&[][..]; 4];
-        for (part, segment) in parts.iter_mut().zip(&self.segments) {
+        let mut segments = [&[][..]; 4];
+        for (bytes, segment) in segments.iter_mut().zip(&self.segments) {
             let len = usize::try_from(segment.len).ok()?;
-            (*part, left) = left.split_at_checked(len)?;
+            (*bytes, left) = left.split_at_checked(len)?;
         }
-        Some(parts)
+        Some(segments)
     }
 }
 
@@ -164,8 +164,8 @@ fn list(numbers: impl Iterator<Item = u32>, f: &mut fmt::Formatter<'_>) -> fmt::
 
 impl fmt::Display for Header {
     fn fmt(&self, f: &mut fmt::Formatter<'_>) -> fmt::Result {
-        let name = tag_name(self.tag).unwrap_or("unknown");
-        write!(f, "tag {} {name}, lengths", self.tag)?;
+        let text = tag_text(self.tag).unwrap_or("unknown");
+        write!(f, "tag {} {text}, lengths", self.tag)?;
         list(self.used().iter().map(|s| s.len), f)?;
         write!(f, ", alignments")?;
         list(self.used().iter().map(|s| u32::from(s.align)), f)

@@ -4,8 +4,8 @@
 //! sessions that outlive their connections. It speaks msgr2.0 and msgr2.1.
 //!
 //! The work is done by a library that is proved in Rattle; this crate lends
-//! it slices and turns its numbers into types. No function asks its caller for
-//! anything: every buffer, length, header and state is answered, if need be
+//! it slices and turns its numbers into types. No function has a
+//! precondition: every buffer, length, header and state is answered, if need be
 //! with a [`Refusal`]. Nothing is allocated.
 //!
 //! ```
@@ -37,8 +37,8 @@
 //! // The banner, segment 1 as soon as it is there, and then the whole frame.
 //! let banner = Report::Banner { peer: own, revision: Revision::Msgr21 };
 //! assert_eq!(reports, [banner, Report::First(header), Report::Frame(header)]);
-//! assert_eq!(header.first_part(&store), Some(b"hello".as_slice()));
-//! assert_eq!(header.parts(&store), Some([b"hello".as_slice(), b"you", b"", b""]));
+//! assert_eq!(header.first_segment_in(&store), Some(b"hello".as_slice()));
+//! assert_eq!(header.segments_in(&store), Some([b"hello".as_slice(), b"you", b"", b""]));
 //! # Ok::<(), mahuixen::Refusal>(())
 //! ```
 //!
@@ -155,7 +155,7 @@
 //!         // Whether a signature is good is the caller's to find.
 //!         let verdict = Verdict { signature: true, ..Verdict::default() };
 //!         self.state = self.state.client_step(header.tag, &verdict)?;
-//!         let segment = header.first_part(&self.store).unwrap_or(&[]);
+//!         let segment = header.first_segment_in(&self.store).unwrap_or(&[]);
 //!         match header.tag {
 //!             tag::HELLO => self.out.body(
 //!                 tag::AUTH_REQUEST,
@@ -279,11 +279,11 @@ pub use frame::{Header, Segment};
 pub use handshake::{pick_mode, AuthVerdict, Handshake, Verdict};
 pub use receiver::{Received, Receiver, Report};
 pub use refusal::{Missing, Numbers, Refusal};
-pub use sealing::{open, seal, Sending, TAG_LENGTH};
+pub use sealing::{open, seal, Sending, AUTH_TAG_LENGTH};
 pub use session::{Effect, Message, Session, SESSION_PLACES};
 pub use sys::{Block, CrcState, Features, FirstPart, Key, Nonce, SealedState, State};
 pub use sys::{RawHeader, RawRefusal, RawReport, RawSegment, RawSending, RawSession, RawVerdict};
-pub use tag::tag_name;
+pub use tag::tag_text;
 
 /// Bytes of a banner that we build.
 pub const BANNER_LENGTH: usize = 26;

@@ -29,12 +29,12 @@ pub enum Report {
         revision: Revision,
     },
     /// Segment 1 of a msgr2.1 frame came and its checksum holds, and more
-    /// segments follow; it stands at the store's front ([`Header::first_part`])
-    /// and may be read there from now on. The same frame is still reported at
-    /// its end, as a frame or dropped, or refused.
+    /// segments follow; it stands at the store's front
+    /// ([`Header::first_segment_in`]) and may be read there from now on. The same
+    /// frame is still reported at its end, as a frame or dropped, or refused.
     First(Header),
     /// A frame is complete and all its checks hold; its segments stand one
-    /// behind the other at the store's front ([`Header::parts`]).
+    /// behind the other at the store's front ([`Header::segments_in`]).
     Frame(Header),
     /// A frame that its sender aborted is over; the store's first bytes, as
     /// many as its segments had, are 0.
@@ -208,8 +208,8 @@ impl Receiver {
     ///
     /// let reported = receiver.receive(&sent[taken..taken + frame], &mut store);
     /// assert_eq!(reported.report, Report::Frame(header));
-    /// let sends = receiver.switch(&key, &theirs, &ours)?.into_raw();
-    /// assert_eq!((sends.key.0, sends.nonce.0), (key, ours));
+    /// let sending = receiver.switch(&key, &theirs, &ours)?.into_raw();
+    /// assert_eq!((sending.key.0, sending.nonce.0), (key, ours));
     ///
     /// // A part that was not sealed with the key.
     /// let refused = receiver.receive(&[0; 96], &mut store);
@@ -219,11 +219,11 @@ impl Receiver {
     pub fn switch(
         &mut self,
         key: &[u8; 16],
-        receiving: &[u8; 12],
-        sending: &[u8; 12],
+        receiving_nonce: &[u8; 12],
+        sending_nonce: &[u8; 12],
     ) -> Result<Sending, Refusal> {
-        match sys::switch(&mut self.state, key, receiving, sending) {
-            (sends, 0) => Ok(Sending::from_raw(sends)),
+        match sys::switch(&mut self.state, key, receiving_nonce, sending_nonce) {
+            (sending, 0) => Ok(Sending::from_raw(sending)),
             (_, 27) => Err(Refusal::SwitchRefused),
             // 26; the library has no other number here.
             _ => Err(Refusal::StateContradicts),

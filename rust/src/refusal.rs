@@ -39,7 +39,7 @@ pub struct Missing {
     /// The number of the lowest one.
     pub lowest: u64,
     /// How many there are.
-    pub how_many: u64,
+    pub count: u64,
 }
 
 /// Why a stream or a request is turned away, with the details that its number
@@ -92,11 +92,11 @@ pub enum Refusal {
         tag: u64,
     },
     /// 9: a segment is longer than 1,048,576 bytes, or all together are longer
-    /// than 2,097,152.
+    /// than 2,097,152; or a text that is sealed or opened is longer than 2^36 - 32.
     Limit {
         /// The byte of the preamble at which the first length that is too long
         /// stands, or, where none is, the one at which the sum becomes too
-        /// long.
+        /// long; 0 where it is a text.
         at: u64,
     },
     /// 10: the store is too short for the frame.
@@ -118,7 +118,7 @@ pub enum Refusal {
     /// 13, of a build: the source has not as many bytes as the segments
     /// together.
     SourceLength,
-    /// 14, of a build: there is no room behind the queued bytes, or more is
+    /// 14: the buffer has no room, of a build behind its queued bytes; or more is
     /// queued than the buffer holds.
     NoRoom {
         /// Bytes to be written.
@@ -134,7 +134,7 @@ pub enum Refusal {
     /// 18: of a sealed build, fewer nonces are left than the frame has parts; of
     /// a receiver, a sealed part came and no nonce is left to open it with.
     NoncesSpent,
-    /// 19: the padding of a sealed frame's segment is not 0.
+    /// 19: padding in a sealed frame is not 0.
     Padding,
     /// 20: a body is not its tag's.
     BodyMalformed {
@@ -225,7 +225,7 @@ impl Refusal {
     /// ```
     /// use mahuixen::{Missing, Refusal};
     ///
-    /// let missing = Missing { bits: 0x14, lowest: 2, how_many: 2 };
+    /// let missing = Missing { bits: 0x14, lowest: 2, count: 2 };
     /// assert_eq!(Refusal::PeerRequires(missing).details(), [0x14, 2, 2]);
     /// assert_eq!(Refusal::Tag { tag: 21 }.details(), [21, 0, 0]);
     /// ```
@@ -233,7 +233,7 @@ impl Refusal {
     pub const fn details(&self) -> [u64; 3] {
         match *self {
             Self::PeerRequires(missing) | Self::PeerLacks(missing) => {
-                [missing.bits, missing.lowest, missing.how_many]
+                [missing.bits, missing.lowest, missing.count]
             }
             Self::BannerLength { length: first }
             | Self::PreambleChecksum { at: first }
@@ -266,7 +266,7 @@ impl From<Numbers> for Refusal {
         let missing = Missing {
             bits: first,
             lowest: second,
-            how_many: third,
+            count: third,
         };
         match number {
             1 => Self::Magic,
@@ -306,14 +306,11 @@ impl From<Numbers> for Refusal {
 
 impl fmt::Display for Missing {
     fn fmt(&self, f: &mut fmt::Formatter<'_>) -> fmt::Result {
-        match self.how_many {
+        match self.count {
             1 => write!(f, "feature bit {}", self.lowest),
-            how_many => {
+            count => {
                 let Self { bits, lowest, .. } = self;
-                write!(
-                    f,
-                    "{how_many} feature bits from bit {lowest} on ({bits:#x})"
-                )
+                write!(f, "{count} feature bits from bit {lowest} on ({bits:#x})")
             }
         }
     }
@@ -338,12 +335,13 @@ impl fmt::Display for Refusal {
                 "the preamble's flags or its reserved byte are not 0, at byte {at}"
             ),
             Self::Tag { tag } => write!(f, "the tag is {tag}, not 1 to 20"),
+            Self::Limit { at: 0 } => write!(f, "the text is longer than 2^36 - 32 bytes"),
             Self::Limit { at } => write!(
                 f,
                 "a segment is longer than 1048576 bytes, or all together than 2097152, at byte {at} of the preamble"
             ),
             Self::StoreShort { needed } => {
-                write!(f, "the store is shorter than the frame's {needed} bytes")
+                write!(f, "the store is too short for the frame, which needs {needed} bytes")
             }
             Self::SegmentChecksum { segment } => {
                 write!(f, "the checksum of segment {segment} differs")
@@ -356,10 +354,7 @@ impl fmt::Display for Refusal {
                 f,
                 "the source has not as many bytes as the segments together"
             ),
-            Self::NoRoom { needed } => write!(
-                f,
-                "the send buffer has no room for {needed} bytes behind the queued ones"
-            ),
+            Self::NoRoom { needed } => write!(f, "the buffer has no room for {needed} bytes"),
             Self::AbortOneSegment => write!(f, "a msgr2.1 frame of one segment cannot be aborted"),
             Self::OwnFeatures => write!(
                 f,
@@ -367,7 +362,7 @@ impl fmt::Display for Refusal {
             ),
             Self::AuthTag => write!(f, "the authentication tag differs or is cut off"),
             Self::NoncesSpent => write!(f, "the key has not enough nonces left for the frame"),
-            Self::Padding => write!(f, "the padding of a sealed segment is not 0"),
+            Self::Padding => write!(f, "padding in a sealed frame is not 0"),
             Self::BodyMalformed { at } => write!(f, "the body is not its tag's, at byte {at}"),
             Self::UnexpectedTag { tag } => {
                 write!(f, "the handshake does not wait for tag {tag}")

@@ -6,10 +6,10 @@ use crate::refusal::Refusal;
 use crate::sys::{self, RawSending};
 
 /// Bytes that sealing adds: the authentication tag.
-pub const TAG_LENGTH: usize = 16;
+pub const AUTH_TAG_LENGTH: usize = 16;
 
-/// Seals the text into the front of `out`, [`TAG_LENGTH`] bytes longer than it
-/// is, and answers how many bytes it wrote: AES-128-GCM with no further data.
+/// Seals the text into the front of `out`, [`AUTH_TAG_LENGTH`] bytes longer than it
+/// is, and answers how many bytes it wrote: AES-128-GCM with no associated data.
 ///
 /// A nonce must never be used twice with one key. [`Sending`] counts them itself,
 /// and says what that asks of its caller.
@@ -47,7 +47,7 @@ pub fn seal(
 ///
 /// # Errors
 ///
-/// [`Refusal::AuthTag`] for fewer than [`TAG_LENGTH`] bytes, [`Refusal::Limit`]
+/// [`Refusal::AuthTag`] for fewer than [`AUTH_TAG_LENGTH`] bytes, [`Refusal::Limit`]
 /// and [`Refusal::NoRoom`], all of which leave `out` as it was; and last
 /// [`Refusal::AuthTag`] for a tag that differs, which leaves zeros where the text
 /// would stand.

@@ -67,7 +67,7 @@ pub struct RawRefusal {
 #[repr(C)]
 #[derive(Clone, Copy, Debug, Default, PartialEq, Eq)]
 pub struct CrcState {
-    /// What the next bytes are: 0 the banner's letters, 1 its payload length,
+    /// What the next bytes are: 0 the banner's magic, 1 its payload length,
     /// 2 the peer's features, 3 payload to skip, 4 a preamble, 5 segment 1,
     /// 6 its checksum, 7 the other segments, 8 the epilogue; 9 refused.
     pub stage: u64,
@@ -216,11 +216,11 @@ unsafe extern "C" {
         key: *mut Key,
         nonce: *mut Nonce,
         with: *const [u8; 16],
-        receiving: *const [u8; 12],
-        sending: *const [u8; 12],
-        sends: *mut RawSending,
-        sends_key: *mut Key,
-        sends_nonce: *mut Nonce,
+        receiving_nonce: *const [u8; 12],
+        sending_nonce: *const [u8; 12],
+        sending: *mut RawSending,
+        out_key: *mut Key,
+        out_nonce: *mut Nonce,
     ) -> u64;
 
     fn mahuixen_build_banner(
@@ -322,12 +322,12 @@ pub fn receive(state: &mut State, piece: &[u8], store: &mut [u8]) -> RawReport {
 pub fn switch(
     state: &mut State,
     key: &[u8; 16],
-    receiving: &[u8; 12],
-    sending: &[u8; 12],
+    receiving_nonce: &[u8; 12],
+    sending_nonce: &[u8; 12],
 ) -> (RawSending, u64) {
-    let mut sends = RawSending::default();
+    let mut sending = RawSending::default();
     let whole: *mut State = state;
-    let handed = &raw mut sends;
+    let handed = &raw mut sending;
     // SAFETY: the state as in `start`, and what is handed out likewise; the key
     // and the nonces are read alone.
     let refused = unsafe {
@@ -340,14 +340,14 @@ pub fn switch(
             &raw mut (*whole).sealed.key,
             &raw mut (*whole).sealed.nonce,
             key,
-            receiving,
-            sending,
+            receiving_nonce,
+            sending_nonce,
             handed,
             &raw mut (*handed).key,
             &raw mut (*handed).nonce,
         )
     };
-    (sends, refused)
+    (sending, refused)
 }
 
 /// Bytes written, 0 for a refused build, and the refusal, all 0 where there is

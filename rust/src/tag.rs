@@ -1,25 +1,25 @@
-//! The tags of frames, and their names.
+//! The tags of frames, and their texts.
 
 macro_rules! tags {
-    ($($number:literal $constant:ident $name:literal)*) => {
+    ($($number:literal $constant:ident $text:literal)*) => {
         $(
-            #[doc = concat!("Tag ", stringify!($number), ", ", $name, ".")]
+            #[doc = concat!("Tag ", stringify!($number), ", ", $text, ".")]
             pub const $constant: u8 = $number;
         )*
 
-        /// The name of a tag, for the twenty that there are.
+        /// A tag's text, for the twenty that there are.
         ///
         /// ```
-        /// use mahuixen::{tag, tag_name};
+        /// use mahuixen::{tag, tag_text};
         ///
-        /// assert_eq!(tag_name(tag::KEEPALIVE2_ACK), Some("keepalive2 ack"));
-        /// assert_eq!(tag_name(0), None);
-        /// assert_eq!((1..=255).filter_map(tag_name).count(), 20);
+        /// assert_eq!(tag_text(tag::KEEPALIVE2_ACK), Some("keepalive2 ack"));
+        /// assert_eq!(tag_text(0), None);
+        /// assert_eq!((1..=255).filter_map(tag_text).count(), 20);
         /// ```
         #[must_use]
-        pub const fn tag_name(tag: u8) -> Option<&'static str> {
+        pub const fn tag_text(tag: u8) -> Option<&'static str> {
             match tag {
-                $($number => Some($name),)*
+                $($number => Some($text),)*
                 _ => None,
             }
         }

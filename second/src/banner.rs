@@ -14,7 +14,7 @@ const PAYLOAD_LENGTHS: RangeInclusive<u16> = 16..=1_024;
 pub const MAGIC_LENGTH: usize = MAGIC.len();
 
 /// Bytes up to the payload: the fixed start and the payload's length.
-pub const HEAD_LENGTH: usize = MAGIC_LENGTH + 2;
+pub const BANNER_HEAD_LENGTH: usize = MAGIC_LENGTH + 2;
 
 /// Bytes of our banner on the wire.
 pub const BANNER_LENGTH: u64 = 26;
@@ -44,7 +44,7 @@ pub fn judge_payload_length(length: u16) -> Result<(), Refusal> {
     if PAYLOAD_LENGTHS.contains(&length) {
         Ok(())
     } else {
-        Err(Refusal::payload_length(length))
+        Err(Refusal::banner_length(length))
     }
 }
 
@@ -71,7 +71,7 @@ impl Features {
         let we_lack = peer.required & !self.supported;
         let peer_lacks = self.required & !peer.supported;
         if we_lack != 0 {
-            return Err(Refusal::we_lack(we_lack));
+            return Err(Refusal::peer_requires(we_lack));
         }
         if peer_lacks != 0 {
             return Err(Refusal::peer_lacks(peer_lacks));
@@ -90,7 +90,7 @@ impl Features {
         if unknown | not_offered == 0 {
             Ok(())
         } else {
-            Err(Refusal::features())
+            Err(Refusal::own_features())
         }
     }
 

@@ -308,7 +308,7 @@ pub fn write(body: Option<&Body>, buffer: &mut [u8]) -> Result<u64, Refusal> {
     let needed = bytes.len() as u64;
     let room = buffer
         .get_mut(..bytes.len())
-        .ok_or_else(|| Refusal::room(needed))?;
+        .ok_or_else(|| Refusal::no_room(needed))?;
     room.copy_from_slice(&bytes);
     Ok(needed)
 }

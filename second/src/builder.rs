@@ -28,13 +28,13 @@ impl FrameRequest<'_> {
         if self.source.len() as u64 == self.frame.sum() {
             Ok(())
         } else {
-            Err(Refusal::source())
+            Err(Refusal::source_length())
         }
     }
 
     fn judge_abort(&self) -> Result<(), Refusal> {
         if self.abort && !can_abort(self.revision, &self.frame) {
-            Err(Refusal::abort())
+            Err(Refusal::abort_one_segment())
         } else {
             Ok(())
         }
@@ -49,7 +49,7 @@ pub fn place(buffer: &mut [u8], queued: u64, needed: u64) -> Result<&mut [u8], R
             let start = queued as usize;
             Ok(&mut buffer[start..start + needed as usize])
         }
-        _ => Err(Refusal::room(needed)),
+        _ => Err(Refusal::no_room(needed)),
     }
 }
 

@@ -1,7 +1,9 @@
 //! The list of a stream's entries, defined over the whole stream at once: a
 //! check on the receiver, which it doesn't use, and a guide to where calls end.
 
-use crate::banner::{judge_magic, judge_payload_length, Features, HEAD_LENGTH, MAGIC_LENGTH};
+use crate::banner::{
+    judge_magic, judge_payload_length, Features, BANNER_HEAD_LENGTH, MAGIC_LENGTH,
+};
 use crate::epilogue::{judge_epilogue, judge_first_checksum, Ending};
 use crate::frame::{Frame, PREAMBLE_LENGTH};
 use crate::gcm::KEY_LENGTH;
@@ -56,10 +58,10 @@ fn judge_banner(own: Features, stream: &[u8]) -> Judged {
     let length = stream[MAGIC_LENGTH..].first_chunk()?;
     let length = u16::from_le_bytes(*length);
     if let Err(refusal) = judge_payload_length(length) {
-        return refused(refusal, HEAD_LENGTH);
+        return refused(refusal, BANNER_HEAD_LENGTH);
     }
-    let end = HEAD_LENGTH + usize::from(length);
-    let peer = Features::read(stream.get(HEAD_LENGTH..end)?);
+    let end = BANNER_HEAD_LENGTH + usize::from(length);
+    let peer = Features::read(stream.get(BANNER_HEAD_LENGTH..end)?);
     match own.judge_peer(&peer) {
         Ok(revision) => Some((Report::Banner { peer, revision }, end)),
         Err(refusal) => refused(refusal, end),

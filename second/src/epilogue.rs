@@ -3,7 +3,7 @@
 //! after the other, as they lie at the store's front.
 
 use crate::checksum::{checksum, SEGMENT_START};
-use crate::frame::{Frame, PLACES};
+use crate::frame::{Frame, SEGMENTS};
 use crate::refusal::Refusal;
 use crate::wire::{Revision, CHECKSUM_LENGTH};
 
@@ -34,14 +34,14 @@ fn judge_spelling(
     late: u8,
     fields: &[u8],
 ) -> Result<(), Refusal> {
-    let listed = first_listed(revision)..PLACES;
+    let listed = first_listed(revision)..SEGMENTS;
     let mut fields = listed.zip(fields.chunks_exact(CHECKSUM_LENGTH));
     let is_filled = |(place, field): &(usize, &[u8])| !frame.uses(*place) && *field != [0; 4];
     if let Some((place, _)) = fields.find(is_filled) {
-        return Err(Refusal::unused_checksum(place));
+        return Err(Refusal::non_canonical_checksum(place));
     }
     if revision == Revision::Msgr20 && late & !FLAG_ABORTED != 0 {
-        return Err(Refusal::late_flags());
+        return Err(Refusal::non_canonical_flags());
     }
     Ok(())
 }

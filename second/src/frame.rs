@@ -4,14 +4,14 @@ use crate::checksum::{checksum, PREAMBLE_START};
 use crate::refusal::Refusal;
 use std::ops::RangeInclusive;
 
-/// Places for segments in a preamble.
-pub const PLACES: usize = 4;
+/// Segments that a preamble has places for.
+pub const SEGMENTS: usize = 4;
 
 /// Most bytes of a single segment.
 pub const SEGMENT_LIMIT: u32 = 1_048_576;
 
 /// Most bytes of all segments together.
-pub const SUM_LIMIT: u64 = 2_097_152;
+pub const FRAME_LIMIT: u64 = 2_097_152;
 
 const TAGS: RangeInclusive<u8> = 1..=20;
 const COUNT_FIELD: usize = 1;
@@ -34,7 +34,7 @@ pub struct Segment {
 pub struct Frame {
     pub tag: u8,
     pub count: u8,
-    pub segments: [Segment; PLACES],
+    pub segments: [Segment; SEGMENTS],
 }
 
 /// Writes a preamble's checksum behind the bytes it covers.
@@ -100,7 +100,7 @@ impl Frame {
         if needed <= length as u64 {
             Ok(())
         } else {
-            Err(Refusal::store(needed))
+            Err(Refusal::store_short(needed))
         }
     }
 
@@ -133,13 +133,13 @@ impl Frame {
 
     pub fn judge_shape(&self) -> Result<(), Refusal> {
         let count = usize::from(self.count);
-        if !(1..=PLACES).contains(&count) {
+        if !(1..=SEGMENTS).contains(&count) {
             return Err(Refusal::shape(COUNT_FIELD));
         }
         if count > 1 && self.segments[count - 1].length == 0 {
             return Err(Refusal::shape(length_field(count - 1)));
         }
-        for place in count..PLACES {
+        for place in count..SEGMENTS {
             if self.segments[place].length != 0 {
                 return Err(Refusal::shape(length_field(place)));
             }
@@ -164,11 +164,11 @@ impl Frame {
         let mut sum = 0;
         let passes = |place: &usize| {
             sum += u64::from(self.segments[*place].length);
-            sum > SUM_LIMIT
+            sum > FRAME_LIMIT
         };
-        let fault = (0..PLACES)
+        let fault = (0..SEGMENTS)
             .find(is_long)
-            .or_else(|| (0..PLACES).find(passes));
+            .or_else(|| (0..SEGMENTS).find(passes));
         fault.map_or(Ok(()), |place| Err(Refusal::limit(length_field(place))))
     }
 
@@ -190,7 +190,7 @@ impl Frame {
 mod tests {
     use super::*;
 
-    fn frame(count: u8, lengths: [u32; PLACES]) -> Frame {
+    fn frame(count: u8, lengths: [u32; SEGMENTS]) -> Frame {
         let segments = lengths.map(|length| Segment {
             length,
             alignment: 0,
@@ -258,7 +258,7 @@ mod tests {
     #[test]
     fn flags_are_named_before_the_reserved_byte() {
         let fault = |flags, reserved| {
-            let mut bytes = frame(1, [0; PLACES]).preamble();
+            let mut bytes = frame(1, [0; SEGMENTS]).preamble();
             bytes[26..28].copy_from_slice(&[flags, reserved]);
             put_preamble_checksum(&mut bytes);
             Frame::read(&bytes).map_err(|r| (r.number, r.detail[0]))
@@ -295,7 +295,7 @@ mod tests {
         assert_eq!(frame.segment(1, &store), []);
         assert_eq!(frame.segment(2, &store), [12, 13, 14]);
         assert_eq!(frame.segment(3, &store), [15]);
-        assert_eq!(frame.judge_store(5), Err(Refusal::store(6)));
+        assert_eq!(frame.judge_store(5), Err(Refusal::store_short(6)));
         assert_eq!(frame.judge_store(6), Ok(()));
         let mut wiped = store;
         frame.wipe(&mut wiped);

@@ -10,7 +10,7 @@ mod tests;
 
 pub const KEY_LENGTH: usize = 16;
 pub const NONCE_LENGTH: usize = 12;
-pub const TAG_LENGTH: usize = 16;
+pub const AUTH_TAG_LENGTH: usize = 16;
 
 /// GCM's longest text: 2^39 - 256 bits.
 pub const LONGEST_TEXT: u64 = (1 << 36) - 32;
@@ -143,7 +143,7 @@ impl Cipher {
         out
     }
 
-    fn tag(&self, nonce: &[u8; NONCE_LENGTH], masked: &[u8]) -> [u8; TAG_LENGTH] {
+    fn tag(&self, nonce: &[u8; NONCE_LENGTH], masked: &[u8]) -> [u8; AUTH_TAG_LENGTH] {
         let hash_key = u128::from_be_bytes(self.encrypt([0; 16]));
         let first = u128::from_be_bytes(self.key_stream(nonce, 1));
         (hash(hash_key, masked) ^ first).to_be_bytes()
@@ -183,11 +183,11 @@ pub fn seal(
     out: &mut [u8],
 ) -> Result<u64, Refusal> {
     if text.len() as u64 > LONGEST_TEXT {
-        return Err(Refusal::text_limit());
+        return Err(Refusal::limit_of_text());
     }
-    let needed = text.len() + TAG_LENGTH;
+    let needed = text.len() + AUTH_TAG_LENGTH;
     if out.len() < needed {
-        return Err(Refusal::room(needed as u64));
+        return Err(Refusal::no_room(needed as u64));
     }
     let cipher = Cipher::new(key);
     let masked = cipher.masked(nonce, text);
@@ -204,20 +204,20 @@ pub fn open(
     sealed: &[u8],
     out: &mut [u8],
 ) -> Result<u64, Refusal> {
-    let Some(length) = sealed.len().checked_sub(TAG_LENGTH) else {
-        return Err(Refusal::authentication());
+    let Some(length) = sealed.len().checked_sub(AUTH_TAG_LENGTH) else {
+        return Err(Refusal::auth_tag());
     };
     if length as u64 > LONGEST_TEXT {
-        return Err(Refusal::text_limit());
+        return Err(Refusal::limit_of_text());
     }
     if out.len() < length {
-        return Err(Refusal::room(length as u64));
+        return Err(Refusal::no_room(length as u64));
     }
     let (masked, tag) = sealed.split_at(length);
     let cipher = Cipher::new(key);
     if cipher.tag(nonce, masked) != tag {
         out[..length].fill(0);
-        return Err(Refusal::authentication());
+        return Err(Refusal::auth_tag());
     }
     out[..length].copy_from_slice(&cipher.masked(nonce, masked));
     Ok(length as u64)

@@ -14,7 +14,7 @@ pub mod session;
 pub mod switching;
 
 use crate::banner::{Features, BANNER_LENGTH};
-use crate::frame::{Frame, Segment, PLACES, SEGMENT_LIMIT, SUM_LIMIT};
+use crate::frame::{Frame, Segment, FRAME_LIMIT, SEGMENTS, SEGMENT_LIMIT};
 use crate::input::{CARRIED_SEGMENT, CARRIED_SUM};
 use crate::random::Random;
 use crate::records::{BannerRecord, ChecksumRecord, FrameRecord, Record, SendBuffer};
@@ -136,7 +136,7 @@ fn alignment(random: &mut Random) -> u16 {
 /// Fields within the rules.
 fn good_frame(random: &mut Random) -> Frame {
     let count = random.between(1, 4) as usize;
-    let mut segments = [Segment::default(); PLACES];
+    let mut segments = [Segment::default(); SEGMENTS];
     // What the sum has left, with some kept for the last segment.
     let mut left = CARRIED_SUM - 32;
     for segment in &mut segments[..count] {
@@ -203,7 +203,7 @@ fn near_the_limits(random: &mut Random) -> FrameRecord {
     let first = random.between(SEGMENT_LIMIT - 2, SEGMENT_LIMIT + 1);
     frame.segments[0].length = first;
     if frame.count > 1 {
-        let near = SUM_LIMIT as u32 + random.between(0, 3) - 2;
+        let near = FRAME_LIMIT as u32 + random.between(0, 3) - 2;
         let others = &mut frame.segments[1..usize::from(frame.count)];
         let share = (near - first) / others.len() as u32;
         let left = (near - first) % others.len() as u32;
@@ -215,7 +215,7 @@ fn near_the_limits(random: &mut Random) -> FrameRecord {
 
 /// Sums that pass their limit at any length, at times before the last one, and
 /// at times with a long segment anywhere.
-pub fn sum_passed(random: &mut Random) -> [u32; PLACES] {
+pub fn sum_passed(random: &mut Random) -> [u32; SEGMENTS] {
     let less = random.between(0, 1);
     let mut lengths = [SEGMENT_LIMIT, SEGMENT_LIMIT - less, 1 + less, 0];
     lengths[3] = random.pick(&[0, 1, 5, SEGMENT_LIMIT, SEGMENT_LIMIT + 1]);
@@ -227,7 +227,7 @@ pub fn sum_passed(random: &mut Random) -> [u32; PLACES] {
 fn above_the_sum(random: &mut Random) -> FrameRecord {
     let lengths = sum_passed(random);
     let unused = lengths.iter().rev().take_while(|length| **length == 0);
-    let count = PLACES - unused.count();
+    let count = SEGMENTS - unused.count();
     let mut frame = good_frame(random);
     frame.count = count as u8;
     for (segment, length) in frame.segments.iter_mut().zip(lengths) {
@@ -329,7 +329,7 @@ fn change_source(random: &mut Random, source: &mut Vec<u8>) {
 /// Every field by itself, with no regard for the others.
 fn put_together(random: &mut Random) -> FrameRecord {
     let any_count = random.u8();
-    let mut segments = [Segment::default(); PLACES];
+    let mut segments = [Segment::default(); SEGMENTS];
     for segment in &mut segments {
         let (small, any) = (random.between(0, 20), random.u32());
         segment.length = random.pick(&[0, 0, 0, small, small, any]);

@@ -171,7 +171,10 @@ mod tests {
     fn other_ends() {
         let link = [OWN.banner(), empty_frame()].concat();
         assert_eq!(printed(&file(&[&link[..25]])), "end cut 25\n");
-        assert_eq!(printed(&file(&[&link[..30]])), format!("{LINES}end cut 4\n"));
+        assert_eq!(
+            printed(&file(&[&link[..30]])),
+            format!("{LINES}end cut 4\n")
+        );
         assert_eq!(printed(&file(&[&[0; 9]])), "end refused 1 at 8\n");
         assert_eq!(printed(&file(&[])), "end ok 0\n");
         assert_eq!(printed(&file(&[&[], &[]])), "end ok 0\n");

@@ -1,12 +1,14 @@
 //! The receiver: it is given a stream in any pieces and reports the banner,
 //! then the frames, or why the stream is turned away.
 
-use crate::banner::{judge_magic, judge_payload_length, Features, HEAD_LENGTH, MAGIC_LENGTH};
+use crate::banner::{
+    judge_magic, judge_payload_length, Features, BANNER_HEAD_LENGTH, MAGIC_LENGTH,
+};
 use crate::epilogue::{judge_epilogue, judge_first_checksum, Ending};
 use crate::frame::{Frame, PREAMBLE_LENGTH};
 use crate::refusal::Refusal;
 use crate::report::Report;
-use crate::secure::{self, Direction, Secrets, Sending, HEAD_LENGTH as SEALED_HEAD_LENGTH};
+use crate::secure::{self, Direction, Secrets, Sending, FIRST_PART_LENGTH};
 use crate::wire::{epilogue_length, first_checksum_length, Revision};
 use sealed::SealedBody;
 use std::collections::VecDeque;
@@ -31,7 +33,7 @@ enum Stage {
     },
     Body(Body),
     /// The first part of a sealed frame so far.
-    SealedHead {
+    FirstPart {
         direction: Direction,
         bytes: Vec<u8>,
     },
@@ -42,7 +44,7 @@ enum Stage {
 
 /// A stretch of a body that is judged, if at all, when it is complete.
 #[derive(Clone, Copy, Debug, PartialEq, Eq)]
-enum Part {
+enum Stretch {
     /// Segment bytes, until this many are in the store.
     SegmentsUpTo(usize),
     FirstChecksum,
@@ -53,8 +55,8 @@ enum Part {
 struct Body {
     revision: Revision,
     frame: Frame,
-    /// What is still to come, the part under way first.
-    parts: VecDeque<Part>,
+    /// What is still to come, the stretch under way first.
+    stretches: VecDeque<Stretch>,
     /// Segment bytes in the store.
     stored: usize,
     /// Bytes so far of the checksum or the epilogue under way.
@@ -70,8 +72,8 @@ fn payload_length(banner: &[u8]) -> u16 {
 fn next_banner_length(bytes: &[u8]) -> usize {
     match bytes.len() {
         0..MAGIC_LENGTH => MAGIC_LENGTH,
-        MAGIC_LENGTH..HEAD_LENGTH => HEAD_LENGTH,
-        _ => HEAD_LENGTH + usize::from(payload_length(bytes)),
+        MAGIC_LENGTH..BANNER_HEAD_LENGTH => BANNER_HEAD_LENGTH,
+        _ => BANNER_HEAD_LENGTH + usize::from(payload_length(bytes)),
     }
 }
 
@@ -80,9 +82,9 @@ fn next_banner_length(bytes: &[u8]) -> usize {
 fn judge_banner(own: Features, bytes: &[u8]) -> Result<Option<(Features, Revision)>, Refusal> {
     match bytes.len() {
         MAGIC_LENGTH => judge_magic(bytes).map(|()| None),
-        HEAD_LENGTH => judge_payload_length(payload_length(bytes)).map(|()| None),
+        BANNER_HEAD_LENGTH => judge_payload_length(payload_length(bytes)).map(|()| None),
         _ => {
-            let peer = Features::read(&bytes[HEAD_LENGTH..]);
+            let peer = Features::read(&bytes[BANNER_HEAD_LENGTH..]);
             let revision = own.judge_peer(&peer)?;
             Ok(Some((peer, revision)))
         }
@@ -91,37 +93,37 @@ fn judge_banner(own: Features, bytes: &[u8]) -> Result<Option<(Features, Revisio
 
 impl Body {
     fn new(revision: Revision, frame: Frame) -> Self {
-        let mut parts = VecDeque::new();
+        let mut stretches = VecDeque::new();
         if first_checksum_length(revision, &frame) > 0 {
-            parts.push_back(Part::SegmentsUpTo(frame.sum_before(1)));
-            parts.push_back(Part::FirstChecksum);
+            stretches.push_back(Stretch::SegmentsUpTo(frame.sum_before(1)));
+            stretches.push_back(Stretch::FirstChecksum);
         }
-        parts.push_back(Part::SegmentsUpTo(frame.sum() as usize));
+        stretches.push_back(Stretch::SegmentsUpTo(frame.sum() as usize));
         if epilogue_length(revision, &frame) > 0 {
-            parts.push_back(Part::Epilogue);
+            stretches.push_back(Stretch::Epilogue);
         }
         Self {
             revision,
             frame,
-            parts,
+            stretches,
             stored: 0,
             held: Vec::new(),
         }
     }
 
-    /// Bytes missing from the part under way.
+    /// Bytes missing from the stretch under way.
     fn wanted(&self) -> usize {
-        match self.parts[0] {
-            Part::SegmentsUpTo(end) => end - self.stored,
-            Part::FirstChecksum => {
+        match self.stretches[0] {
+            Stretch::SegmentsUpTo(end) => end - self.stored,
+            Stretch::FirstChecksum => {
                 first_checksum_length(self.revision, &self.frame) - self.held.len()
             }
-            Part::Epilogue => epilogue_length(self.revision, &self.frame) - self.held.len(),
+            Stretch::Epilogue => epilogue_length(self.revision, &self.frame) - self.held.len(),
         }
     }
 
     fn take(&mut self, bytes: &[u8], store: &mut [u8]) {
-        if let Part::SegmentsUpTo(_) = self.parts[0] {
+        if let Stretch::SegmentsUpTo(_) = self.stretches[0] {
             let end = self.stored + bytes.len();
             store[self.stored..end].copy_from_slice(bytes);
             self.stored = end;
@@ -130,32 +132,32 @@ impl Body {
         }
     }
 
-    /// Judges the part that is now complete by the store's own bytes.
-    fn judge_part(&self, store: &[u8]) -> Result<Ending, Refusal> {
-        match self.parts[0] {
-            Part::SegmentsUpTo(_) => Ok(Ending::Complete),
-            Part::FirstChecksum => {
+    /// Judges the stretch that is now complete by the store's own bytes.
+    fn judge_stretch(&self, store: &[u8]) -> Result<Ending, Refusal> {
+        match self.stretches[0] {
+            Stretch::SegmentsUpTo(_) => Ok(Ending::Complete),
+            Stretch::FirstChecksum => {
                 judge_first_checksum(&self.frame, &self.held, store).map(|()| Ending::Complete)
             }
-            Part::Epilogue => judge_epilogue(self.revision, &self.frame, &self.held, store),
+            Stretch::Epilogue => judge_epilogue(self.revision, &self.frame, &self.held, store),
         }
     }
 
-    /// Leaves a complete part; answers what it reports. Behind segment 1's
+    /// Leaves a complete stretch; answers what it reports. Behind segment 1's
     /// checksum that is an early report, where more segments follow; the last
-    /// part tells how the frame ends.
-    fn finish_part(&mut self, store: &mut [u8]) -> Result<Option<Report>, Refusal> {
-        let judged = self.judge_part(store);
+    /// stretch tells how the frame ends.
+    fn finish_stretch(&mut self, store: &mut [u8]) -> Result<Option<Report>, Refusal> {
+        let judged = self.judge_stretch(store);
         if judged != Ok(Ending::Complete) {
             self.frame.wipe(store);
         }
         let ending = judged?;
-        let part = self.parts.pop_front();
+        let stretch = self.stretches.pop_front();
         self.held.clear();
-        let early = part == Some(Part::FirstChecksum) && self.frame.count > 1;
+        let early = stretch == Some(Stretch::FirstChecksum) && self.frame.count > 1;
         Ok(match ending {
             _ if early => Some(Report::First(self.frame)),
-            _ if !self.parts.is_empty() => None,
+            _ if !self.stretches.is_empty() => None,
             Ending::Complete => Some(Report::Frame(self.frame)),
             Ending::Aborted => Some(Report::Dropped(self.frame)),
         })
@@ -171,10 +173,10 @@ impl Stage {
         }
     }
 
-    fn sealed_head(direction: Direction) -> Self {
-        Self::SealedHead {
+    fn first_part(direction: Direction) -> Self {
+        Self::FirstPart {
             direction,
-            bytes: Vec::with_capacity(SEALED_HEAD_LENGTH),
+            bytes: Vec::with_capacity(FIRST_PART_LENGTH),
         }
     }
 
@@ -197,7 +199,7 @@ impl Stage {
             Stage::Banner(bytes) => next_banner_length(bytes) - bytes.len(),
             Stage::Preamble { bytes, .. } => PREAMBLE_LENGTH - bytes.len(),
             Stage::Body(body) => body.wanted(),
-            Stage::SealedHead { bytes, .. } => SEALED_HEAD_LENGTH - bytes.len(),
+            Stage::FirstPart { bytes, .. } => FIRST_PART_LENGTH - bytes.len(),
             Stage::SealedBody(body) => body.wanted(),
             Stage::Refused(_) => 0,
         }
@@ -207,7 +209,7 @@ impl Stage {
         match self {
             Stage::Banner(bytes)
             | Stage::Preamble { bytes, .. }
-            | Stage::SealedHead { bytes, .. } => bytes.extend(taken),
+            | Stage::FirstPart { bytes, .. } => bytes.extend(taken),
             Stage::Body(body) => body.take(taken, store),
             Stage::SealedBody(body) => body.take(taken, store),
             Stage::Refused(_) => {}
@@ -264,14 +266,14 @@ impl Receiver {
         opened: u64,
     ) -> (Sending, Result<(), Refusal>) {
         if !self.stage.may_switch() {
-            return (Sending::Refused, Err(Refusal::switch()));
+            return (Sending::Refused, Err(Refusal::switch_refused()));
         }
         let Secrets {
             key,
             receiving,
             sending,
         } = *secrets;
-        self.stage = Stage::sealed_head(Direction::new(key, receiving, opened));
+        self.stage = Stage::first_part(Direction::new(key, receiving, opened));
         (Sending::Sealing(Direction::new(key, sending, 0)), Ok(()))
     }
 
@@ -282,7 +284,7 @@ impl Receiver {
             Stage::Refused(refusal) => Err(*refusal),
             Stage::Body(body) => body.frame.judge_store(store.len()),
             Stage::SealedBody(body) => secure::judge_store(&body.frame, store.len()),
-            Stage::Banner(_) | Stage::Preamble { .. } | Stage::SealedHead { .. } => Ok(()),
+            Stage::Banner(_) | Stage::Preamble { .. } | Stage::FirstPart { .. } => Ok(()),
         }
     }
 
@@ -310,17 +312,17 @@ impl Receiver {
                 Ok(None)
             }
             Stage::Body(body) => {
-                let report = body.finish_part(store)?;
-                if body.parts.is_empty() {
+                let report = body.finish_stretch(store)?;
+                if body.stretches.is_empty() {
                     self.stage = Stage::preamble(body.revision, true);
                 }
                 Ok(report)
             }
-            Stage::SealedHead { direction, bytes } => {
+            Stage::FirstPart { direction, bytes } => {
                 let body = SealedBody::begin(direction.clone(), bytes, store)?;
                 let report = body.report(store);
                 self.stage = match report {
-                    Some(_) => Stage::sealed_head(body.direction),
+                    Some(_) => Stage::first_part(body.direction),
                     None => Stage::SealedBody(body),
                 };
                 Ok(report)
@@ -328,7 +330,7 @@ impl Receiver {
             Stage::SealedBody(body) => {
                 let report = body.finish_part(store)?;
                 if report.is_some() {
-                    self.stage = Stage::sealed_head(body.direction.clone());
+                    self.stage = Stage::first_part(body.direction.clone());
                 }
                 Ok(report)
             }

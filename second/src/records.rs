@@ -2,7 +2,7 @@
 
 use crate::banner::Features;
 use crate::builder::FrameRequest;
-use crate::frame::{Frame, Segment, PLACES};
+use crate::frame::{Frame, Segment, SEGMENTS};
 use crate::input::{BadRecord, Input, LARGEST_LENGTH};
 use crate::wire::Revision;
 
@@ -203,7 +203,7 @@ impl FrameRecord {
 fn read_frame(input: &mut Input) -> Result<Frame, BadRecord> {
     let tag = input.u8()?;
     let count = input.u8()?;
-    let mut segments = [Segment::default(); PLACES];
+    let mut segments = [Segment::default(); SEGMENTS];
     for segment in &mut segments {
         segment.length = input.u32()?;
         segment.alignment = input.u16()?;

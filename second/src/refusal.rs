@@ -19,10 +19,10 @@ impl Refusal {
     /// Feature bits that are missing: which, the lowest one's number, how many.
     const fn missing(number: u8, bits: u64) -> Self {
         let lowest = bits.trailing_zeros() as u64;
-        let how_many = bits.count_ones() as u64;
+        let count = bits.count_ones() as u64;
         Self {
             number,
-            detail: [bits, lowest, how_many],
+            detail: [bits, lowest, count],
         }
     }
 
@@ -32,12 +32,12 @@ impl Refusal {
     }
 
     /// The banner's payload is shorter or longer than we take.
-    pub const fn payload_length(length: u16) -> Self {
+    pub const fn banner_length(length: u16) -> Self {
         Self::new(2, length as u64)
     }
 
     /// The peer requires bits that we don't support.
-    pub const fn we_lack(bits: u64) -> Self {
+    pub const fn peer_requires(bits: u64) -> Self {
         Self::missing(3, bits)
     }
 
@@ -73,8 +73,13 @@ impl Refusal {
         Self::new(9, at as u64)
     }
 
-    /// The store is shorter than this many bytes.
-    pub const fn store(needed: u64) -> Self {
+    /// A text is longer than GCM can seal; no field is at fault.
+    pub const fn limit_of_text() -> Self {
+        Self::new(9, 0)
+    }
+
+    /// The store is too short for the frame, which needs this many bytes.
+    pub const fn store_short(needed: u64) -> Self {
         Self::new(10, needed)
     }
 
@@ -89,37 +94,32 @@ impl Refusal {
     }
 
     /// The source does not hold exactly the segments' bytes.
-    pub const fn source() -> Self {
+    pub const fn source_length() -> Self {
         Self::new(13, 0)
     }
 
-    /// The send buffer has no room for this many bytes.
-    pub const fn room(needed: u64) -> Self {
+    /// The buffer has no room for this many bytes.
+    pub const fn no_room(needed: u64) -> Self {
         Self::new(14, needed)
     }
 
     /// The frame has no epilogue that could say it is aborted.
-    pub const fn abort() -> Self {
+    pub const fn abort_one_segment() -> Self {
         Self::new(15, 0)
     }
 
     /// Our own feature bits are unknown or contradict each other.
-    pub const fn features() -> Self {
+    pub const fn own_features() -> Self {
         Self::new(16, 0)
     }
 
-    /// A text is longer than GCM can seal; no field is at fault.
-    pub const fn text_limit() -> Self {
-        Self::new(9, 0)
-    }
-
     /// Sealed bytes are not what their key and nonce gave.
-    pub const fn authentication() -> Self {
+    pub const fn auth_tag() -> Self {
         Self::new(17, 0)
     }
 
     /// Every nonce was used, or fewer are left than a frame needs.
-    pub const fn nonces_used() -> Self {
+    pub const fn nonces_spent() -> Self {
         Self::new(18, 0)
     }
 
@@ -150,23 +150,23 @@ impl Refusal {
 
     /// The checksum field of the unused segment at this place, counted from 0,
     /// is not 0.
-    pub const fn unused_checksum(place: usize) -> Self {
+    pub const fn non_canonical_checksum(place: usize) -> Self {
         Self::new(24, place as u64 + 1)
     }
 
     /// The late flags are neither 0 nor 1.
-    pub const fn late_flags() -> Self {
+    pub const fn non_canonical_flags() -> Self {
         Self::new(24, 0)
-    }
-
-    /// A switch to secure mode at another moment than it may be made, or a build
-    /// with the state that such a switch handed back.
-    pub const fn switch() -> Self {
-        Self::new(27, 0)
     }
 
     /// A session's numbers are all given.
     pub const fn numbers_spent() -> Self {
         Self::new(25, 0)
+    }
+
+    /// A switch to secure mode at another moment than it may be made, or a build
+    /// with the state that such a switch handed back.
+    pub const fn switch_refused() -> Self {
+        Self::new(27, 0)
     }
 }

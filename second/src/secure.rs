@@ -8,7 +8,7 @@ mod sending;
 pub use direction::{Direction, Nonce};
 pub use layout::{judge_store, padded, part_lengths, store_needed, texts, wipe};
 pub use layout::{last_length, rest_length, wire_length};
-pub use layout::{EPILOGUE_LENGTH, HEAD_LENGTH, INLINE_LENGTH};
+pub use layout::{EPILOGUE_LENGTH, FIRST_PART_LENGTH, INLINE_LENGTH};
 pub use sending::Sending;
 
 use crate::gcm::KEY_LENGTH;

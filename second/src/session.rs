@@ -7,7 +7,8 @@ pub mod worked;
 use crate::refusal::Refusal;
 use std::collections::VecDeque;
 
-const PLACES: usize = 64;
+/// The most messages that a session holds.
+const HELD_LIMIT: usize = 64;
 
 /// A sent message, with the caller's handle.
 #[derive(Clone, Copy, Debug, PartialEq, Eq)]
@@ -43,7 +44,7 @@ impl Session {
             .last
             .checked_add(1)
             .ok_or_else(Refusal::numbers_spent)?;
-        if self.held.len() == PLACES {
+        if self.held.len() == HELD_LIMIT {
             return Err(Refusal::table_full());
         }
         self.held.push_back(Message { number, handle });

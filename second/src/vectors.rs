@@ -2,7 +2,7 @@
 //! whose checksums are published; the preamble checksums were worked out bit
 //! by bit elsewhere.
 
-use crate::frame::{Frame, Segment, PLACES};
+use crate::frame::{Frame, Segment, SEGMENTS};
 use crate::wire::Revision;
 
 pub const DIGITS: &[u8; 9] = b"123456789";
@@ -20,7 +20,7 @@ pub fn banner(revision: Revision) -> Vec<u8> {
     bytes
 }
 
-pub fn frame(tag: u8, count: u8, fields: [(u32, u16); PLACES]) -> Frame {
+pub fn frame(tag: u8, count: u8, fields: [(u32, u16); SEGMENTS]) -> Frame {
     let segments = fields.map(|(length, alignment)| Segment { length, alignment });
     Frame {
         tag,
@@ -31,7 +31,7 @@ pub fn frame(tag: u8, count: u8, fields: [(u32, u16); PLACES]) -> Frame {
 
 /// Tag 16 and nothing else.
 pub fn empty_frame() -> Frame {
-    frame(16, 1, [(0, 0); PLACES])
+    frame(16, 1, [(0, 0); SEGMENTS])
 }
 
 pub fn empty(revision: Revision) -> Vec<u8> {

@@ -1,7 +1,7 @@
 //! How a frame's body lies on the wire in the two revisions' crc modes.
 
 use crate::checksum::{checksum, SEGMENT_START};
-use crate::frame::{Frame, PLACES, PREAMBLE_LENGTH};
+use crate::frame::{Frame, PREAMBLE_LENGTH, SEGMENTS};
 
 #[derive(Clone, Copy, Debug, PartialEq, Eq)]
 pub enum Revision {
@@ -57,7 +57,7 @@ pub fn wire_length(revision: Revision, frame: &Frame) -> u64 {
 
 /// The bytes each segment carries; an aborted frame has zeros behind segment 1.
 /// `source` holds the segments one after the other.
-pub fn payloads(frame: &Frame, abort: bool, source: &[u8]) -> [Vec<u8>; PLACES] {
+pub fn payloads(frame: &Frame, abort: bool, source: &[u8]) -> [Vec<u8>; SEGMENTS] {
     let mut rest = source;
     let mut place = 0;
     frame.segments.map(|segment| {
@@ -73,7 +73,7 @@ pub fn payloads(frame: &Frame, abort: bool, source: &[u8]) -> [Vec<u8>; PLACES] 
 }
 
 /// The checksums an epilogue lists: 0 for unused segments.
-fn checksums(frame: &Frame, payloads: &[Vec<u8>; PLACES]) -> [u32; PLACES] {
+fn checksums(frame: &Frame, payloads: &[Vec<u8>; SEGMENTS]) -> [u32; SEGMENTS] {
     std::array::from_fn(|place| {
         if frame.uses(place) {
             checksum(SEGMENT_START, &payloads[place])

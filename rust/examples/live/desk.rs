@@ -5,7 +5,7 @@ mod handshake;
 use crate::layouts;
 use crate::link::{Frame, Link};
 use crate::Outcome;
-use mahuixen::{read_body, tag, tag_name, Body, Effect, Features, Message, Session};
+use mahuixen::{read_body, tag, tag_text, Body, Effect, Features, Message, Session};
 use std::process;
 use std::time::{SystemTime, UNIX_EPOCH};
 
@@ -161,7 +161,7 @@ impl Desk {
                 link.send_body(tag::KEEPALIVE2_ACK, &Body::Stamp(stamp))?;
                 println!("  got keepalive2, and answered it");
             }
-            _ => println!("  got {}", tag_name(tag).unwrap_or("a frame")),
+            _ => println!("  got {}", tag_text(tag).unwrap_or("a frame")),
         }
         Ok(frame)
     }

@@ -88,8 +88,10 @@ impl Link {
     }
 
     fn step(&mut self, header: Header, effect: Effect) -> Outcome<Frame> {
-        let parts = header.parts(&self.store).ok_or("the store is too short")?;
-        let segments = parts.map(<[u8]>::to_vec);
+        let segments = header.segments_in(&self.store);
+        let segments = segments
+            .ok_or("the store is too short")?
+            .map(<[u8]>::to_vec);
         let verdict = Verdict {
             signature: segments[0] == SIGNATURE,
             ..Verdict::default()

@@ -89,6 +89,7 @@ fn the_words_name_the_details() {
     said(7, [27, 0, 0], "byte 27");
     said(8, [21, 0, 0], "21");
     said(9, [14, 0, 0], "byte 14");
+    said(9, [0, 0, 0], "text");
     said(10, [4_097, 0, 0], "4097 bytes");
     said(11, [3, 0, 0], "segment 3");
     said(12, [0x0F, 0, 0], "0x0f");

@@ -184,8 +184,8 @@ fn received(random: &mut Random, sent: &Sent, store: &mut [u8]) -> Report {
             Some(byte) if taken < byte && byte <= taken + offered => {
                 assert_eq!(received.report, Report::First(sent.header));
                 assert_eq!(received.taken, byte - taken);
-                let first = sent.header.first_part(store);
-                assert_eq!(first, sent.header.first_part(sent.source));
+                let first = sent.header.first_segment_in(store);
+                assert_eq!(first, sent.header.first_segment_in(sent.source));
             }
             _ => assert_eq!(received.taken, offered),
         }

@@ -1,8 +1,8 @@
-//! The joined call beside the second program's receiver, reading of bodies and
-//! session, in both revisions and behind a switch: the report, the effect, every
-//! word of the session and every byte of the store, with stores that are written
-//! to or lent short between the calls, and on states and sessions that no call
-//! handed out.
+//! `deliver` beside the second program's receiver, reading of bodies and session,
+//! in both revisions and behind a switch: the report, the effect, every word of
+//! the session and every byte of the store, with stores that are written to or
+//! lent short between the calls, and on states and sessions that no call handed
+//! out.
 
 use crate::guarded::{Framed, Guarded};
 use crate::probes::{at_once, change};
@@ -16,7 +16,7 @@ use mahuixen::{Effect, Numbers, Receiver, Refusal, Session, State};
 use second::banner::Features;
 use second::body::{self, Body};
 use second::builder::FrameRequest;
-use second::frame::{Frame, Segment, PLACES};
+use second::frame::{Frame, Segment, SEGMENTS};
 use second::random::Random;
 use second::report::Report;
 use second::secure::{store_needed, Direction, Secrets, Sending};
@@ -120,7 +120,7 @@ fn frame(random: &mut Random, session: &RawSession) -> (Frame, Vec<u8>) {
         2 if tag == 17 => vec![long, long / 2, 0, 1 + long],
         _ => vec![length],
     };
-    let mut segments = [Segment::default(); PLACES];
+    let mut segments = [Segment::default(); SEGMENTS];
     for (segment, length) in segments.iter_mut().zip(&lengths) {
         segment.length = *length;
         segment.alignment = random.u16();
@@ -212,11 +212,11 @@ struct Both {
     store: Vec<u8>,
 }
 
-/// What a joined call did.
+/// What a call of `deliver` did.
 type Done = (RawReport, RawAnswer);
 
-/// The library's joined call, by bare numbers or by the crate's types; its state
-/// and session stay inside of what they are.
+/// The library's `deliver`, by bare numbers or by the crate's types; its state and
+/// session stay inside of what they are.
 fn deliver(
     random: &mut Random,
     (state, words): (&mut State, &mut RawSession),
@@ -342,8 +342,8 @@ impl Both {
     }
 }
 
-/// What the joined call is due to do in this state, by a second receiver that is
-/// put in the same place.
+/// What `deliver` is due to do in this state, by a second receiver that is put in
+/// the same place.
 fn rebuilt(state: &State, session: &mut Second, piece: &[u8], store: &mut [u8]) -> (Done, Report) {
     let meaning = Meaning::of(state);
     let at_once = at_once(state, &meaning, store.len());

@@ -3,7 +3,7 @@
 use mahuixen::LONGEST_FRAME;
 use second::banner::Features;
 use second::cutting::Course;
-use second::frame::{Frame, Segment, SEGMENT_LIMIT, SUM_LIMIT};
+use second::frame::{Frame, Segment, FRAME_LIMIT, SEGMENT_LIMIT};
 use second::random::Random;
 use second::records::{FrameRecord, FrameStore, ReceiverRecord, Record, SendBuffer};
 use second::wire::{frame_bytes, Revision};
@@ -37,7 +37,7 @@ fn frame(lengths: &[u32]) -> Frame {
 
 /// Builds in both revisions, into a buffer that fits the longest one.
 pub fn builds(random: &mut Random) -> Vec<Record> {
-    assert_eq!(LONGEST_FRAME as u64, 32 + SUM_LIMIT + 17);
+    assert_eq!(LONGEST_FRAME as u64, 32 + FRAME_LIMIT + 17);
     let mut records = Vec::new();
     for lengths in GOOD.iter().chain(&BAD) {
         let source = random.bytes(frame(lengths).sum() as u32);

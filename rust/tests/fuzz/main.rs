@@ -145,14 +145,14 @@ fn sealed_links() {
 }
 
 #[test]
-fn joined_calls() {
+fn deliveries() {
     let mut random = Random::new(seed() ^ 0x4A43);
     let mut tally = Tally::default();
     let links = streams() / 5;
     for _ in 0..links {
         delivered::run(&mut random, &mut tally);
     }
-    tally.expect("joined calls", links, &delivered::KINDS);
+    tally.expect("calls of deliver", links, &delivered::KINDS);
 }
 
 #[test]

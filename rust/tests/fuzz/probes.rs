@@ -454,10 +454,10 @@ fn probe(random: &mut Random, state: State, piece: &[u8], store: &[u8], tally: &
 /// none is to be made, and every word of the two states.
 fn switch(random: &mut Random, state: State, meaning: &Option<Meaning>, tally: &mut Tally) {
     let key: [u8; 16] = std::array::from_fn(|_| random.u8());
-    let [receiving, sending]: [[u8; 12]; 2] =
+    let [receiving_nonce, sending_nonce]: [[u8; 12]; 2] =
         std::array::from_fn(|_| std::array::from_fn(|_| random.u8()));
     let mut framed = Framed::new(state);
-    let (sends, number) = sys::switch(&mut framed.it, &key, &receiving, &sending);
+    let (sending, number) = sys::switch(&mut framed.it, &key, &receiving_nonce, &sending_nonce);
     let may_switch = meaning.as_ref().map(Meaning::may_switch);
     let (due, kind) = match may_switch {
         None => (26, NO_SWITCH),
@@ -471,14 +471,14 @@ fn switch(random: &mut Random, state: State, meaning: &Option<Meaning>, tally: &
         (after.mode, after.ready) = (1, 0);
         after.sealed = SealedState {
             key: Key(key),
-            nonce: Nonce(receiving),
+            nonce: Nonce(receiving_nonce),
             ..SealedState::default()
         };
-        (handed.key, handed.nonce) = (Key(key), Nonce(sending));
+        (handed.key, handed.nonce) = (Key(key), Nonce(sending_nonce));
     } else {
         handed.refused = 1;
     }
-    assert_eq!((framed.taken_out(), sends), (after, handed));
+    assert_eq!((framed.taken_out(), sending), (after, handed));
 }
 
 /// A refusal is repeated, whatever is offered.

@@ -6,11 +6,11 @@ use crate::sealing::moved;
 use mahuixen::sys::{RawHeader, RawRefusal, SealedState};
 use mahuixen::{FirstPart, Header, Key, Nonce, Numbers, State};
 use second::banner::Features;
-use second::frame::{Frame, Segment, PLACES};
+use second::frame::{Frame, Segment, SEGMENTS};
 use second::receiver::Receiver;
 use second::report::Report;
 use second::secure::{last_length, padded, rest_length, store_needed};
-use second::secure::{Direction, Secrets, HEAD_LENGTH, INLINE_LENGTH};
+use second::secure::{Direction, Secrets, FIRST_PART_LENGTH, INLINE_LENGTH};
 use second::wire::{frame_bytes, Revision};
 
 pub const FIRST: u8 = 0;
@@ -28,7 +28,7 @@ pub struct Fields {
     pub refusal: Numbers,
     pub got: u64,
     pub opened: u64,
-    pub first: [u8; HEAD_LENGTH],
+    pub first: [u8; FIRST_PART_LENGTH],
     pub key: [u8; 16],
     pub nonce: [u8; 12],
 }
@@ -115,7 +115,7 @@ fn opened(state: &Fields) -> u128 {
 /// Bytes of the part under way, 0 where the frame has no such part.
 pub fn size(state: &Fields) -> u64 {
     let length = match state.stage {
-        FIRST => Some(HEAD_LENGTH),
+        FIRST => Some(FIRST_PART_LENGTH),
         REST => rest_length(&frame(&state.header)),
         LAST => last_length(&frame(&state.header)),
         _ => None,
@@ -167,7 +167,7 @@ fn good_count(state: &Fields) -> bool {
 
 fn good_block(state: &Fields) -> bool {
     let came = if state.stage == FIRST { state.got } else { 0 };
-    let came = came.min(HEAD_LENGTH as u64) as usize;
+    let came = came.min(FIRST_PART_LENGTH as u64) as usize;
     state.first[came..].iter().all(|byte| *byte == 0)
 }
 
@@ -204,7 +204,7 @@ fn empty() -> Frame {
     Frame {
         tag: 16,
         count: 1,
-        segments: [Segment::default(); PLACES],
+        segments: [Segment::default(); SEGMENTS],
     }
 }
 
@@ -224,7 +224,7 @@ fn first_text(header: &Header, store: &[u8]) -> Vec<u8> {
     let inline = (header.segments[0].len as usize).min(INLINE_LENGTH);
     let mut text = frame(header).preamble().to_vec();
     text.extend(&store[..inline]);
-    text.resize(HEAD_LENGTH - 16, 0);
+    text.resize(FIRST_PART_LENGTH - 16, 0);
     text
 }
 

@@ -5,7 +5,7 @@ use crate::guarded::{Framed, Guarded};
 use crate::same::{self, REFUSED};
 use crate::tally::Tally;
 use mahuixen::sys::{self, Built};
-use mahuixen::{open, seal, Key, Nonce, RawSending, Sending, SEALED_OVERHEAD, TAG_LENGTH};
+use mahuixen::{open, seal, Key, Nonce, RawSending, Sending, AUTH_TAG_LENGTH, SEALED_OVERHEAD};
 use second::gcm;
 use second::random::Random;
 use second::records::{Build, BuildsRecord, Record, SealingRecord};
@@ -202,7 +202,7 @@ fn hex(text: &str) -> Vec<u8> {
 }
 
 /// Test cases 1 to 3 of "The Galois/Counter Mode of Operation (GCM)", those with
-/// a 96-bit nonce and no further data.
+/// a 96-bit nonce and no associated data.
 #[test]
 fn published_vectors() {
     let zeros = (
@@ -242,5 +242,5 @@ fn published_vectors() {
 
 #[test]
 fn the_tag_has_16_bytes() {
-    assert_eq!(TAG_LENGTH, gcm::TAG_LENGTH);
+    assert_eq!(AUTH_TAG_LENGTH, gcm::AUTH_TAG_LENGTH);
 }

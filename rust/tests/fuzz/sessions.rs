@@ -10,7 +10,7 @@ use mahuixen::{Message, Numbers, Refusal, Session};
 use second::random::Random;
 use second::records::{SessionCall, SessionRecord};
 
-const PLACES: u64 = 64;
+const SESSION_PLACES: u64 = 64;
 
 const ACCEPTED: &str = "accepted";
 const DONE: &str = "done";
@@ -59,10 +59,10 @@ impl Second {
     /// A session in the place that the words say.
     pub fn of(words: RawSession) -> Self {
         let held = words.last.checked_sub(words.released);
-        let session = held.filter(|held| *held <= PLACES).map(|held| {
+        let session = held.filter(|held| *held <= SESSION_PLACES).map(|held| {
             let mut session = second::session::Session::after(words.released);
             for number in (1..=held).map(|place| words.released + place) {
-                let handle = words.handles[(number % PLACES) as usize];
+                let handle = words.handles[(number % SESSION_PLACES) as usize];
                 assert_eq!(session.accept(handle), Ok(number));
             }
             session
@@ -98,7 +98,7 @@ impl Second {
     pub fn accept(&mut self, handle: u64) -> RawAnswer {
         let answer = self.call(|session| Ok(answered(2, session.accept(handle)?)));
         if answer.kind == 2 {
-            self.words.handles[(answer.number % PLACES) as usize] = handle;
+            self.words.handles[(answer.number % SESSION_PLACES) as usize] = handle;
         }
         answer
     }
@@ -173,7 +173,7 @@ fn typed(words: &RawSession, theirs: &Second) {
     }
     assert_eq!(session.handle(0), None);
     assert_eq!(session.handle(words.last.wrapping_add(1)), None);
-    if let Some(before) = words.last.checked_sub(PLACES) {
+    if let Some(before) = words.last.checked_sub(SESSION_PLACES) {
         assert_eq!(session.handle(before), None);
     }
 }

@@ -9,7 +9,7 @@ use crate::{probes, same};
 use mahuixen::sys;
 use mahuixen::{Header, Nonce, RawSending, Segment, Sending, State};
 use second::builder::FrameRequest;
-use second::frame::{Frame, Segment as SecondSegment, PLACES};
+use second::frame::{Frame, Segment as SecondSegment, SEGMENTS};
 use second::random::Random;
 use second::receiver::Receiver;
 use second::records::{Call, FrameStore, Record, Try};
@@ -65,17 +65,17 @@ pub struct Seen {
 }
 
 /// Builds a frame with what the two tries handed back.
-fn build_with(sends: RawSending, theirs: &mut Second) {
+fn build_with(sending: RawSending, theirs: &mut Second) {
     let mut wire: [u8; 96] = std::array::from_fn(|place| place as u8);
     let mut due = wire;
     let header = Header::new(EMPTY, &[Segment::default()]);
-    let built = Sending::from_raw(sends).build(&mut wire, 0, &header, &[]);
+    let built = Sending::from_raw(sending).build(&mut wire, 0, &header, &[]);
     let request = FrameRequest {
         revision: Revision::Msgr21,
         frame: Frame {
             tag: EMPTY,
             count: 1,
-            segments: [SecondSegment::default(); PLACES],
+            segments: [SecondSegment::default(); SEGMENTS],
         },
         abort: false,
         source: &[],
@@ -141,7 +141,7 @@ impl<'a> Both<'a> {
         let Try { secrets, opened } = tried;
         let before = self.ours;
         let mut framed = Framed::new(self.ours);
-        let (sends, number) = sys::switch(
+        let (sending, number) = sys::switch(
             &mut framed.it,
             &secrets.key,
             &secrets.receiving,
@@ -163,7 +163,7 @@ impl<'a> Both<'a> {
             assert_eq!(self.ours, before);
             seen.calls.count(NOT_MADE);
         }
-        build_with(sends, &mut theirs);
+        build_with(sending, &mut theirs);
     }
 
     fn call(

@@ -90,7 +90,7 @@ fn a_fault_comes_before_the_room() {
     );
     assert_eq!(
         write(Some(&Body::Number(1)), &mut buffer),
-        Err(Refusal::room(8))
+        Err(Refusal::no_room(8))
     );
     assert_eq!(write(None, &mut buffer), Err(Refusal::body_malformed(0)));
     assert_eq!(buffer, [9, 9]);

@@ -82,7 +82,7 @@ fn banner_room() {
     for queued in [5, 30, 31, 1 << 32, u64::MAX, u64::MAX - 25] {
         let mut buffer = [0x77; 30];
         let answer = build_banner(features, &mut buffer, queued);
-        assert_eq!(answer, Err(Refusal::room(26)));
+        assert_eq!(answer, Err(Refusal::no_room(26)));
         assert_eq!(buffer, [0x77; 30]);
     }
 }
@@ -94,14 +94,18 @@ fn own_features_are_judged_before_the_room() {
         required: 1,
     };
     let answer = build_banner(features, &mut [], 1);
-    assert_eq!(answer, Err(Refusal::features()));
+    assert_eq!(answer, Err(Refusal::own_features()));
 }
 
 #[test]
 fn details() {
     assert_eq!(Refusal::tag(255).detail, [255, 0, 0]);
-    assert_eq!(Refusal::room(489).detail, [489, 0, 0]);
-    for bare in [Refusal::source(), Refusal::abort(), Refusal::features()] {
+    assert_eq!(Refusal::no_room(489).detail, [489, 0, 0]);
+    for bare in [
+        Refusal::source_length(),
+        Refusal::abort_one_segment(),
+        Refusal::own_features(),
+    ] {
         assert_eq!(bare.detail, [0, 0, 0]);
     }
 }

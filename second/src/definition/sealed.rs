@@ -7,7 +7,7 @@ use crate::frame::{Frame, PREAMBLE_LENGTH};
 use crate::refusal::Refusal;
 use crate::report::Report;
 use crate::secure::{judge_store, padded, part_lengths, store_needed, texts};
-use crate::secure::{Direction, EPILOGUE_LENGTH, HEAD_LENGTH, INLINE_LENGTH};
+use crate::secure::{Direction, EPILOGUE_LENGTH, FIRST_PART_LENGTH, INLINE_LENGTH};
 use crate::wire::Revision;
 
 /// What the bytes of a sealed frame have put at the store's front.
@@ -43,7 +43,7 @@ impl Front {
 
 /// The first part's text: the frame and the bytes of segment 1 that stand inline.
 /// Padding is what the text holds besides: one that we would not have written so.
-fn judge_head(text: &[u8], store_length: usize) -> Result<(Frame, Vec<u8>), Refusal> {
+fn judge_first(text: &[u8], store_length: usize) -> Result<(Frame, Vec<u8>), Refusal> {
     let preamble = text.first_chunk::<PREAMBLE_LENGTH>();
     let frame = Frame::read(preamble.expect("a whole preamble"))?;
     judge_store(&frame, store_length)?;
@@ -114,12 +114,12 @@ impl List {
         wire: &[u8],
         place: usize,
     ) -> Option<usize> {
-        let head = wire.get(..HEAD_LENGTH)?;
-        let judged = direction.open(head);
-        let (frame, inline) = match judged.and_then(|text| judge_head(&text, self.store.len())) {
+        let first = wire.get(..FIRST_PART_LENGTH)?;
+        let judged = direction.open(first);
+        let (frame, inline) = match judged.and_then(|text| judge_first(&text, self.store.len())) {
             Ok(judged) => judged,
             Err(refusal) => {
-                self.push(Report::Refused(refusal), place + HEAD_LENGTH);
+                self.push(Report::Refused(refusal), place + FIRST_PART_LENGTH);
                 return None;
             }
         };
@@ -129,7 +129,7 @@ impl List {
             zeros_to: 0,
             sealed: Vec::new(),
         };
-        let mut end = HEAD_LENGTH;
+        let mut end = FIRST_PART_LENGTH;
         let lengths = part_lengths(&frame);
         for (number, length) in lengths.iter().enumerate().skip(1) {
             let begins = end;

@@ -62,10 +62,12 @@ fn a_second_spelling_is_refused_at_the_frames_end() {
                 byte: 116,
                 store: zeroed.clone(),
             };
-            let unused = refused(Refusal::unused_checksum(3));
+            let unused = refused(Refusal::non_canonical_checksum(3));
             assert_eq!(told(filled), [unused]);
             match revision {
-                Revision::Msgr20 => assert_eq!(told(flags), [refused(Refusal::late_flags())]),
+                Revision::Msgr20 => {
+                    assert_eq!(told(flags), [refused(Refusal::non_canonical_flags())])
+                }
                 // The high four bits of a late status are not looked at.
                 Revision::Msgr21 => {
                     let spelled = told(frame.clone());
@@ -198,7 +200,7 @@ impl<'a> Calls<'a> {
         if !due {
             assert_eq!(
                 (sending, switched),
-                (Sending::Refused, Err(Refusal::switch()))
+                (Sending::Refused, Err(Refusal::switch_refused()))
             );
             assert_eq!(self.receiver, before);
             return;

@@ -3,7 +3,7 @@
 
 use crate::banner::{Features, BANNER_LENGTH};
 use crate::fixed::request::{between_others, source, REVISIONS};
-use crate::frame::{PLACES, SEGMENT_LIMIT, SUM_LIMIT};
+use crate::frame::{FRAME_LIMIT, SEGMENTS, SEGMENT_LIMIT};
 use crate::input::{CARRIED_SEGMENT, LARGEST_LENGTH};
 use crate::records::{BannerRecord, FrameRecord, Record, SendBuffer};
 use crate::wire::{wire_length, Revision};
@@ -17,7 +17,7 @@ fn changed(mut record: FrameRecord, change: impl FnOnce(&mut FrameRecord)) -> Fr
 
 fn counts(revision: Revision) -> Vec<FrameRecord> {
     let mut records = Vec::new();
-    for lengths in [&[0; PLACES], &[5, 0, 0, 0], &[1, 2, 3, 4]] {
+    for lengths in [&[0; SEGMENTS], &[5, 0, 0, 0], &[1, 2, 3, 4]] {
         let good = between_others(revision, lengths);
         for count in [0, 1, 2, 3, 4, 5, 6, 128, 255] {
             records.push(changed(good.clone(), |r| r.frame.count = count));
@@ -41,11 +41,11 @@ fn barely_good(revision: Revision, count: usize) -> FrameRecord {
 
 fn last_segments(revision: Revision) -> Vec<FrameRecord> {
     let mut records = Vec::new();
-    for count in 1..=PLACES {
+    for count in 1..=SEGMENTS {
         let good = barely_good(revision, count);
         records.push(good.clone());
         records.push(changed(good, |r| r.frame.segments[count - 1].length = 0));
-        let full = between_others(revision, &[3; PLACES][..count]);
+        let full = between_others(revision, &[3; SEGMENTS][..count]);
         records.push(full.clone());
         records.push(changed(full, |r| r.frame.segments[count - 1].length = 0));
     }
@@ -54,8 +54,8 @@ fn last_segments(revision: Revision) -> Vec<FrameRecord> {
 
 fn unused_segments(revision: Revision) -> Vec<FrameRecord> {
     let mut records = Vec::new();
-    for count in 1..PLACES {
-        for place in count..PLACES {
+    for count in 1..SEGMENTS {
+        for place in count..SEGMENTS {
             let good = barely_good(revision, count);
             for length in [1, 0x100, 0x0100_0000, 0xFFFF_FFFF] {
                 let spoilt = |r: &mut FrameRecord| r.frame.segments[place].length = length;
@@ -75,7 +75,7 @@ fn unused_segments(revision: Revision) -> Vec<FrameRecord> {
 fn two_fields(revision: Revision) -> Vec<FrameRecord> {
     let good = barely_good(revision, 1);
     let mut records = Vec::new();
-    for place in 1..PLACES {
+    for place in 1..SEGMENTS {
         records.push(changed(good.clone(), |r| {
             r.frame.segments[place].length = 1;
             r.frame.segments[place].alignment = 1;
@@ -87,7 +87,7 @@ fn two_fields(revision: Revision) -> Vec<FrameRecord> {
         }));
         let mut empty_last = barely_good(revision, place + 1);
         empty_last.frame.segments[place].length = 0;
-        empty_last.frame.segments[PLACES - 1].alignment = 1;
+        empty_last.frame.segments[SEGMENTS - 1].alignment = 1;
         records.push(changed(empty_last, |_| {}));
     }
     for count in [0, 5] {
@@ -108,7 +108,7 @@ fn tags(revision: Revision) -> Vec<FrameRecord> {
 /// it is refused where the limit is kept.
 fn long_segments(revision: Revision) -> Vec<FrameRecord> {
     let mut records = Vec::new();
-    for place in 0..PLACES {
+    for place in 0..SEGMENTS {
         for length in [SEGMENT_LIMIT, SEGMENT_LIMIT + 1, u32::MAX] {
             let mut lengths = [2, 0, 1, 3];
             lengths[place] = length;
@@ -122,7 +122,7 @@ fn long_segments(revision: Revision) -> Vec<FrameRecord> {
 /// length, with and without a long segment behind, and sums that wrap in 32
 /// bits; the longest frames that our case files carry whole.
 fn long_sums(revision: Revision) -> Vec<FrameRecord> {
-    let quarter = SUM_LIMIT as u32 / 4;
+    let quarter = FRAME_LIMIT as u32 / 4;
     let all: [&[u32]; 20] = [
         &[CARRIED_SEGMENT],
         &[CARRIED_SEGMENT, CARRIED_SEGMENT],

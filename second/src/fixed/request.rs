@@ -1,6 +1,6 @@
 //! Requests the fixed files start from.
 
-use crate::frame::{Frame, Segment, PLACES};
+use crate::frame::{Frame, Segment, SEGMENTS};
 use crate::input::LARGEST_LENGTH;
 use crate::records::{FrameRecord, SendBuffer};
 use crate::wire::{wire_length, Revision};
@@ -20,7 +20,7 @@ pub fn source(length: u64) -> Vec<u8> {
 
 /// A tag 17 frame that uses a segment for each length given.
 pub fn frame(lengths: &[u32]) -> Frame {
-    let mut segments = [Segment::default(); PLACES];
+    let mut segments = [Segment::default(); SEGMENTS];
     for (segment, &length) in segments.iter_mut().zip(lengths) {
         segment.length = length;
     }

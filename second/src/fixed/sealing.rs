@@ -2,7 +2,7 @@
 //! lengths, every damaged bit, and records that are none.
 
 use crate::fixed::CaseFile;
-use crate::gcm::{self, TAG_LENGTH};
+use crate::gcm::{self, AUTH_TAG_LENGTH};
 use crate::input::LARGEST_LENGTH;
 use crate::records::{FrameStore, Record, SealingRecord};
 
@@ -80,7 +80,7 @@ fn example(length: u32) -> Vector {
     let key: [u8; 16] = std::array::from_fn(|place| place as u8 * 17);
     let nonce: [u8; 12] = std::array::from_fn(|place| 0xF0 ^ place as u8);
     let text: Vec<u8> = (0..length).map(|place| (place * 7 + 3) as u8).collect();
-    let mut sealed = vec![0; text.len() + TAG_LENGTH];
+    let mut sealed = vec![0; text.len() + AUTH_TAG_LENGTH];
     gcm::seal(&key, &nonce, &text, &mut sealed).expect("room for it");
     Vector {
         key,
@@ -93,7 +93,7 @@ fn example(length: u32) -> Vector {
 /// Lengths around whole blocks and the longest, with a byte of room too few,
 /// just enough and one to spare; sealed bytes too short to have a tag.
 pub fn boundaries() -> Vec<Record> {
-    let longest = LARGEST_LENGTH - TAG_LENGTH as u32;
+    let longest = LARGEST_LENGTH - AUTH_TAG_LENGTH as u32;
     let lengths = (0..=34).chain([47, 48, 49, 255, 256, 257, 4_096, longest]);
     let mut records = Vec::new();
     for length in lengths {

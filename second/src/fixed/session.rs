@@ -6,8 +6,8 @@ use crate::input::MOST_CALLS;
 use crate::records::{Record, SessionCall, SessionRecord};
 use SessionCall::{Accept, Ack, Held, Reconnect, Reset};
 
-/// Places of a session's table.
-const PLACES: u64 = 64;
+/// The most messages that a session holds.
+const HELD_LIMIT: u64 = 64;
 
 /// The first byte of the first call.
 const FIRST_CALL: usize = 11;
@@ -25,7 +25,7 @@ fn accepts(count: u64) -> Vec<SessionCall> {
 
 /// The calls, each followed by a look at both ends of what is held.
 fn looked_at(calls: &[SessionCall]) -> Vec<SessionCall> {
-    let look = [Held(0), Held(1), Held(PLACES - 1), Held(PLACES)];
+    let look = [Held(0), Held(1), Held(HELD_LIMIT - 1), Held(HELD_LIMIT)];
     let each = calls
         .iter()
         .map(|call| [&[*call], look.as_slice()].concat());
@@ -51,24 +51,24 @@ pub fn shown() -> Vec<Record> {
             vec![Ack(1), Reconnect(1), Reconnect(0), Reset { full: false }],
         ),
         session(u64::MAX, vec![Accept(7), Ack(u64::MAX)]),
-        session(0, accepts(PLACES + 1)),
+        session(0, accepts(HELD_LIMIT + 1)),
     ]
 }
 
 /// A table that becomes full, with every number of acks that frees a place.
 fn full_tables() -> Vec<Record> {
     let record = |last: u64, acked: u64| {
-        let mut calls = accepts(PLACES + 1);
+        let mut calls = accepts(HELD_LIMIT + 1);
         calls.extend(looked_at(&[Ack(last + acked)]));
         calls.extend(accepts(acked + 1));
         calls.extend(looked_at(&[Reconnect(last + acked), Reset { full: false }]));
         calls.extend(looked_at(&[Reset { full: true }, Reconnect(last)]));
         session(last, calls)
     };
-    let lasts = [0, 1, 62, 63, 64, 1_000, u64::MAX - 2 * PLACES];
+    let lasts = [0, 1, 62, 63, 64, 1_000, u64::MAX - 2 * HELD_LIMIT];
     let each = lasts.into_iter();
     each.flat_map(|last| {
-        (0..=PLACES)
+        (0..=HELD_LIMIT)
             .step_by(8)
             .map(move |acked| record(last, acked))
     })
@@ -92,8 +92,8 @@ fn acks() -> Vec<Record> {
 /// The last numbers there are: 25 comes before a full table's 22.
 fn spent() -> Vec<Record> {
     let mut records = Vec::new();
-    for left in [0, 1, 2, PLACES - 1, PLACES, PLACES + 1] {
-        let mut calls = accepts(PLACES + 2);
+    for left in [0, 1, 2, HELD_LIMIT - 1, HELD_LIMIT, HELD_LIMIT + 1] {
+        let mut calls = accepts(HELD_LIMIT + 2);
         calls.extend(looked_at(&[Ack(u64::MAX), Accept(5), Reconnect(u64::MAX)]));
         records.push(session(u64::MAX - left, calls));
     }
@@ -108,11 +108,11 @@ fn places() -> Record {
 
 fn largest() -> Vec<Record> {
     let most = u64::from(MOST_CALLS);
-    let mut resends = accepts(PLACES);
+    let mut resends = accepts(HELD_LIMIT);
     resends.resize(usize::from(MOST_CALLS), Reconnect(0));
     vec![
         session(0, accepts(most)),
-        session(u64::MAX - PLACES, resends),
+        session(u64::MAX - HELD_LIMIT, resends),
         session(0, Vec::new()),
     ]
 }

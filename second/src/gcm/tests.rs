@@ -60,7 +60,7 @@ fn wrong_tags_are_refused_and_zeroed() {
         let mut out = [0xAA; 24];
         assert_eq!(
             open(&key, &nonce, &damaged, &mut out),
-            Err(Refusal::authentication())
+            Err(Refusal::auth_tag())
         );
         assert_eq!((&out[..20], &out[20..]), (&[0; 20][..], &[0xAA; 4][..]));
     }
@@ -78,15 +78,15 @@ fn refusals_change_nothing() {
     let mut out = [3; 20];
     assert_eq!(
         seal(&key, &nonce, &[4; 5], &mut out),
-        Err(Refusal::room(21))
+        Err(Refusal::no_room(21))
     );
     assert_eq!(
         open(&key, &nonce, &[4; 15], &mut out),
-        Err(Refusal::authentication())
+        Err(Refusal::auth_tag())
     );
     assert_eq!(
         open(&key, &nonce, &[4; 37], &mut out),
-        Err(Refusal::room(21))
+        Err(Refusal::no_room(21))
     );
     assert_eq!(out, [3; 20]);
 }

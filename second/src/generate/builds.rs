@@ -4,7 +4,7 @@
 use super::secure::nonce;
 use super::{alignment, disturb_buffer, payload, roomy_buffer};
 use super::{mutated, put_together, single_aborted, twice_wrong};
-use crate::frame::{Frame, Segment, PLACES};
+use crate::frame::{Frame, Segment, SEGMENTS};
 use crate::input::CARRIED_SUM;
 use crate::random::Random;
 use crate::records::{Build, BuildsRecord, FrameRecord};
@@ -29,7 +29,7 @@ fn length(random: &mut Random, place: usize) -> u32 {
 
 fn good_frame(random: &mut Random) -> Frame {
     let count = random.between(1, 4) as usize;
-    let mut segments = [Segment::default(); PLACES];
+    let mut segments = [Segment::default(); SEGMENTS];
     for (place, segment) in segments.iter_mut().enumerate().take(count) {
         segment.length = length(random, place).min(CARRIED_SUM / 4);
         segment.alignment = alignment(random);

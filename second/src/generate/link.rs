@@ -2,7 +2,7 @@
 
 use super::{alignment, feature_bits, payload, sum_passed};
 use crate::banner::Features;
-use crate::frame::{Frame, Segment, PLACES, PREAMBLE_LENGTH};
+use crate::frame::{Frame, Segment, PREAMBLE_LENGTH, SEGMENTS};
 use crate::input::CARRIED_SEGMENT;
 use crate::random::Random;
 use crate::spoil::WireFrame;
@@ -86,7 +86,7 @@ fn segment_length(random: &mut Random, size: Size) -> u32 {
 
 fn good_frame(random: &mut Random, size: Size) -> Frame {
     let count = random.between(1, 4) as usize;
-    let mut segments = [Segment::default(); PLACES];
+    let mut segments = [Segment::default(); SEGMENTS];
     for segment in &mut segments[..count] {
         segment.length = segment_length(random, size);
         segment.alignment = alignment(random);
@@ -206,9 +206,9 @@ pub fn break_rule(random: &mut Random, frame: &mut WireFrame, rule: u32) {
 }
 
 /// Four segments of these lengths in the preamble; the body stays.
-pub fn put_lengths(frame: &mut WireFrame, lengths: [u32; PLACES]) {
+pub fn put_lengths(frame: &mut WireFrame, lengths: [u32; SEGMENTS]) {
     frame.change_preamble(|preamble| {
-        preamble[1] = PLACES as u8;
+        preamble[1] = SEGMENTS as u8;
         for (place, length) in lengths.into_iter().enumerate() {
             let field = 2 + 6 * place;
             preamble[field..field + 4].copy_from_slice(&length.to_le_bytes());
@@ -253,7 +253,7 @@ fn spoil_checksums(random: &mut Random, frame: &mut WireFrame) {
 /// is mostly not the lowest; with any number, one bit, or the checksum that an
 /// empty segment has.
 fn fill_unused_fields(random: &mut Random, frame: &mut WireFrame) {
-    let unused = u32::from(frame.frame.count)..PLACES as u32;
+    let unused = u32::from(frame.frame.count)..SEGMENTS as u32;
     if unused.is_empty() {
         return;
     }

@@ -2,7 +2,7 @@
 //! good, damaged, cut or under another key or nonce, in buffers with and
 //! without room.
 
-use crate::gcm::{self, KEY_LENGTH, NONCE_LENGTH, TAG_LENGTH};
+use crate::gcm::{self, AUTH_TAG_LENGTH, KEY_LENGTH, NONCE_LENGTH};
 use crate::input::LARGEST_LENGTH;
 use crate::random::Random;
 use crate::records::{FrameStore, Record, SealingRecord};
@@ -29,7 +29,7 @@ fn length(random: &mut Random) -> u32 {
         101..=160 => 16 * random.between(1, 12) + random.between(0, 2) - 1,
         161..=195 => random.between(1, 1_100),
         196..=199 => random.between(1, 6_000),
-        _ => random.between(1, LARGEST_LENGTH - TAG_LENGTH as u32),
+        _ => random.between(1, LARGEST_LENGTH - AUTH_TAG_LENGTH as u32),
     }
 }
 
@@ -72,13 +72,13 @@ fn seal_record(random: &mut Random) -> SealingRecord {
     SealingRecord {
         key: array(random),
         nonce: array(random),
-        store: store(random, bytes.len() + TAG_LENGTH),
+        store: store(random, bytes.len() + AUTH_TAG_LENGTH),
         bytes,
     }
 }
 
 fn sealed(key: &[u8; KEY_LENGTH], nonce: &[u8; NONCE_LENGTH], text: &[u8]) -> Vec<u8> {
-    let mut out = vec![0; text.len() + TAG_LENGTH];
+    let mut out = vec![0; text.len() + AUTH_TAG_LENGTH];
     gcm::seal(key, nonce, text, &mut out).expect("room for it");
     out
 }
@@ -114,7 +114,7 @@ fn open_record(random: &mut Random) -> SealingRecord {
     SealingRecord {
         key,
         nonce,
-        store: store(random, bytes.len().saturating_sub(TAG_LENGTH)),
+        store: store(random, bytes.len().saturating_sub(AUTH_TAG_LENGTH)),
         bytes,
     }
 }

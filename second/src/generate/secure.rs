@@ -5,7 +5,7 @@ use super::link::{break_rule, change_preamble, flip_a_bit, preamble_change, put_
 use super::link::{link, spoil_banner, spoil_frame, Link, Size};
 use super::{alignment, payload, sum_passed};
 use crate::definition::entries;
-use crate::frame::{Frame, Segment, PLACES};
+use crate::frame::{Frame, Segment, SEGMENTS};
 use crate::random::Random;
 use crate::records::Try;
 use crate::report::Report;
@@ -61,7 +61,7 @@ fn segment_length(random: &mut Random, place: usize, size: Size) -> u32 {
 
 fn good_frame(random: &mut Random, size: Size) -> Frame {
     let count = random.pick(&[1, 1, 2, 2, 3, 4]);
-    let mut segments = [Segment::default(); PLACES];
+    let mut segments = [Segment::default(); SEGMENTS];
     for (place, segment) in segments.iter_mut().enumerate().take(count) {
         segment.length = segment_length(random, place, size);
         segment.alignment = alignment(random);

@@ -55,8 +55,12 @@ pub struct SealedBody {
 impl SealedBody {
     /// Opens and judges the first part, and puts what stands inline in the
     /// store. A refusal leaves the store as it is.
-    pub fn begin(mut direction: Direction, head: &[u8], store: &mut [u8]) -> Result<Self, Refusal> {
-        let text = direction.open(head)?;
+    pub fn begin(
+        mut direction: Direction,
+        first: &[u8],
+        store: &mut [u8],
+    ) -> Result<Self, Refusal> {
+        let text = direction.open(first)?;
         let (preamble, inline) = text.split_first_chunk().expect("a whole preamble");
         let frame = Frame::read(preamble)?;
         judge_store(&frame, store.len())?;

@@ -148,7 +148,7 @@ fn a_banner_is_judged_at_its_eighth_tenth_and_last_byte() {
     let mut bytes = banner(Revision::Msgr21);
     bytes[18] = 0x14;
     assert_eq!(receiver.receive(&bytes[..25], &mut []), (25, Report::More));
-    let missing = Report::Refused(Refusal::we_lack(0x14));
+    let missing = Report::Refused(Refusal::peer_requires(0x14));
     assert_eq!(receiver.receive(&bytes[25..], &mut []), (1, missing));
 }
 
@@ -487,7 +487,7 @@ fn checksums_are_of_the_stores_own_bytes() {
 #[test]
 fn a_refusal_is_repeated() {
     let (mut receiver, started) = Receiver::start(Features::new(2, 0));
-    let refusal = Refusal::features();
+    let refusal = Refusal::own_features();
     assert_eq!(started, Err(refusal));
     let mut store = filled(&[]);
     for piece in [&[], banner(Revision::Msgr21).as_slice()] {

@@ -1,7 +1,7 @@
 //! The links of this repository end as the table beside them says.
 
 use super::*;
-use crate::frame::SUM_LIMIT;
+use crate::frame::FRAME_LIMIT;
 use crate::receiver::Receiver;
 use crate::report::Report;
 use crate::wire::Revision;
@@ -104,7 +104,7 @@ fn links_that_need_a_longer_store() {
             continue;
         }
         longer += 1;
-        record.store.length = SUM_LIMIT as u32;
+        record.store.length = FRAME_LIMIT as u32;
         // The calls of a record stop at what its own store refuses.
         record.pieces = vec![LARGEST_LENGTH; 64];
         assert_eq!(told(&record), ("1".to_string(), "ok".to_string()));

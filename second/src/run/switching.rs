@@ -3,11 +3,11 @@
 
 use super::{built_line, report_line, start_line};
 use crate::builder::FrameRequest;
-use crate::frame::{Frame, Segment, PLACES};
+use crate::frame::{Frame, Segment, SEGMENTS};
 use crate::receiver::Receiver;
 use crate::records::{BuildsRecord, Call, LendingRecord, SwitchingRecord, Try};
 use crate::refusal::Refusal;
-use crate::secure::{Direction, Sending, HEAD_LENGTH};
+use crate::secure::{Direction, Sending, FIRST_PART_LENGTH};
 use crate::wire::Revision;
 use std::io::{self, Write};
 
@@ -29,7 +29,7 @@ fn empty_line(mut sending: Sending, out: &mut impl Write) -> io::Result<()> {
     let frame = Frame {
         tag: WAIT_TAG,
         count: 1,
-        segments: [Segment::default(); PLACES],
+        segments: [Segment::default(); SEGMENTS],
     };
     let request = FrameRequest {
         revision: Revision::Msgr21,
@@ -37,7 +37,7 @@ fn empty_line(mut sending: Sending, out: &mut impl Write) -> io::Result<()> {
         abort: false,
         source: &[],
     };
-    let mut buffer: [u8; HEAD_LENGTH] = std::array::from_fn(|place| place as u8);
+    let mut buffer: [u8; FIRST_PART_LENGTH] = std::array::from_fn(|place| place as u8);
     let answer = sending.build(&request, &mut buffer, 0);
     built_line(answer, &buffer, out)
 }

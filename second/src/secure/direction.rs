@@ -1,6 +1,6 @@
 //! One direction of a secure link: its key, and which nonces it has used.
 
-use crate::gcm::{self, KEY_LENGTH, NONCE_LENGTH, TAG_LENGTH};
+use crate::gcm::{self, AUTH_TAG_LENGTH, KEY_LENGTH, NONCE_LENGTH};
 use crate::refusal::Refusal;
 
 pub type Nonce = [u8; NONCE_LENGTH];
@@ -46,8 +46,8 @@ impl Direction {
 
     /// Seals a part, the tag last, and uses a nonce up.
     pub fn seal(&mut self, text: &[u8]) -> Result<Vec<u8>, Refusal> {
-        let nonce = self.next_nonce().ok_or(Refusal::nonces_used())?;
-        let mut sealed = vec![0; text.len() + TAG_LENGTH];
+        let nonce = self.next_nonce().ok_or(Refusal::nonces_spent())?;
+        let mut sealed = vec![0; text.len() + AUTH_TAG_LENGTH];
         gcm::seal(&self.key, &nonce, text, &mut sealed)?;
         self.used += 1;
         Ok(sealed)
@@ -56,8 +56,8 @@ impl Direction {
     /// Opens a part with its tag and uses a nonce up. Without one that was never
     /// used it isn't opened at all.
     pub fn open(&mut self, sealed: &[u8]) -> Result<Vec<u8>, Refusal> {
-        let nonce = self.next_nonce().ok_or(Refusal::nonces_used())?;
-        let mut text = vec![0; sealed.len().saturating_sub(TAG_LENGTH)];
+        let nonce = self.next_nonce().ok_or(Refusal::nonces_spent())?;
+        let mut text = vec![0; sealed.len().saturating_sub(AUTH_TAG_LENGTH)];
         gcm::open(&self.key, &nonce, sealed, &mut text)?;
         self.used += 1;
         Ok(text)

@@ -2,8 +2,8 @@
 //! with the first bytes of segment 1, the rest of segment 1, and the other
 //! segments with the epilogue.
 
-use crate::frame::{Frame, PLACES, PREAMBLE_LENGTH};
-use crate::gcm::TAG_LENGTH;
+use crate::frame::{Frame, PREAMBLE_LENGTH, SEGMENTS};
+use crate::gcm::AUTH_TAG_LENGTH;
 use crate::refusal::Refusal;
 use crate::wire::{late_byte, payloads, Revision};
 
@@ -14,17 +14,17 @@ const PADDED_TO: usize = 16;
 pub const INLINE_LENGTH: usize = 48;
 
 /// Bytes of the first part's text.
-const HEAD_TEXT_LENGTH: usize = PREAMBLE_LENGTH + INLINE_LENGTH;
+const FIRST_TEXT_LENGTH: usize = PREAMBLE_LENGTH + INLINE_LENGTH;
 
 /// Bytes of the first part on the wire: every frame has it.
-pub const HEAD_LENGTH: usize = HEAD_TEXT_LENGTH + TAG_LENGTH;
+pub const FIRST_PART_LENGTH: usize = FIRST_TEXT_LENGTH + AUTH_TAG_LENGTH;
 
 /// Bytes of an epilogue: the late status and padding.
 pub const EPILOGUE_LENGTH: usize = 16;
 
 /// What a frame needs of the store beside its padded segments: room for an
 /// epilogue and a tag, of a frame without an epilogue too.
-const STORE_BESIDE: usize = EPILOGUE_LENGTH + TAG_LENGTH;
+const STORE_BESIDE: usize = EPILOGUE_LENGTH + AUTH_TAG_LENGTH;
 
 /// The length rounded up to a multiple of 16.
 pub fn padded(length: usize) -> usize {
@@ -43,18 +43,22 @@ fn padded_from(frame: &Frame, place: usize) -> usize {
 /// the preamble.
 pub fn rest_length(frame: &Frame) -> Option<usize> {
     let length = frame.segments[0].length as usize;
-    (length > INLINE_LENGTH).then(|| padded(length - INLINE_LENGTH) + TAG_LENGTH)
+    (length > INLINE_LENGTH).then(|| padded(length - INLINE_LENGTH) + AUTH_TAG_LENGTH)
 }
 
 /// Bytes on the wire of the other segments and the epilogue, where there is more
 /// than one segment.
 pub fn last_length(frame: &Frame) -> Option<usize> {
-    (frame.count > 1).then(|| padded_from(frame, 1) + EPILOGUE_LENGTH + TAG_LENGTH)
+    (frame.count > 1).then(|| padded_from(frame, 1) + EPILOGUE_LENGTH + AUTH_TAG_LENGTH)
 }
 
 /// The bytes of each part on the wire.
 pub fn part_lengths(frame: &Frame) -> Vec<usize> {
-    let lengths = [Some(HEAD_LENGTH), rest_length(frame), last_length(frame)];
+    let lengths = [
+        Some(FIRST_PART_LENGTH),
+        rest_length(frame),
+        last_length(frame),
+    ];
     lengths.into_iter().flatten().collect()
 }
 
@@ -75,7 +79,7 @@ pub fn judge_store(frame: &Frame, length: usize) -> Result<(), Refusal> {
     if needed <= length {
         Ok(())
     } else {
-        Err(Refusal::store(needed as u64))
+        Err(Refusal::store_short(needed as u64))
     }
 }
 
@@ -93,12 +97,12 @@ fn with_padding(bytes: &[u8]) -> Vec<u8> {
 /// The texts of the frame's parts, before they are sealed. The request must
 /// have been judged good.
 pub fn texts(frame: &Frame, abort: bool, source: &[u8]) -> Vec<Vec<u8>> {
-    let payloads: [Vec<u8>; PLACES] = payloads(frame, abort, source);
+    let payloads: [Vec<u8>; SEGMENTS] = payloads(frame, abort, source);
     let (inline, rest) = payloads[0].split_at(payloads[0].len().min(INLINE_LENGTH));
-    let mut head = frame.preamble().to_vec();
-    head.extend(inline);
-    head.resize(HEAD_TEXT_LENGTH, 0);
-    let mut texts = vec![head];
+    let mut first = frame.preamble().to_vec();
+    first.extend(inline);
+    first.resize(FIRST_TEXT_LENGTH, 0);
+    let mut texts = vec![first];
     if !rest.is_empty() {
         texts.push(with_padding(rest));
     }

@@ -23,13 +23,13 @@ impl Sending {
         queued: u64,
     ) -> Result<u64, Refusal> {
         let Self::Sealing(direction) = self else {
-            return Err(Refusal::switch());
+            return Err(Refusal::switch_refused());
         };
         request.judge()?;
         let needed = wire_length(&request.frame);
         let place = place(buffer, queued, needed)?;
         if (part_lengths(&request.frame).len() as u128) > direction.left() {
-            return Err(Refusal::nonces_used());
+            return Err(Refusal::nonces_spent());
         }
         let mut sealed = Vec::new();
         for text in texts(&request.frame, request.abort, request.source) {

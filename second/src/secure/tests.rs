@@ -77,7 +77,7 @@ fn what_a_frame_needs_of_the_store() {
     assert_eq!((needed(&[16]), needed(&[17])), (48, 64));
     assert_eq!(needed(&[105, 70, 0, 350]), 112 + 80 + 352 + 32);
     let frame = frame(&[5, 3]);
-    assert_eq!(judge_store(&frame, 63), Err(Refusal::store(64)));
+    assert_eq!(judge_store(&frame, 63), Err(Refusal::store_short(64)));
     assert_eq!(judge_store(&frame, 64), Ok(()));
 }
 
@@ -190,13 +190,13 @@ fn the_first_broken_rule_gives_the_number() {
 
 #[test]
 fn details() {
-    assert_eq!(Refusal::nonces_used().detail, [0; 3]);
+    assert_eq!(Refusal::nonces_spent().detail, [0; 3]);
     assert_eq!(Refusal::padding().detail, [0; 3]);
-    assert_eq!(Refusal::switch().detail, [0; 3]);
+    assert_eq!(Refusal::switch_refused().detail, [0; 3]);
     let mut short = [0; 639];
     let build = build(&[105, 70, 0, 350], true);
     let answer = sealing(0).build(&build.request(), &mut short, 0);
-    assert_eq!(answer, Err(Refusal::room(640)));
+    assert_eq!(answer, Err(Refusal::no_room(640)));
 }
 
 #[test]
@@ -235,7 +235,7 @@ fn a_frame_short_of_nonces_is_refused_whole() {
                     assert!(answer.is_ok());
                     assert_eq!(direction.left(), u128::from(left - needs));
                 } else {
-                    assert_eq!(answer, Err(Refusal::nonces_used()));
+                    assert_eq!(answer, Err(Refusal::nonces_spent()));
                     assert_eq!(sending, before);
                 }
             }

@@ -36,7 +36,7 @@ fn accepted_is_acknowledged_held_and_dropped() {
                     }
                     Err(why) => {
                         assert_eq!(why.number, 22);
-                        assert_eq!(tally.open.len(), PLACES);
+                        assert_eq!(tally.open.len(), HELD_LIMIT);
                     }
                 },
                 7 if session.ack(near).is_ok() => tally.ack(near),

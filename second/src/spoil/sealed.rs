@@ -3,7 +3,7 @@
 //! before too.
 
 use crate::frame::{put_preamble_checksum, Frame, PREAMBLE_LENGTH};
-use crate::gcm::{self, KEY_LENGTH, TAG_LENGTH};
+use crate::gcm::{self, AUTH_TAG_LENGTH, KEY_LENGTH};
 use crate::secure::{padded, texts, Nonce, EPILOGUE_LENGTH, INLINE_LENGTH};
 use std::ops::Range;
 
@@ -48,7 +48,7 @@ impl Sealer {
     fn seal(&mut self, text: &[u8], nonce_off: u64, key_off: u8) -> Vec<u8> {
         let mut key = self.key;
         key[KEY_LENGTH - 1] ^= key_off;
-        let mut sealed = vec![0; text.len() + TAG_LENGTH];
+        let mut sealed = vec![0; text.len() + AUTH_TAG_LENGTH];
         let nonce = self.nonce(nonce_off);
         gcm::seal(&key, &nonce, text, &mut sealed).expect("room for it");
         self.sealed = self.sealed.wrapping_add(1);
@@ -116,7 +116,10 @@ impl SealedFrame {
 
     /// Bytes of the frame on the wire.
     pub fn bytes_length(&self) -> usize {
-        self.texts.iter().map(|text| text.len() + TAG_LENGTH).sum()
+        self.texts
+            .iter()
+            .map(|text| text.len() + AUTH_TAG_LENGTH)
+            .sum()
     }
 
     /// The frame on the wire.

@@ -14,6 +14,9 @@ use std::io::Write;
 use std::net::SocketAddr;
 use std::time::Duration;
 
+/// What a capture counts; a frame has segments too.
+const TCP_SEGMENT: &str = "TCP segment";
+
 /// A direction that is read.
 struct Link<'a> {
     /// Which side of its connection sent it.
@@ -133,7 +136,7 @@ fn heading(
     let direction = &connection.directions[link.side];
     let (from, to) = addresses(connection, link.side);
     writeln!(out, "direction {printed}: {from} to {to}")?;
-    let segments = counted(direction.counts.segments, "segment");
+    let segments = counted(direction.counts.segments, TCP_SEGMENT);
     let length = counted(link.run.length, "byte");
     write!(out, "  {segments} with bytes, {length} in order")?;
     if let (Some((first, last)), Some(began)) = (direction.times, began) {
@@ -174,7 +177,7 @@ fn notes(direction: &Direction, run: &Run) -> Vec<String> {
 
 /// A line for each count that is not 0.
 fn counts(counts: &Counts) -> Vec<String> {
-    let again = counted(counts.duplicates, "segment");
+    let again = counted(counts.duplicates, TCP_SEGMENT);
     let again = format!("came again; {again} brought nothing else");
     let lines = [
         (counts.repeated_bytes, "byte", &*again),
@@ -183,11 +186,11 @@ fn counts(counts: &Counts) -> Vec<String> {
             "byte",
             "came again with another value; the first one is read",
         ),
-        (counts.out_of_order, "segment", "came late, put in order"),
-        (counts.truncated, "segment", "not captured whole"),
+        (counts.out_of_order, TCP_SEGMENT, "came late, put in order"),
+        (counts.truncated, TCP_SEGMENT, "not captured whole"),
         (
             counts.out_of_window,
-            "segment",
+            TCP_SEGMENT,
             "left out, with numbers far from all others",
         ),
     ];
@@ -237,8 +240,8 @@ fn write_pieces(
     let path = link_file::write(folder, &name, &joined, &link.run.pieces)?;
     let pieces = counted(joined.len() as u64, "piece");
     let how = match each {
-        1 => "a piece a segment".to_string(),
-        _ => format!("{each} of the {} segments joined in each", lengths.len()),
+        1 => "a piece a TCP segment".to_string(),
+        _ => format!("{each} of the {} TCP segments joined in each", lengths.len()),
     };
     writeln!(out, "  written to {path}: {pieces}, {how}")?;
     Ok(())

@@ -439,7 +439,7 @@ fn a_capture() {
     assert!(ok);
     let expected = [
         "direction 1: [2001:db8::7]:40000 to [::1]:6789",
-        "  3 segments with bytes, 136 bytes in order; from 0.000000 to 0.003000 seconds",
+        "  3 TCP segments with bytes, 136 bytes in order; from 0.000000 to 0.003000 seconds",
         "  read with the other direction's features: supported 0x1, required 0x0",
         "  closed by its sender",
         "bytes 1 to 26: banner, supported 0x1, required 0x0: msgr2.1",
@@ -448,7 +448,7 @@ fn a_capture() {
         "frames 1, dropped 1; complete at byte 136",
         "",
         "direction 2: [::1]:6789 to [2001:db8::7]:40000",
-        "  1 segment with bytes, 26 bytes in order; from 0.000500 to 0.002500 seconds",
+        "  1 TCP segment with bytes, 26 bytes in order; from 0.000500 to 0.002500 seconds",
         "  read with the other direction's features: supported 0x1, required 0x0",
         "  still open at the end of the capture",
         "bytes 1 to 26: banner, supported 0x1, required 0x0: msgr2.1",
@@ -535,7 +535,7 @@ fn a_direction_written_as_a_link_file() {
     let (lines, ok) = printed(&conversation.writer.file, &[&folder.option()]);
     let note = &lines[3];
     assert!(
-        ok && note.starts_with("  written to ") && note.ends_with("3 pieces, a piece a segment")
+        ok && note.starts_with("  written to ") && note.ends_with("3 pieces, a piece a TCP segment")
     );
     let (name, file) = folder.file();
     assert_eq!(name, "1-2001_db8__7.40000-__1.6789.link");
@@ -554,7 +554,7 @@ fn more_segments_than_a_link_file_has_pieces() {
         .for_each(|byte| conversation.send(0, ACK, &[*byte]));
     let folder = Folder::new("segments");
     let (lines, ok) = printed(&conversation.writer.file, &[&folder.option()]);
-    assert!(ok && lines[3].ends_with("419 pieces, 3 of the 1256 segments joined in each"));
+    assert!(ok && lines[3].ends_with("419 pieces, 3 of the 1256 TCP segments joined in each"));
     let (_, file) = folder.file();
     assert_eq!(file[2 + 4 * 419..], stream);
     assert_eq!(printed(&file, &[]), printed(&stream, &[]));
@@ -654,7 +654,7 @@ fn the_stored_capture_without_a_packet() {
         let missing = links.iter().filter(|(_, gap)| *gap).count();
         assert_eq!(lacking + usize::from(without_start), missing);
     }
-    // One for each segment with bytes.
+    // One for each TCP segment with bytes.
     assert_eq!(gaps, 43 + 14);
 }
 

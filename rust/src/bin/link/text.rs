@@ -4,7 +4,7 @@ use crate::fault::Fault;
 use crate::hints::Seen;
 use crate::layout::{number, Frame};
 use crate::walk::{End, Event, Part, Unfinished, Walk};
-use mahuixen::{tag, tag_name, Header};
+use mahuixen::{tag, tag_text, Header};
 use std::collections::BTreeMap;
 use std::io::{self, Write};
 
@@ -131,7 +131,7 @@ impl<W: Write> Printer<W> {
 
     fn tallies(&mut self) -> io::Result<()> {
         for (tag, tally) in &self.tags {
-            let name = tag_name(*tag).unwrap_or("unknown");
+            let text = tag_text(*tag).unwrap_or("unknown");
             let Tally {
                 frames,
                 dropped,
@@ -140,7 +140,7 @@ impl<W: Write> Printer<W> {
             } = tally;
             writeln!(
                 self.out,
-                "tag {tag} {name}: frames {frames}, dropped {dropped}, bytes of segments {segments}, bytes on the wire {wire}"
+                "tag {tag} {text}: frames {frames}, dropped {dropped}, bytes of segments {segments}, bytes on the wire {wire}"
             )?;
         }
         Ok(())

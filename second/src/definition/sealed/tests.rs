@@ -62,7 +62,7 @@ fn entries_of_a_stream() {
         store,
     };
     let segments = source(525);
-    let refusal = Report::Refused(Refusal::authentication());
+    let refusal = Report::Refused(Refusal::auth_tag());
     let expected = [
         entry(Report::Frame(empty_frame()), 58, filled(&[], 0)),
         entry(Report::Frame(frames[0].frame), 58 + 96, filled(&[], 32)),

@@ -4,7 +4,7 @@
 use crate::fixed::request::source;
 use crate::fixed::switching::case::{counting_from, SECRETS};
 use crate::fixed::switching::frames::{build, record};
-use crate::frame::{SEGMENT_LIMIT, SUM_LIMIT};
+use crate::frame::{FRAME_LIMIT, SEGMENT_LIMIT};
 use crate::input::{CARRIED_SEGMENT, LARGEST_LENGTH};
 use crate::records::{Build, BuildsRecord, Record, SendBuffer, MOST_BUILDS};
 use crate::secure::{part_lengths, wire_length};
@@ -176,7 +176,7 @@ fn limits() -> Record {
         at(&[most, most]),
         at(&[most, most, 1]),
         at(&[0x4000_0000; 4]),
-        at(&[SUM_LIMIT as u32]),
+        at(&[FRAME_LIMIT as u32]),
     ];
     record(u64::MAX, builds)
 }

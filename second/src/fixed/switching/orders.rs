@@ -5,7 +5,7 @@ use crate::records::Record;
 use crate::spoil::sealed::SealedFrame;
 
 /// Faults of the first part: 18, 17, 5, 6, 7, 8, 9, 10, 19.
-const HEAD_FAULTS: u32 = 9;
+const FIRST_FAULTS: u32 = 9;
 
 /// What a frame of 5 and 3 bytes needs of the store.
 const NEEDED: u32 = 64;
@@ -18,7 +18,7 @@ fn behind_a_good_one(frame: &SealedFrame, short_at: Option<u64>) -> Case {
     Case::counted(&frames, SECRETS.receiving, opened)
 }
 
-fn head(faults: u32) -> Record {
+fn first(faults: u32) -> Record {
     let has = |place: u32| faults >> place & 1 == 1;
     let mut frame = sealed(&[5, 3]);
     if has(1) {
@@ -86,7 +86,7 @@ fn last(lengths: &[u32], faults: u32) -> [Record; 2] {
 }
 
 pub fn orders() -> Vec<Record> {
-    let mut records: Vec<Record> = (0..1 << HEAD_FAULTS).map(head).collect();
+    let mut records: Vec<Record> = (0..1 << FIRST_FAULTS).map(first).collect();
     for lengths in [&[60_u32][..], &[60, 1], &[49, 0, 7, 2]] {
         records.extend((0..8).flat_map(|faults| rest(lengths, faults)));
     }

@@ -5,7 +5,7 @@ use crate::banner::Features;
 use crate::fixed::request::{frame, source};
 use crate::fixed::switching::case::{counting_from, OTHERS, SECRETS};
 use crate::fixed::switching::frames::SHAPES;
-use crate::frame::{Frame, SEGMENT_LIMIT, SUM_LIMIT};
+use crate::frame::{Frame, FRAME_LIMIT, SEGMENT_LIMIT};
 use crate::random::Random;
 use crate::receiver::Receiver;
 use crate::refusal::Refusal;
@@ -110,7 +110,7 @@ fn is_switched(receiver: &mut Receiver) -> bool {
             true
         }
         Err(refusal) => {
-            assert_eq!(refusal, Refusal::switch());
+            assert_eq!(refusal, Refusal::switch_refused());
             assert_eq!((sending, &before), (Sending::Refused, &*receiver));
             false
         }
@@ -568,7 +568,7 @@ fn the_shortest_store() {
 fn the_longest_frame() {
     let made = good_of_zeros(&[SEGMENT_LIMIT, SEGMENT_LIMIT]);
     let needed = store_needed(&made.frame);
-    assert_eq!(needed as u64, SUM_LIMIT + 32);
+    assert_eq!(needed as u64, FRAME_LIMIT + 32);
     let bytes = wire(&[&made]);
     let mut store = vec![FILL; needed];
     let got = switched().receive(&bytes, &mut store);

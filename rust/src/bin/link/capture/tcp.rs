@@ -54,7 +54,7 @@ pub struct Counts {
 /// The bytes from the stream's first one on, up to where some are missing.
 #[derive(Clone, Debug, PartialEq, Eq)]
 pub struct Run<'a> {
-    /// A piece a segment.
+    /// A piece a TCP segment.
     pub pieces: Vec<&'a [u8]>,
     pub length: u64,
     pub gap: Option<Gap>,

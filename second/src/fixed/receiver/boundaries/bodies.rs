@@ -1,7 +1,7 @@
 //! Refusals 11, 12 and 24, drops, and which of them comes first.
 
 use crate::fixed::receiver::case::{aborted, whole, Case};
-use crate::frame::PLACES;
+use crate::frame::SEGMENTS;
 use crate::records::Record;
 use crate::spoil::WireFrame;
 use crate::wire::Revision;
@@ -26,7 +26,7 @@ fn spoil_checksum(frame: &mut WireFrame, place: usize, byte: usize) {
 }
 
 fn places_in(choice: u32) -> impl Iterator<Item = usize> {
-    (0..PLACES).filter(move |place| choice >> place & 1 == 1)
+    (0..SEGMENTS).filter(move |place| choice >> place & 1 == 1)
 }
 
 /// Every choice of wrong checksums, used segments' and unused ones'.
@@ -156,7 +156,7 @@ fn spellings(revision: Revision) -> Vec<Record> {
     };
     let shapes: [&[u32]; 4] = [&[5], &[0, 4], &[5, 4], &[5, 0, 4]];
     let choices = shapes.into_iter().flat_map(|lengths| {
-        let all = 0..1_u32 << (PLACES - lengths.len());
+        let all = 0..1_u32 << (SEGMENTS - lengths.len());
         all.map(move |choice| (lengths, choice << lengths.len()))
     });
     let mut records = Vec::new();

@@ -1,7 +1,7 @@
 //! Refusals 5 to 10, alone and together.
 
 use crate::fixed::receiver::case::{preamble, whole, Case};
-use crate::frame::{PLACES, PREAMBLE_LENGTH, SEGMENT_LIMIT, SUM_LIMIT};
+use crate::frame::{FRAME_LIMIT, PREAMBLE_LENGTH, SEGMENTS, SEGMENT_LIMIT};
 use crate::input::CARRIED_SEGMENT;
 use crate::records::Record;
 use crate::spoil::WireFrame;
@@ -41,7 +41,7 @@ fn false_checksums(revision: Revision) -> Vec<Record> {
 
 fn counts(revision: Revision) -> Vec<Record> {
     let mut records = Vec::new();
-    for lengths in [&[0; PLACES], &[5, 0, 0, 0], &[1, 2, 3, 4]] {
+    for lengths in [&[0; SEGMENTS], &[5, 0, 0, 0], &[1, 2, 3, 4]] {
         let good = whole(revision, lengths);
         for count in [0, 1, 2, 3, 4, 5, 6, 128, 255] {
             records.push(changed(&good, |bytes| bytes[1] = count));
@@ -63,12 +63,12 @@ fn length_field(place: usize) -> usize {
 /// Last segments that are empty, and unused ones with a bit set.
 fn shapes(revision: Revision) -> Vec<Record> {
     let mut records = Vec::new();
-    for count in 1..=PLACES {
-        let full = whole(revision, &[3; PLACES][..count]);
+    for count in 1..=SEGMENTS {
+        let full = whole(revision, &[3; SEGMENTS][..count]);
         let last = length_field(count - 1);
         records.push(Case::frame(&full).edges());
         records.push(changed(&full, |bytes| bytes[last..last + 4].fill(0)));
-        for place in count..PLACES {
+        for place in count..SEGMENTS {
             for byte in 0..6 {
                 let field = length_field(place) + byte;
                 records.push(changed(&full, |bytes| bytes[field] = 1));
@@ -113,7 +113,7 @@ fn tags(revision: Revision) -> Vec<Record> {
 }
 
 fn limits(revision: Revision) -> Vec<Record> {
-    let quarter = SUM_LIMIT as u32 / 4;
+    let quarter = FRAME_LIMIT as u32 / 4;
     let carried: [&[u32]; 3] = [
         &[CARRIED_SEGMENT],
         &[CARRIED_SEGMENT, CARRIED_SEGMENT],
@@ -125,7 +125,7 @@ fn limits(revision: Revision) -> Vec<Record> {
         &[SEGMENT_LIMIT, SEGMENT_LIMIT],
         &[SEGMENT_LIMIT, SEGMENT_LIMIT - 1, 1],
         &[0, SEGMENT_LIMIT, 0, SEGMENT_LIMIT],
-        &[quarter; PLACES],
+        &[quarter; SEGMENTS],
         &[SEGMENT_LIMIT + 1],
         &[0, 0, 0, SEGMENT_LIMIT + 1],
         &[SEGMENT_LIMIT, SEGMENT_LIMIT, 1],
@@ -137,7 +137,7 @@ fn limits(revision: Revision) -> Vec<Record> {
         &[SEGMENT_LIMIT + 1, 0, 0, SEGMENT_LIMIT + 1],
         &[1, SEGMENT_LIMIT, 0, SEGMENT_LIMIT],
         &[quarter, quarter, quarter, quarter + 1],
-        &[0x4000_0000; PLACES],
+        &[0x4000_0000; SEGMENTS],
         &[0x8000_0000; 2],
         &[u32::MAX, 1],
         &[5, u32::MAX],
