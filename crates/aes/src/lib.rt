@@ -240,7 +240,7 @@ fn round_keys(t: &[u8; 256], key: [[u8; 4]; 4]) -> [[[u8; 4]; 4]; 11]
 }
 
 // The round keys of a key, the key's own bytes first.
-pub fn expand(key: [u8; 16]) -> [[[u8; 4]; 4]; 11]
+pub fn key_expansion(key: [u8; 16]) -> [[[u8; 4]; 4]; 11]
     ensures { λ r. ⌜ r ≡ keyExpansion key ⌝ }
 {
     let t = sbox_table();

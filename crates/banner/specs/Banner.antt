@@ -1,6 +1,6 @@
 -- The banner (000, "Banner"; 01, "Banner" and refusals 1 to 4 and 16).
 use mathlib.Core.List.{List, [], _∷_, _++_}
-use mathlib.Core.Bool.{Bool, true, cond, _&&_}
+use mathlib.Core.Bool.{Bool, true, false, not, cond, _&&_}
 use Prim.Native.Nat.{ℕ, suc, _%_}
 use lib.ListN.{getD}
 use lib.Dec.{leb, ltb, eqb}
@@ -29,6 +29,13 @@ bannerBytes supported required = magic ++ le 2 payloadLength ++ le 8 supported +
 
 -- ---- features
 
+-- those of a side that is not known yet
+abbrev pub noFeatures : Features
+noFeatures = record { supported = 0; required = 0 }
+
+abbrev pub isNoFeatures : Features → Bool
+isNoFeatures f = eqb (f .supported) 0 && eqb (f .required) 0
+
 -- own features: no bit but bit 0, and none required that is not supported
 abbrev pub judgeOwn : ℕ → ℕ → Judged
 judgeOwn supported required = unless (ltb supported 2 && ltb required 2 && eqb (missing 64 required supported) 0) refusal.OwnFeatures
@@ -50,6 +57,14 @@ judgeFeatures ownSupported ownRequired supported required =
 -- msgr2.1 exactly when both sides support bit 0
 abbrev pub revisionOf : ℕ → ℕ → Revision
 revisionOf ownSupported supported = cond (eqb (ownSupported % 2) 1 && eqb (supported % 2) 1) Msgr21 Msgr20
+
+abbrev pub isMsgr21 : Revision → Bool
+isMsgr21 Msgr20 = false
+isMsgr21 Msgr21 = true
+
+abbrev pub sameRevision : Revision → Revision → Bool
+sameRevision Msgr20 r = not (isMsgr21 r)
+sameRevision Msgr21 r = isMsgr21 r
 
 -- a revision's number, in lines and in words for C: 1 is msgr2.1, 0 msgr2.0
 abbrev pub revisionNumber : Revision → ℕ

@@ -1,9 +1,9 @@
 // The banner: its bytes, its judgements, the features in it and the revision that two banners choose.
 use buffer::byte_at;
 use buffer::u64_at;
+use refusal::Judgement;
 use refusal::Missing;
 use refusal::Refusal;
-use refusal::Verdict;
 use refusal::both;
 use refusal::or_else;
 use refusal::unless;
@@ -11,7 +11,7 @@ ghost use mathlib.Core.Path.{_≡_};
 ghost use Rattle.refusal.specs.declared.Refusal.the-variants as refusal;
 ghost use Rattle.refusal.specs.Refusals.{judgedBy};
 ghost use Rattle.banner.specs.Bits.{missing, lowestBit, bitCount};
-ghost use Rattle.banner.specs.Banner.{bannerBytes, judgeOwn, judgeMissing, judgeFeatures, revisionOf, featuresOf, judgeMagic, judgeLength};
+ghost use Rattle.banner.specs.Banner.{bannerBytes, noFeatures, isNoFeatures, isMsgr21, sameRevision, revisionNumber, judgeOwn, judgeMissing, judgeFeatures, revisionOf, featuresOf, judgeMagic, judgeLength};
 
 pub enum Revision {
     Msgr20,
@@ -23,6 +23,40 @@ pub enum Revision {
 pub struct Features {
     pub supported: u64,
     pub required: u64,
+}
+
+// Those of a side that is not known yet.
+pub fn no_features() -> Features
+    ensures { λ r. ⌜ r ≡ noFeatures ⌝ }
+{
+    Features {
+        supported: 0,
+        required: 0,
+    }
+}
+
+pub fn is_no_features(f: Features) -> bool
+    ensures { λ r. ⌜ r ≡ isNoFeatures f ⌝ }
+{
+    both(f.supported == 0, f.required == 0)
+}
+
+pub fn is_msgr21(revision: Revision) -> bool
+    ensures { λ r. ⌜ r ≡ isMsgr21 revision ⌝ }
+{
+    match revision {
+        Revision::Msgr20 => false,
+        Revision::Msgr21 => true,
+    }
+}
+
+pub fn same_revision(a: Revision, b: Revision) -> bool
+    ensures { λ r. ⌜ r ≡ sameRevision a b ⌝ }
+{
+    match a {
+        Revision::Msgr20 => !is_msgr21(b),
+        Revision::Msgr21 => is_msgr21(b),
+    }
 }
 
 fn missing_of(required: u64, supported: u64) -> u64
@@ -54,7 +88,7 @@ fn detail_of(bits: u64) -> Missing
 }
 
 // Our own features, before anything is built or received.
-pub fn judge_own(supported: u64, required: u64) -> Verdict
+pub fn judge_own(supported: u64, required: u64) -> Judgement
     ensures { λ r. ⌜ judgedBy r ≡ judgeOwn supported required ⌝ }
 {
     let m = missing_of(required, supported);
@@ -62,20 +96,20 @@ pub fn judge_own(supported: u64, required: u64) -> Verdict
     unless(both(known, m == 0), Refusal::OwnFeatures)
 }
 
-fn judge_required(bits: u64) -> Verdict
+fn judge_required(bits: u64) -> Judgement
     ensures { λ r. ⌜ judgedBy r ≡ judgeMissing refusal.PeerRequires bits ⌝ }
 {
     unless(bits == 0, Refusal::PeerRequires(detail_of(bits)))
 }
 
-fn judge_lacking(bits: u64) -> Verdict
+fn judge_lacking(bits: u64) -> Judgement
     ensures { λ r. ⌜ judgedBy r ≡ judgeMissing refusal.PeerLacks bits ⌝ }
 {
     unless(bits == 0, Refusal::PeerLacks(detail_of(bits)))
 }
 
 // The peer's features against ours.
-pub fn judge_features(own: Features, peer: Features) -> Verdict
+pub fn judge_features(own: Features, peer: Features) -> Judgement
     ensures { λ r. ⌜ judgedBy r ≡ judgeFeatures (own .supported) (own .required) (peer .supported) (peer .required) ⌝ }
 {
     let theirs = judge_required(missing_of(peer.required, own.supported));
@@ -94,8 +128,18 @@ pub fn revision_of(own: u64, peer: u64) -> Revision
     }
 }
 
+// Its number, in lines and in words for C.
+pub fn revision_number(revision: Revision) -> u64
+    ensures { λ r. ⌜ r ≡ revisionNumber revision ⌝ }
+{
+    match revision {
+        Revision::Msgr20 => 0,
+        Revision::Msgr21 => 1,
+    }
+}
+
 // The first eight bytes.
-pub fn judge_magic(b: &[u8]) -> Verdict
+pub fn judge_magic(b: &[u8]) -> Judgement
     ensures { λ r. ⌜ judgedBy r ≡ judgeMagic (now (b .entry)) ⌝ }
 {
     let m6 = both(byte_at(b, 6) == 0x32, byte_at(b, 7) == 0x0A);
@@ -105,7 +149,7 @@ pub fn judge_magic(b: &[u8]) -> Verdict
     unless(m0, Refusal::Magic)
 }
 
-pub fn judge_length(n: u16) -> Verdict
+pub fn judge_length(n: u16) -> Judgement
     ensures { λ r. ⌜ judgedBy r ≡ judgeLength n ⌝ }
 {
     unless(both(16 <= n, n <= 1024), Refusal::BannerLength(n))

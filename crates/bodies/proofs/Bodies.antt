@@ -10,8 +10,9 @@ use Rattle.buffer.specs.Le.{numberAt}
 use Rattle.fields.specs.declared.Cursor.{Cursor}
 use Rattle.fields.specs.declared.Span.{Span}
 use Rattle.fields.specs.declared.NumberList.{NumberList}
-use Rattle.fields.specs.Layout.{Kind, num, neg, list, size, rest, plain, good, fault, stepOf}
-use Rattle.fields.specs.Field.{Field, number, negative, numbers, sized, opaque, fixed, fieldAt, Place, nowhere, numbersAt, bytesAt, numbersFrom, bytesFrom, placeAt}
+use Rattle.fields.specs.Layout.{Kind, good, fault, stepOf}
+use Rattle.fields.specs.Layout as kind
+use Rattle.fields.specs.Field.{Field, number, negative, numbers, payload, opaque, fixed, fieldAt, Place, nowhere, numbersAt, bytesAt, numbersFrom, bytesFrom, placeAt}
 use Rattle.fields.specs.Reading.{spanIn, numbersIn}
 use Rattle.bodies.specs.declared.Body.{Body}
 use Rattle.bodies.specs.Read.{run, fieldsOf, whole, malformed, settled, readOf, answerOf, Took, malformedBody, settledBody}
@@ -20,54 +21,54 @@ use Rattle.bodies.proofs.Rows.{fine-before, stuck}
 -- ---- what the code has of a field: its number, or where its numbers or bytes stand
 
 abbrev pub Said : Kind → Type 0
-Said (num w) = ℕ
-Said neg = ℕ
-Said list = NumberList
-Said size = Span
-Said (rest k) = Span
-Said (plain w) = Span
+Said (kind.number w) = ℕ
+Said kind.negative = ℕ
+Said kind.numbers = NumberList
+Said kind.payload = Span
+Said (kind.opaque k) = Span
+Said (kind.fixed w) = Span
 
 abbrev pub saidAt : (k : Kind) → List ℕ → ℕ → Said k
-saidAt (num w) s at = numberAt w at s
-saidAt neg s at = numberAt 4 at s
-saidAt list s at = numbersFrom (at + 4) (numberAt 4 at s)
-saidAt size s at = bytesFrom (at + 4) (numberAt 4 at s)
-saidAt (rest k) s at = bytesFrom at (length s - k - at)
-saidAt (plain w) s at = bytesFrom at w
+saidAt (kind.number w) s at = numberAt w at s
+saidAt kind.negative s at = numberAt 4 at s
+saidAt kind.numbers s at = numbersFrom (at + 4) (numberAt 4 at s)
+saidAt kind.payload s at = bytesFrom (at + 4) (numberAt 4 at s)
+saidAt (kind.opaque k) s at = bytesFrom at (length s - k - at)
+saidAt (kind.fixed w) s at = bytesFrom at w
 
 -- the field that it holds, and its place
 abbrev pub fieldIn : (k : Kind) → List ℕ → Said k → Field
-fieldIn (num w) s n = number w n
-fieldIn neg s n = negative n
-fieldIn list s l = numbers (numbersIn s l)
-fieldIn size s p = sized (spanIn s p)
-fieldIn (rest k) s p = opaque k (spanIn s p)
-fieldIn (plain w) s p = fixed w (spanIn s p)
+fieldIn (kind.number w) s n = number w n
+fieldIn kind.negative s n = negative n
+fieldIn kind.numbers s l = numbers (numbersIn s l)
+fieldIn kind.payload s p = payload (spanIn s p)
+fieldIn (kind.opaque k) s p = opaque k (spanIn s p)
+fieldIn (kind.fixed w) s p = fixed w (spanIn s p)
 
 abbrev pub placeIn : (k : Kind) → Said k → Place
-placeIn (num w) n = nowhere
-placeIn neg n = nowhere
-placeIn list l = numbersAt l
-placeIn size p = bytesAt p
-placeIn (rest k) p = bytesAt p
-placeIn (plain w) p = bytesAt p
+placeIn (kind.number w) n = nowhere
+placeIn kind.negative n = nowhere
+placeIn kind.numbers l = numbersAt l
+placeIn kind.payload p = bytesAt p
+placeIn (kind.opaque k) p = bytesAt p
+placeIn (kind.fixed w) p = bytesAt p
 
 -- both tell what was said
 said : (k : Kind) (s : List ℕ) (at : ℕ) (x : Said k) → fieldIn k s x ≡ fieldAt k s at → placeIn k x ≡ placeAt k s at → x ≡ saidAt k s at
-said (num w) s at n e p = cc
-said neg s at n e p = cc
-said list s at l e p = cc
-said size s at x e p = cc
-said (rest k) s at x e p = cc
-said (plain w) s at x e p = cc
+said (kind.number w) s at n e p = cc
+said kind.negative s at n e p = cc
+said kind.numbers s at l e p = cc
+said kind.payload s at x e p = cc
+said (kind.opaque k) s at x e p = cc
+said (kind.fixed w) s at x e p = cc
 
 holds : (k : Kind) (s : List ℕ) (at : ℕ) → fieldIn k s (saidAt k s at) ≡ fieldAt k s at
-holds (num w) s at = refl
-holds neg s at = refl
-holds list s at = refl
-holds size s at = refl
-holds (rest k) s at = refl
-holds (plain w) s at = refl
+holds (kind.number w) s at = refl
+holds kind.negative s at = refl
+holds kind.numbers s at = refl
+holds kind.payload s at = refl
+holds (kind.opaque k) s at = refl
+holds (kind.fixed w) s at = refl
 
 -- ---- a body, made of what its fields say
 

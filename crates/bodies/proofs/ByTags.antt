@@ -11,7 +11,8 @@ use Rattle.buffer.specs.Le.{numberAt}
 use Rattle.preamble.specs.Judge.{segmentLimit}
 use Rattle.fields.specs.declared.Span.{Span}
 use Rattle.fields.specs.declared.NumberList.{NumberList}
-use Rattle.fields.specs.Layout.{Kind, num, neg, list, size, rest, plain, good, fault, stepOf}
+use Rattle.fields.specs.Layout.{Kind, good, fault, stepOf}
+use Rattle.fields.specs.Layout as kind
 use Rattle.fields.specs.Field.{bytesFrom}
 use Rattle.bodies.specs.declared.Body.{Body}
 use Rattle.bodies.specs.declared.Body.the-variants as body
@@ -50,86 +51,86 @@ module _ (s : List ℕ) (at : ℕ) where
   stands k ks m n e = rw e
 
   module _ (ks : List Kind) where
-    number-on : (w n : ℕ) (m : ℕ → Makes ks) → at + w ≤ length s → at + w ≡ n → from (num w ∷ ks) s at m ≡ from ks s n (m (numberAt w at s))
+    number-on : (w n : ℕ) (m : ℕ → Makes ks) → at + w ≤ length s → at + w ≡ n → from (kind.number w ∷ ks) s at m ≡ from ks s n (m (numberAt w at s))
     unfolding stepOf
-    number-on w n m h e = stands (num w) ks m n (rw (le-leb w (length s - at) (omega arith), e))
+    number-on w n m h e = stands (kind.number w) ks m n (rw (le-leb w (length s - at) (omega arith), e))
 
-    number-first : (w n : ℕ) (m : ℕ → Makes ks) → 1 ≤ w → at + w ≡ n → from (num w ∷ ks) s at m ≡ malformedWhen (short s n) at (from ks s n (m (numberAt w at s)))
+    number-first : (w n : ℕ) (m : ℕ → Makes ks) → 1 ≤ w → at + w ≡ n → from (kind.number w ∷ ks) s at m ≡ malformedWhen (short s n) at (from ks s n (m (numberAt w at s)))
     unfolding stepOf
     number-first w n m o e = go (ltb (length s) n) refl
       where
-        go : (b : Bool) → ltb (length s) n ≡ b → from (num w ∷ ks) s at m ≡ malformedWhen b at (from ks s n (m (numberAt w at s)))
-        go true t = let h = ltb-true (length s) n t in fails (num w) ks m at (rw (lt-leb w (length s - at) (omega arith)))
+        go : (b : Bool) → ltb (length s) n ≡ b → from (kind.number w ∷ ks) s at m ≡ malformedWhen b at (from ks s n (m (numberAt w at s)))
+        go true t = let h = ltb-true (length s) n t in fails (kind.number w) ks m at (rw (lt-leb w (length s - at) (omega arith)))
         go false t = let h = ltb-false (length s) n t in number-on w n m (omega arith) e
 
-    bytes-first : (w n : ℕ) (m : Span → Makes ks) → 1 ≤ w → at + w ≡ n → from (plain w ∷ ks) s at m ≡ malformedWhen (short s n) at (from ks s n (m (bytesFrom at w)))
+    bytes-first : (w n : ℕ) (m : Span → Makes ks) → 1 ≤ w → at + w ≡ n → from (kind.fixed w ∷ ks) s at m ≡ malformedWhen (short s n) at (from ks s n (m (bytesFrom at w)))
     unfolding stepOf
     bytes-first w n m o e = go (ltb (length s) n) refl
       where
-        go : (b : Bool) → ltb (length s) n ≡ b → from (plain w ∷ ks) s at m ≡ malformedWhen b at (from ks s n (m (bytesFrom at w)))
-        go true t = let h = ltb-true (length s) n t in fails (plain w) ks m at (rw (lt-leb w (length s - at) (omega arith)))
-        go false t = let h = ltb-false (length s) n t in stands (plain w) ks m n (rw (le-leb w (length s - at) (omega arith), e))
+        go : (b : Bool) → ltb (length s) n ≡ b → from (kind.fixed w ∷ ks) s at m ≡ malformedWhen b at (from ks s n (m (bytesFrom at w)))
+        go true t = let h = ltb-true (length s) n t in fails (kind.fixed w) ks m at (rw (lt-leb w (length s - at) (omega arith)))
+        go false t = let h = ltb-false (length s) n t in stands (kind.fixed w) ks m n (rw (le-leb w (length s - at) (omega arith), e))
 
-    negative-first : (n : ℕ) (m : ℕ → Makes ks) → at + 4 ≡ n → from (neg ∷ ks) s at m ≡ malformedWhen (short s n || ltb (numberAt 4 at s) 2147483648) at (from ks s n (m (numberAt 4 at s)))
+    negative-first : (n : ℕ) (m : ℕ → Makes ks) → at + 4 ≡ n → from (kind.negative ∷ ks) s at m ≡ malformedWhen (short s n || ltb (numberAt 4 at s) 2147483648) at (from ks s n (m (numberAt 4 at s)))
     unfolding stepOf
     negative-first n m e = go (ltb (length s) n) (ltb (numberAt 4 at s) 2147483648) refl refl
       where
-        go : (b c : Bool) → ltb (length s) n ≡ b → ltb (numberAt 4 at s) 2147483648 ≡ c → from (neg ∷ ks) s at m ≡ malformedWhen (b || c) at (from ks s n (m (numberAt 4 at s)))
-        go true true t u = fails neg ks m at (rw u)
-        go true false t u = let h = ltb-true (length s) n t in fails neg ks m at (rw (u, lt-leb 4 (length s - at) (omega arith)))
-        go false true t u = fails neg ks m at (rw u)
-        go false false t u = let h = ltb-false (length s) n t in stands neg ks m n (rw (u, le-leb 4 (length s - at) (omega arith), e))
+        go : (b c : Bool) → ltb (length s) n ≡ b → ltb (numberAt 4 at s) 2147483648 ≡ c → from (kind.negative ∷ ks) s at m ≡ malformedWhen (b || c) at (from ks s n (m (numberAt 4 at s)))
+        go true true t u = fails kind.negative ks m at (rw u)
+        go true false t u = let h = ltb-true (length s) n t in fails kind.negative ks m at (rw (u, lt-leb 4 (length s - at) (omega arith)))
+        go false true t u = fails kind.negative ks m at (rw u)
+        go false false t u = let h = ltb-false (length s) n t in stands kind.negative ks m n (rw (u, le-leb 4 (length s - at) (omega arith), e))
 
-    list-first : (m : NumberList → Makes ks) → from (list ∷ ks) s at m ≡ listThen s at (from ks s (listEnd s at) (m (listAt s at)))
+    list-first : (m : NumberList → Makes ks) → from (kind.numbers ∷ ks) s at m ≡ listThen s at (from ks s (listEnd s at) (m (listAt s at)))
     unfolding stepOf
     list-first m = go (ltb (length s) (at + 4)) (ltb 32 (numberAt 4 at s)) (ltb (length s) (listEnd s at)) refl refl refl
       where
         go : (a b c : Bool) → ltb (length s) (at + 4) ≡ a → ltb 32 (numberAt 4 at s) ≡ b → ltb (length s) (listEnd s at) ≡ c
-            → from (list ∷ ks) s at m ≡ malformedWhen a at (malformedWhen b at (malformedWhen c (at + 4 + (length s - (at + 4)) / 4 * 4) (from ks s (listEnd s at) (m (listAt s at)))))
-        go true true c t u v = fails list ks m at (rw u)
+            → from (kind.numbers ∷ ks) s at m ≡ malformedWhen a at (malformedWhen b at (malformedWhen c (at + 4 + (length s - (at + 4)) / 4 * 4) (from ks s (listEnd s at) (m (listAt s at)))))
+        go true true c t u v = fails kind.numbers ks m at (rw u)
         go true false c t u v =
             let h = ltb-true (length s) (at + 4) t in
             let e : at + (length s - at) / 4 * 4 ≡ at = omega arith in
-            fails list ks m at (rw (u, lt-leb (4 + 4 * numberAt 4 at s) (length s - at) (omega arith), e))
-        go false true c t u v = fails list ks m at (rw u)
+            fails kind.numbers ks m at (rw (u, lt-leb (4 + 4 * numberAt 4 at s) (length s - at) (omega arith), e))
+        go false true c t u v = fails kind.numbers ks m at (rw u)
         go false false true t u v =
             let h = ltb-false (length s) (at + 4) t in
             let k = ltb-true (length s) (listEnd s at) v in
             let e : at + (length s - at) / 4 * 4 ≡ at + 4 + (length s - (at + 4)) / 4 * 4 = omega arith in
-            fails list ks m (at + 4 + (length s - (at + 4)) / 4 * 4) (rw (u, lt-leb (4 + 4 * numberAt 4 at s) (length s - at) (omega arith), e))
+            fails kind.numbers ks m (at + 4 + (length s - (at + 4)) / 4 * 4) (rw (u, lt-leb (4 + 4 * numberAt 4 at s) (length s - at) (omega arith), e))
         go false false false t u v =
             let h = ltb-false (length s) (at + 4) t in
             let k = ltb-false (length s) (listEnd s at) v in
             let e : at + (4 + 4 * numberAt 4 at s) ≡ listEnd s at = omega arith in
-            stands list ks m (listEnd s at) (rw (u, le-leb (4 + 4 * numberAt 4 at s) (length s - at) (omega arith), e))
+            stands kind.numbers ks m (listEnd s at) (rw (u, le-leb (4 + 4 * numberAt 4 at s) (length s - at) (omega arith), e))
 
-    size-first : (l n : ℕ) (m : Span → Makes ks) → at + 4 ≡ l → at + (4 + numberAt 4 at s) ≡ n
-        → from (size ∷ ks) s at m ≡ malformedWhen (short s l || short s n) at (from ks s n (m (bytesFrom (at + 4) (numberAt 4 at s))))
+    payload-first : (l n : ℕ) (m : Span → Makes ks) → at + 4 ≡ l → at + (4 + numberAt 4 at s) ≡ n
+        → from (kind.payload ∷ ks) s at m ≡ malformedWhen (short s l || short s n) at (from ks s n (m (bytesFrom (at + 4) (numberAt 4 at s))))
     unfolding stepOf
-    size-first l n m e g = go (ltb (length s) l) (ltb (length s) n) refl refl
+    payload-first l n m e g = go (ltb (length s) l) (ltb (length s) n) refl refl
       where
         go : (b c : Bool) → ltb (length s) l ≡ b → ltb (length s) n ≡ c
-            → from (size ∷ ks) s at m ≡ malformedWhen (b || c) at (from ks s n (m (bytesFrom (at + 4) (numberAt 4 at s))))
-        go true c t u = let h = ltb-true (length s) l t in fails size ks m at (rw (lt-leb (4 + numberAt 4 at s) (length s - at) (omega arith)))
-        go false true t u = let h = ltb-true (length s) n u in fails size ks m at (rw (lt-leb (4 + numberAt 4 at s) (length s - at) (omega arith)))
-        go false false t u = let h = ltb-false (length s) n u in stands size ks m n (rw (le-leb (4 + numberAt 4 at s) (length s - at) (omega arith), g))
+            → from (kind.payload ∷ ks) s at m ≡ malformedWhen (b || c) at (from ks s n (m (bytesFrom (at + 4) (numberAt 4 at s))))
+        go true c t u = let h = ltb-true (length s) l t in fails kind.payload ks m at (rw (lt-leb (4 + numberAt 4 at s) (length s - at) (omega arith)))
+        go false true t u = let h = ltb-true (length s) n u in fails kind.payload ks m at (rw (lt-leb (4 + numberAt 4 at s) (length s - at) (omega arith)))
+        go false false t u = let h = ltb-false (length s) n u in stands kind.payload ks m n (rw (le-leb (4 + numberAt 4 at s) (length s - at) (omega arith), g))
 
   -- all bytes to the end, in a row that ends there
-  rest-last : (m : Span → Body) → at ≤ length s → from (rest 0 ∷ []) s at m ≡ m (restAt s at)
+  opaque-last : (m : Span → Body) → at ≤ length s → from (kind.opaque 0 ∷ []) s at m ≡ m (restAt s at)
   unfolding stepOf from settledBody
-  rest-last m h =
+  opaque-last m h =
       let z : length s - 0 ≡ length s = omega arith in
       rw (le-leb 0 (length s - at) (omega arith), z, eq-eqb (length s) (length s) refl)
 
   -- all bytes but the closing ones
   closing-on : (k n : ℕ) (ks : List Kind) (m : Span → Makes ks) → at + k ≤ length s → length s - k ≡ n
-      → from (rest k ∷ ks) s at m ≡ from ks s n (m (bytesFrom at (n - at)))
+      → from (kind.opaque k ∷ ks) s at m ≡ from ks s n (m (bytesFrom at (n - at)))
   unfolding stepOf
-  closing-on k n ks m h e = stands (rest k) ks m n (rw (le-leb k (length s - at) (omega arith), e)) ∙ rw e
+  closing-on k n ks m h e = stands (kind.opaque k) ks m n (rw (le-leb k (length s - at) (omega arith), e)) ∙ rw e
 
-  closing-short : (k : ℕ) (ks : List Kind) (m : Span → Makes ks) → at ≤ length s → length s < at + k → from (rest k ∷ ks) s at m ≡ malformedBody 0
+  closing-short : (k : ℕ) (ks : List Kind) (m : Span → Makes ks) → at ≤ length s → length s < at + k → from (kind.opaque k ∷ ks) s at m ≡ malformedBody 0
   unfolding stepOf
-  closing-short k ks m l h = fails (rest k) ks m 0 (rw (lt-leb k (length s - at) (omega arith)))
+  closing-short k ks m l h = fails (kind.opaque k) ks m 0 (rw (lt-leb k (length s - at) (omega arith)))
 
   -- a list that stands ends within the body
   in-list : {x y : Body} → (listEnd s at ≤ length s → x ≡ y) → listThen s at x ≡ listThen s at y
@@ -141,10 +142,10 @@ module _ (s : List ℕ) (at : ℕ) where
 -- ---- the bodies
 
 abbrev identified : ℕ → Span → ℕ → ℕ → ℕ → ℕ → ℕ → ℕ → Body
-identified n p a b c d e f = body.Ident n p (record { gid = a; global = b; supported = c; required = d; flags = e; cookie = f })
+identified n p a b c d e f = body.Ident n p (record { gid = a; «global_seq» = b; supported = c; required = d; flags = e; cookie = f })
 
 abbrev resumed : ℕ → Span → ℕ → ℕ → ℕ → ℕ → ℕ → Body
-resumed n p a b c d e = body.Reconnect n p (record { client = a; server = b; global = c; connect = d; message = e })
+resumed n p a b c d e = body.Reconnect n p (record { «client_cookie» = a; «server_cookie» = b; «global_seq» = c; «connect_seq» = d; «msg_seq» = e })
 
 module _ (s : List ℕ) where
   not-short : (b : Bool) (n : ℕ) → (b || short s n) ≡ false → n ≤ length s
@@ -153,13 +154,13 @@ module _ (s : List ℕ) where
 
   pub hello-is : from hello s 0 (λ n p. body.Hello n p) ≡ helloBody s
   unfolding helloBody
-  hello-is = number-first s 0 _ 1 1 _ (omega arith) refl ∙ under (short s 1) 0 (λ t. rest-last s 1 _ (ltb-false (length s) 1 t))
+  hello-is = number-first s 0 _ 1 1 _ (omega arith) refl ∙ under (short s 1) 0 (λ t. opaque-last s 1 _ (ltb-false (length s) 1 t))
 
   pub auth-request-is : from authRequest s 0 (λ n l p. body.AuthRequest n l p) ≡ authRequestBody s
   unfolding authRequestBody
   auth-request-is =
       number-first s 0 _ 4 4 _ (omega arith) refl ∙ under (short s 4) 0 (λ t.
-      list-first s 4 _ _ ∙ in-list s 4 (λ h. rest-last s (listEnd s 4) _ h))
+      list-first s 4 _ _ ∙ in-list s 4 (λ h. opaque-last s (listEnd s 4) _ h))
 
   pub bad-method-is : from badMethod s 0 (λ n e l m. body.BadMethod n e l m) ≡ badMethodBody s
   unfolding badMethodBody
@@ -171,13 +172,13 @@ module _ (s : List ℕ) where
 
   pub more-is : from more s 0 (λ p. body.More p) ≡ moreBody s
   unfolding moreBody
-  more-is = size-first s 0 _ 4 (4 + numberAt 4 0 s) _ refl (omega arith) ∙ under (short s 4 || short s (4 + numberAt 4 0 s)) 0 (λ t. finished s (4 + numberAt 4 0 s) _ (not-short (short s 4) (4 + numberAt 4 0 s) t))
+  more-is = payload-first s 0 _ 4 (4 + numberAt 4 0 s) _ refl (omega arith) ∙ under (short s 4 || short s (4 + numberAt 4 0 s)) 0 (λ t. finished s (4 + numberAt 4 0 s) _ (not-short (short s 4) (4 + numberAt 4 0 s) t))
 
   pub auth-done-is : from authDone s 0 (λ g n p. body.AuthDone g n p) ≡ authDoneBody s
   unfolding authDoneBody
   auth-done-is =
       number-first s 0 _ 8 8 _ (omega arith) refl ∙ under (short s 8) 0 (λ t.
-      number-first s 8 _ 4 12 _ (omega arith) refl ∙ under (short s 12) 8 (λ u. rest-last s 12 _ (ltb-false (length s) 12 u)))
+      number-first s 8 _ 4 12 _ (omega arith) refl ∙ under (short s 12) 8 (λ u. opaque-last s 12 _ (ltb-false (length s) 12 u)))
 
   pub one-number-is : from oneNumber s 0 (λ n. body.Number n) ≡ oneNumberBody s
   unfolding oneNumberBody
@@ -197,7 +198,7 @@ module _ (s : List ℕ) where
   ended b = rw (eq-eqb (length s) (length s) refl)
 
   -- too short for the address count, or for the closing fields
-  closing-missing : (k : ℕ) (ks : List Kind) (m : ℕ → Span → Makes ks) → length s < 4 + k → from (num 4 ∷ rest k ∷ ks) s 0 m ≡ malformedBody 0
+  closing-missing : (k : ℕ) (ks : List Kind) (m : ℕ → Span → Makes ks) → length s < 4 + k → from (kind.number 4 ∷ kind.opaque k ∷ ks) s 0 m ≡ malformedBody 0
   closing-missing k ks m h =
       number-first s 0 _ 4 4 m (omega arith) refl ∙ under (short s 4) 0 (λ t. closing-short s 4 k ks _ (ltb-false (length s) 4 t) h) ∙ both-at (short s 4) 0
 
@@ -209,7 +210,7 @@ module _ (s : List ℕ) where
       at = length s - 48
 
       go : (b : Bool) → ltb (length s) 52 ≡ b → from ident s 0 identified ≡ malformedWhen b 0 (identified (numberAt 4 0 s) (bytesFrom 4 (at - 4)) (numberAt 8 at s) (numberAt 8 (at + 8) s) (numberAt 8 (at + 16) s) (numberAt 8 (at + 24) s) (numberAt 8 (at + 32) s) (numberAt 8 (at + 40) s))
-      go true t = closing-missing 48 (num 8 ∷ num 8 ∷ num 8 ∷ num 8 ∷ num 8 ∷ num 8 ∷ []) identified (ltb-true (length s) 52 t)
+      go true t = closing-missing 48 (kind.number 8 ∷ kind.number 8 ∷ kind.number 8 ∷ kind.number 8 ∷ kind.number 8 ∷ kind.number 8 ∷ []) identified (ltb-true (length s) 52 t)
       go false t =
           let h = ltb-false (length s) 52 t in
           number-on s 0 _ 4 4 identified (omega arith) refl ∙ closing-on s 4 48 at _ _ (omega arith) refl
@@ -225,7 +226,7 @@ module _ (s : List ℕ) where
       at = length s - 40
 
       go : (b : Bool) → ltb (length s) 44 ≡ b → from reconnect s 0 resumed ≡ malformedWhen b 0 (resumed (numberAt 4 0 s) (bytesFrom 4 (at - 4)) (numberAt 8 at s) (numberAt 8 (at + 8) s) (numberAt 8 (at + 16) s) (numberAt 8 (at + 24) s) (numberAt 8 (at + 32) s))
-      go true t = closing-missing 40 (num 8 ∷ num 8 ∷ num 8 ∷ num 8 ∷ num 8 ∷ []) resumed (ltb-true (length s) 44 t)
+      go true t = closing-missing 40 (kind.number 8 ∷ kind.number 8 ∷ kind.number 8 ∷ kind.number 8 ∷ kind.number 8 ∷ []) resumed (ltb-true (length s) 44 t)
       go false t =
           let h = ltb-false (length s) 44 t in
           number-on s 0 _ 4 4 resumed (omega arith) refl ∙ closing-on s 4 40 at _ _ (omega arith) refl

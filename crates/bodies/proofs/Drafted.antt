@@ -13,7 +13,7 @@ use Rattle.refusal.specs.declared.Refusal.the-variants.{BodyMalformed, NoRoom}
 use Rattle.fields.specs.declared.Cursor.{Cursor}
 use Rattle.fields.specs.declared.Draft.{Draft}
 use Rattle.fields.specs.Layout.{good, fault}
-use Rattle.fields.specs.Field.{Field, number, negative, numbers, sized, opaque, fixed, fieldBytes}
+use Rattle.fields.specs.Field.{Field, number, negative, numbers, payload, opaque, fixed, fieldBytes}
 use Rattle.fields.specs.Writing.{sound, faultIn, capped, counted, empty, putAt}
 use Rattle.fields.proofs.Puts.{put-none, put-next, put-over}
 use Rattle.fields.proofs.Drafts.{put-len}
@@ -97,7 +97,7 @@ fault-within : (f : Field) → faultIn f ≤ length (fieldBytes f)
 fault-within (number w n) = zero-le
 fault-within (negative n) = zero-le
 fault-within (numbers ns) = zero-le
-fault-within (sized bs) = zero-le
+fault-within (payload bs) = zero-le
 fault-within (opaque k bs) = zero-le
 fault-within (fixed w bs) = beyond w (length bs)
 

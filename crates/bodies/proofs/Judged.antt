@@ -15,8 +15,9 @@ use Rattle.buffer.specs.Le.{le, numberAt, words}
 use Rattle.buffer.proofs.Numbers.{leOf-le, length-le}
 use Rattle.preamble.specs.Judge.{segmentLimit}
 use Rattle.fields.specs.declared.Cursor.{Cursor}
-use Rattle.fields.specs.Layout.{Kind, num, neg, list, size, rest, plain, good, fault, past, stepOf}
-use Rattle.fields.specs.Field.{Field, number, negative, numbers, sized, opaque, fixed, kindOf, wordsOf, fieldBytes, fieldAt, Fits}
+use Rattle.fields.specs.Layout.{Kind, good, fault, past, stepOf}
+use Rattle.fields.specs.Layout as kind
+use Rattle.fields.specs.Field.{Field, number, negative, numbers, payload, opaque, fixed, kindOf, wordsOf, fieldBytes, fieldAt, Fits}
 use Rattle.fields.specs.Writing.{sound, faultIn}
 use Rattle.bodies.specs.declared.Request.{Request}
 use Rattle.bodies.specs.declared.Request.the-variants as request
@@ -36,7 +37,7 @@ unfoldable pub Closes : Field → List Field → Type 0
 Closes (number w n) fs = Unit {0}
 Closes (negative n) fs = Unit {0}
 Closes (numbers ns) fs = Unit {0}
-Closes (sized bs) fs = Unit {0}
+Closes (payload bs) fs = Unit {0}
 Closes (opaque k bs) fs = length (bytesOf fs) ≡ k
 Closes (fixed w bs) fs = fs ≡ []
 
@@ -99,11 +100,11 @@ module _ (pre post : List ℕ) where
   passes w xs e = rw (le-leb w (length (pre ++ (xs ++ post)) - length pre) (let r = room pre xs post in omega arith), e)
 
   -- each kind: a sound field is there, and the cursor goes behind its bytes
-  took-number : (w n : ℕ) → n < 256 ^ w → Holds (num w) (pre ++ (le w n ++ post)) (good (length pre)) (number w n) (good (length pre + length (le w n)))
+  took-number : (w n : ℕ) → n < 256 ^ w → Holds (kind.number w) (pre ++ (le w n ++ post)) (good (length pre)) (number w n) (good (length pre + length (le w n)))
   unfolding stepOf
   took-number w n h = record { next = passes w (le w n) (length-le w n); value = ap (number w) (sym (number-there w n pre post h)) }
 
-  took-negative : (n : ℕ) → 2147483648 ≤ n → n < 4294967296 → Holds neg (pre ++ (le 4 n ++ post)) (good (length pre)) (negative n) (good (length pre + length (le 4 n)))
+  took-negative : (n : ℕ) → 2147483648 ≤ n → n < 4294967296 → Holds kind.negative (pre ++ (le 4 n ++ post)) (good (length pre)) (negative n) (good (length pre + length (le 4 n)))
   unfolding stepOf
   took-negative n h k =
       record {
@@ -111,7 +112,7 @@ module _ (pre post : List ℕ) where
         value = ap negative (sym (number-there 4 n pre post k));
       }
 
-  took-numbers : (ns : List ℕ) → length ns ≤ 32 → ((i : ℕ) → i < length ns → getD ns i 0 < 4294967296) → Holds list (pre ++ ((le 4 (length ns) ++ words ns) ++ post)) (good (length pre)) (numbers ns) (good (length pre + length (le 4 (length ns) ++ words ns)))
+  took-numbers : (ns : List ℕ) → length ns ≤ 32 → ((i : ℕ) → i < length ns → getD ns i 0 < 4294967296) → Holds kind.numbers (pre ++ ((le 4 (length ns) ++ words ns) ++ post)) (good (length pre)) (numbers ns) (good (length pre + length (le 4 (length ns) ++ words ns)))
   unfolding stepOf
   took-numbers ns h k =
       let xs : List ℕ = le 4 (length ns) ++ words ns in
@@ -122,17 +123,17 @@ module _ (pre post : List ℕ) where
         value = rw (n, drop-append-add pre (xs ++ post) 4) (ap numbers (sym (words-there ns post k)));
       }
 
-  took-sized : (bs : List ℕ) → length bs < 4294967296 → Holds size (pre ++ ((le 4 (length bs) ++ bs) ++ post)) (good (length pre)) (sized bs) (good (length pre + length (le 4 (length bs) ++ bs)))
+  took-payload : (bs : List ℕ) → length bs < 4294967296 → Holds kind.payload (pre ++ ((le 4 (length bs) ++ bs) ++ post)) (good (length pre)) (payload bs) (good (length pre + length (le 4 (length bs) ++ bs)))
   unfolding stepOf
-  took-sized bs h =
+  took-payload bs h =
       let xs : List ℕ = le 4 (length bs) ++ bs in
       let n = number-there 4 (length bs) pre (bs ++ post) h in
       record {
         next = rw n (passes (4 + length bs) xs (omega arith));
-        value = rw (n, drop-append-add pre (xs ++ post) 4) (ap sized (sym (take-at bs post (length bs) refl)));
+        value = rw (n, drop-append-add pre (xs ++ post) 4) (ap payload (sym (take-at bs post (length bs) refl)));
       }
 
-  took-opaque : (k : ℕ) (bs : List ℕ) → length post ≡ k → Holds (rest k) (pre ++ (bs ++ post)) (good (length pre)) (opaque k bs) (good (length pre + length bs))
+  took-opaque : (k : ℕ) (bs : List ℕ) → length post ≡ k → Holds (kind.opaque k) (pre ++ (bs ++ post)) (good (length pre)) (opaque k bs) (good (length pre + length bs))
   unfolding stepOf
   took-opaque k bs e =
       let r = room pre bs post in
@@ -143,24 +144,24 @@ module _ (pre post : List ℕ) where
         value = rw (b, drop-append-seam pre (bs ++ post)) (ap (opaque k) (sym (take-at bs post (length bs) refl)));
       }
 
-  took-fixed : (w : ℕ) (bs : List ℕ) → length bs ≡ w → Holds (plain w) (pre ++ (bs ++ post)) (good (length pre)) (fixed w bs) (good (length pre + length bs))
+  took-fixed : (w : ℕ) (bs : List ℕ) → length bs ≡ w → Holds (kind.fixed w) (pre ++ (bs ++ post)) (good (length pre)) (fixed w bs) (good (length pre + length bs))
   unfolding stepOf
   took-fixed w bs e = record { next = passes w bs e; value = rw (drop-append-seam pre (bs ++ post)) (ap (fixed w) (sym (take-at bs post w e))) }
 
   -- one that is not sound fails
-  negative-fails : (n : ℕ) → n < 2147483648 → stepOf neg (pre ++ (le 4 n ++ post)) (good (length pre)) ≡ fault (length pre)
+  negative-fails : (n : ℕ) → n < 2147483648 → stepOf kind.negative (pre ++ (le 4 n ++ post)) (good (length pre)) ≡ fault (length pre)
   unfolding stepOf
   negative-fails n h = rw (number-there 4 n pre post (omega arith), lt-ltb n 2147483648 h)
 
-  numbers-fail : (ns : List ℕ) → 32 < length ns → length ns < 4294967296 → stepOf list (pre ++ ((le 4 (length ns) ++ words ns) ++ post)) (good (length pre)) ≡ fault (length pre)
+  numbers-fail : (ns : List ℕ) → 32 < length ns → length ns < 4294967296 → stepOf kind.numbers (pre ++ ((le 4 (length ns) ++ words ns) ++ post)) (good (length pre)) ≡ fault (length pre)
   unfolding stepOf
   numbers-fail ns h k = rw (number-there 4 (length ns) pre (words ns ++ post) k, lt-ltb 32 (length ns) h)
 
-  fixed-short : (w : ℕ) (bs : List ℕ) → length bs + length post < w → stepOf (plain w) (pre ++ (bs ++ post)) (good (length pre)) ≡ fault (length pre)
+  fixed-short : (w : ℕ) (bs : List ℕ) → length bs + length post < w → stepOf (kind.fixed w) (pre ++ (bs ++ post)) (good (length pre)) ≡ fault (length pre)
   unfolding stepOf
   fixed-short w bs h = rw (lt-leb w (length (pre ++ (bs ++ post)) - length pre) (let r = room pre bs post in omega arith))
 
-  fixed-long : (w : ℕ) (bs : List ℕ) → w < length bs → stepOf (plain w) (pre ++ (bs ++ post)) (good (length pre)) ≡ good (length pre + w)
+  fixed-long : (w : ℕ) (bs : List ℕ) → w < length bs → stepOf (kind.fixed w) (pre ++ (bs ++ post)) (good (length pre)) ≡ good (length pre + w)
   unfolding stepOf
   fixed-long w bs h = rw (le-leb w (length (pre ++ (bs ++ post)) - length pre) (let r = room pre bs post in omega arith))
 
@@ -169,7 +170,7 @@ unfolding Fits Closes
 took (number w n) fs pre h s k l = took-number pre (bytesOf fs) w n h
 took (negative n) fs pre h s k l = took-negative pre (bytesOf fs) n (leb-true 2147483648 n s) h
 took (numbers ns) fs pre h s k l = took-numbers pre (bytesOf fs) ns (leb-true (length ns) 32 s) (h .at)
-took (sized bs) fs pre h s k l = took-sized pre (bytesOf fs) bs (omega arith)
+took (payload bs) fs pre h s k l = took-payload pre (bytesOf fs) bs (omega arith)
 took (opaque n bs) fs pre h s k l = took-opaque pre (bytesOf fs) n bs k
 took (fixed w bs) fs pre h s k l = took-fixed pre (bytesOf fs) w bs (eqb-true (length bs) w s)
 
@@ -183,11 +184,11 @@ left-over : (s : List ℕ) (n : ℕ) (a : Answer) → (n ≡ length s → ⊥) �
 unfolding settled
 left-over s n a h = rw (ne-eqb n (length s) h)
 
-fixed-stops : (w : ℕ) (bs pre : List ℕ) (a : Answer) → eqb (length bs) w ≡ false → settled (pre ++ (bs ++ [])) (stepOf (plain w) (pre ++ (bs ++ [])) (good (length pre))) a ≡ malformed (length pre + cond (ltb w (length bs)) w 0)
+fixed-stops : (w : ℕ) (bs pre : List ℕ) (a : Answer) → eqb (length bs) w ≡ false → settled (pre ++ (bs ++ [])) (stepOf (kind.fixed w) (pre ++ (bs ++ [])) (good (length pre))) a ≡ malformed (length pre + cond (ltb w (length bs)) w 0)
 unfolding settled
 fixed-stops w bs pre a e = go (ltb w (length bs)) refl
   where
-    go : (b : Bool) → ltb w (length bs) ≡ b → settled (pre ++ (bs ++ [])) (stepOf (plain w) (pre ++ (bs ++ [])) (good (length pre))) a ≡ malformed (length pre + cond (ltb w (length bs)) w 0)
+    go : (b : Bool) → ltb w (length bs) ≡ b → settled (pre ++ (bs ++ [])) (stepOf (kind.fixed w) (pre ++ (bs ++ [])) (good (length pre))) a ≡ malformed (length pre + cond (ltb w (length bs)) w 0)
     go true t =
         let h = ltb-true w (length bs) t in
         rw (fixed-long pre [] w bs h, t) (left-over (pre ++ (bs ++ [])) (length pre + w) a (λ k. let l : length (pre ++ (bs ++ [])) ≡ length pre + (length bs + 0) = simp length-append in omega arith))
@@ -206,7 +207,7 @@ stops-one (numbers ns) fs pre a s k l =
     let w = length-words ns in
     let e : length (le 4 (length ns) ++ words ns) ≡ 4 + length (words ns) = length-append (le 4 (length ns)) (words ns) in
     settles _ (kindsOf fs) _ (length pre) (length pre + 0) a (numbers-fail pre (bytesOf fs) ns (leb-false (length ns) 32 s) (omega arith)) (omega arith)
-stops-one (sized bs) fs pre a s k l = wrong (sym s)
+stops-one (payload bs) fs pre a s k l = wrong (sym s)
 stops-one (opaque n bs) fs pre a s k l = wrong (sym s)
 stops-one (fixed w bs) fs pre a s k l = rw k (fixed-stops w bs pre a s)
 

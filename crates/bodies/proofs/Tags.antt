@@ -8,7 +8,8 @@ use native.Mathlib.Nat.{not-suc-le-zero}
 use lib.Dec.{leb, eqb}
 use borrow.Author.Tests.{eqb-true, eq-eqb, leb-true, leb-false}
 use Rattle.refusal.proofs.Booleans.{each-true}
-use Rattle.fields.specs.Layout.{Kind, num, neg, list, size, rest, plain}
+use Rattle.fields.specs.Layout.{Kind}
+use Rattle.fields.specs.Layout as kind
 use Rattle.bodies.specs.declared.Ident.{Ident}
 use Rattle.bodies.specs.declared.Reconnect.{Reconnect}
 use Rattle.bodies.specs.declared.Request.{Request}
@@ -17,21 +18,21 @@ use Rattle.bodies.specs.Write.{kindsOf, writes}
 use Rattle.bodies.specs.Table.{hello, authRequest, badMethod, more, authDone, ident, reconnect, oneNumber, reset, stamp, shape, width, sameKinds, Found, listed, unlisted, isListed, layoutIn, layoutOf}
 
 kindBy : ℕ → ℕ → Kind
-kindBy zero w = num w
-kindBy (suc zero) w = neg
-kindBy (suc (suc zero)) w = list
-kindBy (suc (suc (suc zero))) w = size
-kindBy (suc (suc (suc (suc zero)))) w = rest w
-kindBy (suc (suc (suc (suc (suc n))))) w = plain w
+kindBy zero w = kind.number w
+kindBy (suc zero) w = kind.negative
+kindBy (suc (suc zero)) w = kind.numbers
+kindBy (suc (suc (suc zero))) w = kind.payload
+kindBy (suc (suc (suc (suc zero)))) w = kind.opaque w
+kindBy (suc (suc (suc (suc (suc n))))) w = kind.fixed w
 
 kind-by : (k : Kind) → kindBy (shape k) (width k) ≡ k
 unfolding kindBy
-kind-by (num w) = refl
-kind-by neg = refl
-kind-by list = refl
-kind-by size = refl
-kind-by (rest k) = refl
-kind-by (plain w) = refl
+kind-by (kind.number w) = refl
+kind-by kind.negative = refl
+kind-by kind.numbers = refl
+kind-by kind.payload = refl
+kind-by (kind.opaque k) = refl
+kind-by (kind.fixed w) = refl
 
 same-kind : (j k : Kind) → eqb (shape j) (shape k) ≡ true → eqb (width j) (width k) ≡ true → j ≡ k
 same-kind j k a b =

@@ -25,7 +25,7 @@ use Rattle.bodies.specs.declared.Request.{Request}
 use Rattle.bodies.specs.declared.Request.the-variants as request
 use Rattle.refusal.specs.declared.WriteResult.{WriteResult}
 use Rattle.refusal.specs.declared.WriteResult.the-variants as written
-use Rattle.refusal.specs.Writes.{Outcome, wrote, refusedFor, Done, done, outcomeOf}
+use Rattle.refusal.specs.Writes.{WriteOutcome, wrote, refusedFor, Done, done, outcomeOf}
 use Rattle.bodies.specs.Table.{Found, listed, unlisted, layoutOf, isListed}
 use Rattle.bodies.specs.Rows.{requested}
 use Rattle.bodies.specs.Read.{run, fieldsOf, Answer, whole, refused, malformed, settled, readOf, readBy, readBody, answerOf}
@@ -45,7 +45,7 @@ record Written-well (tag n : ℕ) (fs : List Field) (out l : List ℕ) : Type 0 
   len : n ≡ length (bytesOf fs)
   buffer : l ≡ replaceFront (bytesOf fs) out
 
-outcomes : {a b : Outcome} {l m : List ℕ} → done a l ≡ done b m → a ≡ b
+outcomes : {a b : WriteOutcome} {l m : List ℕ} → done a l ≡ done b m → a ≡ b
 outcomes e = ap (λ (d : Done). d .outcome) e
 
 same-count : {n m : ℕ} → wrote n ≡ wrote m → n ≡ m

@@ -77,7 +77,7 @@ identBody s =
     (body.Ident (numberAt 4 0 s) (bytesFrom 4 (at - 4))
     (record {
       gid = numberAt 8 at s;
-      global = numberAt 8 (at + 8) s;
+      «global_seq» = numberAt 8 (at + 8) s;
       supported = numberAt 8 (at + 16) s;
       required = numberAt 8 (at + 24) s;
       flags = numberAt 8 (at + 32) s;
@@ -90,11 +90,11 @@ reconnectBody s =
     malformedWhen (short s 44) 0
     (body.Reconnect (numberAt 4 0 s) (bytesFrom 4 (at - 4))
     (record {
-      client = numberAt 8 at s;
-      server = numberAt 8 (at + 8) s;
-      global = numberAt 8 (at + 16) s;
-      connect = numberAt 8 (at + 24) s;
-      message = numberAt 8 (at + 32) s;
+      «client_cookie» = numberAt 8 at s;
+      «server_cookie» = numberAt 8 (at + 8) s;
+      «global_seq» = numberAt 8 (at + 16) s;
+      «connect_seq» = numberAt 8 (at + 24) s;
+      «msg_seq» = numberAt 8 (at + 32) s;
     }))
 
 unfoldable pub oneNumberBody : List ℕ → Body
@@ -142,11 +142,11 @@ bytesWithin s p = p .at + p .len ≤ length s
 
 -- each list, and all bytes, that a body names
 unfoldable pub Within : List ℕ → Body → Type 0
-Within s (body.Hello entity address) = bytesWithin s address
+Within s (body.Hello entityType address) = bytesWithin s address
 Within s (body.AuthRequest method modes payload) = numbersWithin s modes × bytesWithin s payload
 Within s (body.BadMethod method error methods modes) = numbersWithin s methods × numbersWithin s modes
 Within s (body.More payload) = bytesWithin s payload
-Within s (body.AuthDone id mode payload) = bytesWithin s payload
+Within s (body.AuthDone globalId mode payload) = bytesWithin s payload
 Within s (body.Ident addresses block i) = bytesWithin s block
 Within s (body.Reconnect addresses block k) = bytesWithin s block
 Within s (body.Number n) = Unit {0}

@@ -51,11 +51,11 @@ readBody tag s = cond (leb (length s) segmentLimit) (readBy (layoutOf tag) s) (m
 
 -- what the code's answer stands for
 abbrev pub answerOf : List ℕ → Body → Answer
-answerOf s (body.Hello entity address) = whole (helloOf entity (spanIn s address))
+answerOf s (body.Hello entityType address) = whole (helloOf entityType (spanIn s address))
 answerOf s (body.AuthRequest method modes payload) = whole (authRequestOf method (numbersIn s modes) (spanIn s payload))
 answerOf s (body.BadMethod method error methods modes) = whole (badMethodOf method error (numbersIn s methods) (numbersIn s modes))
 answerOf s (body.More payload) = whole (moreOf (spanIn s payload))
-answerOf s (body.AuthDone id mode payload) = whole (authDoneOf id mode (spanIn s payload))
+answerOf s (body.AuthDone globalId mode payload) = whole (authDoneOf globalId mode (spanIn s payload))
 answerOf s (body.Ident addresses block i) = whole (identOf addresses (spanIn s block) i)
 answerOf s (body.Reconnect addresses block k) = whole (reconnectOf addresses (spanIn s block) k)
 answerOf s (body.Number n) = whole (oneNumberOf n)

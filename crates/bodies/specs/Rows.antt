@@ -1,14 +1,15 @@
 -- The bodies' fields, filled: what a request to write holds, and what an answer to read stands for.
 use mathlib.Core.List.{List, [], _∷_}
 use Prim.Native.Nat.{ℕ}
-use Rattle.fields.specs.Field.{Field, number, negative, numbers, sized, opaque, fixed}
+use Rattle.fields.specs.Field.{Field, number, negative, numbers, opaque, fixed}
+use Rattle.fields.specs.Field as filled
 use Rattle.bodies.specs.declared.Ident.{Ident}
 use Rattle.bodies.specs.declared.Reconnect.{Reconnect}
 use Rattle.bodies.specs.declared.Request.{Request}
 use Rattle.bodies.specs.declared.Request.the-variants as request
 
 abbrev pub helloOf : ℕ → List ℕ → List Field
-helloOf entity address = number 1 entity ∷ opaque 0 address ∷ []
+helloOf entityType address = number 1 entityType ∷ opaque 0 address ∷ []
 
 abbrev pub authRequestOf : ℕ → List ℕ → List ℕ → List Field
 authRequestOf method modes payload = number 4 method ∷ numbers modes ∷ opaque 0 payload ∷ []
@@ -17,20 +18,20 @@ abbrev pub badMethodOf : ℕ → ℕ → List ℕ → List ℕ → List Field
 badMethodOf method error methods modes = number 4 method ∷ negative error ∷ numbers methods ∷ numbers modes ∷ []
 
 abbrev pub moreOf : List ℕ → List Field
-moreOf payload = sized payload ∷ []
+moreOf payload = filled.payload payload ∷ []
 
 abbrev pub authDoneOf : ℕ → ℕ → List ℕ → List Field
-authDoneOf id mode payload = number 8 id ∷ number 4 mode ∷ opaque 0 payload ∷ []
+authDoneOf globalId mode payload = number 8 globalId ∷ number 4 mode ∷ opaque 0 payload ∷ []
 
 abbrev pub identOf : ℕ → List ℕ → Ident → List Field
 identOf addresses block i =
-    number 4 addresses ∷ opaque 48 block ∷ number 8 (i .gid) ∷ number 8 (i .global) ∷ number 8 (i .supported)
+    number 4 addresses ∷ opaque 48 block ∷ number 8 (i .gid) ∷ number 8 (i .«global_seq») ∷ number 8 (i .supported)
     ∷ number 8 (i .required) ∷ number 8 (i .flags) ∷ number 8 (i .cookie) ∷ []
 
 abbrev pub reconnectOf : ℕ → List ℕ → Reconnect → List Field
 reconnectOf addresses block k =
-    number 4 addresses ∷ opaque 40 block ∷ number 8 (k .client) ∷ number 8 (k .server) ∷ number 8 (k .global)
-    ∷ number 8 (k .connect) ∷ number 8 (k .message) ∷ []
+    number 4 addresses ∷ opaque 40 block ∷ number 8 (k .«client_cookie») ∷ number 8 (k .«server_cookie») ∷ number 8 (k .«global_seq»)
+    ∷ number 8 (k .«connect_seq») ∷ number 8 (k .«msg_seq») ∷ []
 
 abbrev pub oneNumberOf : ℕ → List Field
 oneNumberOf n = number 8 n ∷ []

@@ -4,47 +4,47 @@ use mathlib.Core.Bool.{Bool, true, false, cond, _&&_}
 use mathlib.Core.List.{List, [], _∷_}
 use Prim.Native.Nat.{ℕ}
 use lib.Dec.{eqb}
-use Rattle.fields.specs.Layout.{Kind, num, neg, list, size, rest, plain}
+use Rattle.fields.specs.Layout.{Kind, number, negative, numbers, payload, opaque, fixed}
 
 -- entity_type; the address, opaque
 abbrev pub hello : List Kind
-hello = num 1 ∷ rest 0 ∷ []
+hello = number 1 ∷ opaque 0 ∷ []
 
 -- method; preferred modes; the method's payload, opaque, to the end
 abbrev pub authRequest : List Kind
-authRequest = num 4 ∷ list ∷ rest 0 ∷ []
+authRequest = number 4 ∷ numbers ∷ opaque 0 ∷ []
 
 -- method; error, below zero; allowed methods; allowed modes
 abbrev pub badMethod : List Kind
-badMethod = num 4 ∷ neg ∷ list ∷ list ∷ []
+badMethod = number 4 ∷ negative ∷ numbers ∷ numbers ∷ []
 
 -- length and payload
 abbrev pub more : List Kind
-more = size ∷ []
+more = payload ∷ []
 
 -- global_id; connection mode; the method's payload, opaque, to the end
 abbrev pub authDone : List Kind
-authDone = num 8 ∷ num 4 ∷ rest 0 ∷ []
+authDone = number 8 ∷ number 4 ∷ opaque 0 ∷ []
 
 -- address count; blocks, opaque; and in the last 48 bytes gid, global_seq, supported, required, flags, cookie
 abbrev pub ident : List Kind
-ident = num 4 ∷ rest 48 ∷ num 8 ∷ num 8 ∷ num 8 ∷ num 8 ∷ num 8 ∷ num 8 ∷ []
+ident = number 4 ∷ opaque 48 ∷ number 8 ∷ number 8 ∷ number 8 ∷ number 8 ∷ number 8 ∷ number 8 ∷ []
 
 -- address count; blocks, opaque; and in the last 40 bytes the client's and the server's cookie, global_seq, connect_seq, msg_seq
 abbrev pub reconnect : List Kind
-reconnect = num 4 ∷ rest 40 ∷ num 8 ∷ num 8 ∷ num 8 ∷ num 8 ∷ num 8 ∷ []
+reconnect = number 4 ∷ opaque 40 ∷ number 8 ∷ number 8 ∷ number 8 ∷ number 8 ∷ number 8 ∷ []
 
 -- features, or a msg_seq
 abbrev pub oneNumber : List Kind
-oneNumber = num 8 ∷ []
+oneNumber = number 8 ∷ []
 
 -- full, any byte
 abbrev pub reset : List Kind
-reset = num 1 ∷ []
+reset = number 1 ∷ []
 
 -- the stamp, 8 opaque bytes
 abbrev pub stamp : List Kind
-stamp = plain 8 ∷ []
+stamp = fixed 8 ∷ []
 
 pub record Row : Type 0 where
   pub tag : ℕ
@@ -87,20 +87,20 @@ layoutOf tag = layoutIn table tag
 -- ---- whether fields of these kinds are a tag's
 
 abbrev pub shape : Kind → ℕ
-shape (num w) = 0
-shape neg = 1
-shape list = 2
-shape size = 3
-shape (rest k) = 4
-shape (plain w) = 5
+shape (number w) = 0
+shape negative = 1
+shape numbers = 2
+shape payload = 3
+shape (opaque k) = 4
+shape (fixed w) = 5
 
 abbrev pub width : Kind → ℕ
-width (num w) = w
-width neg = 0
-width list = 0
-width size = 0
-width (rest k) = k
-width (plain w) = w
+width (number w) = w
+width negative = 0
+width numbers = 0
+width payload = 0
+width (opaque k) = k
+width (fixed w) = w
 
 abbrev pub sameKinds : List Kind → List Kind → Bool
 sameKinds [] [] = true

@@ -6,7 +6,7 @@ use lib.ListN.{length, replicate}
 use Rattle.buffer.specs.Le.{le}
 use Rattle.refusal.specs.Refusals.{row}
 use Rattle.refusal.specs.declared.Refusal.the-variants.{BodyMalformed}
-use Rattle.refusal.specs.Writes.{Outcome, wrote, refusedFor, Done, done}
+use Rattle.refusal.specs.Writes.{WriteOutcome, wrote, refusedFor, Done, done}
 use Rattle.fields.specs.Field.{Field, numbersFrom, bytesFrom}
 use Rattle.bodies.specs.declared.Body.{Body}
 use Rattle.bodies.specs.declared.Body.the-variants as body
@@ -31,10 +31,10 @@ abbrev reads : ℕ → List ℕ → Answer → Reading
 reads tag bytes answer = record { tag = tag; bytes = bytes; answer = answer }
 
 abbrev identity : Ident
-identity = record { gid = 4107; global = 11; supported = 7; required = 3; flags = 1; cookie = 5 }
+identity = record { gid = 4107; «global_seq» = 11; supported = 7; required = 3; flags = 1; cookie = 5 }
 
 abbrev resumed : Reconnect
-resumed = record { client = 1; server = 2; global = 3; connect = 4; message = 5 }
+resumed = record { «client_cookie» = 1; «server_cookie» = 2; «global_seq» = 3; «connect_seq» = 4; «msg_seq» = 5 }
 
 -- refused with 20 and the place
 abbrev bad : ℕ → Answer
@@ -125,7 +125,7 @@ readings =
     ∷ reads 8 (zeros 51) (bad 0)
     ∷ reads 8 (zeros 3) (bad 0)
     ∷ reads 11 (zeros 43) (bad 0)
-    ∷ reads 9 (zeros 52) (whole (identOf 0 [] (record { gid = 0; global = 0; supported = 0; required = 0; flags = 0; cookie = 0 })))
+    ∷ reads 9 (zeros 52) (whole (identOf 0 [] (record { gid = 0; «global_seq» = 0; supported = 0; required = 0; flags = 0; cookie = 0 })))
     -- a field cut off at its place, a byte left over at itself
     ∷ reads 1 [] (bad 0)
     ∷ reads 6 (le 8 1 ++ 1 ∷ 0 ∷ []) (bad 8)
@@ -201,7 +201,7 @@ pub record Writing : Type 0 where
   pub before : List ℕ
   pub done : Done
 
-abbrev writes : ℕ → List Field → List ℕ → Outcome → List ℕ → Writing
+abbrev writes : ℕ → List Field → List ℕ → WriteOutcome → List ℕ → Writing
 writes tag fields before outcome after = record { tag = tag; fields = fields; before = before; done = done outcome after }
 
 abbrev refuses : ℕ → List Field → List ℕ → ℕ → ℕ → Writing

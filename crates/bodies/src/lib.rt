@@ -33,8 +33,8 @@ use refusal::either;
 ghost use mathlib.Core.Path.{_≡_};
 ghost use Prim.Native.Nat.{_<_};
 ghost use Rattle.preamble.specs.Judge.{segmentLimit};
-ghost use Rattle.fields.specs.Layout.{num, neg, list, size, rest, plain};
-ghost use Rattle.fields.specs.Field.{number, negative, numbers, sized, opaque, fixed, nowhere, numbersAt, bytesAt};
+ghost use Rattle.fields.specs.Layout as kind;
+ghost use Rattle.fields.specs.Field.{number, negative, numbers, payload, opaque, fixed, nowhere, numbersAt, bytesAt};
 ghost use Rattle.fields.specs.Reading.{numbersIn, spanIn};
 ghost use Rattle.fields.specs.Writing.{empty};
 ghost use Rattle.bodies.specs.Rows.{helloOf, authRequestOf, badMethodOf, moreOf, authDoneOf, identOf, reconnectOf, oneNumberOf, resetOf, stampOf, requested};
@@ -46,7 +46,7 @@ ghost use Rattle.bodies.specs.Worked.{Worked};
 
 pub struct Ident {
     pub gid: u64,
-    pub global: u64,
+    pub global_seq: u64,
     pub supported: u64,
     pub required: u64,
     pub flags: u64,
@@ -54,17 +54,17 @@ pub struct Ident {
 }
 
 pub struct Reconnect {
-    pub client: u64,
-    pub server: u64,
-    pub global: u64,
-    pub connect: u64,
-    pub message: u64,
+    pub client_cookie: u64,
+    pub server_cookie: u64,
+    pub global_seq: u64,
+    pub connect_seq: u64,
+    pub msg_seq: u64,
 }
 
 // What a body says. Lists, payloads, blocks and stamps are places in the segment that was read. The error of a bad method is its 32 bits.
 pub enum Body {
     Hello {
-        entity: u8,
+        entity_type: u8,
         address: Span,
     },
     AuthRequest {
@@ -80,7 +80,7 @@ pub enum Body {
     },
     More(Span),
     AuthDone {
-        id: u64,
+        global_id: u64,
         mode: u32,
         payload: Span,
     },
@@ -129,7 +129,7 @@ struct FieldSpan {
 }
 
 fn field_u8(s: &[u8], c: Cursor) -> FieldU8
-    ensures { λ r. ⌜ Took (num 1) (now (s .entry)) c (number 1 (r .value)) nowhere (r .next) ⌝ }
+    ensures { λ r. ⌜ Took (kind.number 1) (now (s .entry)) c (number 1 (r .value)) nowhere (r .next) ⌝ }
 {
     match read_u8(s, c) {
         U8Step::Read(value, next) => FieldU8 {
@@ -144,7 +144,7 @@ fn field_u8(s: &[u8], c: Cursor) -> FieldU8
 }
 
 fn field_u32(s: &[u8], c: Cursor) -> FieldU32
-    ensures { λ r. ⌜ Took (num 4) (now (s .entry)) c (number 4 (r .value)) nowhere (r .next) ⌝ }
+    ensures { λ r. ⌜ Took (kind.number 4) (now (s .entry)) c (number 4 (r .value)) nowhere (r .next) ⌝ }
 {
     match read_u32(s, c) {
         U32Step::Read(value, next) => FieldU32 {
@@ -159,7 +159,7 @@ fn field_u32(s: &[u8], c: Cursor) -> FieldU32
 }
 
 fn field_u64(s: &[u8], c: Cursor) -> FieldU64
-    ensures { λ r. ⌜ Took (num 8) (now (s .entry)) c (number 8 (r .value)) nowhere (r .next) ⌝ }
+    ensures { λ r. ⌜ Took (kind.number 8) (now (s .entry)) c (number 8 (r .value)) nowhere (r .next) ⌝ }
 {
     match read_u64(s, c) {
         U64Step::Read(value, next) => FieldU64 {
@@ -174,7 +174,7 @@ fn field_u64(s: &[u8], c: Cursor) -> FieldU64
 }
 
 fn field_negative(s: &[u8], c: Cursor) -> FieldU32
-    ensures { λ r. ⌜ Took neg (now (s .entry)) c (negative (r .value)) nowhere (r .next) ⌝ }
+    ensures { λ r. ⌜ Took kind.negative (now (s .entry)) c (negative (r .value)) nowhere (r .next) ⌝ }
 {
     match read_negative(s, c) {
         U32Step::Read(value, next) => FieldU32 {
@@ -189,7 +189,7 @@ fn field_negative(s: &[u8], c: Cursor) -> FieldU32
 }
 
 fn field_list(s: &[u8], c: Cursor) -> FieldList
-    ensures { λ r. ⌜ Took list (now (s .entry)) c (numbers (numbersIn (now (s .entry)) (r .value))) (numbersAt (r .value)) (r .next) ⌝ }
+    ensures { λ r. ⌜ Took kind.numbers (now (s .entry)) c (numbers (numbersIn (now (s .entry)) (r .value))) (numbersAt (r .value)) (r .next) ⌝ }
 {
     match read_list(s, c) {
         ListStep::Read(value, next) => FieldList {
@@ -204,7 +204,7 @@ fn field_list(s: &[u8], c: Cursor) -> FieldList
 }
 
 fn field_payload(s: &[u8], c: Cursor) -> FieldSpan
-    ensures { λ r. ⌜ Took size (now (s .entry)) c (sized (spanIn (now (s .entry)) (r .value))) (bytesAt (r .value)) (r .next) ⌝ }
+    ensures { λ r. ⌜ Took kind.payload (now (s .entry)) c (payload (spanIn (now (s .entry)) (r .value))) (bytesAt (r .value)) (r .next) ⌝ }
 {
     match read_payload(s, c) {
         SpanStep::Read(value, next) => FieldSpan {
@@ -219,7 +219,7 @@ fn field_payload(s: &[u8], c: Cursor) -> FieldSpan
 }
 
 fn field_rest(s: &[u8], c: Cursor, closing: usize) -> FieldSpan
-    ensures { λ r. ⌜ Took (rest closing) (now (s .entry)) c (opaque closing (spanIn (now (s .entry)) (r .value))) (bytesAt (r .value)) (r .next) ⌝ }
+    ensures { λ r. ⌜ Took (kind.opaque closing) (now (s .entry)) c (opaque closing (spanIn (now (s .entry)) (r .value))) (bytesAt (r .value)) (r .next) ⌝ }
 {
     match read_rest(s, c, closing) {
         SpanStep::Read(value, next) => FieldSpan {
@@ -234,7 +234,7 @@ fn field_rest(s: &[u8], c: Cursor, closing: usize) -> FieldSpan
 }
 
 fn field_bytes(s: &[u8], c: Cursor, w: usize) -> FieldSpan
-    ensures { λ r. ⌜ Took (plain w) (now (s .entry)) c (fixed w (spanIn (now (s .entry)) (r .value))) (bytesAt (r .value)) (r .next) ⌝ }
+    ensures { λ r. ⌜ Took (kind.fixed w) (now (s .entry)) c (fixed w (spanIn (now (s .entry)) (r .value))) (bytesAt (r .value)) (r .next) ⌝ }
 {
     match read_bytes(s, c, w) {
         SpanStep::Read(value, next) => FieldSpan {
@@ -271,7 +271,7 @@ fn read_hello(s: &[u8]) -> Body
     let p = field_rest(s, a.next, 0);
     let address = p.value;
     let body = Body::Hello {
-        entity: a.value,
+        entity_type: a.value,
         address: address,
     };
     settle(s, p.next, body)
@@ -327,7 +327,7 @@ fn read_auth_done(s: &[u8]) -> Body
     let p = field_rest(s, b.next, 0);
     let payload = p.value;
     let body = Body::AuthDone {
-        id: a.value,
+        global_id: a.value,
         mode: b.value,
         payload: payload,
     };
@@ -348,7 +348,7 @@ fn read_ident(s: &[u8]) -> Body
     let block = p.value;
     let i = Ident {
         gid: a.value,
-        global: b.value,
+        global_seq: b.value,
         supported: d.value,
         required: e.value,
         flags: f.value,
@@ -381,11 +381,11 @@ fn read_reconnect(s: &[u8]) -> Body
     let f = field_u64(s, e.next);
     let block = p.value;
     let k = Reconnect {
-        client: a.value,
-        server: b.value,
-        global: d.value,
-        connect: e.value,
-        message: f.value,
+        client_cookie: a.value,
+        server_cookie: b.value,
+        global_seq: d.value,
+        connect_seq: e.value,
+        msg_seq: f.value,
     };
     let body = Body::Reconnect {
         addresses: n.value,
@@ -490,10 +490,10 @@ pub fn read(tag: u8, s: &[u8]) -> Body
 
 // ---- the bodies: a row of fields each
 
-fn row_hello(out: &mut [u8], entity: u8, address: &[u8]) -> Draft
-    ensures { λ q. ⌜ AppendedAll empty (now (out .entry)) (helloOf entity (now (address .entry))) q (now (out .exit)) ⌝ }
+fn row_hello(out: &mut [u8], entity_type: u8, address: &[u8]) -> Draft
+    ensures { λ q. ⌜ AppendedAll empty (now (out .entry)) (helloOf «entity_type» (now (address .entry))) q (now (out .exit)) ⌝ }
 {
-    let a = append_u8(out, start_draft(), entity);
+    let a = append_u8(out, start_draft(), entity_type);
     append_rest(out, a, address, 0)
 }
 
@@ -520,10 +520,10 @@ fn row_more(out: &mut [u8], payload: &[u8]) -> Draft
     append_payload(out, start_draft(), payload)
 }
 
-fn row_auth_done(out: &mut [u8], id: u64, mode: u32, payload: &[u8]) -> Draft
-    ensures { λ q. ⌜ AppendedAll empty (now (out .entry)) (authDoneOf id mode (now (payload .entry))) q (now (out .exit)) ⌝ }
+fn row_auth_done(out: &mut [u8], global_id: u64, mode: u32, payload: &[u8]) -> Draft
+    ensures { λ q. ⌜ AppendedAll empty (now (out .entry)) (authDoneOf «global_id» mode (now (payload .entry))) q (now (out .exit)) ⌝ }
 {
-    let a = append_u64(out, start_draft(), id);
+    let a = append_u64(out, start_draft(), global_id);
     let b = append_u32(out, a, mode);
     append_rest(out, b, payload, 0)
 }
@@ -534,7 +534,7 @@ fn row_ident(out: &mut [u8], addresses: u32, block: &[u8], i: Ident) -> Draft
     let a = append_u32(out, start_draft(), addresses);
     let b = append_rest(out, a, block, 48);
     let d = append_u64(out, b, i.gid);
-    let e = append_u64(out, d, i.global);
+    let e = append_u64(out, d, i.global_seq);
     let f = append_u64(out, e, i.supported);
     let g = append_u64(out, f, i.required);
     let h = append_u64(out, g, i.flags);
@@ -546,11 +546,11 @@ fn row_reconnect(out: &mut [u8], addresses: u32, block: &[u8], k: Reconnect) -> 
 {
     let a = append_u32(out, start_draft(), addresses);
     let b = append_rest(out, a, block, 40);
-    let d = append_u64(out, b, k.client);
-    let e = append_u64(out, d, k.server);
-    let f = append_u64(out, e, k.global);
-    let g = append_u64(out, f, k.connect);
-    append_u64(out, g, k.message)
+    let d = append_u64(out, b, k.client_cookie);
+    let e = append_u64(out, d, k.server_cookie);
+    let f = append_u64(out, e, k.global_seq);
+    let g = append_u64(out, f, k.connect_seq);
+    append_u64(out, g, k.msg_seq)
 }
 
 fn row_one_number(out: &mut [u8], n: u64) -> Draft
@@ -583,7 +583,7 @@ pub enum Request {
     },
     More,
     AuthDone {
-        id: u64,
+        global_id: u64,
         mode: u32,
     },
     Ident {
@@ -611,7 +611,10 @@ fn serves(tag: u8, r: Request) -> bool
             error: _,
         } => tag == 3,
         Request::More => either(tag == 4, tag == 5),
-        Request::AuthDone { id: _, mode: _ } => tag == 6,
+        Request::AuthDone {
+            global_id: _,
+            mode: _,
+        } => tag == 6,
         Request::Ident {
             addresses: _,
             ident: _,
@@ -631,11 +634,11 @@ fn row(out: &mut [u8], r: Request, first: &[u32], second: &[u32], bytes: &[u8]) 
     ensures { λ q. ⌜ AppendedAll empty (now (out .entry)) (requested r (now (first .entry)) (now (second .entry)) (now (bytes .entry))) q (now (out .exit)) ⌝ }
 {
     match r {
-        Request::Hello(entity) => row_hello(out, entity, bytes),
+        Request::Hello(entity_type) => row_hello(out, entity_type, bytes),
         Request::AuthRequest(method) => row_auth_request(out, method, first, bytes),
         Request::BadMethod { method, error } => row_bad_method(out, method, error, first, second),
         Request::More => row_more(out, bytes),
-        Request::AuthDone { id, mode } => row_auth_done(out, id, mode, bytes),
+        Request::AuthDone { global_id, mode } => row_auth_done(out, global_id, mode, bytes),
         Request::Ident { addresses, ident } => row_ident(out, addresses, bytes, ident),
         Request::Reconnect {
             addresses,
@@ -698,12 +701,12 @@ pub fn write(
 {
     let mut scratch = [0u8; 1];
     let q = row(&mut scratch, r, first, second, bytes);
-    let verdict = decide(serves(tag, r), q, out.len());
-    if is_wrote(verdict) {
+    let result = decide(serves(tag, r), q, out.len());
+    if is_wrote(result) {
         row(out, r, first, second, bytes);
-        return verdict;
+        return result;
     }
-    verdict
+    result
 }
 
 // What is written, that reading it gives it back, and that writing what was read gives the same bytes: a promise and no code.

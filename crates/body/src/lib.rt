@@ -8,8 +8,8 @@ use crc32c::checksum;
 use crc32c::checksum_zeros;
 use preamble::Header;
 use preamble::total_of;
+use refusal::Judgement;
 use refusal::Refusal;
-use refusal::Verdict;
 use refusal::either;
 use refusal::or_else;
 use refusal::unless;
@@ -228,7 +228,7 @@ pub fn read_late(revision: Revision, b: u8) -> Late
 }
 
 // Segment k's checksum, stored in the epilogue e at place i, against that of its bytes.
-fn compare(count: u8, k: u8, e: &[u8], i: usize, bytes: &[u8]) -> Verdict
+fn compare(count: u8, k: u8, e: &[u8], i: usize, bytes: &[u8]) -> Judgement
     ensures { λ r. ⌜ judgedBy r ≡ unless (ltb count k || eqb (numberAt 4 i (now (e .entry))) (segmentSum (now (bytes .entry)))) (refusal.SegmentChecksum k) ⌝ }
 {
     let stored = u32_at(e, i);
@@ -239,7 +239,7 @@ fn compare(count: u8, k: u8, e: &[u8], i: usize, bytes: &[u8]) -> Verdict
 }
 
 // Segments 2 to 4, whose fields stand in the epilogue e from place i on.
-fn compare_rest(h: Header, e: &[u8], i: usize, rest: &[u8]) -> Verdict
+fn compare_rest(h: Header, e: &[u8], i: usize, rest: &[u8]) -> Judgement
     requires { ⌜ i < 250 ⌝ }
     ensures { λ r. ⌜ judgedBy r ≡ compareFrom (h .count) 2 (numberAt 4 i (now (e .entry)) ∷ numberAt 4 (i + 4) (now (e .entry)) ∷ numberAt 4 (i + 8) (now (e .entry)) ∷ []) (drop 1 (segments h [] (now (rest .entry)))) ⌝ }
 {
@@ -255,7 +255,7 @@ fn compare_rest(h: Header, e: &[u8], i: usize, rest: &[u8]) -> Verdict
     or_else(v2, or_else(v3, v4))
 }
 
-fn compare_sums(revision: Revision, h: Header, e: &[u8], payload: &[u8]) -> Verdict
+fn compare_sums(revision: Revision, h: Header, e: &[u8], payload: &[u8]) -> Judgement
     ensures { λ r. ⌜ judgedBy r ≡ compared revision h (now (e .entry)) (now (payload .entry)) ⌝ }
 {
     let n = h.s1.len as usize;
@@ -269,17 +269,17 @@ fn compare_sums(revision: Revision, h: Header, e: &[u8], payload: &[u8]) -> Verd
     }
 }
 
-fn ended(v: Verdict) -> Ending
+fn ended(v: Judgement) -> Ending
     ensures { λ r. ⌜ endedAs r ≡ endedBy (judgedBy v) ⌝ }
 {
     match v {
-        Verdict::Fine => Ending::Whole,
-        Verdict::Refused(why) => Ending::Refused(why),
+        Judgement::Fine => Ending::Whole,
+        Judgement::Refused(why) => Ending::Refused(why),
     }
 }
 
 // Segment k's field, stored in the epilogue e at place i, is 0 where the segment is not used.
-fn unused(count: u8, k: u8, e: &[u8], i: usize) -> Verdict
+fn unused(count: u8, k: u8, e: &[u8], i: usize) -> Judgement
     ensures { λ r. ⌜ judgedBy r ≡ unless (leb k count || eqb (numberAt 4 i (now (e .entry))) 0) (refusal.NonCanonical k) ⌝ }
 {
     let stored = u32_at(e, i);
@@ -287,7 +287,7 @@ fn unused(count: u8, k: u8, e: &[u8], i: usize) -> Verdict
 }
 
 // The fields of segments 2 to 4, from place i on.
-fn unused_rest(count: u8, e: &[u8], i: usize) -> Verdict
+fn unused_rest(count: u8, e: &[u8], i: usize) -> Judgement
     requires { ⌜ i < 250 ⌝ }
     ensures { λ r. ⌜ judgedBy r ≡ unusedFrom count 2 (numberAt 4 i (now (e .entry)) ∷ numberAt 4 (i + 4) (now (e .entry)) ∷ numberAt 4 (i + 8) (now (e .entry)) ∷ []) ⌝ }
 {
@@ -297,17 +297,17 @@ fn unused_rest(count: u8, e: &[u8], i: usize) -> Verdict
     or_else(u2, or_else(u3, u4))
 }
 
-fn judge_late_flags(revision: Revision, b: u8) -> Verdict
+fn judge_late_flags(revision: Revision, b: u8) -> Judgement
     ensures { λ r. ⌜ judgedBy r ≡ judgeLateFlags revision b ⌝ }
 {
     match revision {
         Revision::Msgr20 => unless(b < 2, Refusal::NonCanonical(0)),
-        Revision::Msgr21 => Verdict::Fine,
+        Revision::Msgr21 => Judgement::Fine,
     }
 }
 
 // Whether an epilogue's unused fields are 0 and, in msgr2.0, its late_flags 0 or 1.
-fn judge_spelling(revision: Revision, h: Header, e: &[u8]) -> Verdict
+fn judge_spelling(revision: Revision, h: Header, e: &[u8]) -> Judgement
     ensures { λ r. ⌜ judgedBy r ≡ judgeSpelling revision h (now (e .entry)) ⌝ }
 {
     let count = h.count;
@@ -343,7 +343,7 @@ pub fn end_of(revision: Revision, h: Header, e: &[u8], payload: &[u8]) -> Ending
     }
     let spelling = judge_spelling(revision, h, e);
     match spelling {
-        Verdict::Refused(why) => Ending::Refused(why),
-        Verdict::Fine => end_by_late(revision, h, e, payload),
+        Judgement::Refused(why) => Ending::Refused(why),
+        Judgement::Fine => end_by_late(revision, h, e, payload),
     }
 }

@@ -8,13 +8,12 @@ use lib.Dec.{leb}
 use lib.ListN.{take, drop, getD}
 use Rattle.refusal.proofs.Booleans.{both-left}
 use Rattle.buffer.specs.Le.{numberAt}
-use Rattle.crc32c.specs.Crc.{crcOf}
 use Rattle.fields.specs.declared.Cursor.{Cursor}
-use Rattle.fields.specs.Layout.{Kind, num, neg, list, size, rest, plain, good, stepOf}
-use Rattle.fields.specs.Field.{Field, number, negative, numbers, sized, opaque, wordsOf}
+use Rattle.fields.specs.Layout.{Kind, good, stepOf}
+use Rattle.fields.specs.Layout as kind
+use Rattle.fields.specs.Field.{Field, number, negative, numbers, payload, opaque, wordsOf}
 use Rattle.fields.specs.Reading.{spanIn}
-use Rattle.refusal.specs.declared.WriteResult.{WriteResult}
-use Rattle.refusal.specs.Writes.{Done, done, outcomeOf}
+use Rattle.refusal.specs.Writes.{Done}
 use Rattle.bodies.specs.Table.{layoutIn, layoutOf, unlisted}
 use Rattle.bodies.specs.Rows.{requested}
 use Rattle.bodies.specs.Write.{writeAs, writeBody}
@@ -22,30 +21,30 @@ use Rattle.records.specs.Records.{isWhole, allowed, counted}
 use Rattle.records.specs.Records as records
 use Rattle.records.proofs.Laws.{sized-good, words-take}
 use Rattle.body_cases.specs.declared.writing.Asked.{Asked}
-use Rattle.body_cases.specs.Writing.{limited, fieldsGiven, allGiven, kindsFor, outcomeLine, doneLine, writeSize, writeOf, Given, BytesGiven, fieldsOf, Asks, AsksFor}
+use Rattle.body_cases.specs.Writing.{limited, fieldsGiven, allGiven, kindsFor, writeSize, writeOf, Given, BytesGiven, fieldsOf, Asks, AsksFor}
 
 -- ---- steps
 
-number-past : (w : ℕ) (s : List ℕ) (c : Cursor) → stepOf (plain w) s c ≡ stepOf (num w) s c
+number-past : (w : ℕ) (s : List ℕ) (c : Cursor) → stepOf (kind.fixed w) s c ≡ stepOf (kind.number w) s c
 unfolding stepOf
 number-past w s c = refl
 
 module _ {s : List ℕ} {c : Cursor} where
-  pub number-given : (w n : ℕ) {d : Cursor} → n ≡ numberAt w (c .at) s → d ≡ stepOf (plain w) s c → Given (num w) s c (number w n) d
+  pub number-given : (w n : ℕ) {d : Cursor} → n ≡ numberAt w (c .at) s → d ≡ stepOf (kind.fixed w) s c → Given (kind.number w) s c (number w n) d
   number-given w n e k = record { next = k ∙ number-past w s c; value = ap (number w) e }
 
-  pub neg-given : {n : ℕ} {d : Cursor} → Given (num 4) s c (number 4 n) d → Given neg s c (negative n) d
-  neg-given {n} t = let e = t .value in record { next = t .next; value = cc }
+  pub negative-given : {n : ℕ} {d : Cursor} → Given (kind.number 4) s c (number 4 n) d → Given kind.negative s c (negative n) d
+  negative-given {n} t = let e = t .value in record { next = t .next; value = cc }
 
-  pub size-given : {bs : List ℕ} {d : Cursor} → BytesGiven s c bs d → Given size s c (sized bs) d
-  size-given t = record { next = t .next; value = ap sized (t .value) }
+  pub payload-given : {bs : List ℕ} {d : Cursor} → BytesGiven s c bs d → Given kind.payload s c (payload bs) d
+  payload-given t = record { next = t .next; value = ap payload (t .value) }
 
-  pub rest-given : {bs : List ℕ} {d : Cursor} (k : ℕ) → BytesGiven s c bs d → Given (rest k) s c (opaque k bs) d
-  rest-given k t = record { next = t .next; value = ap (opaque k) (t .value) }
+  pub opaque-given : {bs : List ℕ} {d : Cursor} (k : ℕ) → BytesGiven s c bs d → Given (kind.opaque k) s c (opaque k bs) d
+  opaque-given k t = record { next = t .next; value = ap (opaque k) (t .value) }
 
   pub bytes-by : (place n : ℕ) {d e : Cursor}
       → n ≡ numberAt 4 (c .at) s
-      → d ≡ stepOf size s c
+      → d ≡ stepOf kind.payload s c
       → e ≡ limited (allowed n) d
       → drop place s ≡ drop (c .at + 4) s
       → BytesGiven s c (take n (drop place s)) e
@@ -53,12 +52,12 @@ module _ {s : List ℕ} {c : Cursor} where
 
   pub list-by : (place n count : ℕ) {a b d : Cursor}
       → n ≡ numberAt 1 (c .at) s
-      → a ≡ stepOf (plain 1) s c
-      → b ≡ stepOf (plain (4 * n)) s a
+      → a ≡ stepOf (kind.fixed 1) s c
+      → b ≡ stepOf (kind.fixed (4 * n)) s a
       → d ≡ limited (leb n 64) b
       → count ≡ min n 64
       → drop place s ≡ drop (c .at + 1) s
-      → Given list s c (numbers (wordsOf count (drop place s))) d
+      → Given kind.numbers s c (numbers (wordsOf count (drop place s))) d
   list-by place n count en ea eb ed ec ep = record { next = ed ∙ rw (eb, ea, number-past 1 s c, en); value = rw (ec, ep, en) }
 
 -- ---- rows of steps
@@ -149,7 +148,3 @@ pub write-done : (s : List ℕ) (tag : ℕ) (buf : List ℕ) {a : Asked} {d : Do
     → d ≡ writeOf s
 unfolding writeOf
 write-done s tag buf et eb x ed = ed ∙ x .writes buf ∙ rw (et, eb)
-
--- the line as code comes to it
-pub written-line : (w : WriteResult) (sum : ℕ) (buf : List ℕ) (d : Done) → done (outcomeOf w) buf ≡ d → sum ≡ crcOf 4294967295 buf → outcomeLine (outcomeOf w) sum ≡ doneLine d
-written-line w sum buf d e k = ap (outcomeLine (outcomeOf w)) k ∙ ap doneLine e

@@ -8,7 +8,7 @@ use lib.ListN.{length, take, drop, getD}
 use Rattle.buffer.specs.Le.{numberAt}
 use Rattle.crc32c.specs.Crc.{crcOf}
 use Rattle.io.specs.Digits.{digits}
-use Rattle.fields.specs.Field.{Field, number, negative, numbers, sized, opaque, fixed}
+use Rattle.fields.specs.Field.{Field, number, negative, numbers, payload, opaque, fixed}
 use Rattle.bodies.specs.declared.Ident.{Ident}
 use Rattle.bodies.specs.declared.Reconnect.{Reconnect}
 use Rattle.bodies.specs.Read.{Answer, whole, refused, readBody}
@@ -41,7 +41,7 @@ abbrev pub fieldPieces : String → Field → List Piece
 fieldPieces name (number w n) = field name n
 fieldPieces name (negative n) = word name ∷ word " -" ∷ decimal (4294967296 - n) ∷ []
 fieldPieces name (numbers ns) = listPieces (codes name) ns
-fieldPieces name (sized bs) = bytesPieces (codes name) bs
+fieldPieces name (payload bs) = bytesPieces (codes name) bs
 fieldPieces name (opaque k bs) = bytesPieces (codes name) bs
 fieldPieces name (fixed w bs) = word name ∷ word " " ∷ eachByte bs
 
@@ -116,13 +116,13 @@ blockPieces tag addresses bs = field "body" tag ++ field " addresses" addresses 
 
 abbrev pub identPieces : Ident → List Piece
 identPieces i =
-    field " gid" (i .gid) ++ field " global" (i .global) ++ field " supported" (i .supported) ++ field " required" (i .required)
+    field " gid" (i .gid) ++ field " global" (i .«global_seq») ++ field " supported" (i .supported) ++ field " required" (i .required)
     ++ field " flags" (i .flags) ++ field " cookie" (i .cookie)
 
 abbrev pub reconnectPieces : Reconnect → List Piece
 reconnectPieces k =
-    field " client" (k .client) ++ field " server" (k .server) ++ field " global" (k .global) ++ field " connect" (k .connect)
-    ++ field " message" (k .message)
+    field " client" (k .«client_cookie») ++ field " server" (k .«server_cookie») ++ field " global" (k .«global_seq») ++ field " connect" (k .«connect_seq»)
+    ++ field " message" (k .«msg_seq»)
 
 abbrev pub numberNames : ℕ → List String
 numberNames tag = cond (eqb tag 10) featureNames messageNames

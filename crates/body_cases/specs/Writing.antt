@@ -5,18 +5,17 @@ use mathlib.Core.List.{List, [], _∷_}
 use Prim.Native.Nat.{ℕ, _+_, _*_, _≤_, min}
 use lib.Dec.{leb}
 use lib.ListN.{take, drop, getD}
-use Rattle.refusal.specs.Writes.{Outcome, wrote, refusedFor, Done}
+use Rattle.refusal.specs.Writes.{Done}
 use Rattle.buffer.specs.Le.{numberAt}
-use Rattle.crc32c.specs.Crc.{crcOf}
 use Rattle.fields.specs.declared.Cursor.{Cursor}
-use Rattle.fields.specs.Layout.{Kind, num, neg, list, size, rest, plain, good, stepOf}
-use Rattle.fields.specs.Field.{Field, number, negative, numbers, sized, opaque, fixed, wordsOf}
+use Rattle.fields.specs.Layout.{Kind, good, stepOf}
+use Rattle.fields.specs.Layout as kind
+use Rattle.fields.specs.Field.{Field, number, negative, numbers, payload, opaque, fixed, wordsOf}
 use Rattle.fields.specs.Reading.{spanIn, numbersIn}
 use Rattle.bodies.specs.Table.{Found, listed, unlisted, layoutOf}
 use Rattle.bodies.specs.Rows.{requested}
 use Rattle.bodies.specs.Write.{writeBody}
-use Rattle.text.specs.Line.{Piece}
-use Rattle.records.specs.Records.{Record, wroteLine, refusedLine, allowed, whole, counted}
+use Rattle.records.specs.Records.{doneLine, Record, allowed, whole, counted}
 use Rattle.records.specs.Records as records
 use Rattle.body_cases.specs.declared.writing.Asked.{Asked}
 
@@ -24,12 +23,12 @@ use Rattle.body_cases.specs.declared.writing.Asked.{Asked}
 -- at most 64, and that many u32; an address, block or payload is length u32, at most 65,536, and bytes
 
 abbrev pub fieldGiven : Kind → List ℕ → ℕ → Field
-fieldGiven (num w) s i = number w (numberAt w i s)
-fieldGiven neg s i = negative (numberAt 4 i s)
-fieldGiven list s i = numbers (wordsOf (min (numberAt 1 i s) 64) (drop (i + 1) s))
-fieldGiven size s i = sized (take (numberAt 4 i s) (drop (i + 4) s))
-fieldGiven (rest k) s i = opaque k (take (numberAt 4 i s) (drop (i + 4) s))
-fieldGiven (plain w) s i = fixed w (take w (drop i s))
+fieldGiven (kind.number w) s i = number w (numberAt w i s)
+fieldGiven kind.negative s i = negative (numberAt 4 i s)
+fieldGiven kind.numbers s i = numbers (wordsOf (min (numberAt 1 i s) 64) (drop (i + 1) s))
+fieldGiven kind.payload s i = payload (take (numberAt 4 i s) (drop (i + 4) s))
+fieldGiven (kind.opaque k) s i = opaque k (take (numberAt 4 i s) (drop (i + 4) s))
+fieldGiven (kind.fixed w) s i = fixed w (take w (drop i s))
 
 -- a limit that is broken fails
 abbrev pub limited : Bool → Cursor → Cursor
@@ -37,12 +36,12 @@ limited ok c = record { at = c .at; failed = c .failed || not ok }
 
 -- where a field ends that starts at the cursor; one that is cut off by the record's end fails
 abbrev pub pastGiven : Kind → List ℕ → Cursor → Cursor
-pastGiven (num w) s c = stepOf (num w) s c
-pastGiven neg s c = stepOf (num 4) s c
-pastGiven list s c = limited (leb (numberAt 1 (c .at) s) 64) (stepOf (plain (4 * numberAt 1 (c .at) s)) s (stepOf (num 1) s c))
-pastGiven size s c = limited (allowed (numberAt 4 (c .at) s)) (stepOf size s c)
-pastGiven (rest k) s c = limited (allowed (numberAt 4 (c .at) s)) (stepOf size s c)
-pastGiven (plain w) s c = stepOf (plain w) s c
+pastGiven (kind.number w) s c = stepOf (kind.number w) s c
+pastGiven kind.negative s c = stepOf (kind.number 4) s c
+pastGiven kind.numbers s c = limited (leb (numberAt 1 (c .at) s) 64) (stepOf (kind.fixed (4 * numberAt 1 (c .at) s)) s (stepOf (kind.number 1) s c))
+pastGiven kind.payload s c = limited (allowed (numberAt 4 (c .at) s)) (stepOf kind.payload s c)
+pastGiven (kind.opaque k) s c = limited (allowed (numberAt 4 (c .at) s)) (stepOf kind.payload s c)
+pastGiven (kind.fixed w) s c = stepOf (kind.fixed w) s c
 
 unfoldable pub fieldsGiven : List Kind → List ℕ → Cursor → List Field
 fieldsGiven [] s c = []
@@ -61,13 +60,6 @@ abbrev pub kindsFor : ℕ → List Kind
 kindsFor tag = kindsIn (layoutOf tag)
 
 -- ---- the record: tag u8, buffer length u32, fill u8, the tag's fields
-
-abbrev pub outcomeLine : Outcome → ℕ → List Piece
-outcomeLine (wrote n) c = wroteLine n c
-outcomeLine (refusedFor w) c = refusedLine w c
-
-abbrev pub doneLine : Done → List Piece
-doneLine d = outcomeLine (d .outcome) (crcOf 4294967295 (d .buffer))
 
 abbrev pub givenEnd : List ℕ → Cursor
 givenEnd s = allGiven (kindsFor (getD s 1 0)) s (good 7)
@@ -91,7 +83,7 @@ pub record Given (k : Kind) (s : List ℕ) (c : Cursor) (f : Field) (d : Cursor)
 
 -- the same of an address, block or payload
 pub record BytesGiven (s : List ℕ) (c : Cursor) (bs : List ℕ) (d : Cursor) : Type 0 where
-  pub next : d ≡ pastGiven size s c
+  pub next : d ≡ pastGiven kind.payload s c
   pub value : bs ≡ take (numberAt 4 (c .at) s) (drop (c .at + 4) s)
 
 -- the fields that a request holds with its lists and bytes, which are places in the record

@@ -110,11 +110,18 @@ fn put_tag(text: &mut [u8], at: usize, tag: u8) -> usize
 
 // ---- bodies
 
-fn print_hello(text: &mut [u8], at: usize, tag: u8, s: &[u8], entity: u8, address: Span) -> usize
-    ensures { λ r. ⌜ page (now (text .exit)) r ≡ print (rowLine tag helloNames (helloOf entity (spanIn (now (s .entry)) address))) (page (now (text .entry)) at) ⌝ }
+fn print_hello(
+    text: &mut [u8],
+    at: usize,
+    tag: u8,
+    s: &[u8],
+    entity_type: u8,
+    address: Span,
+) -> usize
+    ensures { λ r. ⌜ page (now (text .exit)) r ≡ print (rowLine tag helloNames (helloOf «entity_type» (spanIn (now (s .entry)) address))) (page (now (text .entry)) at) ⌝ }
 {
     let a = put_tag(text, at, tag);
-    let b = put_field(text, a, b" type", entity as u64);
+    let b = put_field(text, a, b" type", entity_type as u64);
     let c = put_span(text, b, b" address", s, address);
     put_end(text, c)
 }
@@ -178,14 +185,14 @@ fn print_done(
     at: usize,
     tag: u8,
     s: &[u8],
-    id: u64,
+    global_id: u64,
     mode: u32,
     payload: Span,
 ) -> usize
-    ensures { λ r. ⌜ page (now (text .exit)) r ≡ print (rowLine tag doneNames (authDoneOf id mode (spanIn (now (s .entry)) payload))) (page (now (text .entry)) at) ⌝ }
+    ensures { λ r. ⌜ page (now (text .exit)) r ≡ print (rowLine tag doneNames (authDoneOf «global_id» mode (spanIn (now (s .entry)) payload))) (page (now (text .entry)) at) ⌝ }
 {
     let a = put_tag(text, at, tag);
-    let b = put_field(text, a, b" id", id);
+    let b = put_field(text, a, b" id", global_id);
     let c = put_field(text, b, b" mode", mode as u64);
     let d = put_span(text, c, b" payload", s, payload);
     put_end(text, d)
@@ -203,7 +210,7 @@ fn put_ident(text: &mut [u8], at: usize, i: Ident) -> usize
     ensures { λ r. ⌜ page (now (text .exit)) r ≡ puts (identPieces i) (page (now (text .entry)) at) ⌝ }
 {
     let a = put_field(text, at, b" gid", i.gid);
-    let b = put_field(text, a, b" global", i.global);
+    let b = put_field(text, a, b" global", i.global_seq);
     let c = put_field(text, b, b" supported", i.supported);
     let d = put_field(text, c, b" required", i.required);
     let e = put_field(text, d, b" flags", i.flags);
@@ -229,11 +236,11 @@ fn print_ident(
 fn put_reconnect(text: &mut [u8], at: usize, k: Reconnect) -> usize
     ensures { λ r. ⌜ page (now (text .exit)) r ≡ puts (reconnectPieces k) (page (now (text .entry)) at) ⌝ }
 {
-    let a = put_field(text, at, b" client", k.client);
-    let b = put_field(text, a, b" server", k.server);
-    let c = put_field(text, b, b" global", k.global);
-    let d = put_field(text, c, b" connect", k.connect);
-    put_field(text, d, b" message", k.message)
+    let a = put_field(text, at, b" client", k.client_cookie);
+    let b = put_field(text, a, b" server", k.server_cookie);
+    let c = put_field(text, b, b" global", k.global_seq);
+    let d = put_field(text, c, b" connect", k.connect_seq);
+    put_field(text, d, b" message", k.msg_seq)
 }
 
 fn print_reconnect(
@@ -296,7 +303,10 @@ fn print_body(text: &mut [u8], at: usize, tag: u8, s: &[u8], body: Body) -> usiz
     ensures { λ r. ⌜ page (now (text .exit)) r ≡ print (readLine tag (readBody tag (now (s .entry)))) (page (now (text .entry)) at) ⌝ }
 {
     match body {
-        Body::Hello { entity, address } => print_hello(text, at, tag, s, entity, address),
+        Body::Hello {
+            entity_type,
+            address,
+        } => print_hello(text, at, tag, s, entity_type, address),
         Body::AuthRequest {
             method,
             modes,
@@ -309,7 +319,11 @@ fn print_body(text: &mut [u8], at: usize, tag: u8, s: &[u8], body: Body) -> usiz
             modes,
         } => print_bad_method(text, at, tag, s, method, error, methods, modes),
         Body::More(payload) => print_more(text, at, tag, s, payload),
-        Body::AuthDone { id, mode, payload } => print_done(text, at, tag, s, id, mode, payload),
+        Body::AuthDone {
+            global_id,
+            mode,
+            payload,
+        } => print_done(text, at, tag, s, global_id, mode, payload),
         Body::Ident {
             addresses,
             block,

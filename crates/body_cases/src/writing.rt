@@ -20,26 +20,24 @@ use records::Step;
 use records::bad_record;
 use records::count_up;
 use records::is_whole;
-use records::print_refused;
-use records::print_wrote;
+use records::print_outcome;
 use records::read_words;
 use records::sized;
 use refusal::WriteResult;
 use refusal::both;
 use refusal::either;
-use refusal::numbers_of;
 ghost use mathlib.Core.Path.{_≡_};
 ghost use Prim.Native.Nat.{_+_, _≤_, _<_, min};
 ghost use lib.ListN.{length, drop};
 ghost use Rattle.refusal.specs.Writes.{done, outcomeOf};
 ghost use Rattle.fields.specs.Field.{number, numbers, fixed};
-ghost use Rattle.fields.specs.Layout.{num, list, size, plain, good, stepOf};
+ghost use Rattle.fields.specs.Layout.{good, stepOf};
+ghost use Rattle.fields.specs.Layout as kind;
 ghost use Rattle.fields.specs.Reading.{numbersIn, spanIn};
 ghost use Rattle.bodies.specs.Table.{hello, authRequest, badMethod, more, authDone, ident, reconnect, oneNumber, reset, stamp};
 ghost use Rattle.bodies.specs.Write.{writeBody};
-ghost use Rattle.text.specs.Page.{page};
-ghost use Rattle.records.specs.Records.{Did, print};
-ghost use Rattle.body_cases.specs.Writing.{limited, Given, BytesGiven, fieldsOf, Asks, AsksFor, outcomeLine, writeSize, writeRecord};
+ghost use Rattle.records.specs.Records.{Did};
+ghost use Rattle.body_cases.specs.Writing.{limited, Given, BytesGiven, fieldsOf, Asks, AsksFor, writeSize, writeRecord};
 
 // What is to be written: the request, the places of its lists and bytes in the record, and the cursor behind them.
 struct Asked {
@@ -98,7 +96,7 @@ fn limit(ok: bool, c: Cursor) -> Cursor
 
 // Past w bytes.
 fn past(s: &[u8], c: Cursor, w: usize) -> Cursor
-    ensures { λ r. ⌜ r ≡ stepOf (plain w) (now (s .entry)) c ⌝ }
+    ensures { λ r. ⌜ r ≡ stepOf (kind.fixed w) (now (s .entry)) c ⌝ }
 {
     match read_bytes(s, c, w) {
         SpanStep::Read(_, next) => next,
@@ -108,7 +106,7 @@ fn past(s: &[u8], c: Cursor, w: usize) -> Cursor
 
 // Past a length and that many bytes.
 fn past_payload(s: &[u8], c: Cursor) -> Cursor
-    ensures { λ r. ⌜ r ≡ stepOf size (now (s .entry)) c ⌝ }
+    ensures { λ r. ⌜ r ≡ stepOf kind.payload (now (s .entry)) c ⌝ }
 {
     match read_payload(s, c) {
         SpanStep::Read(_, next) => next,
@@ -130,7 +128,7 @@ fn at_most(n: u8) -> u32
 }
 
 fn given_u8(s: &[u8], c: Cursor) -> GivenU8
-    ensures { λ r. ⌜ Given (num 1) (now (s .entry)) c (number 1 (r .value)) (r .next) ⌝ }
+    ensures { λ r. ⌜ Given (kind.number 1) (now (s .entry)) c (number 1 (r .value)) (r .next) ⌝ }
 {
     let at = c.at;
     GivenU8 {
@@ -140,7 +138,7 @@ fn given_u8(s: &[u8], c: Cursor) -> GivenU8
 }
 
 fn given_u32(s: &[u8], c: Cursor) -> GivenU32
-    ensures { λ r. ⌜ Given (num 4) (now (s .entry)) c (number 4 (r .value)) (r .next) ⌝ }
+    ensures { λ r. ⌜ Given (kind.number 4) (now (s .entry)) c (number 4 (r .value)) (r .next) ⌝ }
 {
     let at = c.at;
     GivenU32 {
@@ -150,7 +148,7 @@ fn given_u32(s: &[u8], c: Cursor) -> GivenU32
 }
 
 fn given_u64(s: &[u8], c: Cursor) -> GivenU64
-    ensures { λ r. ⌜ Given (num 8) (now (s .entry)) c (number 8 (r .value)) (r .next) ⌝ }
+    ensures { λ r. ⌜ Given (kind.number 8) (now (s .entry)) c (number 8 (r .value)) (r .next) ⌝ }
 {
     let at = c.at;
     GivenU64 {
@@ -160,7 +158,7 @@ fn given_u64(s: &[u8], c: Cursor) -> GivenU64
 }
 
 fn given_stamp(s: &[u8], c: Cursor) -> GivenSpan
-    ensures { λ r. ⌜ Given (plain 8) (now (s .entry)) c (fixed 8 (spanIn (now (s .entry)) (r .value))) (r .next) ⌝ }
+    ensures { λ r. ⌜ Given (kind.fixed 8) (now (s .entry)) c (fixed 8 (spanIn (now (s .entry)) (r .value))) (r .next) ⌝ }
 {
     let at = c.at;
     GivenSpan {
@@ -170,7 +168,7 @@ fn given_stamp(s: &[u8], c: Cursor) -> GivenSpan
 }
 
 fn given_list(s: &[u8], c: Cursor) -> GivenList
-    ensures { λ r. ⌜ Given list (now (s .entry)) c (numbers (numbersIn (now (s .entry)) (r .value))) (r .next) × (r .value .count ≤ 64) ⌝ }
+    ensures { λ r. ⌜ Given kind.numbers (now (s .entry)) c (numbers (numbersIn (now (s .entry)) (r .value))) (r .next) × (r .value .count ≤ 64) ⌝ }
 {
     let at = c.at;
     let n = byte_at(s, at);
@@ -294,7 +292,7 @@ fn ask_auth_done(s: &[u8]) -> Asked
     let bytes = p.value;
     let end = p.next;
     let request = Request::AuthDone {
-        id: a.value,
+        global_id: a.value,
         mode: b.value,
     };
     Asked {
@@ -321,7 +319,7 @@ fn ask_ident(s: &[u8]) -> Asked
     let end = g.next;
     let i = Ident {
         gid: a.value,
-        global: b.value,
+        global_seq: b.value,
         supported: d.value,
         required: e.value,
         flags: f.value,
@@ -353,11 +351,11 @@ fn ask_reconnect(s: &[u8]) -> Asked
     let bytes = p.value;
     let end = f.next;
     let k = Reconnect {
-        client: a.value,
-        server: b.value,
-        global: d.value,
-        connect: e.value,
-        message: f.value,
+        client_cookie: a.value,
+        server_cookie: b.value,
+        global_seq: d.value,
+        connect_seq: e.value,
+        msg_seq: f.value,
     };
     let request = Request::Reconnect {
         addresses: n.value,
@@ -513,15 +511,6 @@ fn write_asked(out: &mut [u8], tag: u8, s: &[u8], a: Asked) -> WriteResult
 
 // ---- the record
 
-fn print_written(text: &mut [u8], at: usize, written: WriteResult, sum: u32) -> usize
-    ensures { λ r. ⌜ page (now (text .exit)) r ≡ print (outcomeLine (outcomeOf written) sum) (page (now (text .entry)) at) ⌝ }
-{
-    match written {
-        WriteResult::Wrote(n) => print_wrote(text, at, n, sum),
-        WriteResult::Refused(why) => print_refused(text, at, numbers_of(why), sum),
-    }
-}
-
 pub fn write_record(s: &[u8], space: &mut [u8], text: &mut [u8], at: usize) -> Step
     ensures { λ r. ⌜ Did (writeRecord (length (now (space .entry))) (now (s .entry))) (now (s .entry)) (now (text .entry)) at (now (text .exit)) r ⌝ }
 {
@@ -539,6 +528,6 @@ pub fn write_record(s: &[u8], space: &mut [u8], text: &mut [u8], at: usize) -> S
     let sum = checksum(0xFFFFFFFF, buf);
     Step {
         taken: size,
-        filled: print_written(text, at, written, sum),
+        filled: print_outcome(text, at, written, sum),
     }
 }

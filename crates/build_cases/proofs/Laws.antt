@@ -14,15 +14,16 @@ use Rattle.preamble.specs.declared.Header.{Header}
 use Rattle.preamble.specs.Judge.{headerOf}
 use Rattle.refusal.specs.declared.WriteResult.{WriteResult}
 use Rattle.refusal.specs.Writes.{outcomeOf}
+use Rattle.refusal.specs.Writes as writes
 use Rattle.sealed_builder.specs.declared.Sending.{Sending}
 use Rattle.sealed_builder.specs.Build.{Done, done, refusedSending, sealedDone}
 use Rattle.text.specs.Line.{Piece}
 use Rattle.text.specs.Page.{page}
-use Rattle.records.specs.Records.{isWhole, badRecord, prints, allowed, counted}
-use Rattle.records.proofs.Laws.{sized-good, whole-within, did-bad, did-whole}
+use Rattle.records.specs.Records.{outcomeLine, isWhole, badRecord, prints, allowed, counted}
+use Rattle.records.proofs.Laws.{done-line, sized-good, whole-within, did-bad, did-whole}
 use Rattle.build_cases.specs.declared.Builds.{Builds}
 use Rattle.build_cases.specs.declared.Part.{Part}
-use Rattle.build_cases.specs.Sealed.{answerLine, sealedLine, sendingAfter, sendingOf, headSize, headBuilds, buildSize, doneBy, buildsAfter, partOf, DidPart}
+use Rattle.build_cases.specs.Sealed.{sealedLine, sendingAfter, sendingOf, headSize, headBuilds, buildSize, doneBy, buildsAfter, partOf, DidPart}
 
 -- ---- the head
 
@@ -74,8 +75,8 @@ unfolding doneBy
 build-done sending s before source queued header abort eh ea es eb eq = rw (eh, ea, es, eb, eq)
 
 -- its line as code comes to it
-pub built-line : (b : WriteResult) (sum : ℕ) (x : Sending) (buf : List ℕ) (d : Done) → done (outcomeOf b) x buf ≡ d → sum ≡ crcOf 4294967295 buf → answerLine (outcomeOf b) sum ≡ sealedLine d
-built-line b sum x buf d e k = ap (answerLine (outcomeOf b)) k ∙ ap sealedLine e
+pub built-line : (b : WriteResult) (sum : ℕ) (x : Sending) (buf : List ℕ) (d : Done) → done (outcomeOf b) x buf ≡ d → sum ≡ crcOf 4294967295 buf → outcomeLine (outcomeOf b) sum ≡ sealedLine d
+built-line b sum x buf d e k = done-line b sum buf _ (ap (λ (y : Done). writes.done (y .answer) (y .buffer)) e) k
 
 -- what is left behind it
 pub builds-next : (b : Builds) (s : List ℕ) (answer : WriteResult) (buf : List ℕ) {left : ℕ} {x : Sending} → left ≡ b .left - 1 → done (outcomeOf answer) x buf ≡ doneBy (b .sending) s → builds left x ≡ buildsAfter b s

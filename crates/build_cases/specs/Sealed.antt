@@ -5,27 +5,22 @@ use mathlib.Core.List.{List, [], _∷_}
 use Prim.Native.Nat.{ℕ, _+_, _-_, _%_, _^_}
 use lib.Dec.{leb, eqb}
 use lib.ListN.{take, drop, getD}
-use Rattle.refusal.specs.Writes.{Outcome, wrote, refusedFor}
+use Rattle.refusal.specs.Writes.{done}
 use Rattle.buffer.specs.Le.{numberAt}
-use Rattle.crc32c.specs.Crc.{crcOf}
 use Rattle.preamble.specs.Judge.{headerOf}
 use Rattle.secure.specs.Layout.{nonceOf}
 use Rattle.sealed_builder.specs.declared.Sending.{Sending}
 use Rattle.sealed_builder.specs.Build.{Done, sendingState, refusedSending, sealedDone}
 use Rattle.text.specs.Line.{Piece}
-use Rattle.records.specs.Records.{Record, Did, wroteLine, refusedLine, sized, allowed, whole, isWhole, counted}
+use Rattle.records.specs.Records.{Record, Did, doneLine, sized, allowed, whole, isWhole, counted}
 use Rattle.build_cases.specs.declared.Builds.{Builds}
 use Rattle.build_cases.specs.declared.Part.{Part}
 
 -- ---- lines
 
-abbrev pub answerLine : Outcome → ℕ → List Piece
-answerLine (wrote n) c = wroteLine n c
-answerLine (refusedFor w) c = refusedLine w c
-
 -- a build's line: its answer, and the checksum of the buffer that it left
 abbrev pub sealedLine : Done → List Piece
-sealedLine d = answerLine (d .answer) (crcOf 4294967295 (d .buffer))
+sealedLine d = doneLine (done (d .answer) (d .buffer))
 
 -- ---- sending states
 

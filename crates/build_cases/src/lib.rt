@@ -12,12 +12,9 @@ use records::Step;
 use records::bad_record;
 use records::count_up;
 use records::is_whole;
-use records::print_refused;
-use records::print_wrote;
+use records::print_outcome;
 use records::sized;
-use refusal::WriteResult;
 use refusal::both;
-use refusal::numbers_of;
 use sealed_builder::Sending;
 use sealed_builder::build_sealed;
 use sealed_builder::refused_sending;
@@ -27,10 +24,7 @@ use secure::nonce_of;
 ghost use mathlib.Core.Path.{_≡_};
 ghost use Prim.Native.Nat.{_-_, _≤_};
 ghost use lib.ListN.{length};
-ghost use Rattle.refusal.specs.Writes.{outcomeOf};
-ghost use Rattle.text.specs.Page.{page};
-ghost use Rattle.records.specs.Records.{print};
-ghost use Rattle.build_cases.specs.Sealed.{answerLine, nonceFurther, sendingAfter, sendingOf, headSize, headPart, buildSize, buildPart, DidPart};
+ghost use Rattle.build_cases.specs.Sealed.{nonceFurther, sendingAfter, sendingOf, headSize, headPart, buildSize, buildPart, DidPart};
 
 // The most builds of a record.
 const BUILDS: usize = 256;
@@ -45,15 +39,6 @@ pub struct Builds {
 pub struct Part {
     pub step: Step,
     pub builds: Builds,
-}
-
-pub fn print_built(text: &mut [u8], at: usize, built: WriteResult, sum: u32) -> usize
-    ensures { λ r. ⌜ page (now (text .exit)) r ≡ print (answerLine (outcomeOf built) sum) (page (now (text .entry)) at) ⌝ }
-{
-    match built {
-        WriteResult::Wrote(n) => print_wrote(text, at, n, sum),
-        WriteResult::Refused(why) => print_refused(text, at, numbers_of(why), sum),
-    }
 }
 
 // ---- sending states
@@ -172,7 +157,7 @@ pub fn build_record(builds: Builds, s: &[u8], space: &mut [u8], text: &mut [u8],
     let built = o.built;
     let next = o.sending;
     let sum = checksum(0xFFFFFFFF, buf);
-    let filled = print_built(text, at, built, sum);
+    let filled = print_outcome(text, at, built, sum);
     Part {
         step: Step {
             taken: size,

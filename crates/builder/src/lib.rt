@@ -22,8 +22,8 @@ use preamble::Header;
 use preamble::judge_header;
 use preamble::preamble_front;
 use preamble::total_of;
+use refusal::Judgement;
 use refusal::Refusal;
-use refusal::Verdict;
 use refusal::WriteResult;
 use refusal::both;
 use refusal::or_else;
@@ -53,11 +53,11 @@ pub fn room(n: u64, space: usize, queued: usize) -> bool
 }
 
 // A one-segment msgr2.1 frame has no late byte to say it in.
-pub fn judge_abort(revision: Revision, count: u8, abort: bool) -> Verdict
+pub fn judge_abort(revision: Revision, count: u8, abort: bool) -> Judgement
     ensures { λ r. ⌜ judgedBy r ≡ judgeAbort revision count abort ⌝ }
 {
     match revision {
-        Revision::Msgr20 => Verdict::Fine,
+        Revision::Msgr20 => Judgement::Fine,
         Revision::Msgr21 => unless(!both(abort, count == 1), Refusal::AbortOneSegment),
     }
 }
@@ -69,7 +69,7 @@ fn judge_frame(
     source: usize,
     space: usize,
     queued: usize,
-) -> Verdict
+) -> Judgement
     ensures { λ r. ⌜ judgedBy r ≡ judgeFrame revision h abort source space queued ⌝ }
 {
     let n = wire_length(revision, h);
@@ -80,7 +80,7 @@ fn judge_frame(
     or_else(judge_header(h), v13)
 }
 
-fn judge_banner(supported: u64, required: u64, space: usize, queued: usize) -> Verdict
+fn judge_banner(supported: u64, required: u64, space: usize, queued: usize) -> Judgement
     ensures { λ r. ⌜ judgedBy r ≡ judgeBanner supported required space queued ⌝ }
 {
     let last = unless(room(26, space, queued), Refusal::NoRoom(26));
@@ -191,10 +191,10 @@ fn put_frame(out: &mut [u8], revision: Revision, h: Header, abort: bool, source:
 pub fn build_banner(buf: &mut [u8], queued: usize, supported: u64, required: u64) -> WriteResult
     ensures { λ r. ⌜ BuiltBanner supported required (now (buf .entry)) queued r (now (buf .exit)) ⌝ }
 {
-    let verdict = judge_banner(supported, required, buf.len(), queued);
-    match verdict {
-        Verdict::Refused(why) => WriteResult::Refused(why),
-        Verdict::Fine => {
+    let judgement = judge_banner(supported, required, buf.len(), queued);
+    match judgement {
+        Judgement::Refused(why) => WriteResult::Refused(why),
+        Judgement::Fine => {
             let bytes = banner_bytes(supported, required);
             put(&mut buf[queued..], &bytes);
             WriteResult::Wrote(26)
@@ -213,10 +213,10 @@ pub fn build_frame(
 ) -> WriteResult
     ensures { λ r. ⌜ BuiltFrame revision header abort (now (source .entry)) (now (buf .entry)) queued r (now (buf .exit)) ⌝ }
 {
-    let verdict = judge_frame(revision, header, abort, source.len(), buf.len(), queued);
-    match verdict {
-        Verdict::Refused(why) => WriteResult::Refused(why),
-        Verdict::Fine => {
+    let judgement = judge_frame(revision, header, abort, source.len(), buf.len(), queued);
+    match judgement {
+        Judgement::Refused(why) => WriteResult::Refused(why),
+        Judgement::Fine => {
             put_frame(&mut buf[queued..], revision, header, abort, source);
             WriteResult::Wrote(wire_length(revision, header) as usize)
         }

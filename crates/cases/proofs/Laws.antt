@@ -13,17 +13,13 @@ use Rattle.refusal.proofs.Booleans.{both-left, both-right}
 use Rattle.buffer.proofs.CopyLoop.{copy-more}
 use Rattle.buffer.proofs.Parts.{back}
 use Rattle.buffer.specs.Le.{numberAt}
-use Rattle.crc32c.specs.Crc.{crcOf}
-use Rattle.refusal.specs.declared.WriteResult.{WriteResult}
-use Rattle.refusal.specs.Writes.{Done, done, outcomeOf}
 use Rattle.builder.specs.Build.{bannerDone, frameDone}
 use Rattle.banner.specs.declared.Revision.{Revision}
 use Rattle.preamble.specs.declared.Header.{Header}
 use Rattle.preamble.specs.Judge.{headerOf}
 use Rattle.records.specs.Records.{allowed, isWhole, counted}
 use Rattle.records.proofs.Laws.{sized-good}
-use Rattle.build_cases.specs.Sealed.{answerLine}
-use Rattle.cases.specs.Builds.{doneLine, bannerSize, bannerDoneOf, revisionByByte, frameSize, frameDoneOf}
+use Rattle.cases.specs.Builds.{bannerSize, bannerDoneOf, revisionByByte, frameSize, frameDoneOf}
 
 -- ---- kinds
 
@@ -68,10 +64,6 @@ pub frame-done : (s before source : List ℕ) (queued : ℕ) (revision : Revisio
     → frameDone revision header abort source before queued ≡ frameDoneOf s
 unfolding frameDoneOf
 frame-done s before source queued revision header abort ev eh ea es eb eq = rw (ev, eh, ea, es, eb, eq)
-
--- the line of a build as code comes to it
-pub built-line : (b : WriteResult) (sum : ℕ) (buf : List ℕ) (d : Done) → done (outcomeOf b) buf ≡ d → sum ≡ crcOf 4294967295 buf → answerLine (outcomeOf b) sum ≡ doneLine d
-built-line b sum buf d e k = ap (answerLine (outcomeOf b)) k ∙ ap doneLine e
 
 -- ---- moving
 

@@ -6,18 +6,11 @@ use lib.Dec.{leb, eqb}
 use lib.ListN.{take, drop, getD}
 use Rattle.refusal.specs.Writes.{Done}
 use Rattle.buffer.specs.Le.{numberAt}
-use Rattle.crc32c.specs.Crc.{crcOf}
 use Rattle.banner.specs.declared.Revision.{Revision}
 use Rattle.banner.specs.declared.Revision.the-variants.{Msgr20, Msgr21}
 use Rattle.preamble.specs.Judge.{headerOf}
 use Rattle.builder.specs.Build.{bannerDone, frameDone}
-use Rattle.text.specs.Line.{Piece}
-use Rattle.records.specs.Records.{Record, sized, allowed, whole, counted}
-use Rattle.build_cases.specs.Sealed.{answerLine}
-
--- a build's line: its answer, and the checksum of the buffer that it left
-abbrev pub doneLine : Done → List Piece
-doneLine d = answerLine (d .outcome) (crcOf 4294967295 (d .buffer))
+use Rattle.records.specs.Records.{doneLine, Record, sized, allowed, whole, counted}
 
 -- B: supported u64, required u64, buffer length u32, fill u8, queued u64
 abbrev pub bannerSize : List ℕ → ℕ

@@ -5,7 +5,6 @@ use buffer::byte_at;
 use buffer::part;
 use buffer::u32_at;
 use buffer::u64_at;
-use build_cases::print_built;
 use builder::build_banner;
 use builder::build_frame;
 use crc32c::checksum;
@@ -15,6 +14,7 @@ use records::Step;
 use records::bad_record;
 use records::count_up;
 use records::is_whole;
+use records::print_outcome;
 use records::sized;
 use refusal::both;
 ghost use mathlib.Core.Path.{_≡_};
@@ -44,7 +44,7 @@ pub(crate) fn banner_record(s: &[u8], space: &mut [u8], text: &mut [u8], at: usi
     let sum = checksum(0xFFFFFFFF, buf);
     Step {
         taken: size,
-        filled: print_built(text, at, built, sum),
+        filled: print_outcome(text, at, built, sum),
     }
 }
 
@@ -87,6 +87,6 @@ pub(crate) fn frame_record(s: &[u8], space: &mut [u8], text: &mut [u8], at: usiz
     let sum = checksum(0xFFFFFFFF, buf);
     Step {
         taken: size,
-        filled: print_built(text, at, built, sum),
+        filled: print_outcome(text, at, built, sum),
     }
 }

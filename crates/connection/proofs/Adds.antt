@@ -14,25 +14,26 @@ use Rattle.refusal.specs.Refusals.{Judged, fine, refused}
 use Rattle.refusal.proofs.Booleans.{wrong, both-left, both-right}
 use Rattle.refusal.proofs.Judgements.{passed}
 use Rattle.banner.specs.declared.Features.{Features}
-use Rattle.banner.specs.Banner.{judgeOwn}
+use Rattle.banner.specs.Banner.{judgeOwn, isMsgr21}
 use Rattle.preamble.specs.declared.Header.{Header}
 use Rattle.preamble.specs.Judge.{headerOf}
 use Rattle.body.specs.End.{Ended, whole, dropped, refusedFor}
 use Rattle.stream.specs.declared.Event.the-variants as event
 use Rattle.stream.proofs.Events.{by-event}
 use Rattle.receiver.specs.declared.Stage.{Stage}
-use Rattle.receiver.specs.declared.Stage.the-variants as crc-stage
 use Rattle.receiver.specs.declared.Known.{Known}
 use Rattle.receiver.specs.declared.State as crc-state
 use Rattle.receiver.specs.declared.Report.{Report}
 use Rattle.receiver.specs.declared.Report.the-variants as report
-use Rattle.receiver.specs.State.{rank, isMsgr21}
+use Rattle.receiver.specs.State as crc-states
+use Rattle.receiver.specs.State.{rank}
+use Rattle.receiver.proofs.Ranks.{stage-at}
 use Rattle.receiver.specs.Step as crc
-use Rattle.receiver.specs.Calls.{passing}
+use Rattle.stream.specs.Events.{passing}
 use Rattle.receiver.specs.Every as crc-every
 use Rattle.receiver.proofs.Every as crc-calls
 use Rattle.receiver.proofs.Adds as crc-adds
-use Rattle.secure.specs.Layout.{noRest, noLast, inlineLength, lastLengths, firstLength, restPartLength, lastPartLength, sealedLength}
+use Rattle.secure.specs.Layout.{noSecondPart, noLastPart, inlineLength, lastLengths, firstLength, secondPartLength, lastPartLength, sealedLength}
 use Rattle.secure.specs.Reading.{judgePadding, judgeFirst, unpadded, lastEnded, zeroed}
 use Rattle.sealed_receiver.specs.declared.Stage as sealed-stage
 use Rattle.sealed_receiver.specs.declared.Stage.the-variants as stage
@@ -48,7 +49,7 @@ use Rattle.connection.specs.declared.State.{State}
 use Rattle.connection.specs.declared.Received.{Received}
 use Rattle.connection.specs.Step.{readyAfter, readyRule, agrees, begun, Answer, byCrc, bySecure, Answered, mayBeSwitched, judgeSwitch, switchedState, SwitchedWith}
 use Rattle.connection.specs.Calls.{Try}
-use Rattle.connection.specs.Every.{refusedInUse, neededInUse, Running, EveryCall, AnyCall, taking, switching, Handed, allTaken, lengthBy, allReported, cameBefore, unfinished, unfinishedAfter, leftBy}
+use Rattle.connection.specs.Every.{refusedInUse, neededInUse, Running, EveryCall, AnyCall, taking, switching, Handed, allTaken, lengthBy, allReported, cameBefore, unfinished, unfinishedAfter, unfinishedBy}
 use Rattle.connection.proofs.Machines.{crc-answer, secure-answer}
 use Rattle.connection.proofs.SplitAtSwitch.{judged-27}
 use Rattle.connection.proofs.Every.{stateOf, rule-of, in-use-of, secure-unready, RefusedFor, refusedCrc, refusedSecure, refused-of, lasts, short-so, well, sound, sound-switch, begun-agrees}
@@ -91,43 +92,43 @@ module _ (ready : Bool) (c : crc-state.State) where
     abbrev h : Header
     h = v .header
 
-    last-counts : n ≡ firstLength + restPartLength h → CountsStep n (sealed.beginLast v s)
+    last-counts : n ≡ firstLength + secondPartLength h → CountsStep n (sealed.beginLast v s)
     unfolding sealedLength
-    last-counts e = go (noLast h) refl
+    last-counts e = go (noLastPart h) refl
       where
-        go : (b : Bool) → noLast h ≡ b
+        go : (b : Bool) → noLastPart h ≡ b
             → CountsStep n (cond b (sealed.endFrame whole v (take (h .s1 .len) s) s) (sealed.silent (sealed.at stage.Last v) s))
         go true q =
             let z : lastPartLength h ≡ 0 = rw q in
             frame-counts whole v (take (h .s1 .len) s) s n (omega (arith, e, z))
-        go false q = e ∙ sym (add-zero (firstLength + restPartLength h))
+        go false q = e ∙ sym (add-zero (firstLength + secondPartLength h))
 
-    rest-counts : n ≡ firstLength → CountsStep n (sealed.beginRest v s)
-    rest-counts e = go (noRest h) refl
+    rest-counts : n ≡ firstLength → CountsStep n (sealed.beginSecondPart v s)
+    rest-counts e = go (noSecondPart h) refl
       where
-        go : (b : Bool) → noRest h ≡ b → CountsStep n (cond b (sealed.beginLast v s) (sealed.silent (sealed.at stage.Rest v) s))
+        go : (b : Bool) → noSecondPart h ≡ b → CountsStep n (cond b (sealed.beginLast v s) (sealed.silent (sealed.at stage.Second v) s))
         go true q =
-            let z : restPartLength h ≡ 0 = rw q in
+            let z : secondPartLength h ≡ 0 = rw q in
             last-counts (omega (arith, e, z))
         go false q = e
 
   finish-counts : (k : sealed-stage.Stage) (b : List ℕ) (v : sealed-known.Known) (s : List ℕ) → sealed-states.isRefused k ≡ false
       → CountsStep (cameBefore k (v .header) + sealed-states.sizeOf k (v .header)) (sealed.finish k b v s)
-  unfolding sealed.finish sealed.behindFirst sealed.behindRest sealed.behindLast sealedLength
+  unfolding sealed.finish sealed.afterFirstPart sealed.afterSecondPart sealed.afterLastPart sealedLength
   finish-counts stage.First b v s o =
       judged-counts (sealed.judgePart (v .receiving) b) s 96 _
       (let text = sealed.partText (v .receiving) b in judged-counts (judgeFirst text (length s)) s 96 _ (rest-counts (sealed.withHeader (sealed.withOpened v) (headerOf text)) _ 96 refl))
-  finish-counts stage.Rest b v s o =
+  finish-counts stage.Second b v s o =
       let h = v .header in
-      let bytes = sealed.sealedIn stage.Rest h s in
-      let n = firstLength + restPartLength h in
+      let bytes = sealed.sealedIn stage.Second h s in
+      let n = firstLength + secondPartLength h in
       let text = sealed.partText (v .receiving) bytes in
       judged-counts (sealed.judgePart (v .receiving) bytes) (zeroed h s) n _
       (judged-counts (judgePadding (drop (h .s1 .len - inlineLength) text)) (zeroed h s) n _ (last-counts (sealed.withOpened v) _ n refl))
   finish-counts stage.Last b v s o =
       let h = v .header in
       let bytes = sealed.sealedIn stage.Last h s in
-      let n = firstLength + restPartLength h + lastPartLength h in
+      let n = firstLength + secondPartLength h + lastPartLength h in
       let text = sealed.partText (v .receiving) bytes in
       judged-counts (sealed.judgePart (v .receiving) bytes) (zeroed h s) n _
       (frame-counts (lastEnded h text) (sealed.withOpened v) (take (h .s1 .len) s ++ unpadded (lastLengths h) text) s n refl)
@@ -151,7 +152,7 @@ module _ (ready : Bool) (c : crc-state.State) where
   unfolding sealed.feed
   sealed-counts x s [] r = add-zero (unfinished (within x))
   sealed-counts x s (b ∷ bs) r =
-      by-report (sealed.onByte x s b .report) (sealed.onByte x s b) (sealed-live.byte-leaves x s b r .after) (byte-counts x s b r)
+      by-report (sealed.onByte x s b .report) (sealed.onByte x s b) (sealed-live.byte-leaves x s b r) (byte-counts x s b r)
       (sealed-counts (sealed.onByte x s b .state) (sealed.onByte x s b .store) bs)
     where
       by-report : (p : Report) (y : sealed.Stepped) → sealed-live.After p (y .state) (y .store) → Counts p (unfinished (within x) + 1) (within (y .state))
@@ -232,26 +233,18 @@ call-next n st s piece r s′ w a =
 
     go : (b : Bool) → refusedInUse st ≡ b → (t : Bool) → ltb (length s) (neededInUse st) ≡ t → Counts (r .report) (n + r .taken) (r .state)
     go true q t u =
-        let g = refused-of (st .mode) (st .ready) (st .crc) (st .secure) (w .agree) q in
+        let g = refused-of (st .mode) (st .ready) (st .crc) (st .sealed) (w .agree) q in
         none (lasts (g .1) s piece r s′ a .report)
     go false q true u = none (short-so st s piece r s′ a (w .agree) q (ltb-true (length s) (neededInUse st) u) .report)
     go false q false u =
         let l : Running st s = record { agree = w .agree; live = q; fits = ltb-false (length s) (neededInUse st) u } in
-        subst (λ (k : ℕ). Counts (r .report) (k + r .taken) (r .state)) (sym (w .counts q)) (fed-counts (st .mode) (st .ready) (st .crc) (st .secure) s piece r s′ a l)
+        subst (λ (k : ℕ). Counts (r .report) (k + r .taken) (r .state)) (sym (w .counts q)) (fed-counts (st .mode) (st .ready) (st .crc) (st .sealed) s piece r s′ a l)
 
 -- ---- a try to switch: it is made where nothing is unfinished
 
 none-came : (k : Stage) (v : Known) → rank k ≡ 4 → crc-every.cameBefore k v ≡ 0
-none-came crc-stage.Magic v e = refl
-none-came crc-stage.Length v e = absurd (omega (arith, e))
-none-came crc-stage.Payload v e = absurd (omega (arith, e))
-none-came crc-stage.Skip v e = absurd (omega (arith, e))
-none-came crc-stage.Preamble v e = refl
-none-came crc-stage.First v e = absurd (omega (arith, e))
-none-came crc-stage.FirstSum v e = absurd (omega (arith, e))
-none-came crc-stage.Rest v e = absurd (omega (arith, e))
-none-came crc-stage.Epilogue v e = absurd (omega (arith, e))
-none-came crc-stage.Refused v e = refl
+unfolding crc-states.stageOf
+none-came k v e = ap (λ (x : Stage). crc-every.cameBefore x v) (stage-at k 4 e)
 
 ready-none : (k : Mode) (ready : Bool) (c : crc-state.State) (x : sealed-state.State)
     → (let st = stateOf k ready c x in readyRule st ≡ true → ready ≡ true → (refusedInUse st ≡ false) × (unfinished st ≡ 0))
@@ -274,13 +267,13 @@ switched-counted n st c w s = go (judgeSwitch st) refl
     go (refused m) e = subst (Counted n) (sym (to (refused m) e)) w
     go fine e =
         let m : mayBeSwitched st ≡ true = passed (mayBeSwitched st) refusal.SwitchRefused (sym (judged-27 st (w .agree)) ∙ e) in
-        let z = ready-none (st .mode) (st .ready) (st .crc) (st .secure) (rule-of st (w .agree)) (both-left (st .ready) (isMsgr21 (st .crc .known .revision)) m) in
+        let z = ready-none (st .mode) (st .ready) (st .crc) (st .sealed) (rule-of st (w .agree)) (both-left (st .ready) (isMsgr21 (st .crc .known .revision)) m) in
         record {
           agree = sound-switch st (c .key) (c .receiving) (c .sending) (c .switched) s .agreeing (w .agree);
           counts = λ _. w .counts (z .0) ∙ z .1 ∙ sym (ap unfinished (to fine e));
         }
 
-add-up : (n : ℕ) (st : State) (cs : List AnyCall) → Counted n st → Handed st cs → n + allTaken cs ≡ allReported cs + leftBy n cs
+add-up : (n : ℕ) (st : State) (cs : List AnyCall) → Counted n st → Handed st cs → n + allTaken cs ≡ allReported cs + unfinishedBy n cs
 add-up n st [] w h = omega arith
 add-up n st (taking c ∷ cs) w h =
     let x = call-next n st (c .store) (c .piece) (c .received) (c .after) w (h .0) in
@@ -299,7 +292,7 @@ from-start own = record { agree = begun-agrees own; counts = λ _. nothing-yet (
 pub every-call : EveryCall
 unfolding EveryCall
 every-call = (
-  λ own b h. record { state = h .state; verdict = h .verdict; agreeing = ap agrees (h .state) ∙ begun-agrees own },
+  λ own b h. record { state = h .state; judgement = h .judgement; agreeing = ap agrees (h .state) ∙ begun-agrees own },
   λ st s piece r s′ a. sound st s piece r s′ a,
   λ st key receiving sending r w. sound-switch st key receiving sending r w,
   λ own cs h. let a = add-up 0 (begun own) cs (from-start own) h in omega (arith, a),

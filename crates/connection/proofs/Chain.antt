@@ -16,15 +16,17 @@ use Rattle.refusal.specs.Refusals.{Judged, fine, refused, unless, noRefusal}
 use Rattle.refusal.proofs.Booleans.{wrong, both-left, both-right}
 use Rattle.refusal.proofs.Judgements.{all-fine, passed}
 use Rattle.banner.specs.declared.Features.{Features}
-use Rattle.banner.specs.Banner.{judgeOwn}
+use Rattle.banner.specs.Banner.{judgeOwn, isMsgr21}
 use Rattle.stream.specs.declared.Event.{Event}
-use Rattle.stream.specs.Stream.{Entry, Trace, ended, traceOf}
+use Rattle.stream.specs.Stream.{Entry, Trace, ended, traceOf, refusedIn}
+use Rattle.stream.proofs.Laws.{trace-refused}
 use Rattle.receiver.specs.declared.Report.{Report}
 use Rattle.receiver.specs.declared.Report.the-variants as report
 use Rattle.receiver.specs.declared.Stage.the-variants as stage
-use Rattle.receiver.specs.State.{rank, isMsgr21}
+use Rattle.receiver.specs.State.{rank}
 use Rattle.receiver.specs.Step as crc
-use Rattle.receiver.specs.Calls.{pieceAt, passing, entered, dueTaken, dueReport, refusedIn}
+use Rattle.stream.specs.Events.{passing}
+use Rattle.receiver.specs.Calls.{pieceAt, entered, dueTaken, dueReport}
 use Rattle.receiver.proofs.Entries.{Behind, noted}
 use Rattle.receiver.proofs.Appended.{clean-here, refused-append, entered-append}
 use Rattle.receiver.proofs.Machine.{Scanned, scan, scan-append, scan-behind}
@@ -35,11 +37,11 @@ use Rattle.sealed_receiver.proofs.Live.{switched-running}
 use Rattle.secure.specs.Reading.{sealedTrace}
 use Rattle.connection.specs.declared.State.{State}
 use Rattle.connection.specs.declared.Mode.the-variants as mode
-use Rattle.connection.specs.Switched.{Switch, none, behind, closes, spliced, traceWith, closesAt, choseMsgr21, behindFrame, maySwitch, framesIn}
+use Rattle.connection.specs.Switched.{Switch, none, behind, endsFrame, spliced, traceWith, frameEndsAt, choseMsgr21, behindFrame, maySwitch, framesIn}
 use Rattle.connection.specs.Step.{isSecure, noSecure, begun, agrees, mayBeSwitched, judgeSwitch, switchedState}
 use Rattle.connection.specs.Calls.{Piece, Try, Call, Chained, takenBy, stateBy, storeBy, reportedBy, counted, switchBy, Each, Repeats, OneMade, Tries, AsSwitched, SwitchedDemand3}
 use Rattle.connection.proofs.Machines.{crcByte, secureByte, crcSide, secureSide, CrcRunning, SecureRunning, CrcRefusedFor, before}
-use Rattle.connection.proofs.Scans.{trace, crc-trace, secure-trace, LastCloses, Just, ready-just, ready-closes, revision-chosen}
+use Rattle.connection.proofs.Scans.{trace, crc-trace, secure-trace, LastEndsFrame, Just, ready-just, ready-ends, revision-chosen}
 use Rattle.connection.proofs.Splices.{spliced-there, AllBy, skipped, ahead-only, takes-some, lent-nothing}
 use Rattle.connection.proofs.SplitAtSwitch.{runs, refuses, crc-agrees, secure-agrees, Fed, takenOf, stateOf, storeOf, reportedOf, EachOf, reportedThen, countedBy, Unmade, Made, SplitAtSwitch, unmade, made, parted}
 use Rattle.connection.proofs.SwitchTries.{tries-answered}
@@ -61,17 +63,17 @@ counted-entered : (k n : ℕ) (r : Report) (t : ℕ) (s : List ℕ) (es : List E
 counted-entered k n report.More t s es e f = f e
 counted-entered k n (report.Event w) t s es e f =
     let p = clean-here w (refusedIn (passing w es (λ m. []))) e in
-    rw p (f (rw p at e) ∙ go (closes w))
+    rw p (f (rw p at e) ∙ go (endsFrame w))
   where
     go : (b : Bool) → cond b (suc k) k + framesIn es ≡ k + cond b (suc (framesIn es)) (framesIn es)
     go true = omega arith
     go false = refl
 
-counted-closings : (k t : ℕ) (ps : List Piece) → refusedIn (reportedOf t ps) ≡ false → countedBy k ps ≡ k + framesIn (reportedOf t ps)
-counted-closings k t [] e = sym (add-zero k)
-counted-closings k t (c ∷ ps) e =
+counted-frames : (k t : ℕ) (ps : List Piece) → refusedIn (reportedOf t ps) ≡ false → countedBy k ps ≡ k + framesIn (reportedOf t ps)
+counted-frames k t [] e = sym (add-zero k)
+counted-frames k t (c ∷ ps) e =
     let t′ = t + c .received .taken in
-    counted-entered k (countedBy k (c ∷ ps)) (c .received .report) t′ (c .store) (reportedOf t′ ps) e (counted-closings (counted k (c .received .report)) t′ ps)
+    counted-entered k (countedBy k (c ∷ ps)) (c .received .report) t′ (c .store) (reportedOf t′ ps) e (counted-frames (counted k (c .received .report)) t′ ps)
 
 -- the entries of a scan lie at or before its last byte
 later-by : (t a : ℕ) (es : List Entry) → t ≤ a → AllBy t es → AllBy a es
@@ -92,7 +94,7 @@ scan-by step x s P (b ∷ bs) =
 
 -- ---- what is due on either side of a switch
 
-module _ (es fs gs : List Entry) (stream : List ℕ) (t₁ : ℕ) (s₁ : List ℕ) (last : LastCloses es t₁ s₁) (by : AllBy t₁ es) (clean : refusedIn es ≡ false)
+module _ (es fs gs : List Entry) (stream : List ℕ) (t₁ : ℕ) (s₁ : List ℕ) (last : LastEndsFrame es t₁ s₁) (by : AllBy t₁ es) (clean : refusedIn es ≡ false)
     (behind-fs : Behind t₁ fs) (behind-gs : Behind t₁ gs) where
   -- up to the frame behind which it is made, later entries do not count
   due-early : (t k n : ℕ) (r : Report) → t + n ≤ t₁ → n ≡ dueTaken (es ++ fs) t k → r ≡ dueReport (es ++ fs) t k → (n ≡ dueTaken (es ++ gs) t k) × (r ≡ dueReport (es ++ gs) t k)
@@ -137,7 +139,7 @@ module _ (es fs gs : List Entry) (stream : List ℕ) (t₁ : ℕ) (s₁ : List �
 
 -- ---- a start that is not refused
 
-just-last : (bs : List ℕ) (es : List Entry) (t : ℕ) (s : List ℕ) → Just false bs es t s → LastCloses es t s
+just-last : (bs : List ℕ) (es : List Entry) (t : ℕ) (s : List ℕ) → Just false bs es t s → LastEndsFrame es t s
 just-last [] es t s j = wrong j
 just-last (b ∷ bs) es t s j = j
 
@@ -158,7 +160,7 @@ nonceOf (behind n key nonce) = nonce
 
 module _ (own : Features) (store : List ℕ) (ok : judgeOwn (own .supported) (own .required) ≡ fine) where
   abbrev start : State
-  start = record { mode = mode.Crc; ready = false; crc = crc.at stage.Magic 0 (crc.onlyOwn own noRefusal); secure = noSecure }
+  start = record { mode = mode.Crc; ready = false; crc = crc.at stage.Magic 0 (crc.onlyOwn own noRefusal); sealed = noSecure }
 
   begun-fine : begun own ≡ start
   unfolding begun crc.started
@@ -207,10 +209,10 @@ module _ (own : Features) (store : List ℕ) (ok : judgeOwn (own .supported) (ow
       let q = scanned₀ stream ps f in
       let l : 0 + length (take t stream) ≡ t = zero-add _ ∙ length-take-le t stream (r .reached .within) in
       let n : traceOf own (take t stream) store .entries ≡ es = ap (λ (y : Trace). y .entries) (sym (traced₁ (take t stream)) ∙ ap trace q) in
-      let c : st .ready ≡ closesAt t es = rw (q, l) at (ready-closes start store 0 (take t stream) refl) in
+      let c : st .ready ≡ frameEndsAt t es = rw (q, l) at (ready-ends start store 0 (take t stream) refl) in
       (standing-agrees (r .standing), may-stands stream ps f c (r .standing) ∙ ap (behindFrame t) (sym n))
     where
-      may-stands : (stream : List ℕ) (ps : List Piece) → Fed stream start store 0 ps → stateOf start ps .ready ≡ closesAt (takenOf 0 ps) (reportedOf 0 ps)
+      may-stands : (stream : List ℕ) (ps : List Piece) → Fed stream start store 0 ps → stateOf start ps .ready ≡ frameEndsAt (takenOf 0 ps) (reportedOf 0 ps)
           → Standing crcSide (stateOf start ps) (storeOf store ps) (reportedOf 0 ps) → mayBeSwitched (stateOf start ps) ≡ behindFrame (takenOf 0 ps) (reportedOf 0 ps)
       may-stands stream ps f c (running live clean) =
           let q = scanned₀ stream ps f in
@@ -305,13 +307,13 @@ module _ (own : Features) (store : List ℕ) (ok : judgeOwn (own .supported) (ow
     within₁ : t₁ ≤ length stream
     within₁ = r₁ .reached .within
 
-    last₁ : LastCloses es t₁ s₁
+    last₁ : LastEndsFrame es t₁ s₁
     last₁ =
         let q = scanned₀ stream ps (x .fed) in
         let l : 0 + length (take t₁ stream) ≡ t₁ = zero-add _ ∙ length-take-le t₁ stream within₁ in
         let j = ready-just start store 0 (take t₁ stream) (ap (λ (y : Scanned State). y .state .ready) q ∙ ready₁) in
-        subst (λ (n : ℕ). LastCloses es n s₁) l
-        (subst (λ (y : Scanned State). LastCloses (y .entries) (0 + length (take t₁ stream)) (y .store)) q
+        subst (λ (n : ℕ). LastEndsFrame es n s₁) l
+        (subst (λ (y : Scanned State). LastEndsFrame (y .entries) (0 + length (take t₁ stream)) (y .store)) q
         (just-last (take t₁ stream) (scan crcByte start store 0 (take t₁ stream) .entries) (0 + length (take t₁ stream)) (scan crcByte start store 0 (take t₁ stream) .store) j))
 
     by₁ : AllBy t₁ es
@@ -321,7 +323,7 @@ module _ (own : Features) (store : List ℕ) (ok : judgeOwn (own .supported) (ow
         (subst (λ (y : Scanned State). AllBy (0 + length (take t₁ stream)) (y .entries)) (scanned₀ stream ps (x .fed)) (scan-by crcByte start store 0 (take t₁ stream)))
 
     number₁ : countedBy 0 ps ≡ framesIn es
-    number₁ = counted-closings 0 0 ps clean₁ ∙ zero-add (framesIn es)
+    number₁ = counted-frames 0 0 ps clean₁ ∙ zero-add (framesIn es)
 
     -- any bytes that begin as these do
     module _ (bytes : List ℕ) (alike : take t₁ bytes ≡ take t₁ stream) (long : t₁ ≤ length bytes) where
@@ -354,7 +356,7 @@ module _ (own : Features) (store : List ℕ) (ok : judgeOwn (own .supported) (ow
     t₂ = takenOf t₁ qs
 
     sealed₂ : (bytes : List ℕ) → trace (scan secureByte st₂ s₁ t₁ bytes) ≡ sealedTrace (c .key) (c .receiving) 0 t₁ bytes s₁
-    sealed₂ bytes = secure-trace (c .key) (c .receiving) st₂ s₁ t₁ bytes (ap (λ (y : State). y .secure) (x .switched))
+    sealed₂ bytes = secure-trace (c .key) (c .receiving) st₂ s₁ t₁ bytes (ap (λ (y : State). y .sealed) (x .switched))
 
     grows₂ : t₁ ≤ t₂
     grows₂ = taken-grows t₁ qs
@@ -518,7 +520,7 @@ module _ (own : Features) (store : List ℕ) (ok : judgeOwn (own .supported) (ow
 
 module _ (own : Features) (store : List ℕ) (n : Numbers) (not16 : judgeOwn (own .supported) (own .required) ≡ refused n) where
   abbrev stopped : State
-  stopped = record { mode = mode.Crc; ready = false; crc = crc.at stage.Refused 0 (crc.onlyOwn own n); secure = noSecure }
+  stopped = record { mode = mode.Crc; ready = false; crc = crc.at stage.Refused 0 (crc.onlyOwn own n); sealed = noSecure }
 
   begun-refused : begun own ≡ stopped
   unfolding begun crc.started
@@ -526,10 +528,6 @@ module _ (own : Features) (store : List ℕ) (n : Numbers) (not16 : judgeOwn (ow
 
   start-refused : CrcRefusedFor n stopped
   start-refused = record { mode = refl; rule = refl; hasRefused = crc-live.start-refused own n not16 }
-
-  trace-refused : (bytes : List ℕ) → traceOf own bytes store ≡ ended store
-  unfolding traceOf
-  trace-refused bytes = rw not16
 
   -- no frame was reported, so no switch is made
   never-ready : {A : Type 0} (stream : List ℕ) (cs : List Call) (ps qs : List Piece) (c : Try) → Made stream stopped store 0 0 cs ps qs c → A
@@ -549,7 +547,7 @@ module _ (own : Features) (store : List ℕ) (n : Numbers) (not16 : judgeOwn (ow
           let q = stays crcSide n stream 0 stopped store ps start-refused f .state in
           let t = takenOf 0 ps in (
             ap agrees q ∙ crc-agrees {st = stopped} {s = store} (refuses n start-refused),
-            ap mayBeSwitched q ∙ sym (ap (λ (y : Trace). behindFrame t (y .entries)) (trace-refused (take t stream))),
+            ap mayBeSwitched q ∙ sym (ap (λ (y : Trace). behindFrame t (y .entries)) (trace-refused own (take t stream) store n not16)),
           )
 
   record Still (stream : List ℕ) (cs : List Call) : Type 0 where
@@ -573,7 +571,7 @@ module _ (own : Features) (store : List ℕ) (n : Numbers) (not16 : judgeOwn (ow
   defined-refused : (stream : List ℕ) (cs : List Call) → Chained stream (begun own) store 0 cs → AsSwitched own stream store cs (switchBy 0 cs)
   defined-refused stream cs ch =
       let k = still stream cs ch in
-      let z = trace-refused (take (takenBy 0 cs) stream) in
+      let z = trace-refused own (take (takenBy 0 cs) stream) store n not16 in
       subst (AsSwitched own stream store cs) (sym (k .none)) (record {
         within = rw (k .taken) zero-le;
         each = rw not16 (k .repeats);

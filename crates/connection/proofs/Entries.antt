@@ -13,12 +13,13 @@ use Rattle.banner.specs.declared.Features.{Features}
 use Rattle.banner.specs.Banner.{judgeOwn}
 use Rattle.stream.specs.declared.Event.{Event}
 use Rattle.stream.specs.declared.Event.the-variants as event
-use Rattle.stream.specs.Stream.{Entry, entry}
+use Rattle.stream.specs.Stream.{Entry, entry, refusedIn}
 use Rattle.receiver.specs.declared.Report.{Report}
 use Rattle.receiver.specs.declared.Report.the-variants as report
 use Rattle.stream.proofs.Events.{by-event}
 use Rattle.receiver.proofs.Appended.{passing-same}
-use Rattle.receiver.specs.Calls.{pieceAt, passing, entered, dueReport, refusedIn}
+use Rattle.stream.specs.Events.{passing}
+use Rattle.receiver.specs.Calls.{pieceAt, entered, dueReport}
 use Rattle.connection.specs.declared.State.{State}
 use Rattle.connection.specs.Switched.{Switch, behind, traceWith}
 use Rattle.connection.specs.Step.{begun}
@@ -65,7 +66,7 @@ module _ (c : Piece) where
   switch-piece : (k : ℕ) (cs : List Call) → switchBy k (andPiece c cs) ≡ switchBy k cs
   switch-piece k [] = refl
   switch-piece k (taking d ∷ cs) = switch-piece (counted k (d .received .report)) cs
-  switch-piece k (switching d ∷ cs) = ap (madeOr (judgedBy (d .switched .verdict)) (behind k (d .key) (d .receiving))) (switch-piece k cs)
+  switch-piece k (switching d ∷ cs) = ap (madeOr (judgedBy (d .switched .judgement)) (behind k (d .key) (d .receiving))) (switch-piece k cs)
 
   -- the last of them
   each-last : (es : List Entry) (stream : List ℕ) (t : ℕ) (cs : List Call) → Each es stream t (andPiece c cs)

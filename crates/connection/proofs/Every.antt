@@ -9,21 +9,21 @@ use lib.ListN.{length}
 use borrow.Author.Tests.{eqb-true, ltb-true, ltb-false}
 use Rattle.refusal.specs.declared.Numbers.{Numbers}
 use Rattle.refusal.specs.declared.Refusal.the-variants as refusal
-use Rattle.refusal.specs.Refusals.{Judged, fine, refused, numbersOf, unless}
+use Rattle.refusal.specs.Refusals.{Judged, fine, refused, numbersOf, unless, contradiction}
 use Rattle.refusal.proofs.Booleans.{wrong, both-left, both-right, second-false}
 use Rattle.banner.specs.declared.Features.{Features}
 use Rattle.stream.specs.declared.Event.the-variants as event
 use Rattle.receiver.specs.declared.Report.{Report}
 use Rattle.receiver.specs.declared.Report.the-variants as report
 use Rattle.receiver.specs.declared.State as crc-state
-use Rattle.receiver.specs.State.{rank, isMsgr21}
+use Rattle.banner.specs.Banner.{isMsgr21}
+use Rattle.receiver.specs.State.{rank}
 use Rattle.receiver.specs.State as crc-states
 use Rattle.receiver.specs.Step as crc
 use Rattle.receiver.proofs.Machine.{Machine, After, feed, feed-after}
 use Rattle.receiver.proofs.Machine as machine
 use Rattle.receiver.proofs.Live as crc-live
 use Rattle.receiver.proofs.Every as crc-every
-use Rattle.receiver.specs.Step.{contradiction}
 use Rattle.sealed_receiver.specs.declared.State as sealed-state
 use Rattle.sealed_receiver.specs.State as sealed-states
 use Rattle.sealed_receiver.specs.Step as sealed
@@ -37,7 +37,7 @@ use Rattle.connection.specs.declared.Received.{Received}
 use Rattle.connection.specs.declared.Switched.{Switched}
 use Rattle.connection.specs.Step.{readyRule, agreesInUse, agrees, begun, Answer, answered, byCrc, bySecure, answer, Answered, mayBeSwitched, judgeSwitch, switchedState, SwitchedWith}
 use Rattle.connection.specs.Calls.{Piece, SwitchedDemand3}
-use Rattle.connection.specs.Every.{refusedInUse, neededInUse, shortStore, stopped, Running, Refuses, Sound, SoundSwitch}
+use Rattle.connection.specs.Every.{refusedInUse, neededInUse, shortStore, refusedConnection, Running, Refuses, Sound, SoundSwitch}
 use Rattle.connection.proofs.Machines.{crcSide, secureSide, CrcRunning, CrcRefusedFor, SecureRunning, SecureRefusedFor, before, crc-answer, secure-answer}
 use Rattle.connection.proofs.SplitAtSwitch.{Stands, runs, refuses, next-stands, crc-agrees, secure-agrees, judged-27, unless-number}
 use Rattle.connection.proofs.Laws.{by-rule}
@@ -79,7 +79,7 @@ module _ {A : Type 0} (onByte : A → List ℕ → ℕ → machine.Stepped A) wh
 -- ---- the part in use, by the mode
 
 abbrev pub stateOf : Mode → Bool → crc-state.State → sealed-state.State → State
-stateOf k ready c x = record { mode = k; ready = ready; crc = c; secure = x }
+stateOf k ready c x = record { mode = k; ready = ready; crc = c; sealed = x }
 
 pub rule-of : (st : State) → agrees st ≡ true → readyRule st ≡ true
 unfolding agrees
@@ -125,7 +125,7 @@ module _ (s piece : List ℕ) where
   refusing st n = answered st 0 (report.Event (event.Refused n)) s
 
   short-by : (k : Mode) (ready : Bool) (c : crc-state.State) (x : sealed-state.State) → (let st = stateOf k ready c x in
-      agrees st ≡ true → refusedInUse st ≡ false → length s < neededInUse st → answer st s piece ≡ refusing (stopped st (shortStore st)) (shortStore st))
+      agrees st ≡ true → refusedInUse st ≡ false → length s < neededInUse st → answer st s piece ≡ refusing (refusedConnection st (shortStore st)) (shortStore st))
   short-by mode.Crc ready c x e l t =
       let st = stateOf mode.Crc ready c x in
       crc-answer st s piece refl (rule-of st e)
@@ -136,7 +136,7 @@ module _ (s piece : List ℕ) where
       secure-answer st s piece refl (secure-unready ready c x (rule-of st e)) ∙ ap (bySecure st) (sealed-every.shortened x s piece (in-use-of st e) l t)
 
   short-refused : (k : Mode) (ready : Bool) (c : crc-state.State) (x : sealed-state.State) → (let st = stateOf k ready c x in
-      agrees st ≡ true → refusedInUse st ≡ false → length s < neededInUse st → RefusedFor (shortStore st) (stopped st (shortStore st)))
+      agrees st ≡ true → refusedInUse st ≡ false → length s < neededInUse st → RefusedFor (shortStore st) (refusedConnection st (shortStore st)))
   short-refused mode.Crc ready c x e l t =
       let st = stateOf mode.Crc ready c x in
       let u = crc-unready ready c x (length s) (rule-of st e) t in
@@ -170,7 +170,7 @@ module _ (s piece : List ℕ) where
   contradicting st e = go (readyRule st) refl
     where
       go : (b : Bool) → readyRule st ≡ b → answer st s piece ≡ refusing st contradiction
-      go true q = contradicting-by (st .mode) (st .ready) (st .crc) (st .secure) e q
+      go true q = contradicting-by (st .mode) (st .ready) (st .crc) (st .sealed) e q
       go false q = by-rule st s piece false q
 
 -- ---- what a state that agrees comes to
@@ -193,7 +193,7 @@ running-by mode.Secure ready c x s r =
     runsSecure (record { mode = refl; rule = secure-unready ready c x (rule-of st (r .agree)); live = record { agree = in-use-of st (r .agree); live = r .live; fits = r .fits } })
 
 running-runs : (st : State) (s : List ℕ) → Running st s → Runs st s
-running-runs st s r = running-by (st .mode) (st .ready) (st .crc) (st .secure) s r
+running-runs st s r = running-by (st .mode) (st .ready) (st .crc) (st .sealed) s r
 
 pub refused-of : (k : Mode) (ready : Bool) (c : crc-state.State) (x : sealed-state.State)
     → (let st = stateOf k ready c x in agrees st ≡ true → refusedInUse st ≡ true → (n : Numbers) × RefusedFor n st)
@@ -216,7 +216,7 @@ placed st s e = go (refusedInUse st) refl (ltb (length s) (neededInUse st)) refl
     live (runsSecure r) = onSecure (runs r)
 
     go : (b : Bool) → refusedInUse st ≡ b → (t : Bool) → ltb (length s) (neededInUse st) ≡ t → Placed st s
-    go true l t u = let g = refused-of (st .mode) (st .ready) (st .crc) (st .secure) e l in refused-placed (g .0) st s (g .1)
+    go true l t u = let g = refused-of (st .mode) (st .ready) (st .crc) (st .sealed) e l in refused-placed (g .0) st s (g .1)
     go false l true u = tooShort l (ltb-true (length s) (neededInUse st) u)
     go false l false u = live (running-runs st s (record { agree = e; live = l; fits = ltb-false (length s) (neededInUse st) u }))
 
@@ -259,8 +259,8 @@ module _ (st : State) (s piece : List ℕ) (r : Received) (s′ : List ℕ) (a :
         store = a .store ∙ ap (λ (x : Answer). x .store) e;
       }
 
-  pub short-so : agrees st ≡ true → refusedInUse st ≡ false → length s < neededInUse st → Refuses (stopped st (shortStore st)) (shortStore st) s r s′
-  short-so e l t = refusing-so (stopped st (shortStore st)) (shortStore st) (short-by s piece (st .mode) (st .ready) (st .crc) (st .secure) e l t)
+  pub short-so : agrees st ≡ true → refusedInUse st ≡ false → length s < neededInUse st → Refuses (refusedConnection st (shortStore st)) (shortStore st) s r s′
+  short-so e l t = refusing-so (refusedConnection st (shortStore st)) (shortStore st) (short-by s piece (st .mode) (st .ready) (st .crc) (st .sealed) e l t)
 
   -- it hands back a state that agrees, and behind a refusal one that is refused
   pub record Well : Type 0 where
@@ -281,13 +281,13 @@ module _ (st : State) (s piece : List ℕ) (r : Received) (s′ : List ℕ) (a :
       }
       go (tooShort l t) =
           let z = short-so e l t in
-          let g = short-refused s piece (st .mode) (st .ready) (st .crc) (st .secure) e l t in
+          let g = short-refused s piece (st .mode) (st .ready) (st .crc) (st .sealed) e l t in
           record {
             agree = ap agrees (z .state) ∙ refused-agrees g;
             hasRefused = λ n q.
                 let w : report.Event (event.Refused (shortStore st)) ≡ report.Event (event.Refused n) = sym (z .report) ∙ q in
                 let i : shortStore st ≡ n = cc in
-                subst (λ (y : State). RefusedFor n y) (sym (z .state)) (subst (λ (j : Numbers). RefusedFor j (stopped st (shortStore st))) i g);
+                subst (λ (y : State). RefusedFor n y) (sym (z .state)) (subst (λ (j : Numbers). RefusedFor j (refusedConnection st (shortStore st))) i g);
           }
 
   some : Running st s → 0 < length piece → 0 < r .taken
@@ -329,16 +329,16 @@ module _ (st : State) (key receiving sending : List ℕ) (r : Switched) (w : Swi
 
   pub sound-switch : SoundSwitch st r
   sound-switch = record {
-    contradicts = λ e. w .verdict ∙ judged-26 e;
+    contradicts = λ e. w .judgement ∙ judged-26 e;
     never26 = λ e q.
-        let i : contradiction ≡ numbersOf refusal.SwitchRefused = unless-number (mayBeSwitched st) contradiction (sym (judged-27 st e) ∙ sym (w .verdict) ∙ q) in
+        let i : contradiction ≡ numbersOf refusal.SwitchRefused = unless-number (mayBeSwitched st) contradiction (sym (judged-27 st e) ∙ sym (w .judgement) ∙ q) in
         let z : _≡_ {A = ℕ} 26 27 = ap (λ (n : Numbers). n .number) i in
         absurd (omega (arith, z));
-    unchanged = λ n q. unchanged n (sym (w .verdict) ∙ q);
+    unchanged = λ n q. unchanged n (sym (w .judgement) ∙ q);
     agreeing = λ e. go (judgeSwitch st) refl e;
     stays = λ e l.
-        let u = refused-unready (st .mode) (st .ready) (st .crc) (st .secure) (rule-of st e) l in
-        w .verdict ∙ judged-27 st e ∙ ap (λ (b : Bool). unless (b && isMsgr21 (st .crc .known .revision)) refusal.SwitchRefused) u;
+        let u = refused-unready (st .mode) (st .ready) (st .crc) (st .sealed) (rule-of st e) l in
+        w .judgement ∙ judged-27 st e ∙ ap (λ (b : Bool). unless (b && isMsgr21 (st .crc .known .revision)) refusal.SwitchRefused) u;
   }
     where
       go : (j : Judged) → judgeSwitch st ≡ j → agrees st ≡ true → agrees (r .state) ≡ true

@@ -10,11 +10,11 @@ use lib.ListN.{length, take}
 use borrow.Author.Tests.{le-ltb, ne-eqb, not-true}
 use Rattle.refusal.specs.declared.Numbers.{Numbers}
 use Rattle.refusal.specs.declared.Refusal.the-variants as refusal
-use Rattle.refusal.specs.Refusals.{Judged, fine, refused, numbersOf}
+use Rattle.refusal.specs.Refusals.{contradiction, Judged, fine, refused, numbersOf}
 use Rattle.refusal.proofs.Booleans.{wrong, both-left, or-false, and-false}
 use Rattle.buffer.specs.Le.{numberAt}
 use Rattle.banner.specs.declared.Revision.{Revision}
-use Rattle.banner.specs.Banner.{judgeFeatures, judgeMagic, judgeLength, revisionOf, featuresOf}
+use Rattle.banner.specs.Banner.{judgeFeatures, judgeMagic, judgeLength, revisionOf, featuresOf, isMsgr21}
 use Rattle.preamble.specs.declared.Header.{Header}
 use Rattle.preamble.specs.Layout.{total}
 use Rattle.preamble.specs.Judge.{headerOf, judgePreamble}
@@ -29,7 +29,7 @@ use Rattle.receiver.specs.declared.Known.{Known}
 use Rattle.receiver.specs.declared.Stage.{Stage}
 use Rattle.receiver.specs.declared.Stage.the-variants as stage
 use Rattle.receiver.specs.declared.State as crc-state
-use Rattle.receiver.specs.State.{rank, isMsgr21, hasFirstSum, revisionRule, rules, countRule, blockRule}
+use Rattle.receiver.specs.State.{rank, hasFirstSum, revisionRule, rules, countRule, blockRule}
 use Rattle.receiver.specs.State as crc-states
 use Rattle.receiver.specs.Step as crc
 use Rattle.receiver.proofs.Machine.{Machine, After, after-map, Silent, refusedAgain, scan-silent}
@@ -47,8 +47,8 @@ use Rattle.sealed_receiver.proofs.Every as sealed-every
 use Rattle.connection.specs.declared.Mode.{Mode}
 use Rattle.connection.specs.declared.Mode.the-variants as mode
 use Rattle.connection.specs.declared.State.{State}
-use Rattle.connection.specs.Switched.{closes}
-use Rattle.connection.specs.Step.{isSecure, closing, readyAfter, readyRule, Answer, answered, byCrc, bySecure, byMode, answer, Answered}
+use Rattle.connection.specs.Switched.{endsFrame}
+use Rattle.connection.specs.Step.{isSecure, reportEndsFrame, readyAfter, readyRule, Answer, answered, byCrc, bySecure, byMode, answer, Answered}
 use Rattle.connection.specs.Calls.{Piece}
 
 -- ---- a frame's end leaves the receiver before the next preamble, and the revision is the banner's from the banner on
@@ -68,7 +68,7 @@ RevisionAfter report.More v w = w ≡ v
 RevisionAfter (report.Event e) v w = RevisionAfterRole (roleOf e) v w
 
 record Lands (v : Revision) (x : crc.Stepped) : Type 0 where
-  there : closing (x .report) ≡ true → before (x .state) ≡ true
+  there : reportEndsFrame (x .report) ≡ true → before (x .state) ≡ true
   revision : RevisionAfter (x .report) v (x .state .known .revision)
 
 lands-refused : (w : Known) (n : Numbers) (s : List ℕ) {v : Revision} → Lands v (crc.refuse w n s)
@@ -170,7 +170,7 @@ lands-byte st s b e = lands-reached (crc.absorbed st (b ∷ [])) (crc.stored st 
 
 abbrev pub crcByte : State → List ℕ → ℕ → machine.Stepped State
 crcByte st s b = record {
-  state = record { mode = st .mode; ready = closing (crc.onByte (st .crc) s b .report); crc = crc.onByte (st .crc) s b .state; secure = st .secure };
+  state = record { mode = st .mode; ready = reportEndsFrame (crc.onByte (st .crc) s b .report); crc = crc.onByte (st .crc) s b .state; sealed = st .sealed };
   store = crc.onByte (st .crc) s b .store;
   report = crc.onByte (st .crc) s b .report;
 }
@@ -197,7 +197,7 @@ pub crc-keeps : (st : State) (s : List ℕ) (b : ℕ) → CrcRunning st s → Af
 crc-keeps st s b r =
     let y = crcByte st s b in
     crc-after (y .report) (y .state) (y .store) (r .mode)
-    (rule-after (closing (y .report)) (before (crc.onByte (st .crc) s b .state)) (st .mode) (r .mode) (lands-byte (st .crc) s b (r .live .agree) .there))
+    (rule-after (reportEndsFrame (y .report)) (before (crc.onByte (st .crc) s b .state)) (st .mode) (r .mode) (lands-byte (st .crc) s b (r .live .agree) .there))
     (crc-live.byte-after (st .crc) s b (r .live))
 
 pub crc-revision : (st : State) (s : List ℕ) (b : ℕ) → CrcRunning st s
@@ -211,7 +211,7 @@ crc-silent-byte st s b e = rw (e, le-ltb (st .crc .position .got + 1) 0 zero-le)
 -- a piece
 abbrev pub crcLifted : State → crc.Answer → machine.Answer State
 crcLifted st a = record {
-  state = record { mode = st .mode; ready = readyAfter (st .ready) (a .received .taken) (a .received .report); crc = a .received .state; secure = st .secure };
+  state = record { mode = st .mode; ready = readyAfter (st .ready) (a .received .taken) (a .received .report); crc = a .received .state; sealed = st .sealed };
   taken = a .received .taken;
   report = a .received .report;
   store = a .store;
@@ -219,23 +219,23 @@ crcLifted st a = record {
 
 -- a report behind the first byte does not ask what was before
 later-ready : (a : Bool) (n : ℕ) (r : Report) → readyAfter a (1 + n) r ≡ readyAfter false n r
-later-ready a n r = ap (λ (b : Bool). closing r || b) (ap (λ (m : ℕ). a && eqb m 0) (one-add n) ∙ ap (λ (b : Bool). a && b) (ne-eqb (suc n) 0 (λ z. absurd (omega arith))) ∙ and-false a)
+later-ready a n r = ap (λ (b : Bool). reportEndsFrame r || b) (ap (λ (m : ℕ). a && eqb m 0) (one-add n) ∙ ap (λ (b : Bool). a && b) (ne-eqb (suc n) 0 (λ z. absurd (omega arith))) ∙ and-false a)
 
 crc-onward : (st : State) (r : Report) (x : crc.Stepped) (a : crc.Answer) → x .report ≡ r
     → crcLifted st (crc.onward r 1 x a)
-    ≡ machine.onward r (record { state = record { mode = st .mode; ready = closing r; crc = x .state; secure = st .secure }; store = x .store; report = x .report })
-    (crcLifted (record { mode = st .mode; ready = closing r; crc = x .state; secure = st .secure }) a)
+    ≡ machine.onward r (record { state = record { mode = st .mode; ready = reportEndsFrame r; crc = x .state; sealed = st .sealed }; store = x .store; report = x .report })
+    (crcLifted (record { mode = st .mode; ready = reportEndsFrame r; crc = x .state; sealed = st .sealed }) a)
 crc-onward st report.More x a e =
-    ap (λ (b : Bool). record { state = record { mode = st .mode; ready = b; crc = a .received .state; secure = st .secure }; taken = 1 + a .received .taken; report = a .received .report; store = a .store })
+    ap (λ (b : Bool). record { state = record { mode = st .mode; ready = b; crc = a .received .state; sealed = st .sealed }; taken = 1 + a .received .taken; report = a .received .report; store = a .store })
     (later-ready (st .ready) (a .received .taken) (a .received .report))
 crc-onward st (report.Event v) x a e =
-    ap (λ (b : Bool). record { state = record { mode = st .mode; ready = b; crc = x .state; secure = st .secure }; taken = 1; report = report.Event v; store = x .store })
-    (or-false (closes v) (st .ready && false) (and-false (st .ready)))
+    ap (λ (b : Bool). record { state = record { mode = st .mode; ready = b; crc = x .state; sealed = st .sealed }; taken = 1; report = report.Event v; store = x .store })
+    (or-false (endsFrame v) (st .ready && false) (and-false (st .ready)))
 
 crc-feed : (st : State) (s piece : List ℕ) → crcLifted st (crc.feed (st .crc) s piece) ≡ machine.feed crcByte st s piece
 unfolding crc.feed machine.feed
 crc-feed st s [] =
-    ap (λ (b : Bool). record { state = record { mode = st .mode; ready = b; crc = st .crc; secure = st .secure }; taken = 0; report = report.More; store = s }) (and-true (st .ready))
+    ap (λ (b : Bool). record { state = record { mode = st .mode; ready = b; crc = st .crc; sealed = st .sealed }; taken = 0; report = report.More; store = s }) (and-true (st .ready))
 crc-feed st s (b ∷ bs) =
     let x = crc.onByte (st .crc) s b in
     crc-onward st (x .report) x (crc.feed (x .state) (x .store) bs) refl
@@ -249,13 +249,13 @@ answer-given : {st : State} {s piece : List ℕ} (c : Piece) → Answered st s p
 answer-given c a = rw (a .received, a .store)
 
 abbrev contradicts : State → List ℕ → Answer
-contradicts st s = answered st 0 (report.Event (event.Refused (numbersOf refusal.StateContradicts))) s
+contradicts st s = answered st 0 (report.Event (event.Refused contradiction)) s
 
 pub crc-answer : (st : State) (s piece : List ℕ) → st .mode ≡ mode.Crc → readyRule st ≡ true → answer st s piece ≡ byCrc st (crc.answer (st .crc) s piece)
 unfolding answer
 crc-answer st s piece m q =
     ap (λ (b : Bool). cond b (byMode st s piece) (contradicts st s)) q
-    ∙ ap (λ (k : Mode). cond (isSecure k) (bySecure st (sealed.answer (st .secure) s piece)) (byCrc st (crc.answer (st .crc) s piece))) m
+    ∙ ap (λ (k : Mode). cond (isSecure k) (bySecure st (sealed.answer (st .sealed) s piece)) (byCrc st (crc.answer (st .crc) s piece))) m
 
 pub crc-feeds : (st : State) (s piece : List ℕ) (c : Piece) → CrcRunning st s → Answered st s piece (c .received) (c .store)
     → machineAnswer (record { received = c .received; store = c .store }) ≡ machine.feed crcByte st s piece
@@ -266,7 +266,7 @@ pub crc-repeats : (n : Numbers) (st : State) (s piece : List ℕ) (c : Piece) �
     → machineAnswer (record { received = c .received; store = c .store }) ≡ refusedAgain n st s
 crc-repeats n st s piece c g a =
     ap machineAnswer (answer-given c a ∙ crc-answer st s piece (g .mode) (g .rule) ∙ ap (byCrc st) (crc-every.refused-answer (st .crc) s piece (g .hasRefused)))
-    ∙ ap (λ (b : Bool). record { state = record { mode = st .mode; ready = b; crc = st .crc; secure = st .secure }; taken = 0; report = report.Event (event.Refused n); store = s }) (and-true (st .ready))
+    ∙ ap (λ (b : Bool). record { state = record { mode = st .mode; ready = b; crc = st .crc; sealed = st .sealed }; taken = 0; report = report.Event (event.Refused n); store = s }) (and-true (st .ready))
 
 abbrev pub crcSide : Machine
 crcSide = record {
@@ -291,71 +291,71 @@ sealedByte = gathers.byteStep gathered.parts
 
 abbrev pub secureByte : State → List ℕ → ℕ → machine.Stepped State
 secureByte st s b = record {
-  state = record { mode = st .mode; ready = st .ready; crc = st .crc; secure = gathers.byteStep gathered.parts (st .secure) s b .state };
-  store = gathers.byteStep gathered.parts (st .secure) s b .store;
-  report = gathers.byteStep gathered.parts (st .secure) s b .report;
+  state = record { mode = st .mode; ready = st .ready; crc = st .crc; sealed = gathers.byteStep gathered.parts (st .sealed) s b .state };
+  store = gathers.byteStep gathered.parts (st .sealed) s b .store;
+  report = gathers.byteStep gathered.parts (st .sealed) s b .report;
 }
 
 pub record SecureRunning (st : State) (s : List ℕ) : Type 0 where
   pub mode : st .mode ≡ mode.Secure
   pub rule : st .ready ≡ false
-  pub live : sealed.Running (st .secure) s
+  pub live : sealed.Running (st .sealed) s
 
 pub record SecureRefusedFor (n : Numbers) (st : State) : Type 0 where
   pub mode : st .mode ≡ mode.Secure
   pub rule : st .ready ≡ false
-  pub hasRefused : sealed-live.RefusedFor n (st .secure)
+  pub hasRefused : sealed-live.RefusedFor n (st .sealed)
 
-secure-after : (r : Report) (st : State) (s : List ℕ) → st .mode ≡ mode.Secure → st .ready ≡ false → After sealed.Running sealed-live.RefusedFor r (st .secure) s → After SecureRunning SecureRefusedFor r st s
+secure-after : (r : Report) (st : State) (s : List ℕ) → st .mode ≡ mode.Secure → st .ready ≡ false → After sealed.Running sealed-live.RefusedFor r (st .sealed) s → After SecureRunning SecureRefusedFor r st s
 secure-after r st s m q =
-    after-map sealed.Running sealed-live.RefusedFor SecureRunning SecureRefusedFor r (st .secure) st s (λ a. record { mode = m; rule = q; live = a }) (λ n a. record { mode = m; rule = q; hasRefused = a })
+    after-map sealed.Running sealed-live.RefusedFor SecureRunning SecureRefusedFor r (st .sealed) st s (λ a. record { mode = m; rule = q; live = a }) (λ n a. record { mode = m; rule = q; hasRefused = a })
 
 pub secure-keeps : (st : State) (s : List ℕ) (b : ℕ) → SecureRunning st s → After SecureRunning SecureRefusedFor (secureByte st s b .report) (secureByte st s b .state) (secureByte st s b .store)
 secure-keeps st s b r =
     let y = secureByte st s b in
-    secure-after (y .report) (y .state) (y .store) (r .mode) (r .rule) (gathered.chunk-keeps (st .secure) s (b ∷ []) (r .live))
+    secure-after (y .report) (y .state) (y .store) (r .mode) (r .rule) (sealed-live.chunk-leaves (st .sealed) s (b ∷ []) (r .live))
 
-pub secure-silent-byte : (st : State) (s : List ℕ) (b : ℕ) → st .secure .position .stage ≡ part.Refused
-    → Silent {State = State} (λ x. x .secure .position .stage ≡ part.Refused) s (secureByte st s b)
-secure-silent-byte st s b e = let z = traces.refused-byte (st .secure) s b e in record { state = z .state; store = z .store; report = z .report }
+pub secure-silent-byte : (st : State) (s : List ℕ) (b : ℕ) → st .sealed .position .stage ≡ part.Refused
+    → Silent {State = State} (λ x. x .sealed .position .stage ≡ part.Refused) s (secureByte st s b)
+secure-silent-byte st s b e = let z = traces.refused-byte (st .sealed) s b e in record { state = z .state; store = z .store; report = z .report }
 
 abbrev secureLifted : State → machine.Answer sealed-state.State → machine.Answer State
-secureLifted st a = record { state = record { mode = st .mode; ready = st .ready; crc = st .crc; secure = a .state }; taken = a .taken; report = a .report; store = a .store }
+secureLifted st a = record { state = record { mode = st .mode; ready = st .ready; crc = st .crc; sealed = a .state }; taken = a .taken; report = a .report; store = a .store }
 
 secure-onward : (st : State) (r : Report) (x : machine.Stepped sealed-state.State) (a : machine.Answer sealed-state.State)
     → secureLifted st (machine.onward r x a)
-    ≡ machine.onward r (record { state = record { mode = st .mode; ready = st .ready; crc = st .crc; secure = x .state }; store = x .store; report = x .report })
-    (secureLifted (record { mode = st .mode; ready = st .ready; crc = st .crc; secure = x .state }) a)
+    ≡ machine.onward r (record { state = record { mode = st .mode; ready = st .ready; crc = st .crc; sealed = x .state }; store = x .store; report = x .report })
+    (secureLifted (record { mode = st .mode; ready = st .ready; crc = st .crc; sealed = x .state }) a)
 secure-onward st report.More x a = refl
 secure-onward st (report.Event v) x a = refl
 
-secure-feed : (st : State) (s piece : List ℕ) → secureLifted st (machine.feed sealedByte (st .secure) s piece) ≡ machine.feed secureByte st s piece
+secure-feed : (st : State) (s piece : List ℕ) → secureLifted st (machine.feed sealedByte (st .sealed) s piece) ≡ machine.feed secureByte st s piece
 unfolding machine.feed
 secure-feed st s [] = refl
 secure-feed st s (b ∷ bs) =
-    let x = sealedByte (st .secure) s b in
+    let x = sealedByte (st .sealed) s b in
     secure-onward st (x .report) x (machine.feed sealedByte (x .state) (x .store) bs)
     ∙ ap (machine.onward (x .report) (secureByte st s b)) (secure-feed (secureByte st s b .state) (x .store) bs)
 
 secure-rule : (st : State) → st .ready ≡ false → readyRule st ≡ true
 secure-rule st e = ap (λ (b : Bool). cond b (not (isSecure (st .mode)) && before (st .crc)) true) e
 
-pub secure-answer : (st : State) (s piece : List ℕ) → st .mode ≡ mode.Secure → st .ready ≡ false → answer st s piece ≡ bySecure st (sealed.answer (st .secure) s piece)
+pub secure-answer : (st : State) (s piece : List ℕ) → st .mode ≡ mode.Secure → st .ready ≡ false → answer st s piece ≡ bySecure st (sealed.answer (st .sealed) s piece)
 unfolding answer
 secure-answer st s piece m q =
     ap (λ (b : Bool). cond b (byMode st s piece) (contradicts st s)) (secure-rule st q)
-    ∙ ap (λ (k : Mode). cond (isSecure k) (bySecure st (sealed.answer (st .secure) s piece)) (byCrc st (crc.answer (st .crc) s piece))) m
+    ∙ ap (λ (k : Mode). cond (isSecure k) (bySecure st (sealed.answer (st .sealed) s piece)) (byCrc st (crc.answer (st .crc) s piece))) m
 
 pub secure-feeds : (st : State) (s piece : List ℕ) (c : Piece) → SecureRunning st s → Answered st s piece (c .received) (c .store)
     → machineAnswer (record { received = c .received; store = c .store }) ≡ machine.feed secureByte st s piece
 secure-feeds st s piece c r a =
-    ap machineAnswer (answer-given c a ∙ secure-answer st s piece (r .mode) (r .rule) ∙ ap (bySecure st) (sealed-every.feeding (st .secure) s piece (r .live)))
-    ∙ ap (secureLifted st) (gathered.machine-feed (st .secure) s piece)
+    ap machineAnswer (answer-given c a ∙ secure-answer st s piece (r .mode) (r .rule) ∙ ap (bySecure st) (sealed-every.feeding (st .sealed) s piece (r .live)))
+    ∙ ap (secureLifted st) (gathered.machine-feed (st .sealed) s piece)
     ∙ secure-feed st s piece
 
 pub secure-repeats : (n : Numbers) (st : State) (s piece : List ℕ) (c : Piece) → SecureRefusedFor n st → Answered st s piece (c .received) (c .store)
     → machineAnswer (record { received = c .received; store = c .store }) ≡ refusedAgain n st s
-secure-repeats n st s piece c g a = ap machineAnswer (answer-given c a ∙ secure-answer st s piece (g .mode) (g .rule) ∙ ap (bySecure st) (sealed-every.refused-answer (st .secure) s piece (g .hasRefused)))
+secure-repeats n st s piece c g a = ap machineAnswer (answer-given c a ∙ secure-answer st s piece (g .mode) (g .rule) ∙ ap (bySecure st) (sealed-every.refused-answer (st .sealed) s piece (g .hasRefused)))
 
 abbrev pub secureSide : Machine
 secureSide = record {
@@ -368,7 +368,7 @@ secureSide = record {
   answer = λ c. machineAnswer (record { received = c .received; store = c .store });
   Answered = λ st s piece c. Answered st s piece (c .received) (c .store);
   keeps = secure-keeps;
-  silent = λ n st s P bs g. scan-silent secureByte (λ x. x .secure .position .stage ≡ part.Refused) secure-silent-byte st s P bs (g .hasRefused .stage);
+  silent = λ n st s P bs g. scan-silent secureByte (λ x. x .sealed .position .stage ≡ part.Refused) secure-silent-byte st s P bs (g .hasRefused .stage);
   feeds = secure-feeds;
   repeats = secure-repeats;
 }

@@ -27,7 +27,7 @@ use Rattle.receiver.proofs.Gathers as gathers
 use Rattle.sealed_receiver.proofs.Gathered.{parts}
 use Rattle.sealed_receiver.proofs.Traces.{sealed-trace}
 use Rattle.secure.specs.Reading.{sealedTrace}
-use Rattle.connection.specs.Switched.{Switch, none, behind, closes, spliced, traceWith}
+use Rattle.connection.specs.Switched.{Switch, none, behind, endsFrame, spliced, traceWith}
 
 -- the entries up to byte t
 abbrev pub upTo : ℕ → List Entry → List Entry
@@ -103,17 +103,17 @@ module _ (key nonce bytes : List ℕ) (t : ℕ) where
   spliced-first : (n : ℕ) (es : List Entry) (s s′ : List ℕ) → spliced n (next (take t bytes)) (upTo t es) s′ .entries ≡ upTo t (spliced n (next bytes) es s .entries)
   unfolding spliced
   spliced-first n [] s s′ = refl
-  spliced-first n (e ∷ es) s s′ = go (leb (e .at) t) refl (spliced-first (cond (closes (e .event)) (n - 1) n) es s s′)
+  spliced-first n (e ∷ es) s s′ = go (leb (e .at) t) refl (spliced-first (cond (endsFrame (e .event)) (n - 1) n) es s s′)
     where
       m : ℕ
-      m = cond (closes (e .event)) (n - 1) n
+      m = cond (endsFrame (e .event)) (n - 1) n
 
       go : (b : Bool) → leb (e .at) t ≡ b → spliced m (next (take t bytes)) (upTo t es) s′ .entries ≡ upTo t (spliced m (next bytes) es s .entries)
           → spliced n (next (take t bytes)) (cond b (e ∷ upTo t es) []) s′ .entries
-          ≡ cond b (e ∷ upTo t (cond (closes (e .event) && eqb n 1) (next bytes (e .at) (e .store)) (spliced m (next bytes) es s) .entries)) []
+          ≡ cond b (e ∷ upTo t (cond (endsFrame (e .event) && eqb n 1) (next bytes (e .at) (e .store)) (spliced m (next bytes) es s) .entries)) []
       go true h ih =
           ap (λ (l : List Entry). e ∷ l)
-          (either (closes (e .event) && eqb n 1)
+          (either (endsFrame (e .event) && eqb n 1)
           (next bytes (e .at) (e .store)) (next (take t bytes) (e .at) (e .store))
           (spliced m (next bytes) es s) (spliced m (next (take t bytes)) (upTo t es) s′)
           (next-first (e .at) (e .store) (leb-true (e .at) t h)) ih)

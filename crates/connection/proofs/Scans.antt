@@ -12,16 +12,14 @@ use Rattle.refusal.proofs.Booleans.{wrong, or-false, and-false}
 use Rattle.banner.specs.declared.Features.{Features}
 use Rattle.banner.specs.declared.Revision.{Revision}
 use Rattle.banner.specs.declared.Revision.the-variants.{Msgr20, Msgr21}
-use Rattle.banner.specs.Banner.{judgeOwn}
+use Rattle.banner.specs.Banner.{judgeOwn, isMsgr21}
 use Rattle.stream.specs.Events.{Role, bannerEnd, firstEnd, frameEnd, streamEnd, roleOf, judgeRole}
-use Rattle.stream.specs.Stream.{Entry, Trace, traceOf}
+use Rattle.stream.specs.Stream.{Entry, Trace, traceOf, refusedIn}
 use Rattle.receiver.specs.declared.Report.{Report}
 use Rattle.receiver.specs.declared.Report.the-variants as report
 use Rattle.receiver.specs.declared.Stage.the-variants as stage
 use Rattle.receiver.specs.declared.State as crc-state
-use Rattle.receiver.specs.State.{isMsgr21}
 use Rattle.receiver.specs.Step as crc
-use Rattle.receiver.specs.Calls.{refusedIn}
 use Rattle.receiver.proofs.Entries.{noted}
 use Rattle.receiver.proofs.Appended.{clean-here, clean-behind}
 use Rattle.receiver.proofs.Machine.{Scanned}
@@ -35,8 +33,8 @@ use Rattle.sealed_receiver.proofs.Gathered as gathered
 use Rattle.sealed_receiver.proofs.Traces.{sealed-trace}
 use Rattle.secure.specs.Reading.{sealedTrace}
 use Rattle.connection.specs.declared.State.{State}
-use Rattle.connection.specs.Switched.{closes, closesAt, choosesMsgr21, choseMsgr21}
-use Rattle.connection.specs.Step.{closing}
+use Rattle.connection.specs.Switched.{endsFrame, frameEndsAt, choosesMsgr21, choseMsgr21}
+use Rattle.connection.specs.Step.{reportEndsFrame}
 use Rattle.connection.proofs.Machines.{crcByte, secureByte, CrcRunning, CrcRefusedFor, RevisionAfterRole, RevisionAfter, crc-keeps, crc-revision}
 
 abbrev pub trace : {A : Type 0} → Scanned A → Trace
@@ -62,22 +60,22 @@ crc-trace own st store bytes ok e =
     ap trace (crc-scanned st store 0 bytes) ∙ ap (λ (x : crc-state.State). trace (crc-scan.scan x store 0 bytes)) e ∙ stream-trace own bytes store ∙ rw ok
 
 -- the last entry is a frame or a drop, at a byte and with a store
-abbrev pub LastCloses : List Entry → ℕ → List ℕ → Type 0
-LastCloses [] t s = ⊥
-LastCloses (e ∷ []) t s = (closes (e .event) ≡ true) × (e .at ≡ t) × (e .store ≡ s)
-LastCloses (e ∷ f ∷ es) t s = LastCloses (f ∷ es) t s
+abbrev pub LastEndsFrame : List Entry → ℕ → List ℕ → Type 0
+LastEndsFrame [] t s = ⊥
+LastEndsFrame (e ∷ []) t s = (endsFrame (e .event) ≡ true) × (e .at ≡ t) × (e .store ≡ s)
+LastEndsFrame (e ∷ f ∷ es) t s = LastEndsFrame (f ∷ es) t s
 
 -- what is ready has just reported one, or took no byte
 abbrev pub Just : Bool → List ℕ → List Entry → ℕ → List ℕ → Type 0
 Just ready [] es t s = ready ≡ true
-Just ready (b ∷ bs) es t s = LastCloses es t s
+Just ready (b ∷ bs) es t s = LastEndsFrame es t s
 
-last-noted : (r : Report) (at : ℕ) (s : List ℕ) (es : List Entry) (t : ℕ) (u : List ℕ) → LastCloses es t u → LastCloses (noted r at s es) t u
+last-noted : (r : Report) (at : ℕ) (s : List ℕ) (es : List Entry) (t : ℕ) (u : List ℕ) → LastEndsFrame es t u → LastEndsFrame (noted r at s es) t u
 last-noted report.More at s es t u l = l
 last-noted (report.Event e) at s [] t u l = absurd l
 last-noted (report.Event e) at s (f ∷ es) t u l = l
 
-last-here : (r : Report) (at : ℕ) (s : List ℕ) → closing r ≡ true → LastCloses (noted r at s []) at s
+last-here : (r : Report) (at : ℕ) (s : List ℕ) → reportEndsFrame r ≡ true → LastEndsFrame (noted r at s []) at s
 last-here report.More at s e = wrong e
 last-here (report.Event v) at s e = (e, refl, refl)
 
@@ -97,32 +95,32 @@ abbrev readyBy : Bool → List ℕ → Bool → Bool
 readyBy ready [] closed = ready
 readyBy ready (b ∷ bs) closed = closed
 
-closes-here : (r : Report) (at : ℕ) (s : List ℕ) → closing r ≡ closesAt at (noted r at s [])
-closes-here report.More at s = refl
-closes-here (report.Event e) at s = sym (ap (λ (b : Bool). closes e && b) (eq-eqb at at refl) ∙ and-true (closes e))
+ends-here : (r : Report) (at : ℕ) (s : List ℕ) → reportEndsFrame r ≡ frameEndsAt at (noted r at s [])
+ends-here report.More at s = refl
+ends-here (report.Event e) at s = sym (ap (λ (b : Bool). endsFrame e && b) (eq-eqb at at refl) ∙ and-true (endsFrame e))
 
-closes-later : (r : Report) (at : ℕ) (s : List ℕ) (es : List Entry) (t : ℕ) → at < t → closesAt t (noted r at s es) ≡ closesAt t es
-closes-later report.More at s es t h = refl
-closes-later (report.Event e) at s [] t h = ap (λ (b : Bool). closes e && b) (ne-eqb at t (λ z. absurd (omega (arith, h)))) ∙ and-false (closes e)
-closes-later (report.Event e) at s (f ∷ es) t h = refl
+ends-later : (r : Report) (at : ℕ) (s : List ℕ) (es : List Entry) (t : ℕ) → at < t → frameEndsAt t (noted r at s es) ≡ frameEndsAt t es
+ends-later report.More at s es t h = refl
+ends-later (report.Event e) at s [] t h = ap (λ (b : Bool). endsFrame e && b) (ne-eqb at t (λ z. absurd (omega (arith, h)))) ∙ and-false (endsFrame e)
+ends-later (report.Event e) at s (f ∷ es) t h = refl
 
 ready-is : (st : State) (s : List ℕ) (P : ℕ) (bs : List ℕ)
-    → (let c = machine.scan crcByte st s P bs in c .state .ready ≡ readyBy (st .ready) bs (closesAt (P + length bs) (c .entries)))
+    → (let c = machine.scan crcByte st s P bs in c .state .ready ≡ readyBy (st .ready) bs (frameEndsAt (P + length bs) (c .entries)))
 unfolding machine.scan
 ready-is st s P [] = refl
-ready-is st s P (b ∷ []) = rw (add-one P) (closes-here (crcByte st s b .report) (suc P) (crcByte st s b .store))
+ready-is st s P (b ∷ []) = rw (add-one P) (ends-here (crcByte st s b .report) (suc P) (crcByte st s b .store))
 ready-is st s P (b ∷ c ∷ cs) =
     let y = crcByte st s b in
     let z = machine.scan crcByte (y .state) (y .store) (suc P) (c ∷ cs) in
     let n : suc P + length (c ∷ cs) ≡ P + length (b ∷ c ∷ cs) = omega arith in
     let l : suc P < P + length (b ∷ c ∷ cs) = omega arith in
-    (rw n at (ready-is (y .state) (y .store) (suc P) (c ∷ cs))) ∙ sym (closes-later (y .report) (suc P) (y .store) (z .entries) (P + length (b ∷ c ∷ cs)) l)
+    (rw n at (ready-is (y .state) (y .store) (suc P) (c ∷ cs))) ∙ sym (ends-later (y .report) (suc P) (y .store) (z .entries) (P + length (b ∷ c ∷ cs)) l)
 
-pub ready-closes : (st : State) (s : List ℕ) (P : ℕ) (bs : List ℕ) → st .ready ≡ false
-    → (let c = machine.scan crcByte st s P bs in c .state .ready ≡ closesAt (P + length bs) (c .entries))
+pub ready-ends : (st : State) (s : List ℕ) (P : ℕ) (bs : List ℕ) → st .ready ≡ false
+    → (let c = machine.scan crcByte st s P bs in c .state .ready ≡ frameEndsAt (P + length bs) (c .entries))
 unfolding machine.scan
-ready-closes st s P [] e = e
-ready-closes st s P (b ∷ bs) e = ready-is st s P (b ∷ bs)
+ready-ends st s P [] e = e
+ready-ends st s P (b ∷ bs) e = ready-is st s P (b ∷ bs)
 
 -- and its revision is msgr2.1 exactly where a banner chose that
 clean-onward : (r : Report) (at : ℕ) (st : State) (s : List ℕ) (es : List Entry) → refusedIn (noted r at s es) ≡ false → machine.After CrcRunning CrcRefusedFor r st s
@@ -160,9 +158,9 @@ revision-chosen st s P (b ∷ bs) r clean =
 -- ---- sealed frames
 
 abbrev secureScanned : Scanned State → Scanned sealed-state.State
-secureScanned c = record { entries = c .entries; state = c .state .secure; store = c .store }
+secureScanned c = record { entries = c .entries; state = c .state .sealed; store = c .store }
 
-secure-scanned : (st : State) (s : List ℕ) (P : ℕ) (bs : List ℕ) → secureScanned (machine.scan secureByte st s P bs) ≡ machine.scan (gathers.byteStep gathered.parts) (st .secure) s P bs
+secure-scanned : (st : State) (s : List ℕ) (P : ℕ) (bs : List ℕ) → secureScanned (machine.scan secureByte st s P bs) ≡ machine.scan (gathers.byteStep gathered.parts) (st .sealed) s P bs
 unfolding machine.scan
 secure-scanned st s P [] = refl
 secure-scanned st s P (b ∷ bs) =
@@ -170,7 +168,7 @@ secure-scanned st s P (b ∷ bs) =
     ap (machine.with (y .report) (suc P) (y .store)) (secure-scanned (y .state) (y .store) (suc P) bs)
 
 -- from a switch
-pub secure-trace : (key nonce : List ℕ) (st : State) (s : List ℕ) (P : ℕ) (bytes : List ℕ) → st .secure ≡ sealed.switched key nonce
+pub secure-trace : (key nonce : List ℕ) (st : State) (s : List ℕ) (P : ℕ) (bytes : List ℕ) → st .sealed ≡ sealed.switched key nonce
     → trace (machine.scan secureByte st s P bytes) ≡ sealedTrace key nonce 0 P bytes s
 secure-trace key nonce st s P bytes e =
     ap trace (secure-scanned st s P bytes)

@@ -7,19 +7,20 @@ use native.Mathlib.Omega.{arith}
 use lib.Dec.{leb, eqb}
 use borrow.Author.Tests.{le-leb, lt-leb, ne-eqb}
 use Rattle.stream.specs.declared.Event.the-variants as event
-use Rattle.stream.specs.Stream.{Entry, Trace}
+use Rattle.stream.specs.Stream.{Entry, Trace, refusedIn}
 use Rattle.receiver.specs.declared.Report.{Report}
 use Rattle.receiver.specs.declared.Report.the-variants as report
-use Rattle.receiver.specs.Calls.{dueTaken, dueReport, passing, refusedIn}
+use Rattle.stream.specs.Events.{passing}
+use Rattle.receiver.specs.Calls.{dueTaken, dueReport}
 use Rattle.receiver.proofs.Entries.{Behind}
 use Rattle.receiver.proofs.Appended.{clean-here, clean-behind}
-use Rattle.connection.specs.Switched.{closes, entered, spliced, framesIn}
-use Rattle.connection.proofs.Scans.{LastCloses}
+use Rattle.connection.specs.Switched.{endsFrame, entered, spliced, framesIn}
+use Rattle.connection.proofs.Scans.{LastEndsFrame}
 
-some-closing : (es : List Entry) (t : ℕ) (s : List ℕ) → LastCloses es t s → 0 < framesIn es
-some-closing [] t s l = absurd l
-some-closing (e ∷ []) t s l = rw (l .0) (omega arith)
-some-closing (e ∷ f ∷ es) t s l = go (closes (e .event)) (some-closing (f ∷ es) t s l)
+some-frame-end : (es : List Entry) (t : ℕ) (s : List ℕ) → LastEndsFrame es t s → 0 < framesIn es
+some-frame-end [] t s l = absurd l
+some-frame-end (e ∷ []) t s l = rw (l .0) (omega arith)
+some-frame-end (e ∷ f ∷ es) t s l = go (endsFrame (e .event)) (some-frame-end (f ∷ es) t s l)
   where
     go : (b : Bool) → 0 < framesIn (f ∷ es) → 0 < cond b (suc (framesIn (f ∷ es))) (framesIn (f ∷ es))
     go true h = omega arith
@@ -30,11 +31,11 @@ module _ (next : ℕ → List ℕ → Trace) (later : List Entry) (store : List 
   put es t s = record { entries = es ++ next t s .entries; store = next t s .store }
 
   -- the splice is behind the entries up to a frame, by their number of frames
-  pub spliced-there : (es : List Entry) (t : ℕ) (s : List ℕ) → LastCloses es t s → spliced (framesIn es) next (es ++ later) store ≡ put es t s
+  pub spliced-there : (es : List Entry) (t : ℕ) (s : List ℕ) → LastEndsFrame es t s → spliced (framesIn es) next (es ++ later) store ≡ put es t s
   unfolding spliced
   spliced-there [] t s l = absurd l
   spliced-there (e ∷ []) t s l = rw (l .0) (ap₂ (λ (a : ℕ) (u : List ℕ). entered e (next a u)) (l .1) (l .2))
-  spliced-there (e ∷ f ∷ es) t s l = go (closes (e .event)) (framesIn (f ∷ es)) refl (some-closing (f ∷ es) t s l) (spliced-there (f ∷ es) t s l)
+  spliced-there (e ∷ f ∷ es) t s l = go (endsFrame (e .event)) (framesIn (f ∷ es)) refl (some-frame-end (f ∷ es) t s l) (spliced-there (f ∷ es) t s l)
     where
       go : (b : Bool) (n : ℕ) → framesIn (f ∷ es) ≡ n → 0 < n → spliced (framesIn (f ∷ es)) next (f ∷ es ++ later) store ≡ put (f ∷ es) t s
           → entered e (cond (b && eqb (cond b (suc n) n) 1) (next (e .at) (e .store)) (spliced (cond b (cond b (suc n) n - 1) (cond b (suc n) n)) next (f ∷ es ++ later) store)) ≡ put (e ∷ f ∷ es) t s
@@ -60,7 +61,7 @@ skipped (e ∷ es) fs t k a c =
     (rw (le-leb (e .at) t (a .0), p) (ih .0), rw (le-leb (e .at) t (a .0), p) (ih .1))
 
 -- where one of them lies ahead, later ones do not count
-pub ahead-only : (es fs gs : List Entry) (t t₁ k : ℕ) (s : List ℕ) → LastCloses es t₁ s → t < t₁
+pub ahead-only : (es fs gs : List Entry) (t t₁ k : ℕ) (s : List ℕ) → LastEndsFrame es t₁ s → t < t₁
     → (dueTaken (es ++ fs) t k ≡ dueTaken (es ++ gs) t k) × (dueReport (es ++ fs) t k ≡ dueReport (es ++ gs) t k)
 unfolding dueTaken dueReport
 ahead-only [] fs gs t t₁ k s l h = absurd l

@@ -12,7 +12,7 @@ use Rattle.refusal.proofs.Judgements.{or-else-last}
 use Rattle.stream.specs.Stream.{Entry}
 use Rattle.receiver.specs.declared.Report.{Report}
 use Rattle.receiver.specs.State as crc-states
-use Rattle.receiver.specs.State.{isMsgr21}
+use Rattle.banner.specs.Banner.{isMsgr21}
 use Rattle.receiver.specs.Calls.{pieceAt, entered}
 use Rattle.receiver.proofs.Machine.{Machine, After, by-after, feed, feed-after}
 use Rattle.receiver.proofs.Machine as machine
@@ -45,14 +45,14 @@ next-stands m x s piece c (refuses n g) a =
 
 -- ---- so it agrees with itself, and a try that is refused is refused with 27
 
-in-use : (b : Bool) (st : State) → isSecure (st .mode) ≡ b → cond b (sealed-states.agrees (st .secure)) (crc-states.agrees (st .crc)) ≡ true → agreesInUse st ≡ true
+in-use : (b : Bool) (st : State) → isSecure (st .mode) ≡ b → cond b (sealed-states.agrees (st .sealed)) (crc-states.agrees (st .crc)) ≡ true → agreesInUse st ≡ true
 in-use b st e h = rw (← e) at h
 
 crc-agreed : (st : State) → st .mode ≡ mode.Crc → readyRule st ≡ true → crc-states.agrees (st .crc) ≡ true → agrees st ≡ true
 unfolding agrees
 crc-agreed st m q a = both-true (readyRule st) (agreesInUse st) q (in-use false st (ap isSecure m) a)
 
-secure-agreed : (st : State) → st .mode ≡ mode.Secure → st .ready ≡ false → sealed-states.agrees (st .secure) ≡ true → agrees st ≡ true
+secure-agreed : (st : State) → st .mode ≡ mode.Secure → st .ready ≡ false → sealed-states.agrees (st .sealed) ≡ true → agrees st ≡ true
 unfolding agrees
 secure-agreed st m q a =
     both-true (readyRule st) (agreesInUse st) (ap (λ (b : Bool). cond b (not (isSecure (st .mode)) && before (st .crc)) true) q) (in-use true st (ap isSecure m) a)
@@ -187,7 +187,7 @@ module _ (stream : List ℕ) where
       let j = secure-refused st (secure-agrees h) (secure-ready h) in
       let q = left-alone st c (numbersOf refusal.SwitchRefused) (ch .0) j in
       let ih = later-calls st s t cs h (subst (λ (y : State). Chained stream y s t cs) q (ch .1)) in
-      (ih .0, (erased-try st s t c cs (ih .0) q (ih .1 .0), (ch .0 .verdict ∙ j, ih .1 .1)))
+      (ih .0, (erased-try st s t c cs (ih .0) q (ih .1 .0), (ch .0 .judgement ∙ j, ih .1 .1)))
 
   with-piece : (st : State) (s : List ℕ) (t k : ℕ) (c : Piece) (cs : List Call) → Chained stream st s t (taking c ∷ cs)
       → SplitAtSwitch stream (c .received .state) (c .store) (t + c .received .taken) (counted k (c .received .report)) cs → SplitAtSwitch stream st s t k (taking c ∷ cs)
@@ -206,7 +206,7 @@ module _ (stream : List ℕ) where
     one = x .one;
   })
 
-  with-try : (st : State) (s : List ℕ) (t k : ℕ) (c : Try) (cs : List Call) (n : Numbers) → judgedBy (c .switched .verdict) ≡ refused n → n ≡ numbersOf refusal.SwitchRefused
+  with-try : (st : State) (s : List ℕ) (t k : ℕ) (c : Try) (cs : List Call) (n : Numbers) → judgedBy (c .switched .judgement) ≡ refused n → n ≡ numbersOf refusal.SwitchRefused
       → c .switched .state ≡ st → SplitAtSwitch stream st s t k cs → SplitAtSwitch stream st s t k (switching c ∷ cs)
   with-try st s t k c cs n v e q (unmade ps x) = unmade ps (record {
     erased = erased-try st s t c cs ps q (x .erased);
@@ -237,7 +237,7 @@ module _ (stream : List ℕ) where
 
   made-here : (st : State) (s : List ℕ) (t k : ℕ) (c : Try) (cs : List Call) → judgeSwitch st ≡ fine → Chained stream st s t (switching c ∷ cs) → SplitAtSwitch stream st s t k (switching c ∷ cs)
   made-here st s t k c cs j ch =
-      let v : judgedBy (c .switched .verdict) ≡ fine = ch .0 .verdict ∙ j in
+      let v : judgedBy (c .switched .judgement) ≡ fine = ch .0 .judgement ∙ j in
       let b = behind-switch st s t c cs j ch in
       let l = b .1 in
       made [] (l .0) c (record {
@@ -265,5 +265,5 @@ module _ (stream : List ℕ) where
       go fine j ih = made-here st s t k c cs j ch
       go (refused n) j ih =
           let q = left-alone st c n (ch .0) j in
-          with-try st s t k c cs n (ch .0 .verdict ∙ j) (unless-number (mayBeSwitched st) n (sym (judged-27 st (crc-agrees h)) ∙ j)) q
+          with-try st s t k c cs n (ch .0 .judgement ∙ j) (unless-number (mayBeSwitched st) n (sym (judged-27 st (crc-agrees h)) ∙ j)) q
           (ih (subst (λ (y : State). Chained stream y s t cs) q (ch .1)))

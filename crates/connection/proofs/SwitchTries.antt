@@ -63,14 +63,14 @@ module _ (stream : List ℕ) where
       led-tries st s t (taking c ∷ cs) h ch = led-tries (c .received .state) (c .store) (t + c .received .taken) cs (led-piece h c (ch .0)) (ch .1)
       led-tries st s t (switching c ∷ cs) h ch = go (may t) refl (led-tries st s t cs h)
         where
-          go : (b : Bool) → may t ≡ b → (Chained stream st s t cs → Tries may t cs) → triedAt b (judgedBy (c .switched .verdict)) (TriesRefused cs) (Tries may t cs)
+          go : (b : Bool) → may t ≡ b → (Chained stream st s t cs → Tries may t cs) → triedAt b (judgedBy (c .switched .judgement)) (TriesRefused cs) (Tries may t cs)
           go true e ih =
               let j = judged h ∙ ap (λ (b : Bool). unless b refusal.SwitchRefused) e in
-              (ch .0 .verdict ∙ j, behind-switch stream st s t c cs j ch .1 .1 .1)
+              (ch .0 .judgement ∙ j, behind-switch stream st s t c cs j ch .1 .1 .1)
           go false e ih =
               let j = judged h ∙ ap (λ (b : Bool). unless b refusal.SwitchRefused) e in
               let q = left-alone stream st c (numbersOf refusal.SwitchRefused) (ch .0) j in
-              (ch .0 .verdict ∙ j, ih (subst (λ (y : State). Chained stream y s t cs) q (ch .1)))
+              (ch .0 .judgement ∙ j, ih (subst (λ (y : State). Chained stream y s t cs) q (ch .1)))
 
       -- EVERY TRY
       pub tries-answered : (cs : List Call) → Chained stream x₀ s₀ 0 cs → Tries may 0 cs

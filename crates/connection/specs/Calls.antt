@@ -11,15 +11,15 @@ use Rattle.refusal.specs.Refusals.{Judged, fine, refused, numbersOf, judgedBy}
 use Rattle.banner.specs.declared.Features.{Features}
 use Rattle.banner.specs.Banner.{judgeOwn}
 use Rattle.stream.specs.declared.Event.the-variants as event
-use Rattle.stream.specs.Stream.{Entry}
+use Rattle.stream.specs.Stream.{Entry, refusedIn}
 use Rattle.receiver.specs.declared.Report.{Report}
 use Rattle.receiver.specs.declared.Report.the-variants as report
-use Rattle.receiver.specs.Calls.{pieceAt, entered, dueTaken, dueReport, refusedIn}
+use Rattle.receiver.specs.Calls.{pieceAt, entered, dueTaken, dueReport}
 use Rattle.connection.specs.declared.State.{State}
 use Rattle.connection.specs.declared.Received.{Received}
 use Rattle.connection.specs.declared.Switched.{Switched}
 use Rattle.connection.specs.Switched.{Switch, none, behind, traceWith, maySwitch}
-use Rattle.connection.specs.Step.{begun, closing, agrees, Answered, SwitchedWith}
+use Rattle.connection.specs.Step.{begun, reportEndsFrame, agrees, Answered, SwitchedWith}
 
 -- ---- lists of calls
 
@@ -78,7 +78,7 @@ listOf (refused n) cs = []
 -- ---- the switch that was made: behind how many reported and dropped frames, with which key and nonce
 
 abbrev pub counted : ℕ → Report → ℕ
-counted k r = cond (closing r) (suc k) k
+counted k r = cond (reportEndsFrame r) (suc k) k
 
 abbrev pub madeOr : Judged → Switch → Switch → Switch
 madeOr fine made later = made
@@ -87,13 +87,13 @@ madeOr (refused n) made later = later
 abbrev pub switchBy : ℕ → List Call → Switch
 switchBy k [] = none
 switchBy k (taking c ∷ cs) = switchBy (counted k (c .received .report)) cs
-switchBy k (switching c ∷ cs) = madeOr (judgedBy (c .switched .verdict)) (behind k (c .key) (c .receiving)) (switchBy k cs)
+switchBy k (switching c ∷ cs) = madeOr (judgedBy (c .switched .judgement)) (behind k (c .key) (c .receiving)) (switchBy k cs)
 
 -- every other try gave 27
 abbrev pub TriesRefused : List Call → Type 0
 TriesRefused [] = Unit {0}
 TriesRefused (taking c ∷ cs) = TriesRefused cs
-TriesRefused (switching c ∷ cs) = (judgedBy (c .switched .verdict) ≡ refused (numbersOf refusal.SwitchRefused)) × TriesRefused cs
+TriesRefused (switching c ∷ cs) = (judgedBy (c .switched .judgement) ≡ refused (numbersOf refusal.SwitchRefused)) × TriesRefused cs
 
 abbrev pub madeOrRefused : Judged → Type 0 → Type 0 → Type 0
 madeOrRefused fine later rest = later
@@ -102,7 +102,7 @@ madeOrRefused (refused n) later rest = (n ≡ numbersOf refusal.SwitchRefused) �
 abbrev pub OneMade : List Call → Type 0
 OneMade [] = Unit {0}
 OneMade (taking c ∷ cs) = OneMade cs
-OneMade (switching c ∷ cs) = madeOrRefused (judgedBy (c .switched .verdict)) (TriesRefused cs) (OneMade cs)
+OneMade (switching c ∷ cs) = madeOrRefused (judgedBy (c .switched .judgement)) (TriesRefused cs) (OneMade cs)
 
 -- what each try answers: it is made where it may be, and every later one gives 27; elsewhere it gives 27
 abbrev pub triedAt : Bool → Judged → Type 0 → Type 0 → Type 0
@@ -113,7 +113,7 @@ triedAt false j later rest = (j ≡ refused (numbersOf refusal.SwitchRefused)) �
 abbrev pub Tries : (ℕ → Bool) → ℕ → List Call → Type 0
 Tries may t [] = Unit {0}
 Tries may t (taking c ∷ cs) = Tries may (t + c .received .taken) cs
-Tries may t (switching c ∷ cs) = triedAt (may t) (judgedBy (c .switched .verdict)) (TriesRefused cs) (Tries may t cs)
+Tries may t (switching c ∷ cs) = triedAt (may t) (judgedBy (c .switched .judgement)) (TriesRefused cs) (Tries may t cs)
 
 -- ---- what is due
 

@@ -6,22 +6,20 @@ use Prim.Native.Nat.{ℕ, _+_, _≤_, _<_}
 use lib.ListN.{length}
 use Rattle.refusal.specs.declared.Numbers.{Numbers}
 use Rattle.refusal.specs.declared.Refusal.the-variants as refusal
-use Rattle.refusal.specs.Refusals.{refused, numbersOf, judgedBy}
+use Rattle.refusal.specs.Refusals.{refused, numbersOf, judgedBy, contradiction}
 use Rattle.banner.specs.declared.Features.{Features}
 use Rattle.banner.specs.Banner.{judgeOwn}
 use Rattle.preamble.specs.declared.Header.{Header}
 use Rattle.stream.specs.declared.Event.the-variants as event
-use Rattle.stream.specs.Events.{roleOf, ofFrameEnd}
+use Rattle.stream.specs.Events.{roleOf, ofFrameEnd, passing}
 use Rattle.receiver.specs.declared.Known.{Known}
-use Rattle.receiver.specs.declared.State as plain-state
+use Rattle.receiver.specs.declared.State as crc-state
 use Rattle.receiver.specs.declared.Report.{Report}
 use Rattle.receiver.specs.declared.Report.the-variants as report
 use Rattle.receiver.specs.State as crc
 use Rattle.receiver.specs.Step as crc-step
-use Rattle.receiver.specs.Calls.{passing}
-use Rattle.receiver.specs.Every as plain-every
-use Rattle.receiver.specs.Step.{contradiction}
-use Rattle.secure.specs.Layout.{firstLength, restPartLength, sealedLength}
+use Rattle.receiver.specs.Every as crc-every
+use Rattle.secure.specs.Layout.{firstLength, secondPartLength, sealedLength}
 use Rattle.sealed_receiver.specs.declared.Stage.{Stage}
 use Rattle.sealed_receiver.specs.declared.Stage.the-variants as stage
 use Rattle.sealed_receiver.specs.declared.State as sealed-state
@@ -32,27 +30,27 @@ use Rattle.connection.specs.declared.Mode.the-variants as mode
 use Rattle.connection.specs.declared.State.{State}
 use Rattle.connection.specs.declared.Received.{Received}
 use Rattle.connection.specs.declared.Switched.{Switched}
-use Rattle.connection.specs.declared.Begun.{Begun}
-use Rattle.connection.specs.Step.{isSecure, begun, agrees, Answered, SwitchedWith, BegunWith}
+use Rattle.connection.specs.declared.Started.{Started}
+use Rattle.connection.specs.Step.{isSecure, begun, agrees, Answered, SwitchedWith, StartedWith}
 use Rattle.connection.specs.Calls.{Try}
 
 -- ---- the part in use
 
 abbrev pub refusedInUse : State → Bool
-refusedInUse st = cond (isSecure (st .mode)) (sealed.isRefused (st .secure .position .stage)) (crc.isRefused (st .crc .position .stage))
+refusedInUse st = cond (isSecure (st .mode)) (sealed.isRefused (st .sealed .position .stage)) (crc.isRefused (st .crc .position .stage))
 
 -- the store that its unfinished frame needs
 abbrev pub neededInUse : State → ℕ
-neededInUse st = cond (isSecure (st .mode)) (sealed-step.neededBy (st .secure)) (crc-step.neededBy (st .crc))
+neededInUse st = cond (isSecure (st .mode)) (sealed-step.neededBy (st .sealed)) (crc-step.neededBy (st .crc))
 
 abbrev pub shortStore : State → Numbers
 shortStore st = numbersOf (refusal.StoreShort (neededInUse st))
 
 -- refused from now on, with these numbers
-abbrev pub stopped : State → Numbers → State
-stopped st n =
-    cond (isSecure (st .mode)) (record { mode = st .mode; ready = st .ready; crc = st .crc; secure = sealed-step.refusedState n })
-    (record { mode = st .mode; ready = st .ready; crc = crc-step.refusedState (st .crc .known) n; secure = st .secure })
+abbrev pub refusedConnection : State → Numbers → State
+refusedConnection st n =
+    cond (isSecure (st .mode)) (record { mode = st .mode; ready = st .ready; crc = st .crc; sealed = sealed-step.refusedState n })
+    (record { mode = st .mode; ready = st .ready; crc = crc-step.refusedState (st .crc .known) n; sealed = st .sealed })
 
 -- not refused, its fields in order, and the store long enough
 pub record Running (st : State) (s : List ℕ) : Type 0 where
@@ -79,7 +77,7 @@ pub record Sound (st : State) (s piece : List ℕ) (r : Received) (s′ : List �
   pub stays : (n : Numbers) → agrees st ≡ true → r .report ≡ report.Event (event.Refused n)
       → (s₂ piece₂ : List ℕ) (r₂ : Received) (s₃ : List ℕ) → Answered (r .state) s₂ piece₂ r₂ s₃ → Refuses (r .state) n s₂ r₂ s₃
   -- a store that became too short for the frame under way: 10 with the length that it needs, and nothing is taken or changed
-  pub short : agrees st ≡ true → refusedInUse st ≡ false → length s < neededInUse st → Refuses (stopped st (shortStore st)) (shortStore st) s r s′
+  pub short : agrees st ≡ true → refusedInUse st ≡ false → length s < neededInUse st → Refuses (refusedConnection st (shortStore st)) (shortStore st) s r s′
   -- where it runs, a piece that is not empty gives up at least one byte, and an empty one asks for more
   pub progress : Running st s → 0 < length piece → 0 < r .taken
   pub nothing : Running st s → length piece ≡ 0 → (r .taken ≡ 0) × (r .report ≡ report.More)
@@ -87,19 +85,19 @@ pub record Sound (st : State) (s piece : List ℕ) (r : Received) (s′ : List �
 -- ---- every start and every try to switch
 
 -- a start hands back the state from which the lists of calls begin, one that agrees, and tells whether our own features are refused
-pub record Starts (own : Features) (b : Begun) : Type 0 where
+pub record Starts (own : Features) (b : Started) : Type 0 where
   pub state : b .state ≡ begun own
-  pub verdict : judgedBy (b .verdict) ≡ judgeOwn (own .supported) (own .required)
+  pub judgement : judgedBy (b .judgement) ≡ judgeOwn (own .supported) (own .required)
   pub agreeing : agrees (b .state) ≡ true
 
 pub record SoundSwitch (st : State) (r : Switched) : Type 0 where
   -- 26 exactly where the fields contradict each other; refused, the state is handed back as it was
-  pub contradicts : agrees st ≡ false → judgedBy (r .verdict) ≡ refused contradiction
-  pub never26 : agrees st ≡ true → judgedBy (r .verdict) ≡ refused contradiction → ⊥
-  pub unchanged : (n : Numbers) → judgedBy (r .verdict) ≡ refused n → r .state ≡ st
+  pub contradicts : agrees st ≡ false → judgedBy (r .judgement) ≡ refused contradiction
+  pub never26 : agrees st ≡ true → judgedBy (r .judgement) ≡ refused contradiction → ⊥
+  pub unchanged : (n : Numbers) → judgedBy (r .judgement) ≡ refused n → r .state ≡ st
   pub agreeing : agrees st ≡ true → agrees (r .state) ≡ true
   -- a refused stream stays refused: no switch is made on it
-  pub stays : agrees st ≡ true → refusedInUse st ≡ true → judgedBy (r .verdict) ≡ refused (numbersOf refusal.SwitchRefused)
+  pub stays : agrees st ≡ true → refusedInUse st ≡ true → judgedBy (r .judgement) ≡ refused (numbersOf refusal.SwitchRefused)
 
 -- ---- bytes add up, over calls that share nothing but the state: any pieces, any stores, and tries to switch among them
 
@@ -130,7 +128,7 @@ sealedLengthOf report.More = 0
 sealedLengthOf (report.Event e) = ofFrameEnd sealedLength (roleOf e)
 
 abbrev pub lengthBy : Mode → Report → Known → ℕ
-lengthBy mode.Crc r v = plain-every.lengthOf r v
+lengthBy mode.Crc r v = crc-every.lengthOf r v
 lengthBy mode.Secure r v = sealedLengthOf r
 
 abbrev pub allReported : List AnyCall → ℕ
@@ -141,32 +139,32 @@ allReported (switching c ∷ cs) = allReported cs
 -- the bytes of an unfinished sealed frame that came before the part
 abbrev pub cameBefore : Stage → Header → ℕ
 cameBefore stage.First h = 0
-cameBefore stage.Rest h = firstLength
-cameBefore stage.Last h = firstLength + restPartLength h
+cameBefore stage.Second h = firstLength
+cameBefore stage.Last h = firstLength + secondPartLength h
 cameBefore stage.Refused h = 0
 
 -- THE UNFINISHED PART, a function of the state
-abbrev pub unfinishedBy : Mode → plain-state.State → sealed-state.State → ℕ
-unfinishedBy mode.Crc c x = plain-every.unfinished c
-unfinishedBy mode.Secure c x = cameBefore (x .position .stage) (x .known .header) + x .position .got
+abbrev pub unfinishedIn : Mode → crc-state.State → sealed-state.State → ℕ
+unfinishedIn mode.Crc c x = crc-every.unfinished c
+unfinishedIn mode.Secure c x = cameBefore (x .position .stage) (x .known .header) + x .position .got
 
 abbrev pub unfinished : State → ℕ
-unfinished st = unfinishedBy (st .mode) (st .crc) (st .secure)
+unfinished st = unfinishedIn (st .mode) (st .crc) (st .sealed)
 
 -- with a refusal, the bytes of its banner or frame, as of a receiver of crc frames
 abbrev pub unfinishedAfter : Report → ℕ → Received → ℕ
 unfinishedAfter report.More n r = unfinished (r .state)
 unfinishedAfter (report.Event e) n r = passing e (unfinished (r .state)) (λ m. n + r .taken)
 
-abbrev pub leftBy : ℕ → List AnyCall → ℕ
-leftBy n [] = n
-leftBy n (taking c ∷ cs) = leftBy (unfinishedAfter (c .received .report) n (c .received)) cs
-leftBy n (switching c ∷ cs) = leftBy n cs
+abbrev pub unfinishedBy : ℕ → List AnyCall → ℕ
+unfinishedBy n [] = n
+unfinishedBy n (taking c ∷ cs) = unfinishedBy (unfinishedAfter (c .received .report) n (c .received)) cs
+unfinishedBy n (switching c ∷ cs) = unfinishedBy n cs
 
 -- THE CLAIM
 unfoldable pub EveryCall : Type 0
 EveryCall =
-    ((own : Features) (b : Begun) → BegunWith own b → Starts own b)
+    ((own : Features) (b : Started) → StartedWith own b → Starts own b)
     × ((st : State) (s piece : List ℕ) (r : Received) (s′ : List ℕ) → Answered st s piece r s′ → Sound st s piece r s′)
     × ((st : State) (key receiving sending : List ℕ) (r : Switched) → SwitchedWith st key receiving sending r → SoundSwitch st r)
-    × ((own : Features) (cs : List AnyCall) → Handed (begun own) cs → allTaken cs ≡ allReported cs + leftBy 0 cs)
+    × ((own : Features) (cs : List AnyCall) → Handed (begun own) cs → allTaken cs ≡ allReported cs + unfinishedBy 0 cs)

@@ -7,7 +7,7 @@ use lib.ListN.{take, drop}
 use lib.Dec.{eqb}
 use Rattle.banner.specs.declared.Features.{Features}
 use Rattle.banner.specs.declared.Revision.the-variants.{Msgr20, Msgr21}
-pub use Rattle.stream.specs.Events.{closes}
+pub use Rattle.stream.specs.Events.{endsFrame}
 use Rattle.stream.specs.Events.{Role, bannerEnd, firstEnd, frameEnd, streamEnd, roleOf}
 use Rattle.stream.specs.Stream.{Entry, Trace, ended, traceOf}
 use Rattle.secure.specs.Reading.{sealedTrace}
@@ -24,7 +24,7 @@ entered e t = record { entries = e ∷ t .entries; store = t .store }
 unfoldable pub spliced : ℕ → (ℕ → List ℕ → Trace) → List Entry → List ℕ → Trace
 spliced n next [] store = ended store
 spliced n next (e ∷ es) store =
-    entered e (cond (closes (e .event) && eqb n 1) (next (e .at) (e .store)) (spliced (cond (closes (e .event)) (n - 1) n) next es store))
+    entered e (cond (endsFrame (e .event) && eqb n 1) (next (e .at) (e .store)) (spliced (cond (endsFrame (e .event)) (n - 1) n) next es store))
 
 -- THE DEFINITION
 abbrev pub traceWith : Switch → Features → List ℕ → List ℕ → Trace
@@ -35,15 +35,15 @@ traceWith (behind n key nonce) own stream store =
 -- how many frames and drops there are
 abbrev pub framesIn : List Entry → ℕ
 framesIn [] = 0
-framesIn (e ∷ es) = cond (closes (e .event)) (suc (framesIn es)) (framesIn es)
+framesIn (e ∷ es) = cond (endsFrame (e .event)) (suc (framesIn es)) (framesIn es)
 
 -- ---- where a switch may be made (02, K4): after a reported or dropped frame, before any byte of the next, on a stream of msgr2.1
 
 -- the last entry is a frame or a drop, and its byte is the t-th
-abbrev pub closesAt : ℕ → List Entry → Bool
-closesAt t [] = false
-closesAt t (e ∷ []) = closes (e .event) && eqb (e .at) t
-closesAt t (e ∷ f ∷ es) = closesAt t (f ∷ es)
+abbrev pub frameEndsAt : ℕ → List Entry → Bool
+frameEndsAt t [] = false
+frameEndsAt t (e ∷ []) = endsFrame (e .event) && eqb (e .at) t
+frameEndsAt t (e ∷ f ∷ es) = frameEndsAt t (f ∷ es)
 
 abbrev pub choosesMsgr21 : Role → Bool
 choosesMsgr21 (bannerEnd p Msgr20) = false
@@ -58,7 +58,7 @@ choseMsgr21 [] = false
 choseMsgr21 (e ∷ es) = choosesMsgr21 (roleOf (e .event)) || choseMsgr21 es
 
 abbrev pub behindFrame : ℕ → List Entry → Bool
-behindFrame t es = closesAt t es && choseMsgr21 es
+behindFrame t es = frameEndsAt t es && choseMsgr21 es
 
 -- with t bytes of the stream taken and no switch made. Where our own features are refused there is no entry, and so no such byte
 abbrev pub maySwitch : Features → List ℕ → List ℕ → ℕ → Bool

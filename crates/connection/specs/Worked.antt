@@ -13,7 +13,7 @@ use Rattle.receiver.specs.declared.Known.{Known}
 use Rattle.receiver.specs.declared.State as crc-state
 use Rattle.receiver.specs.declared.Stage.the-variants as stage
 use Rattle.receiver.specs.declared.Report.the-variants as report
-use Rattle.receiver.specs.State.{noHeader}
+use Rattle.preamble.specs.Layout.{noHeader}
 use Rattle.receiver.specs.Step as crc
 use Rattle.sealed_receiver.specs.declared.Stage.the-variants as part
 use Rattle.sealed_receiver.specs.State.{freshReceiving}
@@ -114,10 +114,10 @@ met Msgr20 = crc.withRevision (crc.withPeer (crc.withPayload (crc.onlyOwn (featu
 met Msgr21 = crc.withRevision (crc.withPeer (crc.withPayload (crc.onlyOwn (features 1 0) noRefusal) 16) (features 1 0)) Msgr21
 
 abbrev side : Bool → crc-state.State → State
-side ready st = record { mode = mode.Crc; ready = ready; crc = st; secure = noSecure }
+side ready st = record { mode = mode.Crc; ready = ready; crc = st; sealed = noSecure }
 
 abbrev secured : Bool → State
-secured ready = record { mode = mode.Secure; ready = ready; crc = crc.at stage.Preamble 0 (met Msgr21); secure = sealed.switched (replicate 16 7) (replicate 12 8) }
+secured ready = record { mode = mode.Secure; ready = ready; crc = crc.at stage.Preamble 0 (met Msgr21); sealed = sealed.switched (replicate 16 7) (replicate 12 8) }
 
 -- secure, and one of the two parts contradicts itself: that of sealed frames has all bytes of a part that it waits for; that of crc frames, which is not
 -- in use, another revision than the features give
@@ -126,11 +126,11 @@ wrongSealed = record {
   mode = mode.Secure;
   ready = false;
   crc = crc.at stage.Preamble 0 (met Msgr21);
-  secure = sealed.stateAt part.First 96 (replicate 96 0) (sealed.knowing (freshReceiving (replicate 16 7) (replicate 12 8)) noHeader);
+  sealed = sealed.stateAt part.First 96 (replicate 96 0) (sealed.knowing (freshReceiving (replicate 16 7) (replicate 12 8)) noHeader);
 }
 
 abbrev wrongCrc : State
-wrongCrc = record { mode = mode.Secure; ready = false; crc = crc.at stage.Preamble 0 (crc.withRevision (met Msgr21) Msgr20); secure = sealed.switched (replicate 16 7) (replicate 12 8) }
+wrongCrc = record { mode = mode.Secure; ready = false; crc = crc.at stage.Preamble 0 (crc.withRevision (met Msgr21) Msgr20); sealed = sealed.switched (replicate 16 7) (replicate 12 8) }
 
 -- segment 1 was reported early, and segment 2 is awaited
 abbrev behindEarly : crc-state.State
@@ -173,7 +173,7 @@ stateRows =
       mode = mode.Secure;
       ready = false;
       crc = crc.at stage.Preamble 0 (met Msgr21);
-      secure = record {
+      sealed = record {
         position = record { stage = part.First; got = 0; block = replicate 96 0 };
         known = record { receiving = record { key = replicate 16 7; nonce = replicate 12 8; opened = 0; exhausted = false }; header = noHeader; refusal = noRefusal };
       };

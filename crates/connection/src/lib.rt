@@ -1,11 +1,11 @@
 // The receiving side of a connection: crc frames as they come, and sealed frames from a switch on (02, K4).
 use banner::Features;
+use banner::is_msgr21;
 use receiver::Report;
 use receiver::states::agrees_with_itself;
-use receiver::states::is_msgr21;
 use receiver::states::rank;
+use refusal::Judgement;
 use refusal::Refusal;
-use refusal::Verdict;
 use refusal::both;
 use refusal::either;
 use refusal::numbers_of;
@@ -23,8 +23,8 @@ ghost use Rattle.refusal.specs.Refusals.{fine, judgedBy};
 ghost use Rattle.receiver.specs.State.{rank};
 ghost use Rattle.receiver.specs.Step as crc;
 ghost use Rattle.sealed_receiver.specs.Step as sealed;
-ghost use Rattle.stream.specs.Events.{closes};
-ghost use Rattle.connection.specs.Step.{isSecure, noSecure, closing, readyRule, agreesInUse, byCrc, bySecure, mayBeSwitched, judgeSwitch, switchedState, Gave, BegunWith, Answered, SwitchedWith};
+ghost use Rattle.stream.specs.Events.{endsFrame};
+ghost use Rattle.connection.specs.Step.{isSecure, noSecure, reportEndsFrame, readyRule, agreesInUse, byCrc, bySecure, mayBeSwitched, judgeSwitch, switchedState, Gave, StartedWith, Answered, SwitchedWith};
 ghost use Rattle.connection.specs.Calls.{SwitchedDemand3};
 ghost use Rattle.connection.specs.Every.{EveryCall};
 ghost use Rattle.connection.specs.Worked.{WorkedSwitches};
@@ -41,13 +41,13 @@ pub struct State {
     // A frame was reported or dropped, and no byte came since.
     pub ready: bool,
     pub crc: receiver::State,
-    pub secure: sealed_receiver::State,
+    pub sealed: sealed_receiver::State,
 }
 
 // What a start gives: a state, and whether our own features were refused, which the state then repeats.
-pub struct Begun {
+pub struct Started {
     pub state: State,
-    pub verdict: Verdict,
+    pub judgement: Judgement,
 }
 
 // What a call answers.
@@ -61,7 +61,7 @@ pub struct Received {
 pub struct Switched {
     pub state: State,
     pub sending: Sending,
-    pub verdict: Verdict,
+    pub judgement: Judgement,
 }
 
 // ---- states
@@ -82,41 +82,39 @@ fn no_secure() -> sealed_receiver::State
 }
 
 // A receiving side with our own features.
-pub fn start(own: Features) -> Begun
-    ensures { λ r. ⌜ BegunWith own r ⌝ }
+pub fn start(own: Features) -> Started
+    ensures { λ r. ⌜ StartedWith own r ⌝ }
 {
     let first = receiver::start(own);
     let crc = first.state;
-    let verdict = first.verdict;
-    Begun {
+    let judgement = first.judgement;
+    Started {
         state: State {
             mode: Mode::Crc,
             ready: false,
             crc: crc,
-            secure: no_secure(),
+            sealed: no_secure(),
         },
-        verdict: verdict,
+        judgement: judgement,
     }
 }
 
-fn closes(event: Event) -> bool
-    ensures { λ r. ⌜ r ≡ closes event ⌝ }
+fn ends_frame(event: Event) -> bool
+    ensures { λ r. ⌜ r ≡ endsFrame event ⌝ }
 {
     match event {
-        Event::Banner(_, _) => false,
-        Event::First(_) => false,
         Event::Frame(_) => true,
         Event::Dropped(_) => true,
-        Event::Refused(_) => false,
+        _ => false,
     }
 }
 
-fn closing(report: Report) -> bool
-    ensures { λ r. ⌜ r ≡ closing report ⌝ }
+fn report_ends_frame(report: Report) -> bool
+    ensures { λ r. ⌜ r ≡ reportEndsFrame report ⌝ }
 {
     match report {
         Report::More => false,
-        Report::Event(e) => closes(e),
+        Report::Event(e) => ends_frame(e),
     }
 }
 
@@ -146,7 +144,7 @@ fn agrees_in_use(st: State) -> bool
 {
     let mode = st.mode;
     if is_secure(mode) {
-        return sealed_receiver::states::agrees_with_itself(st.secure);
+        return sealed_receiver::states::agrees_with_itself(st.sealed);
     }
     agrees_with_itself(st.crc)
 }
@@ -161,14 +159,14 @@ fn receive_crc(st: State, piece: &[u8], store: &mut [u8]) -> Received
     let taken = o.taken;
     let report = o.report;
     let mode = st.mode;
-    let secure = st.secure;
-    let ready = either(closing(report), both(st.ready, taken == 0));
+    let sealed = st.sealed;
+    let ready = either(report_ends_frame(report), both(st.ready, taken == 0));
     Received {
         state: State {
             mode: mode,
             ready: ready,
             crc: crc,
-            secure: secure,
+            sealed: sealed,
         },
         taken: taken,
         report: report,
@@ -176,10 +174,10 @@ fn receive_crc(st: State, piece: &[u8], store: &mut [u8]) -> Received
 }
 
 fn receive_secure(st: State, piece: &[u8], store: &mut [u8]) -> Received
-    ensures { λ r. ⌜ Gave (bySecure st (sealed.answer (st .secure) (now (store .entry)) (now (piece .entry)))) r (now (store .exit)) ⌝ }
+    ensures { λ r. ⌜ Gave (bySecure st (sealed.answer (st .sealed) (now (store .entry)) (now (piece .entry)))) r (now (store .exit)) ⌝ }
 {
-    let o = sealed_receiver::receive(st.secure, piece, store);
-    let secure = o.state;
+    let o = sealed_receiver::receive(st.sealed, piece, store);
+    let sealed = o.state;
     let taken = o.taken;
     let report = o.report;
     let mode = st.mode;
@@ -189,7 +187,7 @@ fn receive_secure(st: State, piece: &[u8], store: &mut [u8]) -> Received
             mode: mode,
             ready: st.ready,
             crc: crc,
-            secure: secure,
+            sealed: sealed,
         },
         taken: taken,
         report: report,
@@ -226,7 +224,7 @@ fn may_be_switched(st: State) -> bool
     both(st.ready, is_msgr21(revision))
 }
 
-fn judge_switch(st: State) -> Verdict
+fn judge_switch(st: State) -> Judgement
     ensures { λ r. ⌜ judgedBy r ≡ judgeSwitch st ⌝ }
 {
     let agree = both(ready_rule(st), agrees_in_use(st));
@@ -243,7 +241,7 @@ fn secure_from(st: State, key: [u8; 16], nonce: [u8; 12]) -> State
         mode: Mode::Secure,
         ready: false,
         crc: crc,
-        secure: switch_on(key, nonce),
+        sealed: switch_on(key, nonce),
     }
 }
 
@@ -252,17 +250,17 @@ fn secure_from(st: State, key: [u8; 16], nonce: [u8; 12]) -> State
 pub fn switch(state: State, key: [u8; 16], receiving: [u8; 12], sending: [u8; 12]) -> Switched
     ensures { λ r. ⌜ SwitchedWith state key receiving sending r ⌝ }
 {
-    let verdict = judge_switch(state);
-    match verdict {
-        Verdict::Fine => Switched {
+    let judgement = judge_switch(state);
+    match judgement {
+        Judgement::Fine => Switched {
             state: secure_from(state, key, receiving),
             sending: fresh_sending(key, sending),
-            verdict: Verdict::Fine,
+            judgement: Judgement::Fine,
         },
-        Verdict::Refused(why) => Switched {
+        Judgement::Refused(why) => Switched {
             state: state,
             sending: refused_sending(),
-            verdict: Verdict::Refused(why),
+            judgement: Judgement::Refused(why),
         },
     }
 }

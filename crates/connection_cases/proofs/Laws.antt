@@ -26,13 +26,13 @@ use Rattle.connection.specs.Step.{answer, begun, judgeSwitch, switchedState, sw
 use Rattle.text.specs.Line.{Piece, codes}
 use Rattle.text.specs.Page.{Page, page}
 use Rattle.records.specs.declared.Step.{Step}
-use Rattle.records.specs.Records.{Did, isWhole, whole, print, prints, counted}
+use Rattle.records.specs.Records.{outcomeLine, Did, isWhole, whole, print, prints, counted}
 use Rattle.records.proofs.Laws.{sized-good, whole-within, did-is}
-use Rattle.build_cases.specs.Sealed.{answerLine, sealedLine}
+use Rattle.build_cases.specs.Sealed.{sealedLine}
 use Rattle.connection_cases.specs.declared.places.Layout.{Layout}
 use Rattle.connection_cases.specs.declared.places.Call.{Call}
 use Rattle.connection_cases.specs.declared.Called.{Called}
-use Rattle.connection_cases.specs.Lines.{verdictLine}
+use Rattle.connection_cases.specs.Lines.{judgementLine}
 use Rattle.connection_cases.specs.Places.{layoutOf, countAt, callsAt, callsOf, callWidth, streamAt, streamOf, callAt, callsFrom, isTry, tryAt, callGood, callsGood, inRange, receiverSize}
 use Rattle.connection_cases.specs.Calls.{lentAnswer, callAnswer, Outcome, answerOutcome, openedBy, emptyHeader, emptyDone, tryOutcome, callOutcome, CallDid, callLines, ownOf, receiverLines, receiverRecord}
 
@@ -77,11 +77,11 @@ pub empty-line : (sending : Sending) (b : WriteResult) (sum : ℕ) (x : Sending)
     → h ≡ emptyHeader
     → done (outcomeOf b) x buf ≡ sealedDone sending h false [] before 0
     → sum ≡ crcOf 4294967295 buf
-    → answerLine (outcomeOf b) sum ≡ sealedLine (emptyDone sending)
+    → outcomeLine (outcomeOf b) sum ≡ sealedLine (emptyDone sending)
 unfolding emptyDone
 empty-line sending b sum x buf before h eb eh e k =
     let d : done (outcomeOf b) x buf ≡ emptyDone sending = e ∙ rw (eb, eh) in
-    ap (answerLine (outcomeOf b)) k ∙ ap sealedLine d
+    ap (outcomeLine (outcomeOf b)) k ∙ ap sealedLine d
 
 pub try-did : (s : List ℕ) (i : ℕ) (st : State) (o : Switched) {key receiving sending : List ℕ} {spent : ℕ} {before : List ℕ} {at : ℕ} {after : List ℕ} {r : Called} {q : Page}
     → key ≡ take 16 (drop i s)
@@ -89,9 +89,9 @@ pub try-did : (s : List ℕ) (i : ℕ) (st : State) (o : Switched) {key receivin
     → sending ≡ take 12 (drop (i + 28) s)
     → spent ≡ numberAt 8 (i + 40) s
     → SwitchedWith st key receiving sending o
-    → r .state ≡ openedBy (judgedBy (o .verdict)) (o .state) spent
+    → r .state ≡ openedBy (judgedBy (o .judgement)) (o .state) spent
     → r .taken ≡ 0
-    → q ≡ print (verdictLine (codes "switch") (judgedBy (o .verdict))) (page before at)
+    → q ≡ print (judgementLine (codes "switch") (judgedBy (o .judgement))) (page before at)
     → page after (r .filled) ≡ print (sealedLine (emptyDone (o .sending))) q
     → (store : List ℕ) → CallDid (tryOutcome s i st store) before at store after r
 unfolding tryOutcome prints
@@ -100,7 +100,7 @@ try-did s i st o {key} {receiving} {sending} {spent} {before} {at} {after} {r} {
     record {
       state =
           e
-          ∙ ap (λ (v : Judged). openedBy v (o .state) spent) (w .verdict)
+          ∙ ap (λ (v : Judged). openedBy v (o .state) spent) (w .judgement)
           ∙ ap (λ (x : State). openedBy j x spent) (w .state)
           ∙ ap (λ (n : ℕ). openedBy j (switchedState j st key receiving) n) ep
           ∙ ap₂ (λ (k n : List ℕ). openedBy j (switchedState j st k n) (numberAt 8 (i + 40) s)) ek er;
@@ -110,7 +110,7 @@ try-did s i st o {key} {receiving} {sending} {spent} {before} {at} {after} {r} {
           f
           ∙ ap (λ (x : Sending). print (sealedLine (emptyDone x)) q) (w .sends ∙ ap₂ (λ (k n : List ℕ). switchedSending j k n) ek es)
           ∙ ap (λ (p : Page). print (sealedLine (emptyDone (switchedSending j (take 16 (drop i s)) (take 12 (drop (i + 28) s))))) p)
-          (eq ∙ ap (λ (v : Judged). print (verdictLine (codes "switch") v) (page before at)) (w .verdict));
+          (eq ∙ ap (λ (v : Judged). print (judgementLine (codes "switch") v) (page before at)) (w .judgement));
     }
 
 -- ---- calls and tries
@@ -196,7 +196,7 @@ pub receiver-printed : (l : Layout) (s : List ℕ) (p : Page) {n from : ℕ} {st
     → st ≡ begun (ownOf s)
     → store ≡ counted (getD s 21 0) (numberAt 4 17 s)
     → v ≡ judgeOwn (numberAt 8 1 s) (numberAt 8 9 s)
-    → q ≡ print (verdictLine (codes "start") v) p
+    → q ≡ print (judgementLine (codes "start") v) p
     → r ≡ prints (callLines l s (callsFrom (l .lends) s n from) stream st store) q
     → r ≡ prints (receiverLines l s) p
 unfolding receiverLines prints

@@ -24,7 +24,7 @@ use Rattle.build_cases.specs.Sealed.{sealedLine, nonceFurther}
 use Rattle.connection_cases.specs.declared.places.Layout.{Layout}
 use Rattle.connection_cases.specs.declared.places.Call.{Call}
 use Rattle.connection_cases.specs.declared.Called.{Called}
-use Rattle.connection_cases.specs.Lines.{verdictLine, reportLine}
+use Rattle.connection_cases.specs.Lines.{judgementLine, reportLine}
 use Rattle.connection_cases.specs.Places.{layoutOf, callsAt, callsOf, streamAt, streamOf, callsFrom, isTry, tryAt, receiverSize}
 
 -- ---- a call for a piece
@@ -69,12 +69,12 @@ withOpened st n =
       mode = st .mode;
       ready = st .ready;
       crc = st .crc;
-      secure = record {
-        position = st .secure .position;
+      sealed = record {
+        position = st .sealed .position;
         known = record {
-          receiving = receivingState (st .secure .known .receiving .key) (nonceFurther (st .secure .known .receiving .nonce) n) n false;
-          header = st .secure .known .header;
-          refusal = st .secure .known .refusal;
+          receiving = receivingState (st .sealed .known .receiving .key) (nonceFurther (st .sealed .known .receiving .nonce) n) n false;
+          header = st .sealed .known .header;
+          refusal = st .sealed .known .refusal;
         };
       };
     }
@@ -100,7 +100,7 @@ tryOutcome s i st store =
       taken = 0;
       store = store;
       lines =
-          verdictLine (codes "switch") (judgeSwitch st)
+          judgementLine (codes "switch") (judgeSwitch st)
           ∷ sealedLine (emptyDone (switchedSending (judgeSwitch st) (take 16 (drop i s)) (take 12 (drop (i + 28) s))))
           ∷ [];
     }
@@ -131,7 +131,7 @@ ownOf s = record { supported = numberAt 8 1 s; required = numberAt 8 9 s }
 
 unfoldable pub receiverLines : Layout → List ℕ → List (List Piece)
 receiverLines l s =
-    verdictLine (codes "start") (judgeOwn (numberAt 8 1 s) (numberAt 8 9 s))
+    judgementLine (codes "start") (judgeOwn (numberAt 8 1 s) (numberAt 8 9 s))
     ∷ callLines l s (callsFrom (l .lends) s (callsOf l s) (callsAt l))
     (take (streamOf l s) (drop (streamAt l s + 4) s))
     (begun (ownOf s))

@@ -15,9 +15,9 @@ use Rattle.records.specs.Records.{sumPieces, whyPieces}
 
 -- start ok
 -- switch refused 27 detail 0 0 0
-abbrev pub verdictLine : List ℕ → Judged → List Piece
-verdictLine letters fine = raw letters ∷ word " ok\n" ∷ []
-verdictLine letters (refused w) = (raw letters ∷ word " refused" ∷ whyPieces w) ++ (newline ∷ [])
+abbrev pub judgementLine : List ℕ → Judged → List Piece
+judgementLine letters fine = raw letters ∷ word " ok\n" ∷ []
+judgementLine letters (refused w) = (raw letters ∷ word " refused" ∷ whyPieces w) ++ (newline ∷ [])
 
 abbrev pub fourPieces : List ℕ → ℕ → ℕ → ℕ → ℕ → List Piece
 fourPieces letters a b c d = raw letters ∷ number a ∷ number b ∷ number c ∷ number d ∷ []

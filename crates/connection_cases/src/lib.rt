@@ -10,15 +10,14 @@ use buffer::part;
 use buffer::u32_at;
 use buffer::u64_at;
 use build_cases::nonce_further;
-use build_cases::print_built;
 use connection::Received;
 use connection::State;
 use connection::receive;
 use connection::start;
 use connection::switch;
 use crc32c::checksum;
+use lines::print_judgement;
 use lines::print_report;
-use lines::print_verdict;
 use places::Call;
 use places::Layout;
 use places::SWITCH;
@@ -37,7 +36,8 @@ use records::Step;
 use records::bad_record;
 use records::count_up;
 use records::is_whole;
-use refusal::Verdict;
+use records::print_outcome;
+use refusal::Judgement;
 use sealed_builder::Sending;
 use sealed_builder::build_sealed;
 use sealed_receiver::Known;
@@ -105,9 +105,9 @@ fn with_opened(st: State, n: u64) -> State
 {
     let mode = st.mode;
     let crc = st.crc;
-    let secure = st.secure;
-    let position = secure.position;
-    let known = secure.known;
+    let sealed = st.sealed;
+    let position = sealed.position;
+    let known = sealed.known;
     let header = known.header;
     let refusal = known.refusal;
     let receiving = known.receiving;
@@ -118,7 +118,7 @@ fn with_opened(st: State, n: u64) -> State
         mode: mode,
         ready: st.ready,
         crc: crc,
-        secure: sealed_receiver::State {
+        sealed: sealed_receiver::State {
             position: position,
             known: Known {
                 receiving: Receiving {
@@ -135,12 +135,12 @@ fn with_opened(st: State, n: u64) -> State
 }
 
 // The state that a switch left, with n parts opened where it was made.
-fn opened_by(verdict: Verdict, st: State, n: u64) -> State
-    ensures { λ r. ⌜ r ≡ openedBy (judgedBy verdict) st n ⌝ }
+fn opened_by(judgement: Judgement, st: State, n: u64) -> State
+    ensures { λ r. ⌜ r ≡ openedBy (judgedBy judgement) st n ⌝ }
 {
-    match verdict {
-        Verdict::Fine => with_opened(st, n),
-        Verdict::Refused(_) => st,
+    match judgement {
+        Judgement::Fine => with_opened(st, n),
+        Judgement::Refused(_) => st,
     }
 }
 
@@ -167,7 +167,7 @@ fn print_empty(text: &mut [u8], at: usize, sending: Sending) -> usize
     let o = build_sealed(&mut buf, 0, sending, empty_header(), false, b"");
     let built = o.built;
     let sum = checksum(0xFFFFFFFF, &buf);
-    print_built(text, at, built, sum)
+    print_outcome(text, at, built, sum)
 }
 
 // With the switch that stands at a place of the record.
@@ -179,10 +179,10 @@ fn try_switch(s: &[u8], place: usize, state: State, text: &mut [u8], at: usize) 
     let o = switch(state, key, nonce_at(s, place + 16), nonce_at(s, place + 28));
     let next = o.state;
     let sending = o.sending;
-    let verdict = o.verdict;
-    let end = print_verdict(text, at, b"switch", verdict);
+    let judgement = o.judgement;
+    let end = print_judgement(text, at, b"switch", judgement);
     Called {
-        state: opened_by(verdict, next, u64_at(s, place + 40)),
+        state: opened_by(judgement, next, u64_at(s, place + 40)),
         taken: 0,
         filled: print_empty(text, end, sending),
     }
@@ -290,8 +290,8 @@ pub fn receiver_record(
     };
     let begun = start(own);
     let state = begun.state;
-    let verdict = begun.verdict;
-    let started = print_verdict(text, at, b"start", verdict);
+    let judgement = begun.judgement;
+    let started = print_judgement(text, at, b"start", judgement);
     Step {
         taken: size,
         filled: make_calls(l, s, calls, from, stream, state, store, text, started),

@@ -1,13 +1,14 @@
 // The lines of a receiving side: whether its start and a switch were refused, and what each call reports.
 use banner::Features;
 use banner::Revision;
+use banner::revision_number;
 use preamble::Header;
 use receiver::Report;
 use records::put_sum;
 use records::put_why;
 use records::room;
+use refusal::Judgement;
 use refusal::Numbers;
-use refusal::Verdict;
 use refusal::numbers_of;
 use stream::Event;
 use text::put_end;
@@ -21,7 +22,7 @@ ghost use Rattle.stream.specs.declared.Event.the-variants as event;
 ghost use Rattle.receiver.specs.declared.Report.the-variants as report;
 ghost use Rattle.text.specs.Page.{page, puts};
 ghost use Rattle.records.specs.Records.{print};
-ghost use Rattle.connection_cases.specs.Lines.{verdictLine, fourPieces, tagPieces, lengthPieces, alignmentPieces, headerPieces, featurePieces, peerPieces, frameLine, eventLine, reportLine};
+ghost use Rattle.connection_cases.specs.Lines.{judgementLine, fourPieces, tagPieces, lengthPieces, alignmentPieces, headerPieces, featurePieces, peerPieces, frameLine, eventLine, reportLine};
 
 // A word, and a number for each of four segments.
 fn put_four(text: &mut [u8], at: usize, letters: &[u8], a: u32, b: u32, c: u32, d: u32) -> usize
@@ -76,15 +77,6 @@ fn put_header(text: &mut [u8], at: usize, h: Header) -> usize
     let a = put_tag(text, at, h);
     let b = put_lengths(text, a, h);
     put_alignments(text, b, h)
-}
-
-fn revision_number(revision: Revision) -> u64
-    ensures { λ r. ⌜ r ≡ revisionNumber revision ⌝ }
-{
-    match revision {
-        Revision::Msgr20 => 0,
-        Revision::Msgr21 => 1,
-    }
 }
 
 fn print_more(text: &mut [u8], at: usize, taken: usize, sum: u32) -> usize
@@ -180,15 +172,15 @@ pub(crate) fn print_report(
 }
 
 fn print_fine(text: &mut [u8], at: usize, letters: &[u8]) -> usize
-    ensures { λ r. ⌜ page (now (text .exit)) r ≡ print (verdictLine (now (letters .entry)) fine) (page (now (text .entry)) at) ⌝ }
+    ensures { λ r. ⌜ page (now (text .exit)) r ≡ print (judgementLine (now (letters .entry)) fine) (page (now (text .entry)) at) ⌝ }
 {
     let from = room(text, at);
     let a = put_word(text, from, letters);
     put_word(text, a, b" ok\n")
 }
 
-fn print_verdict_refused(text: &mut [u8], at: usize, letters: &[u8], why: Numbers) -> usize
-    ensures { λ r. ⌜ page (now (text .exit)) r ≡ print (verdictLine (now (letters .entry)) (refused why)) (page (now (text .entry)) at) ⌝ }
+fn print_judgement_refused(text: &mut [u8], at: usize, letters: &[u8], why: Numbers) -> usize
+    ensures { λ r. ⌜ page (now (text .exit)) r ≡ print (judgementLine (now (letters .entry)) (refused why)) (page (now (text .entry)) at) ⌝ }
 {
     let from = room(text, at);
     let a = put_word(text, from, letters);
@@ -198,11 +190,16 @@ fn print_verdict_refused(text: &mut [u8], at: usize, letters: &[u8], why: Number
 }
 
 // Whether a start or a switch was refused.
-pub(crate) fn print_verdict(text: &mut [u8], at: usize, letters: &[u8], verdict: Verdict) -> usize
-    ensures { λ r. ⌜ page (now (text .exit)) r ≡ print (verdictLine (now (letters .entry)) (judgedBy verdict)) (page (now (text .entry)) at) ⌝ }
+pub(crate) fn print_judgement(
+    text: &mut [u8],
+    at: usize,
+    letters: &[u8],
+    judgement: Judgement,
+) -> usize
+    ensures { λ r. ⌜ page (now (text .exit)) r ≡ print (judgementLine (now (letters .entry)) (judgedBy judgement)) (page (now (text .entry)) at) ⌝ }
 {
-    match verdict {
-        Verdict::Fine => print_fine(text, at, letters),
-        Verdict::Refused(why) => print_verdict_refused(text, at, letters, numbers_of(why)),
+    match judgement {
+        Judgement::Fine => print_fine(text, at, letters),
+        Judgement::Refused(why) => print_judgement_refused(text, at, letters, numbers_of(why)),
     }
 }

@@ -21,21 +21,21 @@ use Rattle.gcm.proofs.Placing.{sealed-length}
 use Rattle.gcm.proofs.RoundTrip.{lists}
 use Rattle.gcm.proofs.Opened.{not-opened}
 use Rattle.secure.specs.Layout.{nextNonce, needed}
-use Rattle.secure.specs.Reading.{judgeFirst, byOpening, restTrace, frames, sealedTrace}
+use Rattle.secure.specs.Reading.{judgeFirst, byOpening, secondTrace, frames, sealedTrace}
 use Rattle.secure.proofs.Opening.{read-first, short}
 use Rattle.connection.specs.Switched.{behind, spliced, framesIn}
 use Rattle.connection.specs.Calls.{SwitchedDemand3}
-use Rattle.connection.proofs.Scans.{LastCloses}
+use Rattle.connection.proofs.Scans.{LastEndsFrame}
 use Rattle.connection.proofs.Splices.{spliced-there}
 use Rattle.fields.specs.Layout.{stepOf}
 use Rattle.bodies.specs.Table.{layoutIn}
 use Rattle.bodies.specs.Read.{settled, readBody}
 use Rattle.session.specs.Laws.{ack}
 use Rattle.session.specs.Calls.{heldFrom, agrees, judgeState, judgeAccept, judgeAck, acceptOf, ackOf}
-use Rattle.delivery.specs.declared.Asked.the-variants.{Nothing, Ack}
-use Rattle.delivery.specs.Asked.{askedByFrame}
+use Rattle.delivery.specs.declared.Request.the-variants.{Nothing, Ack}
+use Rattle.delivery.specs.Requests.{requestByFrame}
 use Rattle.delivery.specs.Calls.{receives, callsDue}
-use Rattle.delivery.specs.Worked.{ours, store, message, asksOf, first, second, third, heldBy, ackText, masked, sealedAck, behindMessage, sealedEntries, SealedAck}
+use Rattle.delivery.specs.Worked.{ours, store, message, entryRequest, first, second, third, heldBy, ackText, masked, sealedAck, behindMessage, sealedEntries, SealedAck}
 use Rattle.connection.proofs.Prefixes.{upTo, behind-first, crc-first}
 use Rattle.delivery.proofs.NoRequests.{NoRequests, releases-nothing}
 use Rattle.delivery.proofs.OneRequest.{all-played}
@@ -47,7 +47,7 @@ abbrev part : List ℕ → List ℕ → ℕ → List ℕ → Opened → Trace
 part key nonce P s o =
     byOpening o (P + 96) s
     (λ text. unlessRefused (judgeFirst text (length s)) (P + 96) s
-    (restTrace (keyExpansion key) (headerOf text) (nextNonce nonce) 1 (P + 96) [] (take (headerOf text .s1 .len) (drop 32 text)) s (frames 95 (keyExpansion key))))
+    (secondTrace (keyExpansion key) (headerOf text) (nextNonce nonce) 1 (P + 96) [] (take (headerOf text .s1 .len) (drop 32 text)) s (frames 95 (keyExpansion key))))
 
 one-part : (key nonce : List ℕ) (P : ℕ) (s bytes : List ℕ) (o : Opened) → length bytes ≡ 96 → openedBy (keyExpansion key) nonce bytes ≡ o
     → sealedTrace key nonce 0 P bytes s ≡ part key nonce P s o
@@ -64,7 +64,7 @@ one-part key nonce P s bytes o l e =
 abbrev sofar : Trace
 sofar = traceOf ours (bannerBytes 1 0 ++ message) store
 
-last : LastCloses (sofar .entries) 106 (sofar .store)
+last : LastEndsFrame (sofar .entries) 106 (sofar .store)
 unfolding numberAt crcOf steps step missing lowestBit bitCount judgeFeatures shapeFault limitFault headerOf judgeFields judgePreamble ending stream.frames streamTrace traceOf
 last = (refl, refl, refl)
 
@@ -100,24 +100,24 @@ module _ (key nonce : List ℕ) where
       (not-opened (keyExpansion key) nonce ackText tag l differs)
 
   -- what they ask, and what is then held
-  asks-ack : map asksOf (sofar .entries ++ part key nonce 106 (sofar .store) (plain ackText) .entries) ≡ Nothing ∷ Nothing ∷ Ack 1 ∷ []
-  unfolding numberAt crcOf steps step missing lowestBit bitCount judgeFeatures shapeFault limitFault headerOf judgeFields judgePreamble ending stream.frames streamTrace traceOf needed judgeFirst frames stepOf layoutIn settled readBody askedByFrame
-  asks-ack = refl
+  requests-ack : map entryRequest (sofar .entries ++ part key nonce 106 (sofar .store) (plain ackText) .entries) ≡ Nothing ∷ Nothing ∷ Ack 1 ∷ []
+  unfolding numberAt crcOf steps step missing lowestBit bitCount judgeFeatures shapeFault limitFault headerOf judgeFields judgePreamble ending stream.frames streamTrace traceOf needed judgeFirst frames stepOf layoutIn settled readBody requestByFrame
+  requests-ack = refl
 
-  asks-none : map asksOf (sofar .entries ++ part key nonce 106 (sofar .store) fail .entries) ≡ Nothing ∷ Nothing ∷ Nothing ∷ []
-  unfolding numberAt crcOf steps step missing lowestBit bitCount judgeFeatures shapeFault limitFault headerOf judgeFields judgePreamble ending stream.frames streamTrace traceOf askedByFrame
-  asks-none = refl
+  requests-none : map entryRequest (sofar .entries ++ part key nonce 106 (sofar .store) fail .entries) ≡ Nothing ∷ Nothing ∷ Nothing ∷ []
+  unfolding numberAt crcOf steps step missing lowestBit bitCount judgeFeatures shapeFault limitFault headerOf judgeFields judgePreamble ending stream.frames streamTrace traceOf requestByFrame
+  requests-none = refl
 
   releases-one : heldBy (sofar .entries ++ part key nonce 106 (sofar .store) (plain ackText) .entries) ≡ second ∷ third ∷ []
-  unfolding numberAt crcOf steps step missing lowestBit bitCount judgeFeatures shapeFault limitFault headerOf judgeFields judgePreamble ending stream.frames streamTrace traceOf needed judgeFirst frames stepOf layoutIn settled readBody askedByFrame agrees judgeState judgeAccept judgeAck acceptOf ackOf heldFrom
+  unfolding numberAt crcOf steps step missing lowestBit bitCount judgeFeatures shapeFault limitFault headerOf judgeFields judgePreamble ending stream.frames streamTrace traceOf needed judgeFirst frames stepOf layoutIn settled readBody requestByFrame agrees judgeState judgeAccept judgeAck acceptOf ackOf heldFrom
   releases-one = refl
 
   holds-all : heldBy (sofar .entries ++ part key nonce 106 (sofar .store) fail .entries) ≡ first ∷ second ∷ third ∷ []
-  unfolding numberAt crcOf steps step missing lowestBit bitCount judgeFeatures shapeFault limitFault headerOf judgeFields judgePreamble ending stream.frames streamTrace traceOf askedByFrame agrees judgeState judgeAccept judgeAck acceptOf ackOf heldFrom
+  unfolding numberAt crcOf steps step missing lowestBit bitCount judgeFeatures shapeFault limitFault headerOf judgeFields judgePreamble ending stream.frames streamTrace traceOf requestByFrame agrees judgeState judgeAccept judgeAck acceptOf ackOf heldFrom
   holds-all = refl
 
   no-requests-front : NoRequests (sofar .entries ++ [])
-  unfolding numberAt crcOf steps step missing lowestBit bitCount judgeFeatures shapeFault limitFault headerOf judgeFields judgePreamble ending stream.frames streamTrace traceOf askedByFrame
+  unfolding numberAt crcOf steps step missing lowestBit bitCount judgeFeatures shapeFault limitFault headerOf judgeFields judgePreamble ending stream.frames streamTrace traceOf requestByFrame
   no-requests-front = (refl, (refl, tt))
 
   no-requests-part : (n : ℕ) → n < 96 → NoRequests (sealedEntries key nonce (take n (sealedAck key nonce)))
@@ -126,9 +126,9 @@ module _ (key nonce : List ℕ) where
       rw (sealed-entries key nonce (take n (sealedAck key nonce)), short key nonce 106 (sofar .store) (take n (sealedAck key nonce)) l) no-requests-front
 
   -- all of it, without calls of the caller's own
-  asks-once : callsDue (map receives (upTo 202 (sofar .entries ++ part key nonce 106 (sofar .store) (plain ackText) .entries))) ≡ ack 1 ∷ []
-  unfolding numberAt crcOf steps step missing lowestBit bitCount judgeFeatures shapeFault limitFault headerOf judgeFields judgePreamble ending stream.frames streamTrace traceOf needed judgeFirst frames stepOf layoutIn settled readBody askedByFrame
-  asks-once = refl
+  requests-once : callsDue (map receives (upTo 202 (sofar .entries ++ part key nonce 106 (sofar .store) (plain ackText) .entries))) ≡ ack 1 ∷ []
+  unfolding numberAt crcOf steps step missing lowestBit bitCount judgeFeatures shapeFault limitFault headerOf judgeFields judgePreamble ending stream.frames streamTrace traceOf needed judgeFirst frames stepOf layoutIn settled readBody requestByFrame
+  requests-once = refl
 
   none-before : upTo 0 (sofar .entries ++ part key nonce 106 (sofar .store) (plain ackText) .entries) ≡ []
   unfolding numberAt crcOf steps step missing lowestBit bitCount judgeFeatures shapeFault limitFault headerOf judgeFields judgePreamble ending stream.frames streamTrace traceOf
@@ -136,10 +136,10 @@ module _ (key nonce : List ℕ) where
 
   pub sealed-ack : SwitchedDemand3 → SealedAck key nonce
   sealed-ack demand = record {
-    asks = ap (map asksOf) acked ∙ asks-ack;
+    requests = ap (map entryRequest) acked ∙ requests-ack;
     releases = ap heldBy acked ∙ releases-one;
     damaged = λ tag l differs. (
-      ap (map asksOf) (tag-refused tag l differs) ∙ asks-none,
+      ap (map entryRequest) (tag-refused tag l differs) ∙ requests-none,
       ap heldBy (tag-refused tag l differs) ∙ holds-all,
     );
     splits = λ n h.
@@ -147,5 +147,5 @@ module _ (key nonce : List ℕ) where
         (λ sw e. rw e (no-requests-part n h));
     completes =
         all-played demand (behind 1 key nonce) (behindMessage (sealedAck key nonce)) 202 (ack 1) (sofar .entries ++ part key nonce 106 (sofar .store) (plain ackText) .entries)
-        acked none-before asks-once;
+        acked none-before requests-once;
   }

@@ -11,11 +11,11 @@ use Rattle.session.specs.Laws as session
 use Rattle.session.specs.Laws.{callOf, EveryCall}
 use Rattle.session.proofs.Releases.{releases, oneReleases, Good, call-good, call-keeps}
 use Rattle.delivery.specs.declared.Delivery.{Delivery}
-use Rattle.delivery.specs.declared.Asked.{Asked}
-use Rattle.delivery.specs.declared.Asked.the-variants as asked
+use Rattle.delivery.specs.declared.Request.{Request}
+use Rattle.delivery.specs.declared.Request.the-variants as request
 use Rattle.delivery.specs.declared.Applied.{Applied}
-use Rattle.delivery.specs.Asked.{askedBy, applied, doneTo}
-use Rattle.delivery.specs.Calls.{Call, piece, tried, accepted, handed, Chained, sessionAfter, Connection, Connects, added, Cause, hands, receives, callsAsked, callsBy, Does, nothing, one, Each, EachOf, Covered, Leaves, LeavesIn, LeavesOf}
+use Rattle.delivery.specs.Requests.{requestBy, applied, doneTo}
+use Rattle.delivery.specs.Calls.{Call, piece, tried, accepted, handed, Chained, sessionAfter, Connection, Connects, added, Cause, hands, receives, callsRequested, callsBy, Does, nothing, one, Each, EachOf, Covered, Leaves, LeavesIn, LeavesOf}
 use Rattle.delivery.specs.Calls as calls
 use Rattle.delivery.proofs.Reasons.{reason}
 
@@ -32,16 +32,16 @@ module _ (every : EveryCall) where
     pub leaves : Leaves s s′ causes
     pub good : Good s′
 
-  pub asked-left : (s : Session) (e : Entry) (a : Asked) → askedBy (e .event) (e .store) ≡ a → Good s → Left s (doneTo s a .session) (receives e ∷ [])
-  asked-left s e asked.Nothing q g = record { leaves = λ x k. inl k; good = g }
-  asked-left s e (asked.Ack n) q g = record { leaves = by-call s (session.ack n) (receives e) (ap callsAsked q) g; good = call-good every s (session.ack n) g }
-  asked-left s e (asked.Reconnect n) q g = record { leaves = by-call s (session.reconnect n) (receives e) (ap callsAsked q) g; good = call-good every s (session.reconnect n) g }
-  asked-left s e (asked.Reset full) q g = record { leaves = by-call s (session.reset full) (receives e) (ap callsAsked q) g; good = call-good every s (session.reset full) g }
-  asked-left s e (asked.Malformed n) q g = record { leaves = λ x k. inl k; good = g }
+  pub request-left : (s : Session) (e : Entry) (a : Request) → requestBy (e .event) (e .store) ≡ a → Good s → Left s (doneTo s a .session) (receives e ∷ [])
+  request-left s e request.Nothing q g = record { leaves = λ x k. inl k; good = g }
+  request-left s e (request.Ack n) q g = record { leaves = by-call s (session.ack n) (receives e) (ap callsRequested q) g; good = call-good every s (session.ack n) g }
+  request-left s e (request.Reconnect n) q g = record { leaves = by-call s (session.reconnect n) (receives e) (ap callsRequested q) g; good = call-good every s (session.reconnect n) g }
+  request-left s e (request.Reset full) q g = record { leaves = by-call s (session.reset full) (receives e) (ap callsRequested q) g; good = call-good every s (session.reset full) g }
+  request-left s e (request.Malformed n) q g = record { leaves = λ x k. inl k; good = g }
 
   does-left : (s : Session) (t′ : ℕ) (d : Applied) (es : List Entry) → Does s t′ d es → Good s → Left s (d .session) (map receives es)
   does-left s t′ d es (nothing e) g = subst (λ (x : Applied). Left s (x .session) []) (sym e) (record { leaves = λ x k. inl k; good = g })
-  does-left s t′ d es (one w at e) g = subst (λ (x : Applied). Left s (x .session) (receives w ∷ [])) (sym e) (asked-left s w (askedBy (w .event) (w .store)) refl g)
+  does-left s t′ d es (one w at e) g = subst (λ (x : Applied). Left s (x .session) (receives w ∷ [])) (sym e) (request-left s w (requestBy (w .event) (w .store)) refl g)
 
   -- ---- every call and every connection
 

@@ -1,4 +1,4 @@
-pub mod Asks
+pub mod Requests
 pub mod Reasons
 pub mod Leaves
 pub mod Every

@@ -12,21 +12,21 @@ use Rattle.fields.specs.Field.{number}
 use Rattle.bodies.specs.Read.{Answer, whole}
 use Rattle.stream.specs.Stream.{Entry}
 use Rattle.session.proofs.Releases.{oneReleases}
-use Rattle.delivery.specs.declared.Asked.{Asked}
-use Rattle.delivery.specs.declared.Asked.the-variants as asked
-use Rattle.delivery.specs.Asked.{forSession, asking, byBody, bodyOf, askedByFrame}
-use Rattle.delivery.specs.Calls.{Cause, receives, callsAsked, callsBy, Reason, acknowledged, dropped, handedIn, Covered, here, later}
+use Rattle.delivery.specs.declared.Request.{Request}
+use Rattle.delivery.specs.declared.Request.the-variants as request
+use Rattle.delivery.specs.Requests.{forSession, requestOf, byBody, bodyOf, requestByFrame}
+use Rattle.delivery.specs.Calls.{Cause, receives, callsRequested, callsBy, Reason, acknowledged, dropped, handedIn, Covered, here, later}
 use Rattle.delivery.proofs.NoRequests.{NoRequests}
 
 -- a whole body of one number, with one of the session's tags, asks what the tag says
-frame-asked : (h : Header) (s : List ℕ) (t w n : ℕ) → h .tag ≡ t → forSession t ≡ true → h .count ≡ 1 → bodyOf h s ≡ whole (number w n ∷ []) → askedByFrame h s ≡ asking t n
-unfolding askedByFrame
-frame-asked h s t w n e f c b =
-    let other = asked.Malformed (row 20 (h .s1 .len) 0 0) in
-    ap (λ (a : Answer). cond (forSession (h .tag)) (byBody h a) asked.Nothing) b
-    ∙ ap (λ (x : ℕ). cond (forSession x) (cond (eqb (h .count) 1) (asking x n) other) asked.Nothing) e
-    ∙ ap (λ (y : Bool). cond y (cond (eqb (h .count) 1) (asking t n) other) asked.Nothing) f
-    ∙ ap (λ (x : ℕ). cond (eqb x 1) (asking t n) other) c
+frame-request : (h : Header) (s : List ℕ) (t w n : ℕ) → h .tag ≡ t → forSession t ≡ true → h .count ≡ 1 → bodyOf h s ≡ whole (number w n ∷ []) → requestByFrame h s ≡ requestOf t n
+unfolding requestByFrame
+frame-request h s t w n e f c b =
+    let other = request.Malformed (row 20 (h .s1 .len) 0 0) in
+    ap (λ (a : Answer). cond (forSession (h .tag)) (byBody h a) request.Nothing) b
+    ∙ ap (λ (x : ℕ). cond (forSession x) (cond (eqb (h .count) 1) (requestOf x n) other) request.Nothing) e
+    ∙ ap (λ (y : Bool). cond y (cond (eqb (h .count) 1) (requestOf t n) other) request.Nothing) f
+    ∙ ap (λ (x : ℕ). cond (eqb x 1) (requestOf t n) other) c
 
 one-of : (b : Bool) → b ≡ true → cond b true false ≡ true
 one-of true e = refl
@@ -34,10 +34,10 @@ one-of false e = e
 
 reason-releases : (m : ℕ) (c : Cause) → Reason m c → oneReleases m (callsBy c) ≡ true
 reason-releases m c (acknowledged h at n s (inl t) q b l) =
-    ap (λ (a : Asked). oneReleases m (callsAsked a)) (frame-asked h s 20 8 n t refl q b) ∙ one-of (leb m n) (le-leb m n l)
+    ap (λ (a : Request). oneReleases m (callsRequested a)) (frame-request h s 20 8 n t refl q b) ∙ one-of (leb m n) (le-leb m n l)
 reason-releases m c (acknowledged h at n s (inr t) q b l) =
-    ap (λ (a : Asked). oneReleases m (callsAsked a)) (frame-asked h s 15 8 n t refl q b) ∙ one-of (leb m n) (le-leb m n l)
-reason-releases m c (dropped h at s t q b) = ap (λ (a : Asked). oneReleases m (callsAsked a)) (frame-asked h s 12 1 1 t refl q b)
+    ap (λ (a : Request). oneReleases m (callsRequested a)) (frame-request h s 15 8 n t refl q b) ∙ one-of (leb m n) (le-leb m n l)
+reason-releases m c (dropped h at s t q b) = ap (λ (a : Request). oneReleases m (callsRequested a)) (frame-request h s 12 1 1 t refl q b)
 reason-releases m c (handedIn n l) = one-of (leb m n) (le-leb m n l)
 
 -- none of the calls that causes make due releases the message
@@ -52,4 +52,4 @@ uncovered m (c ∷ cs) h (later k) = uncovered m cs (h .1) k
 -- what asks nothing releases nothing
 pub no-requests-holds : (m : ℕ) (es : List Entry) → NoRequests es → Holding m (map receives es)
 no-requests-holds m [] q = tt
-no-requests-holds m (e ∷ es) q = (ap (λ (a : Asked). oneReleases m (callsAsked a)) (q .0), no-requests-holds m es (q .1))
+no-requests-holds m (e ∷ es) q = (ap (λ (a : Request). oneReleases m (callsRequested a)) (q .0), no-requests-holds m es (q .1))

@@ -5,15 +5,15 @@ use mathlib.Core.Bool.{Bool, true, false, cond, _&&_}
 use Prim.Native.Nat.{ℕ, _+_, _-_}
 use lib.Dec.{leb, eqb}
 use Rattle.stream.specs.Stream.{Entry, Trace}
-use Rattle.connection.specs.Switched.{Switch, closes, spliced, traceWith}
+use Rattle.connection.specs.Switched.{Switch, endsFrame, spliced, traceWith}
 use Rattle.connection.specs.Calls.{SwitchedDemand3}
 use Rattle.session.specs.declared.Session.{Session}
 use Rattle.delivery.specs.declared.Delivery.{Delivery}
-use Rattle.delivery.specs.declared.Asked.the-variants as asked
+use Rattle.delivery.specs.declared.Request.the-variants as request
 use Rattle.delivery.specs.declared.Applied.{Applied}
-use Rattle.delivery.specs.Asked.{applied, doneTo}
+use Rattle.delivery.specs.Requests.{applied, doneTo}
 use Rattle.delivery.specs.Calls.{Call, piece, tried, accepted, handed, Chained, sessionAfter, Connection, switchOf, entriesUpTo, added, Does, nothing, one, Each}
-use Rattle.delivery.specs.Worked.{asksOf, ownCalls, ReleasesNothing, ours, store}
+use Rattle.delivery.specs.Worked.{entryRequest, ownCalls, ReleasesNothing, ours, store}
 use Rattle.connection.proofs.Prefixes.{upTo, trace-first}
 use Rattle.delivery.proofs.Reasons.{afterCalls}
 use Rattle.delivery.proofs.Claim.{on-connection, each}
@@ -22,7 +22,7 @@ use Rattle.delivery.proofs.Claim.{on-connection, each}
 
 abbrev pub NoRequests : List Entry → Type 0
 NoRequests [] = Unit {0}
-NoRequests (e ∷ es) = (asksOf e ≡ asked.Nothing) × NoRequests es
+NoRequests (e ∷ es) = (entryRequest e ≡ request.Nothing) × NoRequests es
 
 no-requests-first : (t : ℕ) (es : List Entry) → NoRequests es → NoRequests (upTo t es)
 no-requests-first t [] q = tt
@@ -39,7 +39,7 @@ no-requests-right (e ∷ es) fs q = no-requests-right es fs (q .1)
 -- with a switch behind one of them: where what is behind a frame has no entry
 abbrev pub NoRequestsBehind : (ℕ → List ℕ → Trace) → List Entry → Type 0
 NoRequestsBehind next [] = Unit {0}
-NoRequestsBehind next (e ∷ es) = (asksOf e ≡ asked.Nothing) × (closes (e .event) ≡ true → next (e .at) (e .store) .entries ≡ []) × NoRequestsBehind next es
+NoRequestsBehind next (e ∷ es) = (entryRequest e ≡ request.Nothing) × (endsFrame (e .event) ≡ true → next (e .at) (e .store) .entries ≡ []) × NoRequestsBehind next es
 
 no-requests-either : (b : Bool) (x y : Trace) → NoRequests (x .entries) → NoRequests (y .entries) → NoRequests (cond b x y .entries)
 no-requests-either true x y p q = p
@@ -48,9 +48,9 @@ no-requests-either false x y p q = q
 pub no-requests-spliced : (n : ℕ) (next : ℕ → List ℕ → Trace) (es : List Entry) (s : List ℕ) → NoRequestsBehind next es → NoRequests (spliced n next es s .entries)
 unfolding spliced
 no-requests-spliced n next [] s q = tt
-no-requests-spliced n next (e ∷ es) s q = (q .0, go (closes (e .event)) refl (λ m. no-requests-spliced m next es s (q .2)))
+no-requests-spliced n next (e ∷ es) s q = (q .0, go (endsFrame (e .event)) refl (λ m. no-requests-spliced m next es s (q .2)))
   where
-    go : (c : Bool) → closes (e .event) ≡ c → ((m : ℕ) → NoRequests (spliced m next es s .entries))
+    go : (c : Bool) → endsFrame (e .event) ≡ c → ((m : ℕ) → NoRequests (spliced m next es s .entries))
         → NoRequests (cond (c && eqb n 1) (next (e .at) (e .store)) (spliced (cond c (n - 1) n) next es s) .entries)
     go true h ih = no-requests-either (eqb n 1) (next (e .at) (e .store)) (spliced (n - 1) next es s) (rw (q .1 h) tt) (ih (n - 1))
     go false h ih = ih n

@@ -9,7 +9,7 @@ use Rattle.connection.specs.Calls.{takenBy, SwitchedDemand3}
 use Rattle.session.specs.declared.Session.{Session}
 use Rattle.session.specs.Laws as session
 use Rattle.delivery.specs.declared.Delivery.{Delivery}
-use Rattle.delivery.specs.Calls.{Call, piece, tried, accepted, handed, sessionAfter, Connection, onConnection, switchOf, entriesUpTo, added, Cause, receives, causesFrom, callsDue, Each, reportedIn}
+use Rattle.delivery.specs.Calls.{Call, piece, tried, accepted, handed, sessionAfter, Connection, onConnection, switchOf, entriesUpTo, added, Cause, receives, causesFrom, callsDue, Each, answersIn}
 use Rattle.delivery.specs.Worked.{ours, store, ownCalls, reading, Completes}
 use Rattle.connection.proofs.Prefixes.{upTo, trace-first}
 use Rattle.delivery.proofs.Claim.{on-connection, each, Plays, calls-play}
@@ -43,7 +43,7 @@ all-played demand sw bytes n call es has none once s k cs c ch made own all =
     ∙ ap (λ (t : ℕ). callsDue (map receives (entriesUpTo x t))) all
     ∙ ap (λ (l : List Entry). callsDue (map receives l)) (up n)
     ∙ once in
-    let p : Plays s (call ∷ []) (sessionAfter s cs) (reportedIn cs) =
-    subst (λ (y : Session). Plays y (call ∷ []) (sessionAfter y cs) (reportedIn cs)) e
-    (subst (λ (l : List session.Call). Plays (k .state .session) l (sessionAfter (k .state .session) cs) (reportedIn cs)) due (calls-play x (k .state) store 0 cs ch each-call)) in
+    let p : Plays s (call ∷ []) (sessionAfter s cs) (answersIn cs) =
+    subst (λ (y : Session). Plays y (call ∷ []) (sessionAfter y cs) (answersIn cs)) e
+    (subst (λ (l : List session.Call). Plays (k .state .session) l (sessionAfter (k .state .session) cs) (answersIn cs)) due (calls-play x (k .state) store 0 cs ch each-call)) in
     (p .leads, p .gives)

@@ -22,16 +22,16 @@ use Rattle.stream.specs.declared.Event.the-variants as event
 use Rattle.stream.specs.Stream.{entry}
 use Rattle.stream.proofs.Events.{by-frame}
 use Rattle.session.specs.declared.Session.{Session}
-use Rattle.session.specs.declared.Report.the-variants as report
+use Rattle.session.specs.declared.Answer.the-variants as answer
 use Rattle.session.specs.Calls.{message}
 use Rattle.session.specs.Laws as session
 use Rattle.session.specs.Laws.{callOf, eventOf}
 use Rattle.session.specs.History.{isHeld, fateOf, withFate, eventsOf, sessionBy}
 use Rattle.session.proofs.Releases.{releases, oneReleases, stays, among}
-use Rattle.delivery.specs.declared.Asked.{Asked}
-use Rattle.delivery.specs.declared.Asked.the-variants as asked
-use Rattle.delivery.specs.Asked.{asking, byBody, bodyOf, askedByFrame, askedBy}
-use Rattle.delivery.specs.Calls.{Cause, sends, hands, receives, callsAsked, callsBy, callsDue, played, Reason, acknowledged, dropped, handedIn, Covered}
+use Rattle.delivery.specs.declared.Request.{Request}
+use Rattle.delivery.specs.declared.Request.the-variants as request
+use Rattle.delivery.specs.Requests.{requestOf, byBody, bodyOf, requestByFrame, requestBy}
+use Rattle.delivery.specs.Calls.{Cause, sends, hands, receives, callsRequested, callsBy, callsDue, played, Reason, acknowledged, dropped, handedIn, Covered}
 use Rattle.delivery.specs.Calls as calls
 
 -- ---- bodies of one number
@@ -68,51 +68,51 @@ reads-12 s = within _ (leb (length s) segmentLimit) _ (settles s _ (resetOf (num
 
 -- ---- what a frame asks, and why
 
-data Asks (h : Header) (s : List ℕ) : Asked → Type 0 where
-  asks-nothing : Asks h s asked.Nothing
-  asks-bad : (n : Numbers) → Asks h s (asked.Malformed n)
-  asks-ack : (n : ℕ) → h .tag ≡ 20 → h .count ≡ 1 → bodyOf h s ≡ whole (oneNumberOf n) → Asks h s (asked.Ack n)
-  asks-reconnect : (n : ℕ) → h .tag ≡ 15 → h .count ≡ 1 → bodyOf h s ≡ whole (oneNumberOf n) → Asks h s (asked.Reconnect n)
-  asks-reset : (n : ℕ) → h .tag ≡ 12 → h .count ≡ 1 → bodyOf h s ≡ whole (resetOf n) → Asks h s (asked.Reset (eqb n 1))
+data Requests (h : Header) (s : List ℕ) : Request → Type 0 where
+  requests-nothing : Requests h s request.Nothing
+  requests-bad : (n : Numbers) → Requests h s (request.Malformed n)
+  requests-ack : (n : ℕ) → h .tag ≡ 20 → h .count ≡ 1 → bodyOf h s ≡ whole (oneNumberOf n) → Requests h s (request.Ack n)
+  requests-reconnect : (n : ℕ) → h .tag ≡ 15 → h .count ≡ 1 → bodyOf h s ≡ whole (oneNumberOf n) → Requests h s (request.Reconnect n)
+  requests-reset : (n : ℕ) → h .tag ≡ 12 → h .count ≡ 1 → bodyOf h s ≡ whole (resetOf n) → Requests h s (request.Reset (eqb n 1))
 
 module _ (h : Header) (s : List ℕ) where
   abbrev body : List ℕ
   body = take (h .s1 .len) s
 
   -- a body of one number, by what its tag asks
-  by-body : (w n : ℕ) (a : Asked) → asking (h .tag) n ≡ a → (h .count ≡ 1 → bodyOf h s ≡ whole (number w n ∷ []) → Asks h s a) → Reads (number w n ∷ []) (bodyOf h s) → Asks h s (byBody h (bodyOf h s))
+  by-body : (w n : ℕ) (a : Request) → requestOf (h .tag) n ≡ a → (h .count ≡ 1 → bodyOf h s ≡ whole (number w n ∷ []) → Requests h s a) → Reads (number w n ∷ []) (bodyOf h s) → Requests h s (byBody h (bodyOf h s))
   by-body w n a e k (is-whole x) = rw x (go (eqb (h .count) 1) refl)
     where
-      go : (b : Bool) → eqb (h .count) 1 ≡ b → Asks h s (cond b (asking (h .tag) n) (asked.Malformed (row 20 (h .s1 .len) 0 0)))
-      go true c = subst (λ (d : Asked). Asks h s d) (sym e) (k (eqb-true (h .count) 1 c) x)
-      go false c = asks-bad _
-  by-body w n a e k (is-refused r x) = rw x (asks-bad r)
+      go : (b : Bool) → eqb (h .count) 1 ≡ b → Requests h s (cond b (requestOf (h .tag) n) (request.Malformed (row 20 (h .s1 .len) 0 0)))
+      go true c = subst (λ (d : Request). Requests h s d) (sym e) (k (eqb-true (h .count) 1 c) x)
+      go false c = requests-bad _
+  by-body w n a e k (is-refused r x) = rw x (requests-bad r)
 
-  by-20 : h .tag ≡ 20 → Asks h s (byBody h (bodyOf h s))
+  by-20 : h .tag ≡ 20 → Requests h s (byBody h (bodyOf h s))
   by-20 e =
       let n = numberAt 8 0 body in
-      by-body 8 n (asked.Ack n) (ap (λ (t : ℕ). asking t n) e) (asks-ack n e) (subst (λ (t : ℕ). Reads (oneNumberOf n) (readBody t body)) (sym e) (reads-20 body))
+      by-body 8 n (request.Ack n) (ap (λ (t : ℕ). requestOf t n) e) (requests-ack n e) (subst (λ (t : ℕ). Reads (oneNumberOf n) (readBody t body)) (sym e) (reads-20 body))
 
-  by-15 : h .tag ≡ 15 → Asks h s (byBody h (bodyOf h s))
+  by-15 : h .tag ≡ 15 → Requests h s (byBody h (bodyOf h s))
   by-15 e =
       let n = numberAt 8 0 body in
-      by-body 8 n (asked.Reconnect n) (ap (λ (t : ℕ). asking t n) e) (asks-reconnect n e) (subst (λ (t : ℕ). Reads (oneNumberOf n) (readBody t body)) (sym e) (reads-15 body))
+      by-body 8 n (request.Reconnect n) (ap (λ (t : ℕ). requestOf t n) e) (requests-reconnect n e) (subst (λ (t : ℕ). Reads (oneNumberOf n) (readBody t body)) (sym e) (reads-15 body))
 
-  by-12 : h .tag ≡ 12 → Asks h s (byBody h (bodyOf h s))
+  by-12 : h .tag ≡ 12 → Requests h s (byBody h (bodyOf h s))
   by-12 e =
       let n = numberAt 1 0 body in
-      by-body 1 n (asked.Reset (eqb n 1)) (ap (λ (t : ℕ). asking t n) e) (asks-reset n e) (subst (λ (t : ℕ). Reads (resetOf n) (readBody t body)) (sym e) (reads-12 body))
+      by-body 1 n (request.Reset (eqb n 1)) (ap (λ (t : ℕ). requestOf t n) e) (requests-reset n e) (subst (λ (t : ℕ). Reads (resetOf n) (readBody t body)) (sym e) (reads-12 body))
 
-  frame-asks : Asks h s (askedByFrame h s)
-  unfolding askedByFrame
-  frame-asks = go (eqb (h .tag) 20) (eqb (h .tag) 15) (eqb (h .tag) 12) (λ e. by-20 (eqb-true (h .tag) 20 e)) (λ e. by-15 (eqb-true (h .tag) 15 e)) (λ e. by-12 (eqb-true (h .tag) 12 e))
+  frame-requests : Requests h s (requestByFrame h s)
+  unfolding requestByFrame
+  frame-requests = go (eqb (h .tag) 20) (eqb (h .tag) 15) (eqb (h .tag) 12) (λ e. by-20 (eqb-true (h .tag) 20 e)) (λ e. by-15 (eqb-true (h .tag) 15 e)) (λ e. by-12 (eqb-true (h .tag) 12 e))
     where
-      go : (x y z : Bool) → (x ≡ true → Asks h s (byBody h (bodyOf h s))) → (y ≡ true → Asks h s (byBody h (bodyOf h s))) → (z ≡ true → Asks h s (byBody h (bodyOf h s)))
-          → Asks h s (cond (x || (y || z)) (byBody h (bodyOf h s)) asked.Nothing)
+      go : (x y z : Bool) → (x ≡ true → Requests h s (byBody h (bodyOf h s))) → (y ≡ true → Requests h s (byBody h (bodyOf h s))) → (z ≡ true → Requests h s (byBody h (bodyOf h s)))
+          → Requests h s (cond (x || (y || z)) (byBody h (bodyOf h s)) request.Nothing)
       go true y z f g k = f refl
       go false true z f g k = g refl
       go false false true f g k = k refl
-      go false false false f g k = asks-nothing
+      go false false false f g k = requests-nothing
 
 -- ---- reasons
 
@@ -120,12 +120,12 @@ either-way : (b : Bool) → cond b true false ≡ true → b ≡ true
 either-way true e = refl
 either-way false e = e
 
-frame-reason : (m : ℕ) (h : Header) (at : ℕ) (s : List ℕ) (a : Asked) → Asks h s a → oneReleases m (callsAsked a) ≡ true → Reason m (receives (entry (event.Frame h) at s))
-frame-reason m h at s a asks-nothing e = absurd (true≢false (sym e))
-frame-reason m h at s a (asks-bad n) e = absurd (true≢false (sym e))
-frame-reason m h at s a (asks-ack n t q b) e = acknowledged h at n s (inl t) q b (leb-true m n (either-way (leb m n) e))
-frame-reason m h at s a (asks-reconnect n t q b) e = acknowledged h at n s (inr t) q b (leb-true m n (either-way (leb m n) e))
-frame-reason m h at s a (asks-reset n t q b) e =
+frame-reason : (m : ℕ) (h : Header) (at : ℕ) (s : List ℕ) (a : Request) → Requests h s a → oneReleases m (callsRequested a) ≡ true → Reason m (receives (entry (event.Frame h) at s))
+frame-reason m h at s a requests-nothing e = absurd (true≢false (sym e))
+frame-reason m h at s a (requests-bad n) e = absurd (true≢false (sym e))
+frame-reason m h at s a (requests-ack n t q b) e = acknowledged h at n s (inl t) q b (leb-true m n (either-way (leb m n) e))
+frame-reason m h at s a (requests-reconnect n t q b) e = acknowledged h at n s (inr t) q b (leb-true m n (either-way (leb m n) e))
+frame-reason m h at s a (requests-reset n t q b) e =
     let f : n ≡ 1 = eqb-true n 1 (either-way (eqb n 1) e) in
     dropped h at s t q (b ∙ ap (λ (k : ℕ). whole (resetOf k)) f)
 
@@ -133,8 +133,8 @@ pub reason : (m : ℕ) (c : Cause) → oneReleases m (callsBy c) ≡ true → Re
 reason m (sends h) e = absurd (true≢false (sym e))
 reason m (hands n) e = handedIn n (leb-true m n (either-way (leb m n) e))
 reason m (receives e) i =
-    by-frame (λ w. oneReleases m (callsAsked (askedBy w (e .store))) ≡ true → Reason m (receives (entry w (e .at) (e .store))))
-    (λ h j. frame-reason m h (e .at) (e .store) (askedByFrame h (e .store)) (frame-asks h (e .store)) j)
+    by-frame (λ w. oneReleases m (callsRequested (requestBy w (e .store))) ≡ true → Reason m (receives (entry w (e .at) (e .store))))
+    (λ h j. frame-reason m h (e .at) (e .store) (requestByFrame h (e .store)) (frame-requests h (e .store)) j)
     (λ w o j. absurd (true≢false (sym (rw o at j))))
     (e .event)
     i
@@ -153,9 +153,9 @@ stay m (c ∷ cs) ds s e = go (releases m c) refl (stay m cs ds (callOf s c .ses
   where
     go : (b : Bool) → releases m c ≡ b → (oneReleases m cs ≡ false → fateOf m (eventsFrom (callOf s c .session) (cs ++ ds)) ≡ fateOf m (eventsFrom (afterCalls (callOf s c .session) cs) ds))
         → cond b true (oneReleases m cs) ≡ false
-        → fateOf m (eventOf c (callOf s c .report) ∷ eventsFrom (callOf s c .session) (cs ++ ds)) ≡ fateOf m (eventsFrom (afterCalls (callOf s c .session) cs) ds)
+        → fateOf m (eventOf c (callOf s c .answer) ∷ eventsFrom (callOf s c .session) (cs ++ ds)) ≡ fateOf m (eventsFrom (afterCalls (callOf s c .session) cs) ds)
     go true q ih e = absurd (true≢false e)
-    go false q ih e = stays m c (callOf s c .report) (eventsFrom (callOf s c .session) (cs ++ ds)) q ∙ ih e
+    go false q ih e = stays m c (callOf s c .answer) (eventsFrom (callOf s c .session) (cs ++ ds)) q ∙ ih e
 
 -- a message is held, by what is done after it was sent, or there is a reason why it is not
 pub held-or-covered : (m : ℕ) (cs : List Cause) (s : Session) → (fateOf m (eventsFrom s (callsDue cs)) ≡ isHeld) ⊎ Covered m cs
@@ -173,10 +173,10 @@ held-or-covered m (c ∷ cs) s = go (oneReleases m (callsBy c)) refl (held-or-co
 
 pub events-append : (s : Session) (cs ds : List session.Call) → eventsFrom s (cs ++ ds) ≡ eventsFrom s cs ++ eventsFrom (afterCalls s cs) ds
 events-append s [] ds = refl
-events-append s (c ∷ cs) ds = ap (λ (es : List session.Event). eventOf c (callOf s c .report) ∷ es) (events-append (callOf s c .session) cs ds)
+events-append s (c ∷ cs) ds = ap (λ (es : List session.Event). eventOf c (callOf s c .answer) ∷ es) (events-append (callOf s c .session) cs ds)
 
 -- of a message that was sent behind the calls cs, where the causes since are known
-pub sent-held : (s : Session) (cs : List session.Call) (since : List Cause) (h m : ℕ) → callOf (afterCalls s cs) (session.accept h) .report ≡ report.Accepted m
+pub sent-held : (s : Session) (cs : List session.Call) (since : List Cause) (h m : ℕ) → callOf (afterCalls s cs) (session.accept h) .answer ≡ answer.Accepted m
     → List·Memᴰ (message m h) (withFate isHeld (eventsFrom s (cs ++ (session.accept h ∷ callsDue since)))) ⊎ Covered m since
 sent-held s cs since h m e = go (held-or-covered m since (callOf (afterCalls s cs) (session.accept h) .session))
   where

@@ -22,24 +22,24 @@ use Rattle.connection.specs.Calls as connection
 use Rattle.connection.specs.Calls.{taking, switching, switchBy, OneMade, AsSwitched}
 use Rattle.session.specs.declared.Session.{Session}
 use Rattle.session.specs.declared.Message.{Message}
-use Rattle.session.specs.declared.Report.{Report}
-use Rattle.session.specs.declared.Report.the-variants.{Accepted}
+use Rattle.session.specs.declared.Answer.{Answer}
+use Rattle.session.specs.declared.Answer.the-variants.{Accepted}
 use Rattle.session.specs.Calls.{message, heldOf, freshSession}
 use Rattle.session.specs.Laws as session
 use Rattle.session.specs.Laws.{callOf}
 use Rattle.session.specs.History as history
 use Rattle.session.specs.History.{sessionBy, Accounted}
 use Rattle.delivery.specs.declared.Delivery.{Delivery}
-use Rattle.delivery.specs.declared.Asked.{Asked}
-use Rattle.delivery.specs.declared.Asked.the-variants as asked
+use Rattle.delivery.specs.declared.Request.{Request}
+use Rattle.delivery.specs.declared.Request.the-variants as request
 use Rattle.delivery.specs.declared.Effect.{Effect}
 use Rattle.delivery.specs.declared.Effect.the-variants as effect
 use Rattle.delivery.specs.declared.Applied.{Applied}
 use Rattle.delivery.specs.declared.Delivered.{Delivered}
 use Rattle.delivery.specs.declared.Switched.{Switched}
-use Rattle.delivery.specs.declared.Sent.{Sent}
+use Rattle.delivery.specs.declared.SessionCalled.{SessionCalled}
 use Rattle.delivery.specs.declared.Connected.{Connected}
-use Rattle.delivery.specs.Asked.{bodyOf, askedBy, applied, doneTo, receivedBy, switchedBy, Delivers, Switches, Called, ConnectedWith}
+use Rattle.delivery.specs.Requests.{bodyOf, requestBy, applied, doneTo, receivedBy, switchedBy, Delivers, Switches, Called, ConnectedWith}
 
 -- ---- connections and the calls on them
 
@@ -49,9 +49,9 @@ pub data Call : Type 0 where
   -- a try to switch, with a key and the nonce of each direction: what `switch` handed back
   tried : (key receiving sending : List ℕ) → Switched → Call
   -- a message with this handle was sent: what `accept` handed back
-  accepted : ℕ → Sent → Call
-  -- a message's header had this number: what `acknowledge` handed back
-  handed : ℕ → Sent → Call
+  accepted : ℕ → SessionCalled → Call
+  -- a message's header had this number: what `ack` handed back
+  handed : ℕ → SessionCalled → Call
 
 -- each call meets its promise, from the state and the store that the last one left; t bytes of the stream are taken
 abbrev pub Chained : List ℕ → Delivery → List ℕ → ℕ → List Call → Type 0
@@ -129,17 +129,17 @@ causesOf (k ∷ ks) = causesFrom k 0 (k .calls) ++ causesOf ks
 
 -- ---- the session's own calls that are due
 
-abbrev pub callsAsked : Asked → List session.Call
-callsAsked asked.Nothing = []
-callsAsked (asked.Ack n) = session.ack n ∷ []
-callsAsked (asked.Reconnect n) = session.reconnect n ∷ []
-callsAsked (asked.Reset full) = session.reset full ∷ []
-callsAsked (asked.Malformed n) = []
+abbrev pub callsRequested : Request → List session.Call
+callsRequested request.Nothing = []
+callsRequested (request.Ack n) = session.ack n ∷ []
+callsRequested (request.Reconnect n) = session.reconnect n ∷ []
+callsRequested (request.Reset full) = session.reset full ∷ []
+callsRequested (request.Malformed n) = []
 
 abbrev pub callsBy : Cause → List session.Call
 callsBy (sends h) = session.accept h ∷ []
 callsBy (hands n) = session.ack n ∷ []
-callsBy (receives e) = callsAsked (askedBy (e .event) (e .store))
+callsBy (receives e) = callsRequested (requestBy (e .event) (e .store))
 
 abbrev pub callsDue : List Cause → List session.Call
 callsDue [] = []
@@ -158,7 +158,7 @@ historyOf cs = played freshSession (callsDue cs)
 -- what was done to the session s, by the entries that the bytes of a call added: at most one, at the last byte taken
 pub data Does (s : Session) (t′ : ℕ) (d : Applied) : List Entry → Type 0 where
   nothing : d ≡ applied s effect.Nothing → Does s t′ d []
-  one : (e : Entry) → e .at ≡ t′ → d ≡ doneTo s (askedBy (e .event) (e .store)) → Does s t′ d (e ∷ [])
+  one : (e : Entry) → e .at ≡ t′ → d ≡ doneTo s (requestBy (e .event) (e .store)) → Does s t′ d (e ∷ [])
 
 abbrev pub Each : Connection → Session → ℕ → List Call → Type 0
 Each k s t [] = Unit {0}
@@ -177,42 +177,42 @@ EachOf s (k ∷ ks) = Each k s 0 (k .calls) × EachOf (sessionAfter s (k .calls)
 -- ---- what the caller is told
 
 -- by an effect: the session's answer, if it was asked
-abbrev pub reportedBy : Effect → List Report
-reportedBy effect.Nothing = []
-reportedBy (effect.Malformed n) = []
-reportedBy (effect.Answer r) = r ∷ []
+abbrev pub answersBy : Effect → List Answer
+answersBy effect.Nothing = []
+answersBy (effect.Malformed n) = []
+answersBy (effect.Answer r) = r ∷ []
 
-abbrev pub reportedIn : List Call → List Report
-reportedIn [] = []
-reportedIn (piece size r s′ ∷ cs) = reportedBy (r .effect) ++ reportedIn cs
-reportedIn (tried key receiving sending r ∷ cs) = reportedIn cs
-reportedIn (accepted h r ∷ cs) = r .report ∷ reportedIn cs
-reportedIn (handed n r ∷ cs) = r .report ∷ reportedIn cs
+abbrev pub answersIn : List Call → List Answer
+answersIn [] = []
+answersIn (piece size r s′ ∷ cs) = answersBy (r .effect) ++ answersIn cs
+answersIn (tried key receiving sending r ∷ cs) = answersIn cs
+answersIn (accepted h r ∷ cs) = r .answer ∷ answersIn cs
+answersIn (handed n r ∷ cs) = r .answer ∷ answersIn cs
 
 -- THE SESSION'S ANSWERS, in the order in which the calls tell them
-abbrev pub reportedOf : List Connection → List Report
-reportedOf [] = []
-reportedOf (k ∷ ks) = reportedIn (k .calls) ++ reportedOf ks
+abbrev pub answersOf : List Connection → List Answer
+answersOf [] = []
+answersOf (k ∷ ks) = answersIn (k .calls) ++ answersOf ks
 
 -- those of a history
-abbrev pub reportsIn : List history.Entry → List Report
-reportsIn [] = []
-reportsIn (e ∷ es) = e .outcome .report ∷ reportsIn es
+abbrev pub historyAnswers : List history.Entry → List Answer
+historyAnswers [] = []
+historyAnswers (e ∷ es) = e .outcome .answer ∷ historyAnswers es
 
 -- `connect` says whether our own features are refused; where they are, the definition has no entry, whatever comes
 pub record Starts (k : Connection) : Type 0 where
-  pub verdict : judgedBy (k .connected .verdict) ≡ judgeOwn (k .own .supported) (k .own .required)
-  pub refuses : (n : Numbers) → judgedBy (k .connected .verdict) ≡ refused n → (t : ℕ) → entriesUpTo k t ≡ []
+  pub judgement : judgedBy (k .connected .judgement) ≡ judgeOwn (k .own .supported) (k .own .required)
+  pub refuses : (n : Numbers) → judgedBy (k .connected .judgement) ≡ refused n → (t : ℕ) → entriesUpTo k t ≡ []
 
 abbrev pub StartsOf : List Connection → Type 0
 StartsOf [] = Unit {0}
 StartsOf (k ∷ ks) = Starts k × StartsOf ks
 
--- what a try to switch gives the builder is by its verdict: the key and the nonce where the switch was made, and else nothing to build with
+-- what a try to switch gives the builder is by its judgement: the key and the nonce where the switch was made, and else nothing to build with
 abbrev pub Given : List Call → Type 0
 Given [] = Unit {0}
 Given (piece size r s′ ∷ cs) = Given cs
-Given (tried key receiving sending r ∷ cs) = (r .sending ≡ switchedSending (judgedBy (r .verdict)) key sending) × Given cs
+Given (tried key receiving sending r ∷ cs) = (r .sending ≡ switchedSending (judgedBy (r .judgement)) key sending) × Given cs
 Given (accepted h r ∷ cs) = Given cs
 Given (handed n r ∷ cs) = Given cs
 
@@ -271,13 +271,13 @@ pub record Acknowledged (ks : List Connection) : Type 0 where
   -- of these K13's claim holds: what is held is what they neither acknowledged nor dropped
   pub accounted : Accounted (historyOf (causesOf ks))
   -- and the answers that the caller is told are their answers, in order, none left out
-  pub reported : reportedOf ks ≡ reportsIn (historyOf (causesOf ks))
+  pub answers : answersOf ks ≡ historyAnswers (historyOf (causesOf ks))
   -- each connection began as `connect` said, and was switched once at most, as `switch` said
   pub starts : StartsOf ks
   pub switches : SwitchesOf ks
   -- a message m that was sent, with the handle h, is still held, or one of the causes since then is a reason why it is not
   pub released : (before since : List Cause) (h m : ℕ) → causesOf ks ≡ before ++ (sends h ∷ since)
-      → callOf (sessionBy freshSession (historyOf before)) (session.accept h) .report ≡ Accepted m
+      → callOf (sessionBy freshSession (historyOf before)) (session.accept h) .answer ≡ Accepted m
       → List·Memᴰ (message m h) (heldOf (sessionAfterAll freshSession ks)) ⊎ Covered m since
 
 -- the lists may end anywhere, so it holds after every call

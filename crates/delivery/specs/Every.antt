@@ -9,10 +9,10 @@ use Rattle.stream.specs.Events.{isFrame, roleOf}
 use Rattle.stream.specs.Stream.{entry}
 use Rattle.receiver.specs.declared.Report.{Report}
 use Rattle.receiver.specs.declared.Report.the-variants as report
-use Rattle.receiver.specs.Step.{contradiction}
+use Rattle.refusal.specs.Refusals.{contradiction}
 use Rattle.connection.specs.Step.{agrees}
 use Rattle.connection.specs.Every.{Refuses}
-use Rattle.session.specs.declared.Report.the-variants as answer
+use Rattle.session.specs.declared.Answer.the-variants as answer
 use Rattle.session.specs.Calls as session
 use Rattle.session.specs.Calls.{places}
 use Rattle.session.specs.Laws.{accept, ack}
@@ -20,8 +20,8 @@ use Rattle.delivery.specs.declared.Delivery.{Delivery}
 use Rattle.delivery.specs.declared.Effect.{Effect}
 use Rattle.delivery.specs.declared.Effect.the-variants as effect
 use Rattle.delivery.specs.declared.Delivered.{Delivered}
-use Rattle.delivery.specs.declared.Sent.{Sent}
-use Rattle.delivery.specs.Asked.{forSession, roleHeader, receivedBy, Delivers, Called}
+use Rattle.delivery.specs.declared.SessionCalled.{SessionCalled}
+use Rattle.delivery.specs.Requests.{forSession, roleHeader, receivedBy, Delivers, Called}
 use Rattle.delivery.specs.Calls.{Cause, hands, receives, Leaves}
 
 -- a whole frame with one of the session's tags is reported
@@ -30,13 +30,13 @@ speaks report.More = false
 speaks (report.Event e) = isFrame e && forSession (roleHeader (roleOf e) .tag)
 
 -- 20, or a refusal of the session
-abbrev pub askedRefused : Effect → Bool
-askedRefused effect.Nothing = false
-askedRefused (effect.Malformed n) = true
-askedRefused (effect.Answer (answer.Accepted n)) = false
-askedRefused (effect.Answer answer.Done) = false
-askedRefused (effect.Answer (answer.Resend n)) = false
-askedRefused (effect.Answer (answer.Refused n)) = true
+abbrev pub requestRefused : Effect → Bool
+requestRefused effect.Nothing = false
+requestRefused (effect.Malformed n) = true
+requestRefused (effect.Answer (answer.Accepted n)) = false
+requestRefused (effect.Answer answer.Done) = false
+requestRefused (effect.Answer (answer.Resend n)) = false
+requestRefused (effect.Answer (answer.Refused n)) = true
 
 -- what is reported, as a cause: at the last byte taken of the piece, with the store then
 abbrev pub reportedCause : Report → ℕ → List ℕ → List Cause
@@ -55,15 +55,15 @@ pub record Sound (st : Delivery) (s piece : List ℕ) (r : Delivered) (s′ : Li
   pub contradicts : agrees (st .receiver) ≡ false → Refuses (st .receiver) contradiction s (receivedBy r) s′ × Untouched st r
   -- a session that contradicts itself stays as it is, and so does one that turns away what is asked
   pub broken : session.agrees (st .session) ≡ false → r .state .session ≡ st .session
-  pub unchanged : askedRefused (r .effect) ≡ true → r .state .session ≡ st .session
+  pub unchanged : requestRefused (r .effect) ≡ true → r .state .session ≡ st .session
   -- a message that was held before the call and is not held after it has its reason in what the call reports
   pub leaves : Leaves (st .session) (r .state .session) (reportedCause (r .report) (r .taken) s′)
 
 -- a call of the session: the receiving side is as it was, and a message leaves for these causes alone
-pub record SoundSent (st : Delivery) (r : Sent) (causes : List Cause) : Type 0 where
+pub record SoundSessionCall (st : Delivery) (r : SessionCalled) (causes : List Cause) : Type 0 where
   pub receiver : r .state .receiver ≡ st .receiver
   pub broken : session.agrees (st .session) ≡ false → r .state .session ≡ st .session
-  pub unchanged : (n : Numbers) → r .report ≡ answer.Refused n → r .state .session ≡ st .session
+  pub unchanged : (n : Numbers) → r .answer ≡ answer.Refused n → r .state .session ≡ st .session
   pub leaves : Leaves (st .session) (r .state .session) causes
 
 -- THE CLAIM, of a session that has its 64 places, as every one has
@@ -71,5 +71,5 @@ unfoldable pub EveryCall : Type 0
 EveryCall =
     (st : Delivery) → length (st .session .handles) ≡ places
     → ((s piece : List ℕ) (r : Delivered) (s′ : List ℕ) → Delivers st s piece r s′ → Sound st s piece r s′)
-    × ((h : ℕ) (r : Sent) → Called st (accept h) r → SoundSent st r [])
-    × ((n : ℕ) (r : Sent) → Called st (ack n) r → SoundSent st r (hands n ∷ []))
+    × ((h : ℕ) (r : SessionCalled) → Called st (accept h) r → SoundSessionCall st r [])
+    × ((n : ℕ) (r : SessionCalled) → Called st (ack n) r → SoundSessionCall st r (hands n ∷ []))

@@ -1,4 +1,4 @@
-pub mod Asked
+pub mod Requests
 pub mod Calls
 pub mod Every
 pub mod Worked

@@ -17,22 +17,22 @@ use Rattle.connection.specs.Switched.{Switch, none, behind, traceWith}
 use Rattle.connection.specs.Calls.{takenBy, switchBy}
 use Rattle.session.specs.declared.Session.{Session}
 use Rattle.session.specs.declared.Message.{Message}
-use Rattle.session.specs.declared.Report.{Report}
-use Rattle.session.specs.declared.Report.the-variants.{Accepted, Done, Resend, Refused}
+use Rattle.session.specs.declared.Answer.{Answer}
+use Rattle.session.specs.declared.Answer.the-variants.{Accepted, Done, Resend, Refused}
 use Rattle.session.specs.declared.Held.{Held}
 use Rattle.session.specs.declared.Held.the-variants.{At}
 use Rattle.session.specs.Calls.{heldOf, freshSession}
 use Rattle.session.specs.Laws as session
 use Rattle.session.specs.Laws.{callOf, resentBy}
 use Rattle.session.specs.History.{sessionBy}
-use Rattle.delivery.specs.declared.Asked.{Asked}
-use Rattle.delivery.specs.declared.Asked.the-variants.{Nothing, Ack, Reconnect, Reset, Malformed}
+use Rattle.delivery.specs.declared.Request.{Request}
+use Rattle.delivery.specs.declared.Request.the-variants.{Nothing, Ack, Reconnect, Reset, Malformed}
 use Rattle.delivery.specs.declared.Effect.{Effect}
 use Rattle.delivery.specs.declared.Effect.the-variants as effect
 use Rattle.delivery.specs.declared.Applied.{Applied}
 use Rattle.delivery.specs.declared.Connected.{Connected}
-use Rattle.delivery.specs.Asked.{askedByFrame, askedBy, applied, doneTo, ConnectedWith}
-use Rattle.delivery.specs.Calls.{Call, piece, tried, accepted, handed, Chained, sessionAfter, Connection, Connects, sessionAfterAll, onConnection, sends, hands, receives, callsDue, played, historyOf, reportedIn, reportsIn, Covered}
+use Rattle.delivery.specs.Requests.{requestByFrame, requestBy, applied, doneTo, ConnectedWith}
+use Rattle.delivery.specs.Calls.{Call, piece, tried, accepted, handed, Chained, sessionAfter, Connection, Connects, sessionAfterAll, onConnection, sends, hands, receives, callsDue, played, historyOf, answersIn, historyAnswers, Covered}
 
 -- ---- what the rows are made of
 
@@ -42,12 +42,12 @@ ours = features 1 0
 abbrev pub store : List ℕ
 store = replicate 48 0xAA
 
-abbrev pub asksOf : Entry → Asked
-asksOf e = askedBy (e .event) (e .store)
+abbrev pub entryRequest : Entry → Request
+entryRequest e = requestBy (e .event) (e .store)
 
 -- what each entry of a stream asks
-abbrev pub asks : List ℕ → List Asked
-asks stream = map asksOf (traceOf ours stream store .entries)
+abbrev pub requests : List ℕ → List Request
+requests stream = map entryRequest (traceOf ours stream store .entries)
 
 -- a preamble with one segment, of a tag, a length and the two bytes of an alignment, and its checksum; most have an alignment of 8
 abbrev aligned : ℕ → ℕ → ℕ → ℕ → List ℕ → List ℕ
@@ -80,15 +80,15 @@ abbrev pub filledUp : List ℕ
 filledUp = firstHalf ++ take 28 (drop 48 message)
 
 -- the frames behind either banner
-abbrev behind21 : List ℕ → List Asked → Row (List Asked)
-behind21 frames wanted = asks (bannerBytes 1 0 ++ frames) ⇒ (Nothing ∷ wanted)
+abbrev behind21 : List ℕ → List Request → Row (List Request)
+behind21 frames wanted = requests (bannerBytes 1 0 ++ frames) ⇒ (Nothing ∷ wanted)
 
-abbrev behind20 : List ℕ → List Asked → Row (List Asked)
-behind20 frames wanted = asks (bannerBytes 0 0 ++ frames) ⇒ (Nothing ∷ wanted)
+abbrev behind20 : List ℕ → List Request → Row (List Request)
+behind20 frames wanted = requests (bannerBytes 0 0 ++ frames) ⇒ (Nothing ∷ wanted)
 
 -- ---- the fault
 
-unfoldable pub faultRows : List (Row (List Asked))
+unfoldable pub faultRows : List (Row (List Request))
 faultRows =
     -- what that receiver took the first half for: an acknowledgement of 3, with all its checksums right
     behind21 filledUp (Ack 3 ∷ [])
@@ -127,7 +127,7 @@ Any sw = Unit {0}
 abbrev pub Completes : Switch → List ℕ → ℕ → session.Call → Type 0
 Completes sw stream n call =
     (s : Session) (k : Connected) (cs : List Call) → ConnectedWith s ours k → Chained stream (k .state) store 0 cs → switchBy 0 (onConnection cs) ≡ sw → ownCalls cs ≡ []
-    → takenBy 0 (onConnection cs) ≡ n → (sessionAfter s cs ≡ callOf s call .session) × (reportedIn cs ≡ callOf s call .report ∷ [])
+    → takenBy 0 (onConnection cs) ≡ n → (sessionAfter s cs ≡ callOf s call .session) × (answersIn cs ≡ callOf s call .answer ∷ [])
 
 -- ---- what is released
 
@@ -176,7 +176,7 @@ againBy effect.Nothing s = []
 againBy (effect.Malformed n) s = []
 againBy (effect.Answer r) s = resentBy r s
 
-abbrev resultOf : Asked → Result
+abbrev resultOf : Request → Result
 resultOf a = result (heldOf (doneTo sent a .session)) (doneTo sent a .effect) (againBy (doneTo sent a .effect) (doneTo sent a .session))
 
 unfoldable pub resultRows : List (Row Result)
@@ -202,16 +202,16 @@ resultRows =
 abbrev broken : Session
 broken = record { handles = replicate 64 0; released = 1; last = 0 }
 
-abbrev says26 : Asked → Row Applied
+abbrev says26 : Request → Row Applied
 says26 a = doneTo broken a ⇒ applied broken (effect.Answer (Refused (row 26 0 0 0)))
 
 unfoldable pub brokenRows : List (Row Applied)
 brokenRows = says26 (Reset true) ∷ says26 (Reset false) ∷ says26 (Ack 0) ∷ says26 (Reconnect 1) ∷ []
 
 -- what the caller's own calls are told
-unfoldable pub answerRows : List (Row (List Report))
+unfoldable pub answerRows : List (Row (List Answer))
 answerRows =
-    reportsIn (historyOf (sends 7 ∷ sends 8 ∷ hands 1 ∷ hands 3 ∷ [])) ⇒ (Accepted 1 ∷ Accepted 2 ∷ Done ∷ Refused (row 23 0 0 0) ∷ [])
+    historyAnswers (historyOf (sends 7 ∷ sends 8 ∷ hands 1 ∷ hands 3 ∷ [])) ⇒ (Accepted 1 ∷ Accepted 2 ∷ Done ∷ Refused (row 23 0 0 0) ∷ [])
     ∷ []
 
 -- ---- a connection that ends in an acknowledgement, and the next one, which tells how far the peer came
@@ -230,7 +230,7 @@ Resumes =
     (k l : Connected) (cs ds : List Call) → Connects freshSession (reading split k cs ∷ reading resumed l ds ∷ [])
     → ownCalls cs ≡ session.accept 7 ∷ session.accept 8 ∷ []
     → switchBy 0 (onConnection ds) ≡ none → ownCalls ds ≡ [] → takenBy 0 (onConnection ds) ≡ length resumed
-    → (heldOf (sessionAfterAll freshSession (reading split k cs ∷ reading resumed l ds ∷ [])) ≡ second ∷ []) × (reportedIn ds ≡ Resend 1 ∷ [])
+    → (heldOf (sessionAfterAll freshSession (reading split k cs ∷ reading resumed l ds ∷ [])) ≡ second ∷ []) × (answersIn ds ≡ Resend 1 ∷ [])
 
 -- ---- other frames
 
@@ -265,7 +265,7 @@ reset2 = preamble 12 1 (0x4A ∷ 0xBB ∷ 0x98 ∷ 0x19 ∷ []) ++ (2 ∷ 0x59 �
 abbrev pub tag10 : List ℕ
 tag10 = preamble 10 8 (0x67 ∷ 0xC8 ∷ 0xE7 ∷ 0x9E ∷ []) ++ seq 1 ++ (0x52 ∷ 0x30 ∷ 0xEB ∷ 0x3A ∷ [])
 
-unfoldable pub frameRows : List (Row (List Asked))
+unfoldable pub frameRows : List (Row (List Request))
 frameRows =
     -- a reconnect_ok
     behind21 (preamble 15 8 (0x61 ∷ 0x82 ∷ 0x7C ∷ 0xBF ∷ []) ++ seq 2 ++ (0x3B ∷ 0xB7 ∷ 0xAF ∷ 0xE1 ∷ [])) (Reconnect 2 ∷ [])
@@ -303,10 +303,10 @@ frameRows =
     ∷ []
 
 -- every tag, on a whole frame of one segment whose body is the number 1
-abbrev one : ℕ → Asked
-one tag = askedByFrame (header tag 1 (segment 8 8) (segment 0 0) (segment 0 0) (segment 0 0)) (seq 1 ++ store)
+abbrev one : ℕ → Request
+one tag = requestByFrame (header tag 1 (segment 8 8) (segment 0 0) (segment 0 0) (segment 0 0)) (seq 1 ++ store)
 
-unfoldable pub tagRows : List (Row (List Asked))
+unfoldable pub tagRows : List (Row (List Request))
 tagRows =
     map one (1 ∷ 2 ∷ 3 ∷ 4 ∷ 5 ∷ 6 ∷ 7 ∷ 8 ∷ 9 ∷ 10 ∷ 11 ∷ []) ⇒ replicate 11 Nothing
     -- a reset has a body of one byte
@@ -315,20 +315,20 @@ tagRows =
     ∷ []
 
 -- resets by their byte: only 1 is full
-abbrev resetBy : ℕ → Asked
-resetBy b = askedByFrame (header 12 1 (segment 1 8) (segment 0 0) (segment 0 0) (segment 0 0)) (b ∷ store)
+abbrev resetBy : ℕ → Request
+resetBy b = requestByFrame (header 12 1 (segment 1 8) (segment 0 0) (segment 0 0) (segment 0 0)) (b ∷ store)
 
-unfoldable pub resetRows : List (Row (List Asked))
+unfoldable pub resetRows : List (Row (List Request))
 resetRows =
     map resetBy (0 ∷ 1 ∷ 2 ∷ []) ⇒ (Reset false ∷ Reset true ∷ Reset false ∷ [])
     ∷ map resetBy (3 ∷ 128 ∷ 255 ∷ []) ⇒ replicate 3 (Reset false)
     ∷ []
 
 -- whole frames by their segments' lengths: what is left over is malformed, behind a body that reads well, and else the body's own fault is told
-abbrev segmented : ℕ → ℕ → ℕ → ℕ → ℕ → ℕ → Asked
-segmented tag count a b c d = askedByFrame (header tag count (segment a 8) (segment b 8) (segment c 8) (segment d 8)) (seq 1 ++ store)
+abbrev segmented : ℕ → ℕ → ℕ → ℕ → ℕ → ℕ → Request
+segmented tag count a b c d = requestByFrame (header tag count (segment a 8) (segment b 8) (segment c 8) (segment d 8)) (seq 1 ++ store)
 
-unfoldable pub segmentRows : List (Row Asked)
+unfoldable pub segmentRows : List (Row Request)
 segmentRows =
     segmented 20 1 8 0 0 0 ⇒ Ack 1
     ∷ segmented 20 2 8 1 0 0 ⇒ Malformed (row 20 8 0 0)
@@ -387,11 +387,11 @@ sealedEntries key nonce bytes = traceWith (behind 1 key nonce) ours (behindMessa
 
 pub record SealedAck (key nonce : List ℕ) : Type 0 where
   -- whole, it acknowledges: message 1 is released
-  pub asks : map asksOf (sealedEntries key nonce (sealedAck key nonce)) ≡ Nothing ∷ Nothing ∷ Ack 1 ∷ []
+  pub requests : map entryRequest (sealedEntries key nonce (sealedAck key nonce)) ≡ Nothing ∷ Nothing ∷ Ack 1 ∷ []
   pub releases : heldBy (sealedEntries key nonce (sealedAck key nonce)) ≡ second ∷ third ∷ []
   -- with any other tag it asks nothing, and nothing is released
   pub damaged : (tag : List ℕ) → length tag ≡ 16 → (tag ≡ tagOf (keyExpansion key) nonce (masked key nonce) → ⊥)
-      → (map asksOf (sealedEntries key nonce (masked key nonce ++ tag)) ≡ Nothing ∷ Nothing ∷ Nothing ∷ [])
+      → (map entryRequest (sealedEntries key nonce (masked key nonce ++ tag)) ≡ Nothing ∷ Nothing ∷ Nothing ∷ [])
       × (heldBy (sealedEntries key nonce (masked key nonce ++ tag)) ≡ first ∷ second ∷ third ∷ [])
   -- split behind any byte but its last, read under every cutting, it releases nothing
   pub splits : (n : ℕ) → n < 96 → ReleasesNothing (λ sw. sw ≡ behind 1 key nonce) (behindMessage (take n (sealedAck key nonce)))

@@ -9,9 +9,9 @@ use connection::receive;
 use connection::start;
 use preamble::Header;
 use receiver::Report;
+use refusal::Judgement;
 use refusal::Numbers;
 use refusal::Refusal;
-use refusal::Verdict;
 use refusal::either;
 use refusal::numbers_of;
 use sealed_builder::Sending;
@@ -23,7 +23,7 @@ ghost use mathlib.Core.List.{List};
 ghost use Prim.Native.Nat.{ℕ};
 ghost use Rattle.bodies.specs.Read.{answerOf};
 ghost use Rattle.session.specs.Laws.{accept, ack};
-ghost use Rattle.delivery.specs.Asked.{forSession, asking, byNumber, byBody, askedByFrame, askedBy, askedByReport, applied, answeredBy, doneTo, sentBy, Delivers, Switches, Called, ConnectedWith};
+ghost use Rattle.delivery.specs.Requests.{forSession, requestOf, byNumber, byBody, requestByFrame, requestBy, requestByReport, applied, answeredBy, doneTo, sessionCalledBy, Delivers, Switches, Called, ConnectedWith};
 ghost use Rattle.delivery.specs.Calls.{EveryRelease};
 ghost use Rattle.delivery.specs.Every.{EveryCall};
 ghost use Rattle.delivery.specs.Worked.{Worked};
@@ -35,7 +35,7 @@ pub struct Delivery {
 }
 
 // What a report asks of the session.
-pub enum Asked {
+pub enum Request {
     Nothing,
     Ack(u64),
     Reconnect(u64),
@@ -51,7 +51,7 @@ pub enum Effect {
     // Refusal 20: nothing was done.
     Malformed(Numbers),
     // The session's own answer to an ack, a reconnect_ok or a reset.
-    Answer(session::Report),
+    Answer(session::Answer),
 }
 
 pub struct Applied {
@@ -71,19 +71,19 @@ pub struct Delivered {
 pub struct Switched {
     pub state: Delivery,
     pub sending: Sending,
-    pub verdict: Verdict,
+    pub judgement: Judgement,
 }
 
-// What `accept` and `acknowledge` answer.
-pub struct Sent {
+// What `accept` and `ack` answer.
+pub struct SessionCalled {
     pub state: Delivery,
-    pub report: session::Report,
+    pub answer: session::Answer,
 }
 
 // What `connect` answers: our own features may be refused, and the receiver then repeats it.
 pub struct Connected {
     pub state: Delivery,
-    pub verdict: Verdict,
+    pub judgement: Judgement,
 }
 
 // The tags that speak to the session: ack, reconnect_ok, reset.
@@ -93,70 +93,70 @@ fn for_session(tag: u8) -> bool
     either(tag == 20, either(tag == 15, tag == 12))
 }
 
-fn asking(tag: u8, number: u64) -> Asked
-    ensures { λ r. ⌜ r ≡ asking tag number ⌝ }
+fn request_of(tag: u8, number: u64) -> Request
+    ensures { λ r. ⌜ r ≡ requestOf tag number ⌝ }
 {
     if tag == 20 {
-        return Asked::Ack(number);
+        return Request::Ack(number);
     }
     if tag == 15 {
-        return Asked::Reconnect(number);
+        return Request::Reconnect(number);
     }
     if tag == 12 {
-        return Asked::Reset(number == 1);
+        return Request::Reset(number == 1);
     }
-    Asked::Nothing
+    Request::Nothing
 }
 
 // A body that is one number: bytes of further segments are left over.
-fn asked_by_number(h: Header, number: u64) -> Asked
+fn request_by_number(h: Header, number: u64) -> Request
     ensures { λ r. ⌜ r ≡ byNumber h number ⌝ }
 {
     if h.count == 1 {
-        return asking(h.tag, number);
+        return request_of(h.tag, number);
     }
     let first = h.s1;
-    Asked::Malformed(numbers_of(Refusal::BodyMalformed(first.len as u64)))
+    Request::Malformed(numbers_of(Refusal::BodyMalformed(first.len as u64)))
 }
 
-fn asked_by_body(h: Header, body: Body) -> Asked
+fn request_by_body(h: Header, body: Body) -> Request
     ensures { λ r. ⌜ ((s : List ℕ) → r ≡ byBody h (answerOf s body)) ⌝ }
 {
     match body {
-        Body::Number(n) => asked_by_number(h, n),
-        Body::Reset(full) => asked_by_number(h, full as u64),
-        Body::Refused(why) => Asked::Malformed(numbers_of(why)),
-        _ => Asked::Nothing,
+        Body::Number(n) => request_by_number(h, n),
+        Body::Reset(full) => request_by_number(h, full as u64),
+        Body::Refused(why) => Request::Malformed(numbers_of(why)),
+        _ => Request::Nothing,
     }
 }
 
 // Segment 1 of a frame stands at the store's front.
-pub fn asked_by_frame(h: Header, store: &[u8]) -> Asked
-    ensures { λ r. ⌜ r ≡ askedByFrame h (now (store .entry)) ⌝ }
+pub fn request_by_frame(h: Header, store: &[u8]) -> Request
+    ensures { λ r. ⌜ r ≡ requestByFrame h (now (store .entry)) ⌝ }
 {
     if !for_session(h.tag) {
-        return Asked::Nothing;
+        return Request::Nothing;
     }
     let first = h.s1;
     let end = min(first.len as usize, store.len());
-    asked_by_body(h, read(h.tag, &store[..end]))
+    request_by_body(h, read(h.tag, &store[..end]))
 }
 
-fn asked_by_event(event: Event, store: &[u8]) -> Asked
-    ensures { λ r. ⌜ r ≡ askedBy event (now (store .entry)) ⌝ }
+fn request_by_event(event: Event, store: &[u8]) -> Request
+    ensures { λ r. ⌜ r ≡ requestBy event (now (store .entry)) ⌝ }
 {
     match event {
-        Event::Frame(h) => asked_by_frame(h, store),
-        _ => Asked::Nothing,
+        Event::Frame(h) => request_by_frame(h, store),
+        _ => Request::Nothing,
     }
 }
 
-fn asked_by_report(report: Report, store: &[u8]) -> Asked
-    ensures { λ r. ⌜ r ≡ askedByReport report (now (store .entry)) ⌝ }
+fn request_by_report(report: Report, store: &[u8]) -> Request
+    ensures { λ r. ⌜ r ≡ requestByReport report (now (store .entry)) ⌝ }
 {
     match report {
-        Report::More => Asked::Nothing,
-        Report::Event(event) => asked_by_event(event, store),
+        Report::More => Request::Nothing,
+        Report::Event(event) => request_by_event(event, store),
     }
 }
 
@@ -164,10 +164,10 @@ fn answered(o: Outcome) -> Applied
     ensures { λ r. ⌜ r ≡ answeredBy o ⌝ }
 {
     let session = o.session;
-    let report = o.report;
+    let answer = o.answer;
     Applied {
         session,
-        effect: Effect::Answer(report),
+        effect: Effect::Answer(answer),
     }
 }
 
@@ -178,15 +178,15 @@ fn done(s: Session, effect: Effect) -> Applied
 }
 
 // Does to the session what is asked.
-pub fn apply(s: Session, asked: Asked) -> Applied
-    ensures { λ r. ⌜ r ≡ doneTo s asked ⌝ }
+pub fn apply(s: Session, request: Request) -> Applied
+    ensures { λ r. ⌜ r ≡ doneTo s request ⌝ }
 {
-    match asked {
-        Asked::Nothing => done(s, Effect::Nothing),
-        Asked::Ack(n) => answered(session::ack(s, n)),
-        Asked::Reconnect(n) => answered(session::reconnect(s, n)),
-        Asked::Reset(full) => answered(session::reset(s, full)),
-        Asked::Malformed(n) => done(s, Effect::Malformed(n)),
+    match request {
+        Request::Nothing => done(s, Effect::Nothing),
+        Request::Ack(n) => answered(session::ack(s, n)),
+        Request::Reconnect(n) => answered(session::reconnect(s, n)),
+        Request::Reset(full) => answered(session::reset(s, full)),
+        Request::Malformed(n) => done(s, Effect::Malformed(n)),
     }
 }
 
@@ -196,13 +196,13 @@ pub fn connect(s: Session, own: Features) -> Connected
 {
     let begun = start(own);
     let receiver = begun.state;
-    let verdict = begun.verdict;
+    let judgement = begun.judgement;
     Connected {
         state: Delivery {
             receiver,
             session: s,
         },
-        verdict,
+        judgement,
     }
 }
 
@@ -212,7 +212,7 @@ pub fn deliver(state: Delivery, piece: &[u8], store: &mut [u8]) -> Delivered
 {
     let got = receive(state.receiver, piece, store);
     let report = got.report;
-    let after = apply(state.session, asked_by_report(report, store));
+    let after = apply(state.session, request_by_report(report, store));
     let receiver = got.state;
     let session = after.session;
     let effect = after.effect;
@@ -232,38 +232,38 @@ pub fn switch(state: Delivery, key: [u8; 16], receiving: [u8; 12], sending: [u8;
     let receiver = tried.state;
     let session = state.session;
     let given = tried.sending;
-    let verdict = tried.verdict;
+    let judgement = tried.judgement;
     Switched {
         state: Delivery { receiver, session },
         sending: given,
-        verdict,
+        judgement,
     }
 }
 
-fn sent_with(state: Delivery, o: Outcome) -> Sent
-    ensures { λ r. ⌜ r ≡ sentBy state o ⌝ }
+fn session_called(state: Delivery, o: Outcome) -> SessionCalled
+    ensures { λ r. ⌜ r ≡ sessionCalledBy state o ⌝ }
 {
     let receiver = state.receiver;
     let session = o.session;
-    let report = o.report;
-    Sent {
+    let answer = o.answer;
+    SessionCalled {
         state: Delivery { receiver, session },
-        report,
+        answer,
     }
 }
 
 // A message is sent.
-pub fn accept(state: Delivery, handle: u64) -> Sent
+pub fn accept(state: Delivery, handle: u64) -> SessionCalled
     ensures { λ r. ⌜ Called state (accept handle) r ⌝ }
 {
-    sent_with(state, session::accept(state.session, handle))
+    session_called(state, session::accept(state.session, handle))
 }
 
 // A message that came has an acknowledgement in its own header: the caller hands its number in.
-pub fn acknowledge(state: Delivery, number: u64) -> Sent
+pub fn ack(state: Delivery, number: u64) -> SessionCalled
     ensures { λ r. ⌜ Called state (ack number) r ⌝ }
 {
-    sent_with(state, session::ack(state.session, number))
+    session_called(state, session::ack(state.session, number))
 }
 
 // NO MESSAGE IS RELEASED BEFORE ITS ACKNOWLEDGEMENT, as a promise: of every list of connections and of calls on them, in crc mode and sealed, from a

@@ -15,7 +15,7 @@ use Rattle.banner.specs.Banner.{bannerBytes, judgeOwn}
 use Rattle.body.specs.Body.{frameBytes, wireLength}
 use Rattle.body.proofs.Laws.{length-frame}
 use Rattle.refusal.specs.declared.WriteResult.the-variants as built
-use Rattle.refusal.specs.Writes.{Outcome, wrote, refusedFor, Done, done, countIn}
+use Rattle.refusal.specs.Writes.{WriteOutcome, wrote, refusedFor, Done, done, countIn}
 use Rattle.builder.specs.Build.{judgeRoom, judgeFrame, judgeBanner, bannerLength, outcome, frameDone, bannerDone, BuiltBanner}
 use Rattle.builder.proofs.Accepted.{Accepted, accepted, banner-fits}
 use Rattle.ends.specs.Trip.{Build, Accepts}
@@ -23,7 +23,7 @@ use Rattle.ends.specs.Ends.{Queued, bufferBy, queuedBy}
 
 -- ---- an outcome with bytes written was not refused
 
-isWrote : Outcome → Bool
+isWrote : WriteOutcome → Bool
 isWrote (wrote n) = true
 isWrote (refusedFor n) = false
 

@@ -6,19 +6,17 @@ use mathlib.Core.Bool.{Bool, true, false, not, cond, _&&_}
 use native.Mathlib.Omega.{arith}
 use native.Mathlib.Nat.{add-zero}
 use lib.ListN.{length, take, drop, getD, length-drop}
-use lib.Seq.{take-take, take-at, getD-take, getD-drop, length-take-le}
-use lib.Dec.{lit<, lit≤, leb, ltb, eqb}
+use lib.Seq.{take-at, getD-drop, length-take-le}
+use lib.Dec.{lit<, leb, ltb, eqb}
 use borrow.Author.Tests.{lt-ltb, ltb-true, le-leb, leb-true, lt-leb, eq-eqb, eqb-true, not-true, not-false}
 use Rattle.buffer.specs.Le.{numberAt}
-use Rattle.crc32c.specs.Crc.{crcOf}
 use Rattle.refusal.specs.declared.Refusal.the-variants as refusal
 use Rattle.refusal.specs.Refusals.{Judged, fine, refused, orElse, unless}
 use Rattle.refusal.proofs.Judgements.{both-fine, passed}
 use Rattle.banner.specs.declared.Revision.{Revision}
 use Rattle.banner.specs.declared.Revision.the-variants.{Msgr20, Msgr21}
 use Rattle.preamble.specs.declared.Header.{Header}
-use Rattle.preamble.specs.Judge.{judgeFlags, judgeFields, judgePreamble}
-use Rattle.preamble.proofs.Laws.{accepted-preamble}
+use Rattle.preamble.proofs.Laws.{accepted-preamble, preamble-accepted}
 use Rattle.body.specs.declared.Late.{Late}
 use Rattle.body.specs.declared.Late.the-variants as late
 use Rattle.body.specs.Body.{segmentSum, cutInto, noFirstSum, noEpilogue, bodyLength, wireLength}
@@ -26,46 +24,11 @@ use Rattle.body.specs.End as end
 use Rattle.body.specs.End.{Ended, whole, dropped, byLate, endUnlessRefused, lateOf, segmentBytes, stored, unusedFrom, judgeSpelling, ending}
 use Rattle.stream.specs.Stream.{firstWrong}
 use Rattle.refusal.proofs.Booleans.{both-left, both-right}
-use Rattle.buffer.proofs.Numbers.{number-take, number-drop}
-use Rattle.ends.specs.Handed.{headerIn, segmentOf, latePlace, sumPlace, lateIn, isCompared, unusedField, flagsFine, Spelled, CheckedPreamble, Checked, CheckedFirst}
+use Rattle.buffer.proofs.Numbers.{number-drop}
+use Rattle.ends.specs.Handed.{headerIn, segmentOf, latePlace, sumPlace, lateIn, isCompared, unusedField, flagsFine, Spelled, Checked, CheckedFirst}
 use Rattle.ends.proofs.Locality.{Judges, JudgesFirst}
 use Rattle.body.proofs.Checksums.{every-sum, all-sums, every-unused, all-unused}
 use Rattle.body.proofs.Fields.{at20, at21}
-
--- ---- the preamble
-
-module _ (X : List ℕ) (n : ℕ) where
-  abbrev front : List ℕ
-  front = take 32 X
-
-  front28 : take 28 front ≡ take 28 X
-  front28 = take-take 28 32 X (lit≤ tt)
-
-  sum28 : numberAt 4 28 front ≡ numberAt 4 28 X
-  sum28 = number-take 4 28 32 X (lit≤ tt)
-
-  byte : (i : ℕ) → i < 32 → getD front i 0 ≡ getD X i 0
-  byte i h = getD-take 32 X i 0 h
-
-  preamble-checks : 32 ≤ length X → judgePreamble front n ≡ fine → CheckedPreamble X n
-  preamble-checks l e =
-      let a = accepted-preamble front n e in
-      record {
-        arrived = l;
-        checksum = ap (crcOf 0) (sym front28) ∙ eqb-true (crcOf 0 (take 28 front)) (numberAt 4 28 front) (passed (eqb (crcOf 0 (take 28 front)) (numberAt 4 28 front)) refusal.PreambleChecksum (a .checksum)) ∙ sum28;
-        shape = a .shape;
-        flags = ap₂ judgeFlags (sym (byte 26 (lit< tt))) (sym (byte 27 (lit< tt))) ∙ a .flags;
-        tag = a .tag;
-        limits = a .limits;
-        store = a .store;
-      }
-
-  checks-preamble : CheckedPreamble X n → judgePreamble front n ≡ fine
-  unfolding judgePreamble judgeFields
-  checks-preamble c =
-      let sum : eqb (crcOf 0 (take 28 front)) (numberAt 4 28 front) ≡ true = eq-eqb (crcOf 0 (take 28 front)) (numberAt 4 28 front) (ap (crcOf 0) front28 ∙ c .checksum ∙ sym sum28) in
-      let flags : judgeFlags (getD front 26 0) (getD front 27 0) ≡ fine = ap₂ judgeFlags (byte 26 (lit< tt)) (byte 27 (lit< tt)) ∙ c .flags in
-      rw (sum, c .shape, flags, c .tag, c .limits, c .store)
 
 -- ---- the late byte
 
@@ -233,7 +196,8 @@ module _ (X : List ℕ) (n : ℕ) where
   checked : (kind : Late) (x : Ended) (r : Revision) → Judges x r X n → Spelled r X → lateIn r h X ≡ kind
       → ((k : ℕ) → k < 4 → isCompared kind r h k ≡ true → numberAt 4 (sumPlace r h k) b ≡ segmentSum (segmentOf r h k X)) → Checked kind r X n
   checked kind x r j spelling said sums =
-      record { preamble = preamble-checks X n (j .front) (j .accepted); arrived = length-wire r (j .front) (j .long); spelling = spelling; late = said; sums = sums }
+      let a = accepted-preamble (take 32 X) n (j .accepted) in
+      record { preamble = a .checked; store = a .store; arrived = length-wire r (j .front) (j .long); spelling = spelling; late = said; sums = sums }
 
   pub whole-checked : (r : Revision) → Judges whole r X n → Checked late.Complete r X n
   unfolding ending
@@ -250,8 +214,8 @@ module _ (X : List ℕ) (n : ℕ) where
   -- and back
   judges : (kind : Late) (x : Ended) (r : Revision) → Checked kind r X n → firstWrong r h b ≡ false → ending r h (epilogue r) (segmentBytes r h b) ≡ x → Judges x r X n
   judges kind x r c f e = record {
-    front = c .preamble .arrived;
-    accepted = checks-preamble X n (c .preamble);
+    front = (let l = c .arrived in omega arith);
+    accepted = preamble-accepted (take 32 X) n (c .preamble) (c .store);
     long = length-body r (c .arrived);
     first = f;
     end = e;
@@ -280,7 +244,8 @@ module _ (X : List ℕ) (n : ℕ) where
   -- segment 1, reported early
   pub first-checked : (r : Revision) → JudgesFirst r X n → CheckedFirst r X n
   first-checked r j = record {
-    preamble = preamble-checks X n (j .front) (j .accepted);
+    preamble = accepted-preamble (take 32 X) n (j .accepted) .checked;
+    store = accepted-preamble (take 32 X) n (j .accepted) .store;
     early = j .early;
     arrived = (let d = length-drop 32 X in let l = j .long in let f = j .front in omega arith);
     sum = first-holds r h b (j .first) (j .long) (not-true (noFirstSum r h) (both-left (not (noFirstSum r h)) (ltb 1 (h .count)) (j .early)));
@@ -288,8 +253,8 @@ module _ (X : List ℕ) (n : ℕ) where
 
   pub checked-first : (r : Revision) → CheckedFirst r X n → JudgesFirst r X n
   checked-first r c = record {
-    front = c .preamble .arrived;
-    accepted = checks-preamble X n (c .preamble);
+    front = (let l = c .arrived in omega arith);
+    accepted = preamble-accepted (take 32 X) n (c .preamble) (c .store);
     first = first-fine r h b (λ _. c .sum);
     early = c .early;
     long = (let d = length-drop 32 X in let l = c .arrived in omega arith);

@@ -19,7 +19,7 @@ use Rattle.stream.specs.Stream.{Entry, Trace, ended, refusedAt, frames, traceOf
 use Rattle.receiver.specs.Step.{started}
 use Rattle.receiver.specs.Calls.{Call, Chained, takenBy, listOf, Demand3}
 use Rattle.receiver.proofs.Chain.{demand3}
-use Rattle.ends.specs.Handed.{headerIn, isEarly, isFirst, isFrame, isDrop, firstIs, behindFirst, Exactly, ExactlyBehind, Through, frame-taken, all-taken, refused, UpTo, HandedOver}
+use Rattle.ends.specs.Handed.{headerIn, isEarly, isFirst, isFrame, isDrop, firstIs, afterEarlyReport, Exactly, ExactlyBehind, Through, frame-taken, all-taken, refused, UpTo, HandedOver}
 use Rattle.body.proofs.Ends.{segments-own}
 use Rattle.ends.proofs.Locality.{Judges, JudgesFirst, front-own, body-own, extends, restricts, extends-first, restricts-first, judges-first, behindEarly, frame-trace, first-trace, Seen, nothing, refuses, hands, drops, seen}
 use Rattle.ends.proofs.Banners.{follows-on}
@@ -43,18 +43,18 @@ module _ (f : ℕ) (r : Revision) (P : ℕ) (X s : List ℕ) where
       go true = refl
       go false = n
 
-  behind-is : (c : Bool) (t : Trace) → firstIs isFirst (t .entries) ≡ false → frames (suc f) r P X s ≡ behindEarly c P X s t → behindFirst es ≡ t .entries
-  behind-is c t n e = ap (λ (u : Trace). behindFirst (u .entries)) e ∙ go c
+  behind-is : (c : Bool) (t : Trace) → firstIs isFirst (t .entries) ≡ false → frames (suc f) r P X s ≡ behindEarly c P X s t → afterEarlyReport es ≡ t .entries
+  behind-is c t n e = ap (λ (u : Trace). afterEarlyReport (u .entries)) e ∙ go c
     where
-      none : (l : List Entry) → firstIs isFirst l ≡ false → behindFirst l ≡ l
+      none : (l : List Entry) → firstIs isFirst l ≡ false → afterEarlyReport l ≡ l
       none [] p = refl
       none (x ∷ xs) p = rw p
 
-      go : (c : Bool) → behindFirst (behindEarly c P X s t .entries) ≡ t .entries
+      go : (c : Bool) → afterEarlyReport (behindEarly c P X s t .entries) ≡ t .entries
       go true = refl
       go false = none (t .entries) n
 
-  behind-first : (is : Event → Bool) (c : Bool) (t : Trace) → firstIs isFirst (t .entries) ≡ false → frames (suc f) r P X s ≡ behindEarly c P X s t → firstIs is (behindFirst es) ≡ firstIs is (t .entries)
+  behind-first : (is : Event → Bool) (c : Bool) (t : Trace) → firstIs isFirst (t .entries) ≡ false → frames (suc f) r P X s ≡ behindEarly c P X s t → firstIs is (afterEarlyReport es) ≡ firstIs is (t .entries)
   behind-first is c t n e = ap (firstIs is) (behind-is c t n e)
 
   first-judges : Seen r P X s → firstIs isFirst es ≡ true → JudgesFirst r X (length s)
@@ -63,13 +63,13 @@ module _ (f : ℕ) (r : Revision) (P : ℕ) (X s : List ℕ) where
   first-judges (hands j) u = judges-first X j (sym (first-is (isEarly r h) _ refl (frame-trace f P X s j)) ∙ u)
   first-judges (drops j) u = judges-first X j (sym (first-is (isEarly r h) _ refl (frame-trace f P X s j)) ∙ u)
 
-  frame-judges : Seen r P X s → firstIs isFrame (behindFirst es) ≡ true → Judges whole r X (length s)
+  frame-judges : Seen r P X s → firstIs isFrame (afterEarlyReport es) ≡ true → Judges whole r X (length s)
   frame-judges (nothing c t j e) u = absurd (true≢false (sym u ∙ behind-first isFrame c (ended t) refl (e f)))
   frame-judges (refuses c n at t j e) u = absurd (true≢false (sym u ∙ behind-first isFrame c (refusedAt n at t) refl (e f)))
   frame-judges (hands j) u = j
   frame-judges (drops j) u = absurd (true≢false (sym u ∙ behind-first isFrame (isEarly r h) _ refl (frame-trace f P X s j)))
 
-  drop-judges : Seen r P X s → firstIs isDrop (behindFirst es) ≡ true → Judges dropped r X (length s)
+  drop-judges : Seen r P X s → firstIs isDrop (afterEarlyReport es) ≡ true → Judges dropped r X (length s)
   drop-judges (nothing c t j e) u = absurd (true≢false (sym u ∙ behind-first isDrop c (ended t) refl (e f)))
   drop-judges (refuses c n at t j e) u = absurd (true≢false (sym u ∙ behind-first isDrop c (refusedAt n at t) refl (e f)))
   drop-judges (hands j) u = absurd (true≢false (sym u ∙ behind-first isDrop (isEarly r h) _ refl (frame-trace f P X s j)))

@@ -16,7 +16,7 @@ use Rattle.body.proofs.Ends.{length-segments}
 use Rattle.stream.specs.declared.Event.{Event}
 use Rattle.stream.specs.declared.Event.the-variants.{Frame}
 use Rattle.stream.specs.Stream.{Entry, entry, frames}
-use Rattle.ends.specs.Handed.{headerIn, zeroNibble, isFrame, firstIs, behindFirst}
+use Rattle.ends.specs.Handed.{headerIn, zeroNibble, isFrame, firstIs, afterEarlyReport}
 use Rattle.ends.specs.Spelling.{ReadAs, OneSpelling}
 use Rattle.ends.proofs.Locality.{Judges}
 use Rattle.ends.proofs.Checks.{checked-whole}
@@ -51,7 +51,7 @@ read-as r h p X a =
     let s = a .store in
     let k = headerIn X in
     let q : List ℕ = segmentBytes r k (drop 32 X) in
-    let f : firstIs isFrame (behindFirst (frames (suc (length X)) r P X s .entries)) ≡ true = ap (firstIs isFrame) (a .entries) in
+    let f : firstIs isFrame (afterEarlyReport (frames (suc (length X)) r P X s .entries)) ≡ true = ap (firstIs isFrame) (a .entries) in
     let x = exactly (length X) r P X s in
     let j : Judges whole r X (length s) = checked-whole X (length s) r (x .handed .0 f) in
     let later = x .frames f .0 in

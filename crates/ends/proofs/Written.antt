@@ -7,13 +7,9 @@ use native.Mathlib.Omega.{arith}
 use native.Mathlib.Nat.{add-zero}
 use lib.ListN.{length, take, drop, getD, length-drop, take-append-drop, List·getD-append}
 use lib.Seq.{take-take, take-at, getD-drop, length-take-le}
-use lib.Dec.{leb, ltb, eqb}
-use borrow.Author.Tests.{eqb-true}
-use Rattle.buffer.specs.Le.{numberAt, Bytes}
+use lib.Dec.{leb, ltb}
+use Rattle.buffer.specs.Le.{Bytes}
 use Rattle.buffer.proofs.Numbers.{bytes-take, bytes-drop}
-use Rattle.crc32c.specs.Crc.{crcOf}
-use Rattle.refusal.specs.declared.Refusal.the-variants as refusal
-use Rattle.refusal.proofs.Judgements.{passed}
 use Rattle.banner.specs.declared.Revision.{Revision}
 use Rattle.banner.specs.declared.Revision.the-variants.{Msgr20, Msgr21}
 use Rattle.preamble.specs.declared.Header.{Header}
@@ -50,10 +46,9 @@ module _ (r : Revision) (X : List ℕ) (n : ℕ) (bytes : Bytes X) (j : Judges w
 
   front-spelled : preambleBytes h ≡ take 32 X
   front-spelled =
-      let a = accepted-preamble (take 32 X) n (j .accepted) in
-      let f = flags-zero (getD (take 32 X) 26 0) (getD (take 32 X) 27 0) (a .flags) in
-      preamble-again (take 32 X) (bytes-take 32 bytes) (length-take-le 32 X (j .front)) (f .0) (f .1)
-      (eqb-true (crcOf 0 (take 28 (take 32 X))) (numberAt 4 28 (take 32 X)) (passed (eqb (crcOf 0 (take 28 (take 32 X))) (numberAt 4 28 (take 32 X))) refusal.PreambleChecksum (a .checksum)))
+      let c = accepted-preamble (take 32 X) n (j .accepted) .checked in
+      let f = flags-zero (getD (take 32 X) 26 0) (getD (take 32 X) 27 0) (c .flags) in
+      preamble-again (take 32 X) (bytes-take 32 bytes) (length-take-le 32 X (j .front)) (f .0) (f .1) (c .checksum)
 
   body-spelled : b ≡ body r h (lateByte r false) (take (h .s1 .len) p) (drop (h .s1 .len) p)
   body-spelled =

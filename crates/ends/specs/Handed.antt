@@ -9,7 +9,6 @@ use lib.ListN.{length, take, drop, getD}
 use lib.Dec.{leb, ltb, eqb}
 use Rattle.buffer.specs.Le.{numberAt, Bytes}
 use Rattle.buffer.specs.Splice.{replaceFront}
-use Rattle.crc32c.specs.Crc.{crcOf}
 use Rattle.refusal.specs.Refusals.{fine}
 use Rattle.banner.specs.declared.Features.{Features}
 use Rattle.banner.specs.declared.Revision.{Revision}
@@ -17,7 +16,8 @@ use Rattle.banner.specs.declared.Revision.the-variants.{Msgr20, Msgr21}
 use Rattle.banner.specs.Banner.{judgeOwn}
 use Rattle.preamble.specs.declared.Header.{Header}
 use Rattle.preamble.specs.Layout.{total}
-use Rattle.preamble.specs.Judge.{headerOf, judgeShape, judgeFlags, judgeTag, judgeLimits, judgeStore}
+use Rattle.preamble.specs.Judge.{headerOf, judgeStore}
+use Rattle.preamble.specs.Checked.{CheckedPreamble}
 use Rattle.body.specs.declared.Late.{Late}
 use Rattle.body.specs.declared.Late.the-variants as late
 use Rattle.body.specs.Body.{segmentSum, cutInto, noFirstSum, firstSumLength, noEpilogue, wireLength, frameBytes}
@@ -26,8 +26,8 @@ use Rattle.stream.specs.declared.Event.{Event}
 use Rattle.stream.specs.declared.Event.the-variants.{First, Frame, Dropped}
 use Rattle.stream.specs.Events.{Role, bannerEnd, firstEnd, frameEnd, streamEnd, roleOf}
 pub use Rattle.stream.specs.Events.{isFirst, isFrame, isDrop}
-use Rattle.stream.specs.Stream.{Entry, entry, zeroed, firstSumEnd, traceOf}
-use Rattle.receiver.specs.Calls.{Call, Chained, takenBy, listOf, refusedIn}
+use Rattle.stream.specs.Stream.{Entry, entry, zeroed, firstSumEnd, traceOf, refusedIn}
+use Rattle.receiver.specs.Calls.{Call, Chained, takenBy, listOf}
 use Rattle.receiver.specs.Step.{started}
 
 -- ---- places: where the next frame begins
@@ -103,19 +103,10 @@ pub record Spelled (revision : Revision) (X : List ℕ) : Type 0 where
   pub unused : (k : ℕ) → k < 4 → unusedField revision (headerIn X) k ≡ true → numberAt 4 (sumPlace revision (headerIn X) k) (drop 32 X) ≡ 0
   pub flags : flagsFine revision (getD (drop 32 X) (latePlace revision (headerIn X)) 0) ≡ true
 
--- its preamble: all of it arrived, its CRC32-C holds, and 01's checks of its fields
-pub record CheckedPreamble (X : List ℕ) (n : ℕ) : Type 0 where
-  pub arrived : 32 ≤ length X
-  pub checksum : crcOf 0 (take 28 X) ≡ numberAt 4 28 X
-  pub shape : judgeShape (headerIn X) ≡ fine
-  pub flags : judgeFlags (getD X 26 0) (getD X 27 0) ≡ fine
-  pub tag : judgeTag (headerIn X .tag) ≡ fine
-  pub limits : judgeLimits (headerIn X) ≡ fine
-  pub store : judgeStore (total (headerIn X)) n ≡ fine
-
 -- the whole frame
 pub record Checked (kind : Late) (revision : Revision) (X : List ℕ) (n : ℕ) : Type 0 where
-  pub preamble : CheckedPreamble X n
+  pub preamble : CheckedPreamble (take 32 X)
+  pub store : judgeStore (total (headerIn X)) n ≡ fine
   pub arrived : wireLength revision (headerIn X) ≤ length X
   pub spelling : Spelled revision X
   -- complete or aborted
@@ -130,7 +121,8 @@ isEarly revision h = not (noFirstSum revision h) && ltb 1 (h .count)
 
 -- and its own checksum arrived and holds
 pub record CheckedFirst (revision : Revision) (X : List ℕ) (n : ℕ) : Type 0 where
-  pub preamble : CheckedPreamble X n
+  pub preamble : CheckedPreamble (take 32 X)
+  pub store : judgeStore (total (headerIn X)) n ≡ fine
   pub early : isEarly revision (headerIn X) ≡ true
   pub arrived : firstSumEnd 0 (headerIn X) ≤ length X
   pub sum : numberAt 4 (headerIn X .s1 .len) (drop 32 X) ≡ segmentSum (take (headerIn X .s1 .len) (drop 32 X))
@@ -149,9 +141,9 @@ firstIs is [] = false
 firstIs is (e ∷ es) = is (e .event)
 
 -- the entries behind an early report
-abbrev pub behindFirst : List Entry → List Entry
-behindFirst [] = []
-behindFirst (e ∷ es) = cond (isFirst (e .event)) es (e ∷ es)
+abbrev pub afterEarlyReport : List Entry → List Entry
+afterEarlyReport [] = []
+afterEarlyReport (e ∷ es) = cond (isFirst (e .event)) es (e ∷ es)
 
 -- es are the entries from byte P on, where X is the rest of the stream and s the store
 pub record Exactly (revision : Revision) (P : ℕ) (X s : List ℕ) (es : List Entry) : Type 0 where
@@ -160,16 +152,16 @@ pub record Exactly (revision : Revision) (P : ℕ) (X s : List ℕ) (es : List E
   pub firsts : firstIs isFirst es ≡ true
       → (later : List Entry) × (es ≡ entry (First (headerIn X)) (firstSumEnd P (headerIn X)) (replaceFront (take (headerIn X .s1 .len) (drop 32 X)) s) ∷ later)
   -- behind that, a frame is reported if and only if the checks hold: with its fields, at its last byte, its segments at the store's front
-  pub handed : firstIs isFrame (behindFirst es) ≡ true ↔ Checked late.Complete revision X (length s)
-  pub frames : firstIs isFrame (behindFirst es) ≡ true
-      → (later : List Entry) × (behindFirst es ≡ entry (Frame (headerIn X)) (P + wireLength revision (headerIn X)) (replaceFront (segmentBytes revision (headerIn X) (drop 32 X)) s) ∷ later)
+  pub handed : firstIs isFrame (afterEarlyReport es) ≡ true ↔ Checked late.Complete revision X (length s)
+  pub frames : firstIs isFrame (afterEarlyReport es) ≡ true
+      → (later : List Entry) × (afterEarlyReport es ≡ entry (Frame (headerIn X)) (P + wireLength revision (headerIn X)) (replaceFront (segmentBytes revision (headerIn X) (drop 32 X)) s) ∷ later)
   -- and its bytes are those that the builder writes for the same fields and segments (02, K10)
-  pub spelled : Bytes X → firstIs isFrame (behindFirst es) ≡ true → zeroNibble revision (headerIn X) X ≡ true
+  pub spelled : Bytes X → firstIs isFrame (afterEarlyReport es) ≡ true → zeroNibble revision (headerIn X) X ≡ true
       → take (wireLength revision (headerIn X)) X ≡ frameBytes revision (headerIn X) false (segmentBytes revision (headerIn X) (drop 32 X))
   -- and a drop, with zeros in the store's first T bytes
-  pub dropped : firstIs isDrop (behindFirst es) ≡ true ↔ Checked late.Aborted revision X (length s)
-  pub drops : firstIs isDrop (behindFirst es) ≡ true
-      → (later : List Entry) × (behindFirst es ≡ entry (Dropped (headerIn X)) (P + wireLength revision (headerIn X)) (zeroed (headerIn X) s) ∷ later)
+  pub dropped : firstIs isDrop (afterEarlyReport es) ≡ true ↔ Checked late.Aborted revision X (length s)
+  pub drops : firstIs isDrop (afterEarlyReport es) ≡ true
+      → (later : List Entry) × (afterEarlyReport es ≡ entry (Dropped (headerIn X)) (P + wireLength revision (headerIn X)) (zeroed (headerIn X) s) ∷ later)
 
 -- all are the entries of `front`, at whose end a frame begins, and then those of X
 pub record ExactlyBehind (own : Features) (front X store : List ℕ) (revision : Revision) (all : List Entry) : Type 0 where

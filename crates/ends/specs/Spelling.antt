@@ -12,7 +12,7 @@ use Rattle.preamble.specs.Layout.{total}
 use Rattle.body.specs.Body.{frameBytes}
 use Rattle.stream.specs.declared.Event.the-variants.{Frame}
 use Rattle.stream.specs.Stream.{entry, frames}
-use Rattle.ends.specs.Handed.{zeroNibble, behindFirst}
+use Rattle.ends.specs.Handed.{zeroNibble, afterEarlyReport}
 
 -- X is one complete frame and nothing else, with the fields h and the segments' bytes p: from some byte on and with some store, what the definition gives for it,
 -- behind segment 1's early report, is that frame at the last byte of X, p at the store's front
@@ -20,7 +20,7 @@ pub record ReadAs (revision : Revision) (h : Header) (p X : List ℕ) : Type 0 w
   pub bytes : Bytes X
   pub at : ℕ
   pub store : List ℕ
-  pub entries : behindFirst (frames (suc (length X)) revision at X store .entries) ≡ entry (Frame h) (at + length X) (replaceFront p store) ∷ []
+  pub entries : afterEarlyReport (frames (suc (length X)) revision at X store .entries) ≡ entry (Frame h) (at + length X) (replaceFront p store) ∷ []
   pub segments : length p ≡ total h
 
 pub record OneSpelling : Type 0 where

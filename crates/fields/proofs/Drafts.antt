@@ -13,7 +13,7 @@ use lib.Seq.{take-all}
 use Rattle.buffer.specs.Le.{le, words}
 use Rattle.preamble.specs.Judge.{segmentLimit}
 use Rattle.fields.specs.declared.Draft.{Draft}
-use Rattle.fields.specs.Field.{Field, number, negative, numbers, sized, opaque, fixed, fieldBytes, WordsFit, Fits}
+use Rattle.fields.specs.Field.{Field, number, negative, numbers, payload, opaque, fixed, fieldBytes, WordsFit, Fits}
 use Rattle.fields.specs.Writing.{sound, faultIn, capped, counted, putAt, Put, Appended}
 use Rattle.fields.proofs.Puts.{put-none, put-next}
 
@@ -80,9 +80,9 @@ pub fits-numbers : {ns : List ℕ} → WordsFit ns → Fits (numbers ns)
 unfolding Fits
 fits-numbers h = h
 
-pub fits-sized : (bs : List ℕ) → Fits (sized bs)
+pub fits-payload : (bs : List ℕ) → Fits (payload bs)
 unfolding Fits
-fits-sized bs = tt
+fits-payload bs = tt
 
 pub fits-opaque : (k : ℕ) (bs : List ℕ) → Fits (opaque k bs)
 unfolding Fits

@@ -10,7 +10,8 @@ use lib.ListN.{length, take, drop, length-drop}
 use lib.Seq.{take-add, drop-drop, length-take-le}
 use Rattle.buffer.specs.Le.{le, leOf, numberAt, Bytes, words}
 use Rattle.buffer.proofs.Numbers.{bytes-take, bytes-drop, le-leOf, number-again}
-use Rattle.fields.specs.Layout.{Kind, num, neg, list, size, rest, plain, good, fault, past, stepOf}
+use Rattle.fields.specs.Layout.{Kind, good, fault, past, stepOf}
+use Rattle.fields.specs.Layout as kind
 use Rattle.fields.specs.Field.{kindOf, wordsOf, fieldBytes, fieldAt}
 use Rattle.fields.proofs.Skips.{length-words}
 
@@ -45,27 +46,27 @@ module _ (s : List ℕ) (at : ℕ) (h : Bytes s) (in-s : at ≤ length s) where
       rw (take-add 4 m (drop at s), drop-drop 4 at s)
       (ap₂ (λ (a b : List ℕ). a ++ b) (ap (le 4) e ∙ number-again 4 at s h k) x)
 
-  over-number : (w : ℕ) → stepOf (num w) s (good at) .failed ≡ false → Over (num w) s at
+  over-number : (w : ℕ) → stepOf (kind.number w) s (good at) .failed ≡ false → Over (kind.number w) s at
   unfolding stepOf
   over-number w f =
       let p = past-over w f in
       record { m = w; next = p .0; bytes = number-again w at s h (p .1); within = let k = p .1 in omega arith }
 
-  over-negative : stepOf neg s (good at) .failed ≡ false → Over neg s at
+  over-negative : stepOf kind.negative s (good at) .failed ≡ false → Over kind.negative s at
   unfolding stepOf
   over-negative = go (ltb (numberAt 4 at s) 2147483648) refl
     where
-      go : (b : Bool) → ltb (numberAt 4 at s) 2147483648 ≡ b → cond b (fault at) (past 4 s at) .failed ≡ false → Over neg s at
+      go : (b : Bool) → ltb (numberAt 4 at s) 2147483648 ≡ b → cond b (fault at) (past 4 s at) .failed ≡ false → Over kind.negative s at
       go true t f = absurd (true≢false f)
       go false t f =
           let p = past-over 4 f in
           record { m = 4; next = rw t (p .0); bytes = number-again 4 at s h (p .1); within = let k = p .1 in omega arith }
 
-  over-list : stepOf list s (good at) .failed ≡ false → Over list s at
+  over-list : stepOf kind.numbers s (good at) .failed ≡ false → Over kind.numbers s at
   unfolding stepOf
   over-list = go (ltb 32 (numberAt 4 at s)) (leb (4 + 4 * numberAt 4 at s) (length s - at)) refl refl
     where
-      go : (a b : Bool) → ltb 32 (numberAt 4 at s) ≡ a → leb (4 + 4 * numberAt 4 at s) (length s - at) ≡ b → cond a (fault at) (cond b (good (at + (4 + 4 * numberAt 4 at s))) (fault (at + (length s - at) / 4 * 4))) .failed ≡ false → Over list s at
+      go : (a b : Bool) → ltb 32 (numberAt 4 at s) ≡ a → leb (4 + 4 * numberAt 4 at s) (length s - at) ≡ b → cond a (fault at) (cond b (good (at + (4 + 4 * numberAt 4 at s))) (fault (at + (length s - at) / 4 * 4))) .failed ≡ false → Over kind.numbers s at
       go true b t u f = absurd (true≢false f)
       go false false t u f = absurd (true≢false f)
       go false true t u f =
@@ -79,9 +80,9 @@ module _ (s : List ℕ) (at : ℕ) (h : Bytes s) (in-s : at ≤ length s) where
             within = omega arith;
           }
 
-  over-sized : stepOf size s (good at) .failed ≡ false → Over size s at
+  over-payload : stepOf kind.payload s (good at) .failed ≡ false → Over kind.payload s at
   unfolding stepOf
-  over-sized f =
+  over-payload f =
       let p = past-over (4 + numberAt 4 at s) f in
       let k = p .1 in
       let d : length (drop (at + 4) s) ≡ length s - (at + 4) = length-drop (at + 4) s in
@@ -93,35 +94,35 @@ module _ (s : List ℕ) (at : ℕ) (h : Bytes s) (in-s : at ≤ length s) where
         within = omega arith;
       }
 
-  over-rest : (k : ℕ) → stepOf (rest k) s (good at) .failed ≡ false → Over (rest k) s at
+  over-opaque : (k : ℕ) → stepOf (kind.opaque k) s (good at) .failed ≡ false → Over (kind.opaque k) s at
   unfolding stepOf
-  over-rest k = go (leb k (length s - at)) refl
+  over-opaque k = go (leb k (length s - at)) refl
     where
-      go : (b : Bool) → leb k (length s - at) ≡ b → cond b (good (length s - k)) (fault 0) .failed ≡ false → Over (rest k) s at
+      go : (b : Bool) → leb k (length s - at) ≡ b → cond b (good (length s - k)) (fault 0) .failed ≡ false → Over (kind.opaque k) s at
       go false t f = absurd (true≢false f)
       go true t f =
           let j = leb-true k (length s - at) t in
           let e : length s - k ≡ at + (length s - k - at) = omega arith in
           record { m = length s - k - at; next = rw (t, ← e); bytes = refl; within = omega arith }
 
-  over-plain : (w : ℕ) → stepOf (plain w) s (good at) .failed ≡ false → Over (plain w) s at
+  over-fixed : (w : ℕ) → stepOf (kind.fixed w) s (good at) .failed ≡ false → Over (kind.fixed w) s at
   unfolding stepOf
-  over-plain w f =
+  over-fixed w f =
       let p = past-over w f in
       record { m = w; next = p .0; bytes = refl; within = let k = p .1 in omega arith }
 
   pub over-field : (k : Kind) → stepOf k s (good at) .failed ≡ false → Over k s at
-  over-field (num w) = over-number w
-  over-field neg = over-negative
-  over-field list = over-list
-  over-field size = over-sized
-  over-field (rest k) = over-rest k
-  over-field (plain w) = over-plain w
+  over-field (kind.number w) = over-number w
+  over-field kind.negative = over-negative
+  over-field kind.numbers = over-list
+  over-field kind.payload = over-payload
+  over-field (kind.opaque k) = over-opaque k
+  over-field (kind.fixed w) = over-fixed w
 
 pub same-kind : (k : Kind) (s : List ℕ) (at : ℕ) → kindOf (fieldAt k s at) ≡ k
-same-kind (num w) s at = refl
-same-kind neg s at = refl
-same-kind list s at = refl
-same-kind size s at = refl
-same-kind (rest k) s at = refl
-same-kind (plain w) s at = refl
+same-kind (kind.number w) s at = refl
+same-kind kind.negative s at = refl
+same-kind kind.numbers s at = refl
+same-kind kind.payload s at = refl
+same-kind (kind.opaque k) s at = refl
+same-kind (kind.fixed w) s at = refl

@@ -10,7 +10,8 @@ use lib.ListN.{length, take, drop, getD, drop-of-length-le, List·getD-eq-defaul
 use lib.Seq.{drop-drop}
 use Rattle.buffer.specs.Le.{numberAt, leOf}
 use Rattle.fields.specs.declared.Cursor.{Cursor}
-use Rattle.fields.specs.Layout.{Kind, num, neg, list, size, rest, plain, good, fault, stepOf}
+use Rattle.fields.specs.Layout.{Kind, good, fault, stepOf}
+use Rattle.fields.specs.Layout as kind
 use Rattle.fields.specs.Field.{wordsOf}
 
 module _ (s : List ℕ) (c : Cursor) where
@@ -19,45 +20,45 @@ module _ (s : List ℕ) (c : Cursor) where
   stays k b = rw b
 
   module _ (b : c .failed ≡ false) where
-    pub passed : (w : ℕ) → w ≤ length s - c .at → good (c .at + w) ≡ stepOf (num w) s c
+    pub passed : (w : ℕ) → w ≤ length s - c .at → good (c .at + w) ≡ stepOf (kind.number w) s c
     unfolding stepOf
     passed w h = rw (b, le-leb w (length s - c .at) h)
 
-    pub short : (w : ℕ) → length s - c .at < w → fault (c .at) ≡ stepOf (num w) s c
+    pub short : (w : ℕ) → length s - c .at < w → fault (c .at) ≡ stepOf (kind.number w) s c
     unfolding stepOf
     short w h = rw (b, lt-leb w (length s - c .at) h)
 
-    pub not-negative : numberAt 4 (c .at) s < 2147483648 → fault (c .at) ≡ stepOf neg s c
+    pub not-negative : numberAt 4 (c .at) s < 2147483648 → fault (c .at) ≡ stepOf kind.negative s c
     unfolding stepOf
     not-negative h = rw (b, lt-ltb (numberAt 4 (c .at) s) 2147483648 h)
 
-    pub is-negative : 2147483648 ≤ numberAt 4 (c .at) s → stepOf (num 4) s c ≡ stepOf neg s c
+    pub is-negative : 2147483648 ≤ numberAt 4 (c .at) s → stepOf (kind.number 4) s c ≡ stepOf kind.negative s c
     unfolding stepOf
     is-negative h = rw (b, le-ltb (numberAt 4 (c .at) s) 2147483648 h)
 
-    pub overlong : 32 < numberAt 4 (c .at) s → fault (c .at) ≡ stepOf list s c
+    pub overlong : 32 < numberAt 4 (c .at) s → fault (c .at) ≡ stepOf kind.numbers s c
     unfolding stepOf
     overlong h = rw (b, lt-ltb 32 (numberAt 4 (c .at) s) h)
 
-    pub listed : (n : ℕ) → n ≡ numberAt 4 (c .at) s → n ≤ 32 → 4 + 4 * n ≤ length s - c .at → good (c .at + (4 + 4 * n)) ≡ stepOf list s c
+    pub listed : (n : ℕ) → n ≡ numberAt 4 (c .at) s → n ≤ 32 → 4 + 4 * n ≤ length s - c .at → good (c .at + (4 + 4 * n)) ≡ stepOf kind.numbers s c
     unfolding stepOf
     listed n e h k = rw (b, ← e, le-ltb 32 n h, le-leb (4 + 4 * n) (length s - c .at) k)
 
-    pub cut-off : (n r : ℕ) → n ≡ numberAt 4 (c .at) s → r ≡ length s - c .at → n ≤ 32 → r < 4 + 4 * n → fault (c .at + r / 4 * 4) ≡ stepOf list s c
+    pub cut-off : (n r : ℕ) → n ≡ numberAt 4 (c .at) s → r ≡ length s - c .at → n ≤ 32 → r < 4 + 4 * n → fault (c .at + r / 4 * 4) ≡ stepOf kind.numbers s c
     unfolding stepOf
     cut-off n r e f h k = rw (b, ← e, ← f, le-ltb 32 n h, lt-leb (4 + 4 * n) r k)
 
-    pub closed : (k : ℕ) → k ≤ length s - c .at → good (length s - k) ≡ stepOf (rest k) s c
+    pub closed : (k : ℕ) → k ≤ length s - c .at → good (length s - k) ≡ stepOf (kind.opaque k) s c
     unfolding stepOf
     closed k h = rw (b, le-leb k (length s - c .at) h)
 
-    pub too-short : (k : ℕ) → length s - c .at < k → fault 0 ≡ stepOf (rest k) s c
+    pub too-short : (k : ℕ) → length s - c .at < k → fault 0 ≡ stepOf (kind.opaque k) s c
     unfolding stepOf
     too-short k h = rw (b, lt-leb k (length s - c .at) h)
 
-pub sized-passed : (s : List ℕ) (c : Cursor) → stepOf (num (4 + numberAt 4 (c .at) s)) s c ≡ stepOf size s c
+pub payload-passed : (s : List ℕ) (c : Cursor) → stepOf (kind.number (4 + numberAt 4 (c .at) s)) s c ≡ stepOf kind.payload s c
 unfolding stepOf
-sized-passed s c = refl
+payload-passed s c = refl
 
 -- a place past the end drops as much as the end itself
 pub behind : (s : List ℕ) (at r k : ℕ) → r ≡ min at (length s) → drop (r + k) s ≡ drop (at + k) s
@@ -90,19 +91,19 @@ counted w n p c = go (leb (4 + w) n) refl
     go false t h = absurd (let z : _≡_ {A = ℕ} 0 1 = cc in omega arith)
 
 module _ (s : List ℕ) (c d : Cursor) (h : d .failed ≡ false) where
-  pub list-begins : d ≡ stepOf list s c → c .at ≤ length s
+  pub list-begins : d ≡ stepOf kind.numbers s c → c .at ≤ length s
   unfolding stepOf
   list-begins e =
       let n = numberAt 4 (c .at) s in
-      let g : stepOf list s c .failed ≡ false = rw e at h in
+      let g : stepOf kind.numbers s c .failed ≡ false = rw e at h in
       let i = first-fine (ltb 32 n) (fault (c .at)) _ refl (not-failed c _ g) in
       let k = counted (4 * n) (length s - c .at) _ _ i in
       omega arith
 
-  pub size-begins : d ≡ stepOf size s c → c .at ≤ length s
+  pub payload-begins : d ≡ stepOf kind.payload s c → c .at ≤ length s
   unfolding stepOf
-  size-begins e =
-      let g : stepOf size s c .failed ≡ false = rw e at h in
+  payload-begins e =
+      let g : stepOf kind.payload s c .failed ≡ false = rw e at h in
       let k = counted (numberAt 4 (c .at) s) (length s - c .at) _ _ (not-failed c _ g) in
       omega arith
 
@@ -110,9 +111,9 @@ module _ (s : List ℕ) (c d : Cursor) (h : d .failed ≡ false) where
 pub up-to : (s : List ℕ) (at k a b : ℕ) → a ≡ min k (length s) → b ≡ min at (length s - a) → length s - a - b ≡ length s - k - at
 up-to s at k a b ea eb = omega arith
 
-pub plain-passed : (s : List ℕ) (c : Cursor) (w : ℕ) → stepOf (num w) s c ≡ stepOf (plain w) s c
+pub fixed-passed : (s : List ℕ) (c : Cursor) (w : ℕ) → stepOf (kind.number w) s c ≡ stepOf (kind.fixed w) s c
 unfolding stepOf
-plain-passed s c w = refl
+fixed-passed s c w = refl
 
 -- one byte is its own number
 pub byte-there : (s : List ℕ) (at : ℕ) → getD s at 0 ≡ numberAt 1 at s

@@ -9,17 +9,17 @@ use Rattle.fields.specs.declared.Cursor.{Cursor}
 
 pub data Kind : Type 0 where
   -- a number of so many bytes, lowest first
-  num : ℕ → Kind
+  number : ℕ → Kind
   -- a signed 32-bit number below zero
-  neg : Kind
+  negative : Kind
   -- a 32-bit count, at most 32, and that many 32-bit numbers
-  list : Kind
+  numbers : Kind
   -- a 32-bit length and that many bytes
-  size : Kind
+  payload : Kind
   -- all bytes but so many closing ones
-  rest : ℕ → Kind
+  opaque : ℕ → Kind
   -- so many opaque bytes
-  plain : ℕ → Kind
+  fixed : ℕ → Kind
 
 abbrev pub good : ℕ → Cursor
 good n = record { at = n; failed = false }
@@ -38,12 +38,12 @@ pastList n left at = cond (ltb 32 n) (fault at) (cond (leb (4 + 4 * n) left) (go
 -- where a field that starts at a place ends. 0 and above are no negative error; a payload shorter than its length is at fault at
 -- that length; a body too short for its closing fields at 0
 abbrev pub endOf : Kind → List ℕ → ℕ → Cursor
-endOf (num w) s at = past w s at
-endOf neg s at = cond (ltb (numberAt 4 at s) 2147483648) (fault at) (past 4 s at)
-endOf list s at = pastList (numberAt 4 at s) (length s - at) at
-endOf size s at = past (4 + numberAt 4 at s) s at
-endOf (rest k) s at = cond (leb k (length s - at)) (good (length s - k)) (fault 0)
-endOf (plain w) s at = past w s at
+endOf (number w) s at = past w s at
+endOf negative s at = cond (ltb (numberAt 4 at s) 2147483648) (fault at) (past 4 s at)
+endOf numbers s at = pastList (numberAt 4 at s) (length s - at) at
+endOf payload s at = past (4 + numberAt 4 at s) s at
+endOf (opaque k) s at = cond (leb k (length s - at)) (good (length s - k)) (fault 0)
+endOf (fixed w) s at = past w s at
 
 -- one field: a cursor at a fault stays there
 unfoldable pub stepOf : Kind → List ℕ → Cursor → Cursor

@@ -7,14 +7,14 @@ use lib.Dec.{leb, ltb, eqb}
 use lib.ListN.{length}
 use Rattle.preamble.specs.Judge.{segmentLimit}
 use Rattle.fields.specs.declared.Draft.{Draft}
-use Rattle.fields.specs.Field.{Field, number, negative, numbers, sized, opaque, fixed, fieldBytes, Fits}
+use Rattle.fields.specs.Field.{Field, number, negative, numbers, payload, opaque, fixed, fieldBytes, Fits}
 
 -- a field that reads as it is written, where its values fit
 abbrev pub sound : Field → Bool
 sound (number w n) = true
 sound (negative n) = leb 2147483648 n
 sound (numbers ns) = leb (length ns) 32
-sound (sized bs) = true
+sound (payload bs) = true
 sound (opaque k bs) = true
 sound (fixed w bs) = eqb (length bs) w
 
@@ -23,7 +23,7 @@ abbrev pub faultIn : Field → ℕ
 faultIn (number w n) = 0
 faultIn (negative n) = 0
 faultIn (numbers ns) = 0
-faultIn (sized bs) = 0
+faultIn (payload bs) = 0
 faultIn (opaque k bs) = 0
 faultIn (fixed w bs) = cond (ltb w (length bs)) w 0
 

@@ -12,8 +12,9 @@ ghost use lib.Dec.{ltb};
 ghost use lib.ListN.{length, getD};
 ghost use Rattle.buffer.specs.Le.{le, words};
 ghost use Rattle.preamble.specs.Judge.{segmentLimit};
-ghost use Rattle.fields.specs.Layout.{num, neg, list, size, rest, plain, good, stepOf};
-ghost use Rattle.fields.specs.Field.{bitsOf, WordsFit, number, negative, numbers, sized, opaque, fixed};
+ghost use Rattle.fields.specs.Layout.{good, stepOf};
+ghost use Rattle.fields.specs.Layout as kind;
+ghost use Rattle.fields.specs.Field.{bitsOf, WordsFit, number, negative, numbers, payload, opaque, fixed};
 ghost use Rattle.fields.specs.Reading.{numbersIn, inU8, inU32, inU64, inList, inSpan, takeOf};
 ghost use Rattle.fields.specs.Writing.{capped, counted, empty, putAt, Put, Appended};
 
@@ -71,7 +72,7 @@ fn remaining(s: &[u8], at: usize) -> usize
 
 // Past w bytes.
 fn skip(s: &[u8], c: Cursor, w: usize) -> Cursor
-    ensures { λ r. ⌜ r ≡ stepOf (num w) (now (s .entry)) c ⌝ }
+    ensures { λ r. ⌜ r ≡ stepOf (kind.number w) (now (s .entry)) c ⌝ }
 {
     if c.failed {
         return c;
@@ -91,7 +92,7 @@ fn skip(s: &[u8], c: Cursor, w: usize) -> Cursor
 }
 
 fn skip_negative(s: &[u8], c: Cursor) -> Cursor
-    ensures { λ r. ⌜ r ≡ stepOf neg (now (s .entry)) c ⌝ }
+    ensures { λ r. ⌜ r ≡ stepOf kind.negative (now (s .entry)) c ⌝ }
 {
     if c.failed {
         return c;
@@ -108,7 +109,7 @@ fn skip_negative(s: &[u8], c: Cursor) -> Cursor
 }
 
 fn skip_list(s: &[u8], c: Cursor) -> Cursor
-    ensures { λ r. ⌜ r ≡ stepOf list (now (s .entry)) c ⌝ }
+    ensures { λ r. ⌜ r ≡ stepOf kind.numbers (now (s .entry)) c ⌝ }
 {
     if c.failed {
         return c;
@@ -136,14 +137,14 @@ fn skip_list(s: &[u8], c: Cursor) -> Cursor
 }
 
 fn skip_payload(s: &[u8], c: Cursor) -> Cursor
-    ensures { λ r. ⌜ r ≡ stepOf size (now (s .entry)) c ⌝ }
+    ensures { λ r. ⌜ r ≡ stepOf kind.payload (now (s .entry)) c ⌝ }
 {
     let at = c.at;
     skip(s, c, 4 + u32_at(s, at) as usize)
 }
 
 fn skip_rest(s: &[u8], c: Cursor, closing: usize) -> Cursor
-    ensures { λ r. ⌜ r ≡ stepOf (rest closing) (now (s .entry)) c ⌝ }
+    ensures { λ r. ⌜ r ≡ stepOf (kind.opaque closing) (now (s .entry)) c ⌝ }
 {
     if c.failed {
         return c;
@@ -174,7 +175,7 @@ pub fn start() -> Cursor
 }
 
 pub fn read_u8(s: &[u8], c: Cursor) -> U8Step
-    ensures { λ r. ⌜ inU8 r ≡ takeOf (num 1) (now (s .entry)) c ⌝ }
+    ensures { λ r. ⌜ inU8 r ≡ takeOf (kind.number 1) (now (s .entry)) c ⌝ }
 {
     let at = c.at;
     let next = skip(s, c, 1);
@@ -185,7 +186,7 @@ pub fn read_u8(s: &[u8], c: Cursor) -> U8Step
 }
 
 pub fn read_u32(s: &[u8], c: Cursor) -> U32Step
-    ensures { λ r. ⌜ inU32 (number 4) r ≡ takeOf (num 4) (now (s .entry)) c ⌝ }
+    ensures { λ r. ⌜ inU32 (number 4) r ≡ takeOf (kind.number 4) (now (s .entry)) c ⌝ }
 {
     let at = c.at;
     let next = skip(s, c, 4);
@@ -196,7 +197,7 @@ pub fn read_u32(s: &[u8], c: Cursor) -> U32Step
 }
 
 pub fn read_u64(s: &[u8], c: Cursor) -> U64Step
-    ensures { λ r. ⌜ inU64 r ≡ takeOf (num 8) (now (s .entry)) c ⌝ }
+    ensures { λ r. ⌜ inU64 r ≡ takeOf (kind.number 8) (now (s .entry)) c ⌝ }
 {
     let at = c.at;
     let next = skip(s, c, 8);
@@ -208,7 +209,7 @@ pub fn read_u64(s: &[u8], c: Cursor) -> U64Step
 
 // A signed 32-bit number below zero, as its 32 bits: `error_of` gives the number.
 pub fn read_negative(s: &[u8], c: Cursor) -> U32Step
-    ensures { λ r. ⌜ inU32 negative r ≡ takeOf neg (now (s .entry)) c ⌝ }
+    ensures { λ r. ⌜ inU32 negative r ≡ takeOf kind.negative (now (s .entry)) c ⌝ }
 {
     let at = c.at;
     let next = skip_negative(s, c);
@@ -227,7 +228,7 @@ fn behind_count(s: &[u8], at: usize) -> usize
 
 // A 32-bit count, at most 32, and that many 32-bit numbers.
 pub fn read_list(s: &[u8], c: Cursor) -> ListStep
-    ensures { λ r. ⌜ inList (now (s .entry)) r ≡ takeOf list (now (s .entry)) c ⌝ }
+    ensures { λ r. ⌜ inList (now (s .entry)) r ≡ takeOf kind.numbers (now (s .entry)) c ⌝ }
 {
     let at = c.at;
     let next = skip_list(s, c);
@@ -243,7 +244,7 @@ pub fn read_list(s: &[u8], c: Cursor) -> ListStep
 
 // A 32-bit length and that many bytes.
 pub fn read_payload(s: &[u8], c: Cursor) -> SpanStep
-    ensures { λ r. ⌜ inSpan sized (now (s .entry)) r ≡ takeOf size (now (s .entry)) c ⌝ }
+    ensures { λ r. ⌜ inSpan payload (now (s .entry)) r ≡ takeOf kind.payload (now (s .entry)) c ⌝ }
 {
     let at = c.at;
     let next = skip_payload(s, c);
@@ -260,7 +261,7 @@ pub fn read_payload(s: &[u8], c: Cursor) -> SpanStep
 
 // All bytes but so many closing ones.
 pub fn read_rest(s: &[u8], c: Cursor, closing: usize) -> SpanStep
-    ensures { λ r. ⌜ inSpan (opaque closing) (now (s .entry)) r ≡ takeOf (rest closing) (now (s .entry)) c ⌝ }
+    ensures { λ r. ⌜ inSpan (opaque closing) (now (s .entry)) r ≡ takeOf (kind.opaque closing) (now (s .entry)) c ⌝ }
 {
     let at = c.at;
     let next = skip_rest(s, c, closing);
@@ -274,7 +275,7 @@ pub fn read_rest(s: &[u8], c: Cursor, closing: usize) -> SpanStep
 
 // So many opaque bytes.
 pub fn read_bytes(s: &[u8], c: Cursor, w: usize) -> SpanStep
-    ensures { λ r. ⌜ inSpan (fixed w) (now (s .entry)) r ≡ takeOf (plain w) (now (s .entry)) c ⌝ }
+    ensures { λ r. ⌜ inSpan (fixed w) (now (s .entry)) r ≡ takeOf (kind.fixed w) (now (s .entry)) c ⌝ }
 {
     let at = c.at;
     let next = skip(s, c, w);
@@ -463,7 +464,7 @@ pub fn append_list(out: &mut [u8], p: Draft, ns: &[u32]) -> Draft
 
 // A length and that many bytes.
 pub fn append_payload(out: &mut [u8], p: Draft, bs: &[u8]) -> Draft
-    ensures { λ q. ⌜ Appended (sized (now (bs .entry))) p (now (out .entry)) q (now (out .exit)) ⌝ }
+    ensures { λ q. ⌜ Appended (payload (now (bs .entry))) p (now (out .entry)) q (now (out .exit)) ⌝ }
 {
     let b = count_bytes(bs.len());
     let next = put(out, p, true, 0, &b);

@@ -8,12 +8,12 @@ use borrow.Author.Tests.{le-leb, lt-leb}
 use lib.ListN.{length, take, replicate}
 use lib.Seq.{length-take-le}
 use Rattle.buffer.specs.Splice.{replaceFront}
-use Rattle.refusal.specs.Refusals.{fine, row}
+use Rattle.refusal.specs.Refusals.{Judged, fine, row}
 use Rattle.refusal.specs.Writes.{wrote, refusedFor, done}
 use Rattle.aes.specs.Aes.{State}
 use Rattle.aes.specs.Counter.{gctr}
 use Rattle.gcm.specs.Gcm.{plain, fail, sealedBy, tagFits, openedBy}
-use Rattle.gcm.specs.Calls.{limit, judgeOpen, byBoth, sealDone, openDone}
+use Rattle.gcm.specs.Calls.{limit, judgeOpen, byTag, byBoth, sealDone, openDone}
 
 module _ (w : List State) (nonce text buf : List ℕ) where
   pub seal-long : limit < length text → sealDone w nonce text buf ≡ done (refusedFor (row 9 0 0 0)) buf
@@ -85,3 +85,12 @@ module _ (w : List State) (nonce s buf : List ℕ) where
         → openDone w nonce s buf ≡ done (refusedFor (row 17 0 0 0)) (replaceFront (replicate (length s - 16) 0) buf)
     unfolding openDone
     open-wrong e = ap₂ (λ j o. byBoth j o (length s - 16) buf) judged (opened-if false e)
+
+-- a sealed text that stands in the buffer, and is opened there
+pub open-in-place : (w : List State) (nonce s : List ℕ) → 16 ≤ length s → length s ≤ limit + 16
+    → openDone w nonce s s ≡ byTag (openedBy w nonce s) (length s - 16) s
+unfolding openDone
+open-in-place w nonce s h k =
+    let j : judgeOpen (length s) (length s) ≡ fine =
+    simp (le-leb 16 (length s) h, le-leb (length s - 16) limit (omega arith), le-leb (length s - 16) (length s) (omega arith)) in
+    ap (λ (x : Judged). byBoth x (openedBy w nonce s) (length s - 16) s) j

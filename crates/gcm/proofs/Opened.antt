@@ -37,7 +37,7 @@ neither : (x : Bool) (o : Opened) → cond (x && false) o fail ≡ fail
 neither true o = refl
 neither false o = refl
 
--- masked bytes with another tag do not open
+-- a ciphertext with another tag does not open
 pub not-opened : (w : List State) (nonce text tag : List ℕ) → length tag ≡ 16 → (tag ≡ tagOf w nonce (gctr w nonce text) → ⊥) → openedBy w nonce (gctr w nonce text ++ tag) ≡ fail
 unfolding openedBy tagFits
 not-opened w nonce text tag k differs = go (sameAs (tagOf w nonce (gctr w nonce text)) tag) refl

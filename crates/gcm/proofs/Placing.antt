@@ -1,4 +1,4 @@
--- Where the masked bytes and the tag come to stand.
+-- Where the ciphertext and the tag come to stand.
 use mathlib.Core.List.{List, _++_}
 use mathlib.Core.Path.{_≡_, refl, sym, ap, ap₂, _∙_}
 use Prim.Native.Nat.{ℕ, _+_, _-_, _<_, _≤_, _^_}

@@ -36,7 +36,7 @@ blockBytes n = be8 (n / 2 ^ 64) ++ be8 (n % 2 ^ 64)
 unfoldable pub hashKey : List State → ℕ
 hashKey w = blockNumber (cipher w (stateOf (replicate 16 0)))
 
--- steps 4 to 6: the tag of the masked text c is its hash, masked by the block of J0
+-- steps 4 to 6: the tag of the ciphertext c is its hash, masked by the block of J0
 unfoldable pub tagOf : List State → List ℕ → List ℕ → List ℕ
 tagOf w nonce c = blockBytes (bitXor (ghash (hashKey w) c) (blockNumber (keystreamBlock w nonce 1)))
 
@@ -60,7 +60,7 @@ sameAs [] (y ∷ ys) = false
 sameAs (x ∷ xs) [] = false
 sameAs (x ∷ xs) (y ∷ ys) = eqb x y && sameAs xs ys
 
--- the n first bytes of s are masked, and what is behind them is their tag
+-- the n first bytes of s are the ciphertext, and what is behind them is its tag
 unfoldable pub tagFits : List State → List ℕ → ℕ → List ℕ → Bool
 tagFits w nonce n s = sameAs (tagOf w nonce (take n s)) (drop n s)
 

@@ -1,6 +1,6 @@
 // AES-128-GCM: seal and open, into a buffer or where the bytes stand.
 use aes::encrypt;
-use aes::expand;
+use aes::key_expansion;
 use aes::keystream_block;
 use aes::xor_keystream;
 use buffer::put;
@@ -96,7 +96,7 @@ fn xor_bytes(a: Block, b: Block) -> [u8; 16]
     block_bytes(a.hi ^ b.hi, a.lo ^ b.lo)
 }
 
-// The tag of a masked text.
+// The tag of a ciphertext.
 fn tag(w: &[[[u8; 4]; 4]; 11], nonce: [u8; 12], c: &[u8]) -> [u8; 16]
     ensures { λ r. ⌜ r ≡ tagOf (now (w .entry)) nonce (now (c .entry)) ⌝ }
 {
@@ -140,7 +140,7 @@ fn seal_front(w: &[[[u8; 4]; 4]; 11], nonce: [u8; 12], buf: &mut [u8], n: usize)
     put(&mut buf[n..], &t);
 }
 
-// Seals text into the front of out, by the round keys of a key: the masked bytes, and then the tag.
+// Seals text into the front of out, by the round keys of a key: the ciphertext, and then the tag.
 pub fn seal_with(
     w: &[[[u8; 4]; 4]; 11],
     nonce: [u8; 12],
@@ -165,7 +165,7 @@ pub fn seal_with(
 pub fn seal(key: [u8; 16], nonce: [u8; 12], text: &[u8], out: &mut [u8]) -> WriteResult
     ensures { λ r. ⌜ Sealing (keyExpansion key) nonce (now (text .entry)) (now (out .entry)) r (now (out .exit)) ⌝ }
 {
-    let w = expand(key);
+    let w = key_expansion(key);
     seal_with(&w, nonce, text, out)
 }
 
@@ -203,7 +203,7 @@ pub fn open_with(
 pub fn open(key: [u8; 16], nonce: [u8; 12], sealed: &[u8], out: &mut [u8]) -> WriteResult
     ensures { λ r. ⌜ Opening (keyExpansion key) nonce (now (sealed .entry)) (now (out .entry)) r (now (out .exit)) ⌝ }
 {
-    let w = expand(key);
+    let w = key_expansion(key);
     open_with(&w, nonce, sealed, out)
 }
 

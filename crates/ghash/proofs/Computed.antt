@@ -11,7 +11,7 @@ use lib.Dec.{lit<}
 use lib.ListN.{length}
 use lib.Pow.{shr-lt, shr-shr}
 use Rattle.bits.proofs.Xor.{digit}
-use Rattle.ghash.specs.Ghash.{pair, field, step, mulFrom, product, blockAt, ghashFrom, ghash}
+use Rattle.ghash.specs.Ghash.{pair, reduction, step, mulFrom, product, blockAt, ghashFrom, ghash}
 use Rattle.ghash.specs.Tables.{steps}
 use Rattle.ghash.proofs.Linear.{steps-xor, steps-zero}
 
@@ -121,7 +121,7 @@ unfolding step
 double v =
     let p : v * 2 / 2 ≡ v = omega arith in
     let q : v * 2 % 2 ≡ 0 = omega arith in
-    ap₂ (λ (x y : ℕ). bitXor x (y * field)) p q ∙ xor-zero-r v
+    ap₂ (λ (x y : ℕ). bitXor x (y * reduction)) p q ∙ xor-zero-r v
 
 picked : (n x v : ℕ) → x % 2 * steps n v ≡ steps n (x % 2 * v)
 picked n x v =
@@ -149,7 +149,7 @@ abbrev run : ℕ → ℕ → ℕ → ℕ
 run q zero y = y
 run q (suc n) y = run q n (y / 65536 + y % 2 * q)
 
-module _ (q k : ℕ) (l : 127 ≤ k) (c : (j : ℕ) → 128 ≤ j → Counts 1 j q field) where
+module _ (q k : ℕ) (l : 127 ≤ k) (c : (j : ℕ) → 128 ≤ j → Counts 1 j q reduction) where
   runs : (n m y v : ℕ) → m + n < 65536 → Counts m (suc k) y v → Counts (m + n) (suc k) (run q n y) (steps n v)
   unfolding steps step
   runs zero m y v h d = subst (λ (i : ℕ). Counts i (suc k) y v) (omega arith) d
@@ -157,21 +157,21 @@ module _ (q k : ℕ) (l : 127 ≤ k) (c : (j : ℕ) → 128 ≤ j → Counts 1 j
       let e : m + 1 + n ≡ m + suc n = omega arith in
       subst (λ (i : ℕ). Counts i (suc k) (run q (suc n) y) (steps (suc n) v)) e
       (runs n (m + 1) (y / 65536 + y % 2 * q) (step v) (omega arith)
-      (sum m 1 (suc k) (y / 65536) (y % 2 * q) (v / 2) (v % 2 * field) (omega arith)
+      (sum m 1 (suc k) (y / 65536) (y % 2 * q) (v / 2) (v % 2 * reduction) (omega arith)
       (wider m k (y / 65536) (v / 2) (d .2))
-      (subst (λ (i : ℕ). Counts 1 (suc k) (y % 2 * q) (i * field)) (sym (d .1)) (bit q field c (suc k) y (omega arith)))))
+      (subst (λ (i : ℕ). Counts 1 (suc k) (y % 2 * q) (i * reduction)) (sym (d .1)) (bit q reduction c (suc k) y (omega arith)))))
 
 -- ---- the product, and GHASH by any product
 
 abbrev times : ℕ → ℕ → ℕ
-times x v = parities 257 (run (spaced 128 field) 128 (spaced 128 x * spaced 128 v * 65536))
+times x v = parities 257 (run (spaced 128 reduction) 128 (spaced 128 x * spaced 128 v * 65536))
 
 times-is : (x v : ℕ) → v < 2 ^ 128 → product x v ≡ times x v
 times-is x v h =
     reduced 128 x v
     ∙ sym
-    (read 256 257 (run (spaced 128 field) 128 (spaced 128 x * spaced 128 v * 65536)) (steps 128 (wide 128 x v * 2))
-    (runs (spaced 128 field) 256 (omega arith) (λ j l. counts 128 j field l (lit< tt)) 128 128 (spaced 128 x * spaced 128 v * 65536) (wide 128 x v * 2) (omega arith)
+    (read 256 257 (run (spaced 128 reduction) 128 (spaced 128 x * spaced 128 v * 65536)) (steps 128 (wide 128 x v * 2))
+    (runs (spaced 128 reduction) 256 (omega arith) (λ j l. counts 128 j reduction l (lit< tt)) 128 128 (spaced 128 x * spaced 128 v * 65536) (wide 128 x v * 2) (omega arith)
     (shift 128 256 (spaced 128 x * spaced 128 v) (wide 128 x v)
     (counted (spaced 128 v) v (λ k l. counts 128 k v l h) 128 256 x (omega arith) (omega arith)))))
 

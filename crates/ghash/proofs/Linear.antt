@@ -9,7 +9,7 @@ use lib.Arith.{lt-one}
 use lib.Pow.{split, pow-pos, pow-add, shr-lt, shr-shr, mod-mod-pow}
 use lib.Pow as pow
 use Rattle.bits.proofs.Xor.{digit, xor-assoc, xor-odd}
-use Rattle.ghash.specs.Ghash.{field, step, mulFrom}
+use Rattle.ghash.specs.Ghash.{reduction, step, mulFrom}
 use Rattle.ghash.specs.Tables.{steps}
 
 interchange : (a b c d : ℕ) → bitXor (bitXor a b) (bitXor c d) ≡ bitXor (bitXor a c) (bitXor b d)
@@ -20,17 +20,17 @@ interchange a b c d =
 
 -- ---- the steps are linear
 
-reduce : (a b : ℕ) → differ (a % 2) (b % 2) * field ≡ bitXor (a % 2 * field) (b % 2 * field)
+reduce : (a b : ℕ) → differ (a % 2) (b % 2) * reduction ≡ bitXor (a % 2 * reduction) (b % 2 * reduction)
 reduce a b =
-    digit (λ (x : ℕ). differ x (b % 2) * field ≡ bitXor (x * field) (b % 2 * field)) (sym (xor-zero-l (b % 2 * field)))
-    (digit (λ (y : ℕ). differ 1 y * field ≡ bitXor (1 * field) (y * field)) refl refl b)
+    digit (λ (x : ℕ). differ x (b % 2) * reduction ≡ bitXor (x * reduction) (b % 2 * reduction)) (sym (xor-zero-l (b % 2 * reduction)))
+    (digit (λ (y : ℕ). differ 1 y * reduction ≡ bitXor (1 * reduction) (y * reduction)) refl refl b)
     a
 
 step-xor : (a b : ℕ) → step (bitXor a b) ≡ bitXor (step a) (step b)
 unfolding step
 step-xor a b =
-    ap₂ bitXor (xor-shr a b 1) (ap (λ (x : ℕ). x * field) (xor-odd a b) ∙ reduce a b)
-    ∙ interchange (a / 2) (b / 2) (a % 2 * field) (b % 2 * field)
+    ap₂ bitXor (xor-shr a b 1) (ap (λ (x : ℕ). x * reduction) (xor-odd a b) ∙ reduce a b)
+    ∙ interchange (a / 2) (b / 2) (a % 2 * reduction) (b % 2 * reduction)
 
 pub steps-xor : (n a b : ℕ) → steps n (bitXor a b) ≡ bitXor (steps n a) (steps n b)
 unfolding steps
@@ -40,7 +40,7 @@ steps-xor (suc n) a b = ap (steps n) (step-xor a b) ∙ steps-xor n (step a) (st
 step-shifted : (h n : ℕ) → step (h * 2 ^ suc n) ≡ h * 2 ^ n
 unfolding step
 step-shifted h n =
-    ap₂ (λ (x y : ℕ). bitXor x (y * field)) (shifted-half h n) (shifted-even h n) ∙ xor-zero-r (h * 2 ^ n)
+    ap₂ (λ (x y : ℕ). bitXor x (y * reduction)) (shifted-half h n) (shifted-even h n) ∙ xor-zero-r (h * 2 ^ n)
 
 steps-shifted : (n h : ℕ) → steps n (h * 2 ^ n) ≡ h
 unfolding steps
@@ -163,9 +163,9 @@ steps-zero zero = refl
 steps-zero (suc n) = steps-zero n
 
 -- the lowest bit of n + 1
-lowest-fallen : (n e m : ℕ) → e + n ≡ 120 → steps n (m % 2 * field) ≡ spread (m % 2) * 2 ^ e
+lowest-fallen : (n e m : ℕ) → e + n ≡ 120 → steps n (m % 2 * reduction) ≡ spread (m % 2) * 2 ^ e
 lowest-fallen n e m q =
-    digit (λ (x : ℕ). steps n (x * field) ≡ spread x * 2 ^ e) (steps-zero n ∙ sym (zero-mul (2 ^ e)))
+    digit (λ (x : ℕ). steps n (x * reduction) ≡ spread x * 2 ^ e) (steps-zero n ∙ sym (zero-mul (2 ^ e)))
     (ap (steps n) (ap (λ (k : ℕ). 0xe1 * 2 ^ k) (sym q) ∙ ap (λ (x : ℕ). 0xe1 * x) (pow-add 2 e n) ∙ sym (mul-assoc 0xe1 (2 ^ e) (2 ^ n)))
     ∙ steps-shifted n (0xe1 * 2 ^ e))
     m
@@ -176,7 +176,7 @@ fallen zero e m q h =
     let z : m ≡ 0 = lt-one h in
     z ∙ sym (ap (λ (x : ℕ). spread x * 2 ^ e) z ∙ zero-mul (2 ^ e))
 fallen (suc n) e m q h =
-    steps-xor n (m / 2) (m % 2 * field)
+    steps-xor n (m / 2) (m % 2 * reduction)
     ∙ ap₂ bitXor
     (fallen n (suc e) (m / 2) (omega arith) (shr-lt n 1 (subst (λ (k : ℕ). m < 2 ^ k) (sym (add-one n)) h))
     ∙ ap (λ (x : ℕ). spread (m / 2) * x) (pow-succ' 2 e)

@@ -12,7 +12,7 @@ use lib.Pow.{pow-pos, shr-shr, high, mod-mod-pow}
 use lib.Pow as pow
 use Rattle.bits.proofs.Every.{at, every}
 use Rattle.bits.proofs.Xor.{digit}
-use Rattle.ghash.specs.Ghash.{pair, field, step}
+use Rattle.ghash.specs.Ghash.{pair, reduction, step}
 use Rattle.ghash.specs.Tables.{steps, Reduced}
 use Rattle.ghash.proofs.Linear.{steps-split, spread, fallen}
 
@@ -37,8 +37,8 @@ halved vh vl h = omega arith
 fell : (vh vl : ℕ) → pair vh vl % 2 ≡ vl % 2
 fell vh vl = omega arith
 
-reduced : (d : ℕ) → d % 2 * field ≡ pair (d % 2 * 0xe100000000000000) 0
-reduced d = digit (λ (x : ℕ). x * field ≡ pair (x * 0xe100000000000000) 0) refl refl d
+reduced : (d : ℕ) → d % 2 * reduction ≡ pair (d % 2 * 0xe100000000000000) 0
+reduced d = digit (λ (x : ℕ). x * reduction ≡ pair (x * 0xe100000000000000) 0) refl refl d
 
 pub low-fits : (vh vl : ℕ) → vl < 2 ^ 64 → vh % 2 * 2 ^ 63 + vl / 2 < 2 ^ 64
 low-fits vh vl h = omega arith
@@ -48,7 +48,7 @@ pub turn-v : (vh vl : ℕ) → vl < 2 ^ 64
 unfolding step
 turn-v vh vl h =
     sym
-    (ap₂ (λ (x y : ℕ). bitXor x (y * field)) (halved vh vl h) (fell vh vl)
+    (ap₂ (λ (x y : ℕ). bitXor x (y * reduction)) (halved vh vl h) (fell vh vl)
     ∙ ap (bitXor (pair (vh / 2) (vh % 2 * 2 ^ 63 + vl / 2))) (reduced vl)
     ∙ xor-block 64 (vh / 2) (vl % 2 * 0xe100000000000000) (vh % 2 * 2 ^ 63 + vl / 2) 0 (low-fits vh vl h) (pow-pos 64)
     ∙ ap (λ (x : ℕ). bitXor (vh / 2) (vl % 2 * 0xe100000000000000) * 2 ^ 64 + x) (xor-zero-r (vh % 2 * 2 ^ 63 + vl / 2)))

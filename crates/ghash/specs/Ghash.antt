@@ -11,12 +11,12 @@ pair h l = h * 2 ^ 64 + l
 -- ---- 6.3: the product X • Y
 
 -- R: 11100001 and 120 zeros
-abbrev pub field : ℕ
-field = 0xe1 * 2 ^ 120
+abbrev pub reduction : ℕ
+reduction = 0xe1 * 2 ^ 120
 
 -- from V_i to V_(i+1): a place to the right, and R where a one fell out
 unfoldable pub step : ℕ → ℕ
-step v = bitXor (v / 2) (v % 2 * field)
+step v = bitXor (v / 2) (v % 2 * reduction)
 
 -- the rest of the product, from Z_i and V_i on, by the n last bits of x
 unfoldable pub mulFrom : ℕ → ℕ → ℕ → ℕ → ℕ

@@ -8,11 +8,11 @@ use lib.ListN.{length, take, drop, length-drop}
 use lib.Seq.{take-take, drop-drop, length-take-le}
 use Rattle.buffer.proofs.Parts.{drop-take}
 use Rattle.stream.specs.declared.Event.{Event}
-use Rattle.stream.specs.Stream.{Entry}
+use Rattle.stream.specs.Stream.{Entry, refusedIn}
 use Rattle.receiver.specs.declared.Report.the-variants as report
 use Rattle.receiver.specs.declared.Received.{Received}
 use Rattle.receiver.specs.Step.{Answered}
-use Rattle.receiver.specs.Calls.{Call, pieceAt, reportedBy, refusedIn}
+use Rattle.receiver.specs.Calls.{Call, pieceAt, reportedBy}
 use Rattle.link.specs.declared.Segments.{Segments}
 use Rattle.link.specs.declared.Walk.{Walk}
 use Rattle.link.specs.Lines.{linesOf}

@@ -3,10 +3,10 @@ use mathlib.Core.Path.{_≡_, refl, sym, ap, _∙_}
 use mathlib.Core.Bool.{Bool, false}
 use mathlib.Core.List.{List, [], _∷_, _++_, append-assoc}
 use Prim.Native.Nat.{ℕ}
-use Rattle.stream.specs.Stream.{Entry, entry}
+use Rattle.stream.specs.Stream.{Entry, entry, refusedIn}
 use Rattle.receiver.specs.declared.Report.{Report}
 use Rattle.receiver.specs.declared.Report.the-variants as report
-use Rattle.receiver.specs.Calls.{entered, refusedIn}
+use Rattle.receiver.specs.Calls.{entered}
 use Rattle.receiver.proofs.Appended.{clean-here, clean-behind, passing-same, refused-append}
 use Rattle.text.specs.Page.{page}
 use Rattle.text.proofs.Laws.{puts-append}

@@ -14,15 +14,17 @@ use Rattle.banner.specs.declared.Revision.{Revision}
 use Rattle.preamble.specs.declared.Header.{Header}
 use Rattle.stream.specs.declared.Event.{Event}
 use Rattle.stream.specs.declared.Event.the-variants as event
-use Rattle.stream.specs.Events.{closes}
+use Rattle.stream.specs.Events.{endsFrame}
 use Rattle.receiver.specs.declared.State.{State}
 use Rattle.receiver.specs.declared.Report.{Report}
 use Rattle.receiver.specs.declared.Report.the-variants as report
 use Rattle.receiver.specs.declared.Received.{Received}
 use Rattle.receiver.specs.State.{agrees, isRefused}
-use Rattle.receiver.specs.Step.{Answered, Running, neededBy, contradiction, shortStore, refusedState}
+use Rattle.refusal.specs.Refusals.{contradiction}
+use Rattle.receiver.specs.Step.{Answered, Running, neededBy, shortStore, refusedState}
 use Rattle.receiver.specs.Every.{Refuses, Sound}
-use Rattle.receiver.specs.Calls.{pieceAt, refusedIn}
+use Rattle.stream.specs.Stream.{refusedIn}
+use Rattle.receiver.specs.Calls.{pieceAt}
 use Rattle.receiver.proofs.Live.{refused-for}
 use Rattle.receiver.proofs.Every.{sound, refused-answer, refuses}
 use Rattle.receiver.proofs.CallLoop.{taken-within}
@@ -39,7 +41,7 @@ pub record Moves (piece : List ℕ) (o : Received) : Type 0 where
   pub frames-within : (at k : ℕ) (s : List ℕ) → framesOf k (reported (o .report) at s) ≤ k + o .taken
 
 numbered-few : (k : ℕ) (e : Event) → numbered k e ≤ k + 1
-numbered-few k e = go (closes e)
+numbered-few k e = go (endsFrame e)
   where
     go : (b : Bool) → cond b (k + 1) k ≤ k + 1
     go true = omega arith

@@ -17,11 +17,11 @@ use Rattle.refusal.specs.Refusals.{Judged, fine}
 use Rattle.refusal.proofs.Booleans.{either-left, either-right}
 use Rattle.banner.specs.Bits.{missing}
 use Rattle.banner.specs.Banner.{judgeOwn}
-use Rattle.stream.specs.Stream.{Entry, streamTrace, traceOf}
+use Rattle.stream.specs.Stream.{Entry, streamTrace, traceOf, refusedIn}
 use Rattle.stream.specs.Adds.{AddsUp}
 use Rattle.receiver.specs.declared.State.{State}
 use Rattle.receiver.specs.Step.{started}
-use Rattle.receiver.specs.Calls.{Call, Chained, takenBy, stateBy, storeBy, reportedBy, refusedIn, listOf, AsDefined, Demand3}
+use Rattle.receiver.specs.Calls.{Call, Chained, takenBy, stateBy, storeBy, reportedBy, listOf, AsDefined, Demand3}
 use Rattle.receiver.proofs.Appended.{refused-append, taken-append, state-append, store-append, chained-append, reported-append}
 use Rattle.text.specs.Line.{Piece, textOf}
 use Rattle.text.specs.Page.{page, puts}

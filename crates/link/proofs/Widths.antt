@@ -7,10 +7,10 @@ use native.Mathlib.Omega.{arith}
 use Rattle.refusal.specs.Refusals.{byJudgement}
 use Rattle.banner.specs.declared.Revision.{Revision}
 use Rattle.stream.specs.Events.{isFrame, Role, bannerEnd, firstEnd, frameEnd, streamEnd, roleOf, isFrameEnd, judgeRole}
-use Rattle.stream.specs.Stream.{Entry}
+use Rattle.stream.specs.Stream.{Entry, refusedIn}
 use Rattle.stream.specs.Adds.{Adds, AddsUp}
 use Rattle.stream.proofs.Events.{by-adds, by-front}
-use Rattle.receiver.specs.Calls.{Call, takenBy, reportedBy, refusedIn}
+use Rattle.receiver.specs.Calls.{Call, takenBy, reportedBy}
 use Rattle.receiver.proofs.Appended.{adds-behind, Between, taken-more, reported-between}
 use Rattle.text.specs.Line.{Piece, width}
 use Rattle.text.proofs.Laws.{width-append}

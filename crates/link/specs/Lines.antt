@@ -9,9 +9,8 @@ use Rattle.banner.specs.Banner.{revisionNumber}
 use Rattle.preamble.specs.declared.Header.{Header}
 use Rattle.preamble.specs.Layout.{total}
 use Rattle.stream.specs.declared.Event.{Event}
-use Rattle.stream.specs.Events.{isBanner, isFrame, closes, Role, bannerEnd, firstEnd, frameEnd, streamEnd, roleOf}
+use Rattle.stream.specs.Events.{isBanner, isFrame, endsFrame, Role, bannerEnd, firstEnd, frameEnd, streamEnd, roleOf, passing}
 use Rattle.stream.specs.Stream.{Entry}
-use Rattle.receiver.specs.Calls.{passing}
 use Rattle.text.specs.Line.{Piece, raw, number, codes, word, newline, field}
 
 -- ---- lines
@@ -34,7 +33,7 @@ abbrev pub lineOf : ℕ → Event → List Piece
 lineOf k e = roleLine (isFrame e) k (roleOf e)
 
 abbrev pub numbered : ℕ → Event → ℕ
-numbered k e = cond (closes e) (k + 1) k
+numbered k e = cond (endsFrame e) (k + 1) k
 
 unfoldable pub linesOf : ℕ → List Entry → List Piece
 linesOf k [] = []
@@ -60,7 +59,7 @@ openEnd bad n p = cond bad badFile (cond (leb n p) (ok n) (cut (n - p)))
 
 -- the byte of the last banner, frame or drop, where it was at p before: there the unfinished part begins
 abbrev pub entryEndBy : ℕ → Event → ℕ → ℕ
-entryEndBy p e at = cond (isBanner e || closes e) at p
+entryEndBy p e at = cond (isBanner e || endsFrame e) at p
 
 unfoldable pub endOf : Bool → ℕ → ℕ → List Entry → End
 endOf bad n p [] = openEnd bad n p

@@ -5,12 +5,12 @@ use mathlib.Core.Bool.{Bool, true, false, cond}
 use Prim.Native.Nat.{ℕ, _+_, _≤_, _<_}
 use lib.ListN.{length, take, drop}
 use Rattle.stream.specs.declared.Event.{Event}
-use Rattle.stream.specs.Stream.{Entry, entry}
+use Rattle.stream.specs.Stream.{Entry, entry, refusedIn}
 use Rattle.receiver.specs.declared.Report.{Report}
 use Rattle.receiver.specs.declared.Report.the-variants as report
 use Rattle.receiver.specs.declared.Received.{Received}
 use Rattle.receiver.specs.Step.{Answered}
-use Rattle.receiver.specs.Calls.{Call, Chained, takenBy, stateBy, storeBy, reportedBy, refusedIn}
+use Rattle.receiver.specs.Calls.{Call, Chained, takenBy, stateBy, storeBy, reportedBy}
 use Rattle.text.specs.Page.{page, puts}
 use Rattle.link.specs.declared.Segments.{Segments}
 use Rattle.link.specs.declared.Walk.{Walk}

@@ -2,6 +2,7 @@
 use crate::Walk;
 use banner::Features;
 use banner::Revision;
+use banner::revision_number;
 use preamble::Header;
 use preamble::total_of;
 use text::put_end;
@@ -13,15 +14,6 @@ ghost use Rattle.banner.specs.Banner.{revisionNumber};
 ghost use Rattle.text.specs.Page.{page, puts};
 ghost use Rattle.link.specs.Lines.{bannerLine, frameLine, refusedAt, badFile, openEnd, endLine};
 ghost use Rattle.link.specs.Walks.{endAt};
-
-fn revision_number(revision: Revision) -> u64
-    ensures { λ r. ⌜ r ≡ revisionNumber revision ⌝ }
-{
-    match revision {
-        Revision::Msgr20 => 0,
-        Revision::Msgr21 => 1,
-    }
-}
 
 pub(crate) fn put_banner(text: &mut [u8], at: usize, peer: Features, revision: Revision) -> usize
     ensures { λ r. ⌜ page (now (text .exit)) r ≡ puts (bannerLine peer revision) (page (now (text .entry)) at) ⌝ }

@@ -6,15 +6,15 @@ use Prim.Native.Nat.{ℕ, _+_}
 use native.Mathlib.Omega.{arith}
 use lib.Dec.{eqb, ltb}
 use lib.ListN.{length}
-use borrow.Author.Tests.{ltb-true, ltb-false}
+use borrow.Author.Tests.{eqb-true, ltb-true, ltb-false}
 use Rattle.refusal.specs.declared.Numbers.{Numbers}
-use Rattle.refusal.proofs.Booleans.{wrong, both-left}
+use Rattle.refusal.proofs.Booleans.{both-left}
 use Rattle.receiver.specs.declared.Known.{Known}
 use Rattle.receiver.specs.declared.Stage.{Stage}
-use Rattle.receiver.specs.declared.Stage.the-variants as stage
 use Rattle.receiver.specs.declared.State as crc-state
 use Rattle.receiver.specs.State as crc-states
 use Rattle.receiver.specs.State.{rank, isRefused, needed}
+use Rattle.refusal.specs.Refusals.{contradiction}
 use Rattle.receiver.specs.Step as crc
 use Rattle.receiver.specs.Calls.{pieceAt}
 use Rattle.receiver.specs.Calls as receiver
@@ -26,26 +26,17 @@ use Rattle.connection.specs.Calls.{Piece}
 use Rattle.connection.proofs.Laws.{mode-is}
 use Rattle.connection.proofs.Machines.{before, crcSide}
 use Rattle.connection.proofs.SplitAtSwitch.{Stands, runs, refuses, next-stands}
-use Rattle.plain_connection.specs.Words.{PlainConnection, PlainOf, PlainReceived, kindIn, takenIn}
-use Rattle.plain_connection.proofs.Calls.{taken-word}
-use Rattle.mahuixen.specs.Calls.{PlainPiece, PlainChained, plainReceived}
-use Rattle.mahuixen.specs.Demands.{OfCrc, PlainAnyCall, PlainHanded, AnyOfCrc, pieces, PiecesOfCrc}
-use Rattle.mahuixen.proofs.Chain.{PlainForm, plain-form}
+use Rattle.abi_connection.specs.Words.{AbiConnection, AbiOf, AbiReceived, kindIn, takenIn}
+use Rattle.abi_connection.proofs.Calls.{taken-word}
+use Rattle.mahuixen.specs.Calls.{AbiPiece, AbiChained, abiReceived}
+use Rattle.mahuixen.specs.Demands.{OfCrc, AbiAnyCall, AbiHanded, AnyOfCrc, pieces, PiecesOfCrc}
+use Rattle.mahuixen.proofs.Chain.{AbiForm, abi-form}
 
 -- ---- a call keeps the rule of the mark
 
 -- before a preamble nothing of the store is needed
 needs-none : (k : Stage) (v : Known) → eqb (rank k) 4 ≡ true → needed k v ≡ 0
-needs-none stage.Magic v e = wrong e
-needs-none stage.Length v e = wrong e
-needs-none stage.Payload v e = wrong e
-needs-none stage.Skip v e = wrong e
-needs-none stage.Preamble v e = refl
-needs-none stage.First v e = wrong e
-needs-none stage.FirstSum v e = wrong e
-needs-none stage.Rest v e = wrong e
-needs-none stage.Epilogue v e = wrong e
-needs-none stage.Refused v e = wrong e
+needs-none k v e = rw (eqb-true (rank k) 4 e)
 
 stood : {st : State} {s : List ℕ} → Stands crcSide st s → readyRule st ≡ true
 stood (runs r) = r .rule
@@ -76,7 +67,7 @@ module _ (st : State) (s piece : List ℕ) (m : st .mode ≡ mode.Crc) (q : read
   inner-by : (a r t : Bool) → crc-states.agrees (st .crc) ≡ a → isRefused (st .crc .position .stage) ≡ r → ltb (length s) (crc.neededBy (st .crc)) ≡ t
       → readyRule (byCrc st inner .received .state) ≡ true
   unfolding crc.answer
-  inner-by false r t ea er et = refusing crc.contradiction (st .crc) (rw ea) was-before
+  inner-by false r t ea er et = refusing contradiction (st .crc) (rw ea) was-before
   inner-by true true t ea er et = refusing (st .crc .known .refusal) (st .crc) (rw (ea, er)) was-before
   inner-by true false true ea er et =
       refusing (crc.shortStore (st .crc)) (crc.refusedState (st .crc .known) (crc.shortStore (st .crc))) (rw (ea, er, et))
@@ -94,58 +85,58 @@ module _ (st : State) (s piece : List ℕ) (m : st .mode ≡ mode.Crc) (q : read
   rule-kept = inner-by (crc-states.agrees (st .crc)) (isRefused (st .crc .position .stage)) (ltb (length s) (crc.neededBy (st .crc))) refl refl refl
 
   -- ---- what a call on the words of such a state is
-  pub record CrcForm (n : ℕ) (o : PlainReceived) (s′ : List ℕ) : Type 0 where
+  pub record CrcForm (n : ℕ) (o : AbiReceived) (s′ : List ℕ) : Type 0 where
     pub same : OfCrc n o (inner .received)
     pub store : s′ ≡ inner .store
     pub taken : takenIn o ≡ inner .received .taken
-    pub next : PlainOf (byCrc st inner .received .state) (o .state)
+    pub next : AbiOf (byCrc st inner .received .state) (o .state)
 
-  pub crc-form : (n : ℕ) (o : PlainReceived) (s′ : List ℕ) → n ≡ kindIn o → PlainForm st s piece o s′ → CrcForm n o s′
+  pub crc-form : (n : ℕ) (o : AbiReceived) (s′ : List ℕ) → n ≡ kindIn o → AbiForm st s piece o s′ → CrcForm n o s′
   crc-form n o s′ k f =
-      let e : o ≡ plainReceived (byCrc st inner .received) = f .received ∙ ap (λ (a : Answer). plainReceived (a .received)) by-crc in
+      let e : o ≡ abiReceived (byCrc st inner .received) = f .received ∙ ap (λ (a : Answer). abiReceived (a .received)) by-crc in
       record {
-        same = record { number = k; state = ap (λ (x : PlainReceived). x .state .crc) e; report = ap (λ (x : PlainReceived). x .report) e };
+        same = record { number = k; state = ap (λ (x : AbiReceived). x .state .crc) e; report = ap (λ (x : AbiReceived). x .report) e };
         store = f .store ∙ ap (λ (a : Answer). a .store) by-crc;
         taken = ap takenIn e ∙ taken-word (inner .received .taken) (inner .received .report);
-        next = subst (λ (a : Answer). PlainOf (a .received .state) (o .state)) by-crc (f .next);
+        next = subst (λ (a : Answer). AbiOf (a .received .state) (o .state)) by-crc (f .next);
       }
 
 -- ---- lists
 
-pub record CrcPieces (stream : List ℕ) (st : crc-state.State) (s : List ℕ) (t : ℕ) (ps : List PlainPiece) : Type 0 where
+pub record CrcPieces (stream : List ℕ) (st : crc-state.State) (s : List ℕ) (t : ℕ) (ps : List AbiPiece) : Type 0 where
   pub calls : List receiver.Call
-  pub plain : PiecesOfCrc ps calls
+  pub abi : PiecesOfCrc ps calls
   pub chained : receiver.Chained stream st s t calls
 
-pub crc-pieces : (stream : List ℕ) (st : State) (p : PlainConnection) (s : List ℕ) (t : ℕ) (ps : List PlainPiece) → PlainOf st p → st .mode ≡ mode.Crc → readyRule st ≡ true
-    → PlainChained stream p s t (pieces ps) → CrcPieces stream (st .crc) s t ps
-crc-pieces stream st p s t [] w m q h = record { calls = []; plain = tt; chained = tt }
+pub crc-pieces : (stream : List ℕ) (st : State) (p : AbiConnection) (s : List ℕ) (t : ℕ) (ps : List AbiPiece) → AbiOf st p → st .mode ≡ mode.Crc → readyRule st ≡ true
+    → AbiChained stream p s t (pieces ps) → CrcPieces stream (st .crc) s t ps
+crc-pieces stream st p s t [] w m q h = record { calls = []; abi = tt; chained = tt }
 crc-pieces stream st p s t (c ∷ ps) w m q h =
     let piece = pieceAt stream t (c .size) in
     let a = crc.answer (st .crc) s piece in
-    let o = crc-form st s piece m q (c .number) (c .received) (c .store) (h .0 .kind) (plain-form st p s piece (c .received) (c .store) w (h .0 .answered)) in
+    let o = crc-form st s piece m q (c .number) (c .received) (c .store) (h .0 .kind) (abi-form st p s piece (c .received) (c .store) w (h .0 .answered)) in
     let on =
     crc-pieces stream (byCrc st a .received .state) (c .received .state) (a .store) (t + a .received .taken) ps (o .next) m (rule-kept st s piece m q)
     (rw (o .taken, o .store) at (h .1)) in
     record {
       calls = record { size = c .size; received = a .received; store = a .store } ∷ on .calls;
-      plain = (refl, o .same, o .store, on .plain);
+      abi = (refl, o .same, o .store, on .abi);
       chained = (record { received = refl; store = refl }, on .chained);
     }
 
-pub record CrcCalls (st : crc-state.State) (ps : List PlainAnyCall) : Type 0 where
+pub record CrcCalls (st : crc-state.State) (ps : List AbiAnyCall) : Type 0 where
   pub calls : List AnyCall
-  pub plain : AnyOfCrc ps calls
+  pub abi : AnyOfCrc ps calls
   pub handed : Handed st calls
 
-pub crc-calls : (st : State) (p : PlainConnection) (ps : List PlainAnyCall) → PlainOf st p → st .mode ≡ mode.Crc → readyRule st ≡ true → PlainHanded p ps → CrcCalls (st .crc) ps
-crc-calls st p [] w m q h = record { calls = []; plain = tt; handed = tt }
+pub crc-calls : (st : State) (p : AbiConnection) (ps : List AbiAnyCall) → AbiOf st p → st .mode ≡ mode.Crc → readyRule st ≡ true → AbiHanded p ps → CrcCalls (st .crc) ps
+crc-calls st p [] w m q h = record { calls = []; abi = tt; handed = tt }
 crc-calls st p (c ∷ ps) w m q h =
     let a = crc.answer (st .crc) (c .lent) (c .piece) in
-    let o = crc-form st (c .lent) (c .piece) m q (c .number) (c .received) (c .store) (h .0 .kind) (plain-form st p (c .lent) (c .piece) (c .received) (c .store) w (h .0 .answered)) in
+    let o = crc-form st (c .lent) (c .piece) m q (c .number) (c .received) (c .store) (h .0 .kind) (abi-form st p (c .lent) (c .piece) (c .received) (c .store) w (h .0 .answered)) in
     let on = crc-calls (byCrc st a .received .state) (c .received .state) ps (o .next) m (rule-kept st (c .lent) (c .piece) m q) (h .1) in
     record {
       calls = record { lent = c .lent; piece = c .piece; received = a .received; store = a .store } ∷ on .calls;
-      plain = (refl, refl, o .same, o .store, on .plain);
+      abi = (refl, refl, o .same, o .store, on .abi);
       handed = (record { received = refl; store = refl }, on .handed);
     }

@@ -3,7 +3,7 @@ use mathlib.Core.Path.{_≡_}
 use mathlib.Core.List.{List, [], _∷_, _++_}
 use Prim.Native.Nat.{ℕ, _+_, _-_, _≤_, _<_}
 use lib.ListN.{length, take}
-use Rattle.refusal.specs.declared.Verdict.the-variants as verdict
+use Rattle.refusal.specs.declared.Judgement.the-variants as judgement
 use Rattle.refusal.specs.Refusals.{fine}
 use Rattle.banner.specs.declared.Features.{Features}
 use Rattle.banner.specs.declared.Revision.{Revision}
@@ -24,80 +24,80 @@ use Rattle.sealed_ends.specs.Fronts.{Front, bytesIn, sealedIn, switchIn, traceI
 use Rattle.sealed_ends.specs.Handed.{SealedBehind, Through}
 use Rattle.sealed_ends.specs.Trip.{bytesOf, eventOf, storeAfter}
 use Rattle.sealed_ends.specs.Ends.{SwitchedLink, bufferAt, queuedAt, sentBy, switchedAt, storeAt, partsBy, FittingSealed, sealedEntries, storeAfterSealed}
-use Rattle.plain.specs.Words.{revisionByNumber, headerAt}
-use Rattle.plain_connection.specs.Words.{PlainConnection, connectionOf, PlainBegun, PlainSending, PlainSwitched, PlainSwitchedWith}
-use Rattle.mahuixen.specs.Calls.{PlainCall, PlainChained}
-use Rattle.mahuixen.specs.Demands.{PlainLinked}
+use Rattle.abi.specs.Words.{revisionByNumber, headerAt}
+use Rattle.abi_connection.specs.Words.{AbiConnection, connectionOf, AbiStarted, AbiSending, AbiSwitched, AbiSwitchedWith}
+use Rattle.mahuixen.specs.Calls.{AbiCall, AbiChained}
+use Rattle.mahuixen.specs.Demands.{AbiLinked}
 use Rattle.mahuixen.specs.Switches.{AsConnectionCalls}
-use Rattle.mahuixen.specs.Nonces.{PlainBuild, writtenBy, PlainMeets, sendingBehind, buildOf}
+use Rattle.mahuixen.specs.Nonces.{AbiBuild, writtenBy, AbiMeets, sendingBehind, buildOf}
 
 -- ---- sealed builds by C
 
 -- one that wrote something, as a refused one never does
-pub record PlainAcceptsSealed (x : PlainSending) (b : PlainBuild) : Type 0 where
-  pub promised : PlainMeets x b
+pub record AbiAcceptsSealed (x : AbiSending) (b : AbiBuild) : Type 0 where
+  pub promised : AbiMeets x b
   pub accepted : 0 < writtenBy b
 
 -- each behind what the ones before it queued, with the sending state that the last one handed back
-abbrev pub PlainQueuedSealed : PlainSending → List ℕ → ℕ → List PlainBuild → Type 0
-PlainQueuedSealed x buf queued [] = Unit {0}
-PlainQueuedSealed x buf queued (b ∷ bs) =
-    PlainAcceptsSealed x b × (b .buffer ≡ buf) × (b .queued ≡ queued) × PlainQueuedSealed (sendingBehind x b) (b .sealed .buffer) (queued + writtenBy b) bs
+abbrev pub AbiQueuedSealed : AbiSending → List ℕ → ℕ → List AbiBuild → Type 0
+AbiQueuedSealed x buf queued [] = Unit {0}
+AbiQueuedSealed x buf queued (b ∷ bs) =
+    AbiAcceptsSealed x b × (b .buffer ≡ buf) × (b .queued ≡ queued) × AbiQueuedSealed (sendingBehind x b) (b .sealed .buffer) (queued + writtenBy b) bs
 
-abbrev pub buildsOf : List ℕ → List PlainBuild → List Build
+abbrev pub buildsOf : List ℕ → List AbiBuild → List Build
 buildsOf key [] = []
 buildsOf key (b ∷ bs) = buildOf key b ∷ buildsOf key bs
 
 -- ---- the sender's end of a link by C
 
 -- its banner and crc builds, its own connection at the switch, the switch, and the sealed builds behind it
-pub record PlainSwitchedLink : Type 0 where
+pub record AbiSwitchedLink : Type 0 where
   pub crc : Link
-  pub state : PlainConnection
+  pub state : AbiConnection
   pub key : List ℕ
   pub receiving : List ℕ
   pub sending : List ℕ
-  pub switched : PlainSwitched
-  pub builds : List PlainBuild
+  pub switched : AbiSwitched
+  pub builds : List AbiBuild
 
 -- the link that it is, where the switch was made
-abbrev pub madeBy : PlainSwitchedLink → Try
+abbrev pub madeBy : AbiSwitchedLink → Try
 madeBy l = record {
   key = l .key;
   receiving = l .receiving;
   sending = l .sending;
-  switched = record { state = switchedState fine (connectionOf (l .state)) (l .key) (l .receiving); sending = freshSending (l .key) (l .sending); verdict = verdict.Fine };
+  switched = record { state = switchedState fine (connectionOf (l .state)) (l .key) (l .receiving); sending = freshSending (l .key) (l .sending); judgement = judgement.Fine };
 }
 
-abbrev pub linkOf : PlainSwitchedLink → SwitchedLink
+abbrev pub linkOf : AbiSwitchedLink → SwitchedLink
 linkOf l = record { crc = l .crc; state = connectionOf (l .state); switch = madeBy l; builds = buildsOf (l .key) (l .builds) }
 
 -- the exported functions promised it, and refused nothing. A switch is made behind a frame
-pub record PlainSwitchedLinked (revision : ℕ) (l : PlainSwitchedLink) : Type 0 where
-  pub crc : PlainLinked revision (l .crc)
+pub record AbiSwitchedLinked (revision : ℕ) (l : AbiSwitchedLink) : Type 0 where
+  pub crc : AbiLinked revision (l .crc)
   pub some : 0 < length (l .crc .builds)
-  pub switch : PlainSwitchedWith (l .state) (l .key) (l .receiving) (l .sending) (l .switched)
+  pub switch : AbiSwitchedWith (l .state) (l .key) (l .receiving) (l .sending) (l .switched)
   pub made : l .switched .number ≡ 0
-  pub builds : PlainQueuedSealed (l .switched .sending) (bufferAt (linkOf l)) (queuedAt (linkOf l)) (l .builds)
+  pub builds : AbiQueuedSealed (l .switched .sending) (bufferAt (linkOf l)) (queuedAt (linkOf l)) (l .builds)
 
 -- ---- THE CLAIM, of calls by C that made the switch there
 
-pub record PlainSealedDemand2 : Type 0 where
+pub record AbiSealedDemand2 : Type 0 where
   -- behind any front at whose end a sealed frame begins, a frame is handed over exactly when the checks hold: by the bytes taken so far, and by the whole of what follows
   -- once the frame's bytes are taken
-  pub handed : (own : Features) (n : ℕ) (p : PlainConnection) → PlainBegun own n p
+  pub handed : (own : Features) (n : ℕ) (p : AbiConnection) → AbiStarted own n p
       → (store : List ℕ) (revision : Revision) (F : Front) (X : List ℕ) → Begins own store revision F
-      → (ps : List PlainCall) → PlainChained (bytesIn F ++ X) p store 0 ps
+      → (ps : List AbiCall) → AbiChained (bytesIn F ++ X) p store 0 ps
       → AsConnectionCalls own (bytesIn F ++ X) store ps
       (λ cs. switchBy 0 cs ≡ switchIn own store F
       → (length (bytesIn F) ≤ takenBy 0 cs → SealedBehind own store F (take (takenBy 0 cs - length (bytesIn F)) X) (listOf (judgeOwn (own .supported) (own .required)) cs))
       × (Through own store F X cs → SealedBehind own store F X (listOf (judgeOwn (own .supported) (own .required)) cs)))
   -- what was built comes back, where the reader's key and next nonce are the builder's and the reader has nonces enough left
-  pub trip : (own : Features) (n : ℕ) (p : PlainConnection) → PlainBegun own n p
+  pub trip : (own : Features) (n : ℕ) (p : AbiConnection) → AbiStarted own n p
       → (store : List ℕ) (revision : Revision) (F : Front) → Begins own store revision F
-      → (x : PlainSending) (b : PlainBuild) → PlainAcceptsSealed x b → x .key ≡ F .key → x .nonce ≡ nextIn own store F
+      → (x : AbiSending) (b : AbiBuild) → AbiAcceptsSealed x b → x .key ≡ F .key → x .nonce ≡ nextIn own store F
       → spentIn own store F + partCount (headerAt 0 (b .header)) ≤ allNonces → needed (headerAt 0 (b .header)) ≤ length store
-      → (later : List ℕ) (ps : List PlainCall) → PlainChained (bytesIn F ++ bytesOf (buildOf (x .key) b) ++ later) p store 0 ps
+      → (later : List ℕ) (ps : List AbiCall) → AbiChained (bytesIn F ++ bytesOf (buildOf (x .key) b) ++ later) p store 0 ps
       → AsConnectionCalls own (bytesIn F ++ bytesOf (buildOf (x .key) b) ++ later) store ps
       (λ cs. switchBy 0 cs ≡ switchIn own store F
       → length (bytesIn F ++ bytesOf (buildOf (x .key) b)) ≤ takenBy 0 cs
@@ -108,12 +108,12 @@ pub record PlainSealedDemand2 : Type 0 where
       (take (takenBy 0 cs - length (bytesIn F ++ bytesOf (buildOf (x .key) b))) later) (storeAfter (buildOf (x .key) b) (sealedIn own store F .store)) .entries))
   -- our banner, any crc builds, the switch on both sides and any sealed builds are reported as they were built. The reader made the switch behind the last of the crc builds, with
   -- the sender's key, and with the sender's sending nonce as its receiving one
-  pub ends : (own : Features) (n : ℕ) (p : PlainConnection) → PlainBegun own n p
-      → (store : List ℕ) (revision : ℕ) (l : PlainSwitchedLink) → revisionByNumber revision ≡ banner.revisionOf (own .supported) (l .crc .features .supported) → PlainSwitchedLinked revision l
+  pub ends : (own : Features) (n : ℕ) (p : AbiConnection) → AbiStarted own n p
+      → (store : List ℕ) (revision : ℕ) (l : AbiSwitchedLink) → revisionByNumber revision ≡ banner.revisionOf (own .supported) (l .crc .features .supported) → AbiSwitchedLinked revision l
       → judgeOwn (own .supported) (own .required) ≡ fine
       → judgeFeatures (own .supported) (own .required) (l .crc .features .supported) (l .crc .features .required) ≡ fine
       → Fitting (length store) (l .crc .builds) → FittingSealed (length store) (linkOf l .builds)
-      → (later : List ℕ) (ps : List PlainCall) → PlainChained (sentBy (linkOf l) ++ later) p store 0 ps
+      → (later : List ℕ) (ps : List AbiCall) → AbiChained (sentBy (linkOf l) ++ later) p store 0 ps
       → AsConnectionCalls own (sentBy (linkOf l) ++ later) store ps
       (λ cs. switchBy 0 cs ≡ behind (length (l .crc .builds)) (l .key) (l .sending)
       → length (sentBy (linkOf l)) ≤ takenBy 0 cs

@@ -1,8 +1,8 @@
-// The joined call: a piece is received, and what it completes is done to the session.
-use plain_delivery::plain_deliver;
-ghost use Rattle.plain_connection.specs.Words.{plainConnection, handed};
-ghost use Rattle.plain_session.specs.Words.{plainSession};
-ghost use Rattle.plain_delivery.specs.Words.{appliedWith, PlainDelivers};
+// `deliver`: a piece is received, and what it completes is done to the session.
+use abi_delivery::abi_deliver;
+ghost use Rattle.abi_connection.specs.Words.{abiConnection, handed};
+ghost use Rattle.abi_session.specs.Words.{abiSession};
+ghost use Rattle.abi_delivery.specs.Words.{appliedWith, AbiDelivers};
 
 // A call that also does to the session what a whole frame asks: an ack, a reconnect_ok, a reset. No handle is changed.
 #[no_mangle]
@@ -21,9 +21,9 @@ pub extern "C" fn mahuixen_deliver_in(
     piece: &[u8],
     store: &mut [u8],
 ) -> u64
-    ensures { λ r. ⌜ PlainDelivers (plainConnection (now (link .entry)) (now (numbers .entry)) (now (block .entry)) (now (sealed .entry)) (now (first .entry)) (now (key .entry)) (now (nonce .entry))) (plainSession (now (session .entry)) (now (handles .entry))) (now (store .entry)) (now (piece .entry)) r (handed (plainConnection (now (link .exit)) (now (numbers .exit)) (now (block .exit)) (now (sealed .exit)) (now (first .exit)) (now (key .exit)) (now (nonce .exit))) (now (report .exit))) (appliedWith (now (session .exit)) (now (handles .entry)) (now (effect .exit))) (now (store .exit)) ⌝ }
+    ensures { λ r. ⌜ AbiDelivers (abiConnection (now (link .entry)) (now (numbers .entry)) (now (block .entry)) (now (sealed .entry)) (now (first .entry)) (now (key .entry)) (now (nonce .entry))) (abiSession (now (session .entry)) (now (handles .entry))) (now (store .entry)) (now (piece .entry)) r (handed (abiConnection (now (link .exit)) (now (numbers .exit)) (now (block .exit)) (now (sealed .exit)) (now (first .exit)) (now (key .exit)) (now (nonce .exit))) (now (report .exit))) (appliedWith (now (session .exit)) (now (handles .entry)) (now (effect .exit))) (now (store .exit)) ⌝ }
 {
-    plain_deliver(
+    abi_deliver(
         link,
         numbers,
         block,

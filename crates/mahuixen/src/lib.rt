@@ -1,5 +1,5 @@
 // What C and Rust call, over pointers and 64-bit numbers alone: one header serves every processor. A state in memory is handed in part by part, its numbers, its bytes; the header's
-// and the Rust crate's functions see to that. Each function is the call of its family's crate, `plain_connection` and the others, and promises what that one promises, for every number
+// and the Rust crate's functions see to that. Each function is the call of its family's crate, `abi_connection` and the others, and promises what that one promises, for every number
 // that can be handed in.
 pub mod claims;
 pub mod deliveries;
@@ -8,21 +8,21 @@ pub mod sealing;
 pub mod sessions;
 pub mod version;
 
+use abi_builder::abi_build_banner;
+use abi_builder::abi_build_frame;
+use abi_connection::abi_receive;
+use abi_connection::abi_start;
+use abi_connection::abi_switch;
 use crc32c::checksum;
-use plain_builder::plain_banner;
-use plain_builder::plain_frame;
-use plain_connection::plain_receive;
-use plain_connection::plain_start;
-use plain_connection::plain_switch;
 ghost use mathlib.Core.Path.{_≡_};
 ghost use mathlib.Core.Bool.{true, false};
 ghost use Rattle.crc32c.specs.Crc.{crcOf};
-ghost use Rattle.plain.specs.Words.{lowU32, features, written};
-ghost use Rattle.plain_connection.specs.Words.{plainConnection, PlainBegun, handed, ReceivedBy, plainSending, switched, PlainSwitchedWith};
-ghost use Rattle.plain_builder.specs.Words.{PlainBuiltBanner, PlainBuiltFrame};
-ghost use Rattle.mahuixen.specs.Calls.{PlainDemand3};
-ghost use Rattle.mahuixen.specs.Demands.{PlainDemand1, PlainDemand2};
-ghost use Rattle.mahuixen.specs.Releases.{PlainEveryRelease};
+ghost use Rattle.abi.specs.Words.{lowU32, features, written};
+ghost use Rattle.abi_connection.specs.Words.{abiConnection, AbiStarted, handed, ReceivedBy, abiSending, switched, AbiSwitchedWith};
+ghost use Rattle.abi_builder.specs.Words.{AbiBuiltBanner, AbiBuiltFrame};
+ghost use Rattle.mahuixen.specs.Calls.{AbiDemand3};
+ghost use Rattle.mahuixen.specs.Demands.{AbiDemand1, AbiDemand2};
+ghost use Rattle.mahuixen.specs.Releases.{AbiEveryRelease};
 
 // ---- receiving
 
@@ -39,9 +39,9 @@ pub extern "C" fn mahuixen_start_in(
     supported: u64,
     required: u64,
 ) -> u64
-    ensures { λ r. ⌜ PlainBegun (features supported required) r (plainConnection (now (link .exit)) (now (numbers .exit)) (now (block .exit)) (now (sealed .exit)) (now (first .exit)) (now (key .exit)) (now (nonce .exit))) ⌝ }
+    ensures { λ r. ⌜ AbiStarted (features supported required) r (abiConnection (now (link .exit)) (now (numbers .exit)) (now (block .exit)) (now (sealed .exit)) (now (first .exit)) (now (key .exit)) (now (nonce .exit))) ⌝ }
 {
-    plain_start(
+    abi_start(
         link,
         numbers,
         block,
@@ -68,9 +68,9 @@ pub extern "C" fn mahuixen_receive_in(
     piece: &[u8],
     store: &mut [u8],
 ) -> u64
-    ensures { λ r. ⌜ ReceivedBy (plainConnection (now (link .entry)) (now (numbers .entry)) (now (block .entry)) (now (sealed .entry)) (now (first .entry)) (now (key .entry)) (now (nonce .entry))) (now (store .entry)) (now (piece .entry)) r (handed (plainConnection (now (link .exit)) (now (numbers .exit)) (now (block .exit)) (now (sealed .exit)) (now (first .exit)) (now (key .exit)) (now (nonce .exit))) (now (report .exit))) (now (store .exit)) ⌝ }
+    ensures { λ r. ⌜ ReceivedBy (abiConnection (now (link .entry)) (now (numbers .entry)) (now (block .entry)) (now (sealed .entry)) (now (first .entry)) (now (key .entry)) (now (nonce .entry))) (now (store .entry)) (now (piece .entry)) r (handed (abiConnection (now (link .exit)) (now (numbers .exit)) (now (block .exit)) (now (sealed .exit)) (now (first .exit)) (now (key .exit)) (now (nonce .exit))) (now (report .exit))) (now (store .exit)) ⌝ }
 {
-    plain_receive(
+    abi_receive(
         link,
         numbers,
         block,
@@ -95,15 +95,15 @@ pub extern "C" fn mahuixen_switch_in(
     key: &mut [u8; 16],
     nonce: &mut [u8; 12],
     with: &[u8; 16],
-    receiving: &[u8; 12],
-    sending: &[u8; 12],
-    sends: &mut [u64; 3],
-    sends_key: &mut [u8; 16],
-    sends_nonce: &mut [u8; 12],
+    receiving_nonce: &[u8; 12],
+    sending_nonce: &[u8; 12],
+    sending: &mut [u64; 3],
+    out_key: &mut [u8; 16],
+    out_nonce: &mut [u8; 12],
 ) -> u64
-    ensures { λ r. ⌜ PlainSwitchedWith (plainConnection (now (link .entry)) (now (numbers .entry)) (now (block .entry)) (now (sealed .entry)) (now (first .entry)) (now (key .entry)) (now (nonce .entry))) (now (with .entry)) (now (receiving .entry)) (now (sending .entry)) (switched r (plainConnection (now (link .exit)) (now (numbers .entry)) (now (block .entry)) (now (sealed .exit)) (now (first .exit)) (now (key .exit)) (now (nonce .exit))) (plainSending (now (sends .exit)) (now («sends_key» .exit)) (now («sends_nonce» .exit)))) ⌝ }
+    ensures { λ r. ⌜ AbiSwitchedWith (abiConnection (now (link .entry)) (now (numbers .entry)) (now (block .entry)) (now (sealed .entry)) (now (first .entry)) (now (key .entry)) (now (nonce .entry))) (now (with .entry)) (now («receiving_nonce» .entry)) (now («sending_nonce» .entry)) (switched r (abiConnection (now (link .exit)) (now (numbers .entry)) (now (block .entry)) (now (sealed .exit)) (now (first .exit)) (now (key .exit)) (now (nonce .exit))) (abiSending (now (sending .exit)) (now («out_key» .exit)) (now («out_nonce» .exit)))) ⌝ }
 {
-    plain_switch(
+    abi_switch(
         link,
         numbers,
         block,
@@ -112,11 +112,11 @@ pub extern "C" fn mahuixen_switch_in(
         key,
         nonce,
         with,
-        receiving,
+        receiving_nonce,
+        sending_nonce,
         sending,
-        sends,
-        sends_key,
-        sends_nonce,
+        out_key,
+        out_nonce,
     )
 }
 
@@ -131,9 +131,9 @@ pub extern "C" fn mahuixen_build_banner(
     required: u64,
     refusal: &mut [u64; 4],
 ) -> u64
-    ensures { λ r. ⌜ PlainBuiltBanner supported required (now (buf .entry)) queued (written r (now (refusal .exit))) (now (buf .exit)) ⌝ }
+    ensures { λ r. ⌜ AbiBuiltBanner supported required (now (buf .entry)) queued (written r (now (refusal .exit))) (now (buf .exit)) ⌝ }
 {
-    plain_banner(buf, queued, supported, required, refusal)
+    abi_build_banner(buf, queued, supported, required, refusal)
 }
 
 // Builds a whole frame behind the queued bytes.
@@ -146,9 +146,9 @@ pub extern "C" fn mahuixen_build_frame(
     source: &[u8],
     refusal: &mut [u64; 4],
 ) -> u64
-    ensures { λ r. ⌜ PlainBuiltFrame revision (now (header .entry)) false (now (source .entry)) (now (buf .entry)) queued (written r (now (refusal .exit))) (now (buf .exit)) ⌝ }
+    ensures { λ r. ⌜ AbiBuiltFrame revision (now (header .entry)) false (now (source .entry)) (now (buf .entry)) queued (written r (now (refusal .exit))) (now (buf .exit)) ⌝ }
 {
-    plain_frame(buf, queued, revision, header, false, source, refusal)
+    abi_build_frame(buf, queued, revision, header, false, source, refusal)
 }
 
 // Builds an aborted frame behind the queued bytes.
@@ -161,9 +161,9 @@ pub extern "C" fn mahuixen_abort_frame(
     source: &[u8],
     refusal: &mut [u64; 4],
 ) -> u64
-    ensures { λ r. ⌜ PlainBuiltFrame revision (now (header .entry)) true (now (source .entry)) (now (buf .entry)) queued (written r (now (refusal .exit))) (now (buf .exit)) ⌝ }
+    ensures { λ r. ⌜ AbiBuiltFrame revision (now (header .entry)) true (now (source .entry)) (now (buf .entry)) queued (written r (now (refusal .exit))) (now (buf .exit)) ⌝ }
 {
-    plain_frame(buf, queued, revision, header, true, source, refusal)
+    abi_build_frame(buf, queued, revision, header, true, source, refusal)
 }
 
 // The checksum of bytes from a start value.
@@ -178,14 +178,14 @@ pub extern "C" fn mahuixen_checksum(start: u64, bytes: &[u8]) -> u64
 
 // DEMAND 3 of calls by C, with a switch among them, as a promise: it follows from the connection's own.
 pub fn every_cutting()
-    ensures { λ _. ⌜ PlainDemand3 ⌝ }
+    ensures { λ _. ⌜ AbiDemand3 ⌝ }
 {
     connection::every_cutting();
 }
 
 // DEMAND 1 of calls by C, on crc and sealed streams: it follows from what holds of every call of the connection, and of the receiver's bytes.
 pub fn every_call()
-    ensures { λ _. ⌜ PlainDemand1 ⌝ }
+    ensures { λ _. ⌜ AbiDemand1 ⌝ }
 {
     receiver::every_call();
     connection::every_call();
@@ -193,7 +193,7 @@ pub fn every_call()
 
 // DEMAND 2 of calls by C: it follows from what holds of the two ends.
 pub fn both_ends()
-    ensures { λ _. ⌜ PlainDemand2 ⌝ }
+    ensures { λ _. ⌜ AbiDemand2 ⌝ }
 {
     ends::handed_over();
     ends::round_trip();
@@ -202,7 +202,7 @@ pub fn both_ends()
 
 // NO MESSAGE IS RELEASED BEFORE ITS ACKNOWLEDGEMENT, of calls by C: it follows from what `delivery` promises.
 pub fn every_release()
-    ensures { λ _. ⌜ PlainEveryRelease ⌝ }
+    ensures { λ _. ⌜ AbiEveryRelease ⌝ }
 {
     delivery::every_release();
 }

@@ -1,11 +1,11 @@
 // Sealing and opening by AES-128-GCM, and frames that are built sealed.
-use plain_sealed::plain_sealed_frame;
-use plain_sealing::plain_open;
-use plain_sealing::plain_seal;
+use abi_sealed::abi_build_sealed;
+use abi_sealing::abi_open;
+use abi_sealing::abi_seal;
 ghost use mathlib.Core.Bool.{true, false};
-ghost use Rattle.plain.specs.Words.{written};
-ghost use Rattle.plain_sealed.specs.Words.{sealedWith, PlainBuiltSealed};
-ghost use Rattle.plain_sealing.specs.Words.{PlainSealing, PlainOpening};
+ghost use Rattle.abi.specs.Words.{written};
+ghost use Rattle.abi_sealed.specs.Words.{sealedWith, AbiBuiltSealed};
+ghost use Rattle.abi_sealing.specs.Words.{AbiSealing, AbiOpening};
 
 // Seals a text into the front of out, 16 bytes longer than it is; answers the bytes written, 0 where it is refused.
 #[no_mangle]
@@ -16,9 +16,9 @@ pub extern "C" fn mahuixen_seal(
     out: &mut [u8],
     refusal: &mut [u64; 4],
 ) -> u64
-    ensures { λ r. ⌜ PlainSealing (now (key .entry)) (now (nonce .entry)) (now (text .entry)) (now (out .entry)) (written r (now (refusal .exit))) (now (out .exit)) ⌝ }
+    ensures { λ r. ⌜ AbiSealing (now (key .entry)) (now (nonce .entry)) (now (text .entry)) (now (out .entry)) (written r (now (refusal .exit))) (now (out .exit)) ⌝ }
 {
-    plain_seal(key, nonce, text, out, refusal)
+    abi_seal(key, nonce, text, out, refusal)
 }
 
 // Opens sealed bytes into the front of out, 16 bytes shorter than they are.
@@ -30,9 +30,9 @@ pub extern "C" fn mahuixen_open(
     out: &mut [u8],
     refusal: &mut [u64; 4],
 ) -> u64
-    ensures { λ r. ⌜ PlainOpening (now (key .entry)) (now (nonce .entry)) (now (sealed .entry)) (now (out .entry)) (written r (now (refusal .exit))) (now (out .exit)) ⌝ }
+    ensures { λ r. ⌜ AbiOpening (now (key .entry)) (now (nonce .entry)) (now (sealed .entry)) (now (out .entry)) (written r (now (refusal .exit))) (now (out .exit)) ⌝ }
 {
-    plain_open(key, nonce, sealed, out, refusal)
+    abi_open(key, nonce, sealed, out, refusal)
 }
 
 // Builds a whole sealed frame behind the queued bytes.
@@ -47,9 +47,9 @@ pub extern "C" fn mahuixen_build_sealed_in(
     source: &[u8],
     refusal: &mut [u64; 4],
 ) -> u64
-    ensures { λ r. ⌜ PlainBuiltSealed (now (numbers .entry)) (now (key .entry)) (now (nonce .entry)) (now (header .entry)) false (now (source .entry)) (now (buf .entry)) queued (sealedWith (written r (now (refusal .exit))) (now (numbers .exit)) (now (nonce .exit)) (now (buf .exit))) ⌝ }
+    ensures { λ r. ⌜ AbiBuiltSealed (now (numbers .entry)) (now (key .entry)) (now (nonce .entry)) (now (header .entry)) false (now (source .entry)) (now (buf .entry)) queued (sealedWith (written r (now (refusal .exit))) (now (numbers .exit)) (now (nonce .exit)) (now (buf .exit))) ⌝ }
 {
-    plain_sealed_frame(
+    abi_build_sealed(
         buf,
         queued,
         numbers,
@@ -74,9 +74,9 @@ pub extern "C" fn mahuixen_abort_sealed_in(
     source: &[u8],
     refusal: &mut [u64; 4],
 ) -> u64
-    ensures { λ r. ⌜ PlainBuiltSealed (now (numbers .entry)) (now (key .entry)) (now (nonce .entry)) (now (header .entry)) true (now (source .entry)) (now (buf .entry)) queued (sealedWith (written r (now (refusal .exit))) (now (numbers .exit)) (now (nonce .exit)) (now (buf .exit))) ⌝ }
+    ensures { λ r. ⌜ AbiBuiltSealed (now (numbers .entry)) (now (key .entry)) (now (nonce .entry)) (now (header .entry)) true (now (source .entry)) (now (buf .entry)) queued (sealedWith (written r (now (refusal .exit))) (now (numbers .exit)) (now (nonce .exit)) (now (buf .exit))) ⌝ }
 {
-    plain_sealed_frame(
+    abi_build_sealed(
         buf,
         queued,
         numbers,

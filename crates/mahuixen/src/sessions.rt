@@ -1,19 +1,19 @@
-// A session that outlives its connections: each call is `plain_call` with the number of its kind.
-use plain_session::plain_call;
-use plain_session::plain_fresh;
-use plain_session::plain_held;
+// A session that outlives its connections: each call is `abi_session_call` with the number of its kind.
+use abi_session::abi_session_call;
+use abi_session::abi_session_held;
+use abi_session::abi_session_start;
 ghost use mathlib.Core.Path.{_≡_};
 ghost use Rattle.session.specs.Calls.{freshSession};
 ghost use Rattle.session.specs.Laws.{accept, ack, reconnect, reset};
-ghost use Rattle.plain.specs.Words.{markOf};
-ghost use Rattle.plain_session.specs.Words.{plainSession, plainOf, outcomeWith, PlainCalled, PlainFound};
+ghost use Rattle.abi.specs.Words.{markOf};
+ghost use Rattle.abi_session.specs.Words.{abiSession, abiOf, outcomeWith, AbiCalled, AbiFound};
 
 // A session of which no message was sent.
 #[no_mangle]
 pub extern "C" fn mahuixen_session_start_in(numbers: &mut [u64; 2], handles: &mut [u64; 64])
-    ensures { λ _. ⌜ plainSession (now (numbers .exit)) (now (handles .exit)) ≡ plainOf freshSession ⌝ }
+    ensures { λ _. ⌜ abiSession (now (numbers .exit)) (now (handles .exit)) ≡ abiOf freshSession ⌝ }
 {
-    plain_fresh(numbers, handles);
+    abi_session_start(numbers, handles);
 }
 
 // A message is sent, and its handle is held under the next number; answers the kind of the answer, as every call does.
@@ -24,9 +24,9 @@ pub extern "C" fn mahuixen_session_accept_in(
     answer: &mut [u64; 6],
     handle: u64,
 ) -> u64
-    ensures { λ r. ⌜ PlainCalled (plainSession (now (numbers .entry)) (now (handles .entry))) (accept handle) r (outcomeWith (now (numbers .exit)) (now (handles .exit)) (now (answer .exit))) ⌝ }
+    ensures { λ r. ⌜ AbiCalled (abiSession (now (numbers .entry)) (now (handles .entry))) (accept handle) r (outcomeWith (now (numbers .exit)) (now (handles .exit)) (now (answer .exit))) ⌝ }
 {
-    plain_call(numbers, handles, answer, 0, handle)
+    abi_session_call(numbers, handles, answer, 0, handle)
 }
 
 // The peer has the messages up to a number.
@@ -37,9 +37,9 @@ pub extern "C" fn mahuixen_session_ack_in(
     answer: &mut [u64; 6],
     number: u64,
 ) -> u64
-    ensures { λ r. ⌜ PlainCalled (plainSession (now (numbers .entry)) (now (handles .entry))) (ack number) r (outcomeWith (now (numbers .exit)) (now (handles .exit)) (now (answer .exit))) ⌝ }
+    ensures { λ r. ⌜ AbiCalled (abiSession (now (numbers .entry)) (now (handles .entry))) (ack number) r (outcomeWith (now (numbers .exit)) (now (handles .exit)) (now (answer .exit))) ⌝ }
 {
-    plain_call(numbers, handles, answer, 1, number)
+    abi_session_call(numbers, handles, answer, 1, number)
 }
 
 // reconnect_ok with a msg_seq came.
@@ -50,9 +50,9 @@ pub extern "C" fn mahuixen_session_reconnect_in(
     answer: &mut [u64; 6],
     msg_seq: u64,
 ) -> u64
-    ensures { λ r. ⌜ PlainCalled (plainSession (now (numbers .entry)) (now (handles .entry))) (reconnect «msg_seq») r (outcomeWith (now (numbers .exit)) (now (handles .exit)) (now (answer .exit))) ⌝ }
+    ensures { λ r. ⌜ AbiCalled (abiSession (now (numbers .entry)) (now (handles .entry))) (reconnect «msg_seq») r (outcomeWith (now (numbers .exit)) (now (handles .exit)) (now (answer .exit))) ⌝ }
 {
-    plain_call(numbers, handles, answer, 2, msg_seq)
+    abi_session_call(numbers, handles, answer, 2, msg_seq)
 }
 
 // A reset came, a full one where the number is not 0.
@@ -63,9 +63,9 @@ pub extern "C" fn mahuixen_session_reset_in(
     answer: &mut [u64; 6],
     full: u64,
 ) -> u64
-    ensures { λ r. ⌜ PlainCalled (plainSession (now (numbers .entry)) (now (handles .entry))) (reset (markOf full)) r (outcomeWith (now (numbers .exit)) (now (handles .exit)) (now (answer .exit))) ⌝ }
+    ensures { λ r. ⌜ AbiCalled (abiSession (now (numbers .entry)) (now (handles .entry))) (reset (markOf full)) r (outcomeWith (now (numbers .exit)) (now (handles .exit)) (now (answer .exit))) ⌝ }
 {
-    plain_call(numbers, handles, answer, 3, full)
+    abi_session_call(numbers, handles, answer, 3, full)
 }
 
 // The message at a place of those held, oldest first: answers 1 and the message, 0 where there are fewer, or 26.
@@ -76,7 +76,7 @@ pub extern "C" fn mahuixen_session_held_in(
     message: &mut [u64; 2],
     i: u64,
 ) -> u64
-    ensures { λ r. ⌜ PlainFound (plainSession (now (numbers .entry)) (now (handles .entry))) i r (now (message .exit)) ⌝ }
+    ensures { λ r. ⌜ AbiFound (abiSession (now (numbers .entry)) (now (handles .entry))) i r (now (message .exit)) ⌝ }
 {
-    plain_held(numbers, handles, message, i)
+    abi_session_held(numbers, handles, message, i)
 }

@@ -7,18 +7,18 @@ use mahuixen::handshakes::mahuixen_write_body;
 ghost use mathlib.Core.Path.{_≡_};
 ghost use Rattle.handshake.specs.Pick.{pickOf};
 ghost use Rattle.handshake.specs.Table.{clientRows, serverRows};
-ghost use Rattle.plain.specs.Words.{written};
-ghost use Rattle.plain_handshake.specs.Words.{PlainStepped, modeNumber};
-ghost use Rattle.plain_bodies.specs.Words.{PlainReads, PlainWrites};
+ghost use Rattle.abi.specs.Words.{written};
+ghost use Rattle.abi_handshake.specs.Words.{AbiStepped, modeNumber};
+ghost use Rattle.abi_bodies.specs.Words.{AbiReads, AbiWrites};
 
 pub fn client_step(state: u64, tag: u64, verdict: &[u64; 4], refusal: &mut [u64; 4]) -> u64
-    ensures { λ r. ⌜ PlainStepped clientRows state tag (now (verdict .entry)) r (now (refusal .exit)) ⌝ }
+    ensures { λ r. ⌜ AbiStepped clientRows state tag (now (verdict .entry)) r (now (refusal .exit)) ⌝ }
 {
     mahuixen_client_step(state, tag, verdict, refusal)
 }
 
 pub fn server_step(state: u64, tag: u64, verdict: &[u64; 4], refusal: &mut [u64; 4]) -> u64
-    ensures { λ r. ⌜ PlainStepped serverRows state tag (now (verdict .entry)) r (now (refusal .exit)) ⌝ }
+    ensures { λ r. ⌜ AbiStepped serverRows state tag (now (verdict .entry)) r (now (refusal .exit)) ⌝ }
 {
     mahuixen_server_step(state, tag, verdict, refusal)
 }
@@ -30,7 +30,7 @@ pub fn pick_mode(preferred: &[u32], allowed: &[u32]) -> u64
 }
 
 pub fn read_body(tag: u64, segment: &[u8], body: &mut [u64; 18]) -> u64
-    ensures { λ r. ⌜ PlainReads tag (now (segment .entry)) r (now (body .exit)) ⌝ }
+    ensures { λ r. ⌜ AbiReads tag (now (segment .entry)) r (now (body .exit)) ⌝ }
 {
     mahuixen_read_body(tag, segment, body)
 }
@@ -44,7 +44,7 @@ pub fn write_body(
     bytes: &[u8],
     refusal: &mut [u64; 4],
 ) -> u64
-    ensures { λ r. ⌜ PlainWrites tag (now (body .entry)) (now (first .entry)) (now (second .entry)) (now (bytes .entry)) (now (out .entry)) (written r (now (refusal .exit))) (now (out .exit)) ⌝ }
+    ensures { λ r. ⌜ AbiWrites tag (now (body .entry)) (now (first .entry)) (now (second .entry)) (now (bytes .entry)) (now (out .entry)) (written r (now (refusal .exit))) (now (out .exit)) ⌝ }
 {
     mahuixen_write_body(out, tag, body, first, second, bytes, refusal)
 }

@@ -16,9 +16,9 @@ use mahuixen::mahuixen_switch_in;
 ghost use mathlib.Core.Path.{_≡_};
 ghost use mathlib.Core.Bool.{true, false};
 ghost use Rattle.crc32c.specs.Crc.{crcOf};
-ghost use Rattle.plain.specs.Words.{lowU32, features, written};
-ghost use Rattle.plain_connection.specs.Words.{plainConnection, PlainBegun, handed, ReceivedBy, plainSending, switched, PlainSwitchedWith};
-ghost use Rattle.plain_builder.specs.Words.{PlainBuiltBanner, PlainBuiltFrame};
+ghost use Rattle.abi.specs.Words.{lowU32, features, written};
+ghost use Rattle.abi_connection.specs.Words.{abiConnection, AbiStarted, handed, ReceivedBy, abiSending, switched, AbiSwitchedWith};
+ghost use Rattle.abi_builder.specs.Words.{AbiBuiltBanner, AbiBuiltFrame};
 
 pub fn start(
     link: &mut [u64; 2],
@@ -31,7 +31,7 @@ pub fn start(
     supported: u64,
     required: u64,
 ) -> u64
-    ensures { λ r. ⌜ PlainBegun (features supported required) r (plainConnection (now (link .exit)) (now (numbers .exit)) (now (block .exit)) (now (sealed .exit)) (now (first .exit)) (now (key .exit)) (now (nonce .exit))) ⌝ }
+    ensures { λ r. ⌜ AbiStarted (features supported required) r (abiConnection (now (link .exit)) (now (numbers .exit)) (now (block .exit)) (now (sealed .exit)) (now (first .exit)) (now (key .exit)) (now (nonce .exit))) ⌝ }
 {
     mahuixen_start_in(
         link,
@@ -58,7 +58,7 @@ pub fn receive(
     piece: &[u8],
     store: &mut [u8],
 ) -> u64
-    ensures { λ r. ⌜ ReceivedBy (plainConnection (now (link .entry)) (now (numbers .entry)) (now (block .entry)) (now (sealed .entry)) (now (first .entry)) (now (key .entry)) (now (nonce .entry))) (now (store .entry)) (now (piece .entry)) r (handed (plainConnection (now (link .exit)) (now (numbers .exit)) (now (block .exit)) (now (sealed .exit)) (now (first .exit)) (now (key .exit)) (now (nonce .exit))) (now (report .exit))) (now (store .exit)) ⌝ }
+    ensures { λ r. ⌜ ReceivedBy (abiConnection (now (link .entry)) (now (numbers .entry)) (now (block .entry)) (now (sealed .entry)) (now (first .entry)) (now (key .entry)) (now (nonce .entry))) (now (store .entry)) (now (piece .entry)) r (handed (abiConnection (now (link .exit)) (now (numbers .exit)) (now (block .exit)) (now (sealed .exit)) (now (first .exit)) (now (key .exit)) (now (nonce .exit))) (now (report .exit))) (now (store .exit)) ⌝ }
 {
     mahuixen_receive_in(
         link,
@@ -83,13 +83,13 @@ pub fn switch(
     key: &mut [u8; 16],
     nonce: &mut [u8; 12],
     with: &[u8; 16],
-    receiving: &[u8; 12],
-    sending: &[u8; 12],
-    sends: &mut [u64; 3],
-    sends_key: &mut [u8; 16],
-    sends_nonce: &mut [u8; 12],
+    receiving_nonce: &[u8; 12],
+    sending_nonce: &[u8; 12],
+    sending: &mut [u64; 3],
+    out_key: &mut [u8; 16],
+    out_nonce: &mut [u8; 12],
 ) -> u64
-    ensures { λ r. ⌜ PlainSwitchedWith (plainConnection (now (link .entry)) (now (numbers .entry)) (now (block .entry)) (now (sealed .entry)) (now (first .entry)) (now (key .entry)) (now (nonce .entry))) (now (with .entry)) (now (receiving .entry)) (now (sending .entry)) (switched r (plainConnection (now (link .exit)) (now (numbers .entry)) (now (block .entry)) (now (sealed .exit)) (now (first .exit)) (now (key .exit)) (now (nonce .exit))) (plainSending (now (sends .exit)) (now («sends_key» .exit)) (now («sends_nonce» .exit)))) ⌝ }
+    ensures { λ r. ⌜ AbiSwitchedWith (abiConnection (now (link .entry)) (now (numbers .entry)) (now (block .entry)) (now (sealed .entry)) (now (first .entry)) (now (key .entry)) (now (nonce .entry))) (now (with .entry)) (now («receiving_nonce» .entry)) (now («sending_nonce» .entry)) (switched r (abiConnection (now (link .exit)) (now (numbers .entry)) (now (block .entry)) (now (sealed .exit)) (now (first .exit)) (now (key .exit)) (now (nonce .exit))) (abiSending (now (sending .exit)) (now («out_key» .exit)) (now («out_nonce» .exit)))) ⌝ }
 {
     mahuixen_switch_in(
         link,
@@ -100,11 +100,11 @@ pub fn switch(
         key,
         nonce,
         with,
-        receiving,
+        receiving_nonce,
+        sending_nonce,
         sending,
-        sends,
-        sends_key,
-        sends_nonce,
+        out_key,
+        out_nonce,
     )
 }
 
@@ -115,7 +115,7 @@ pub fn build_banner(
     required: u64,
     refusal: &mut [u64; 4],
 ) -> u64
-    ensures { λ r. ⌜ PlainBuiltBanner supported required (now (buf .entry)) queued (written r (now (refusal .exit))) (now (buf .exit)) ⌝ }
+    ensures { λ r. ⌜ AbiBuiltBanner supported required (now (buf .entry)) queued (written r (now (refusal .exit))) (now (buf .exit)) ⌝ }
 {
     mahuixen_build_banner(buf, queued, supported, required, refusal)
 }
@@ -128,7 +128,7 @@ pub fn build_frame(
     source: &[u8],
     refusal: &mut [u64; 4],
 ) -> u64
-    ensures { λ r. ⌜ PlainBuiltFrame revision (now (header .entry)) false (now (source .entry)) (now (buf .entry)) queued (written r (now (refusal .exit))) (now (buf .exit)) ⌝ }
+    ensures { λ r. ⌜ AbiBuiltFrame revision (now (header .entry)) false (now (source .entry)) (now (buf .entry)) queued (written r (now (refusal .exit))) (now (buf .exit)) ⌝ }
 {
     mahuixen_build_frame(buf, queued, revision, header, source, refusal)
 }
@@ -141,7 +141,7 @@ pub fn abort_frame(
     source: &[u8],
     refusal: &mut [u64; 4],
 ) -> u64
-    ensures { λ r. ⌜ PlainBuiltFrame revision (now (header .entry)) true (now (source .entry)) (now (buf .entry)) queued (written r (now (refusal .exit))) (now (buf .exit)) ⌝ }
+    ensures { λ r. ⌜ AbiBuiltFrame revision (now (header .entry)) true (now (source .entry)) (now (buf .entry)) queued (written r (now (refusal .exit))) (now (buf .exit)) ⌝ }
 {
     mahuixen_abort_frame(buf, queued, revision, header, source, refusal)
 }

@@ -68,7 +68,7 @@ pub record Front (h : Header) (n : ℕ) : Type 0 where
   pub accepted : judgePreamble (preambleBytes h) n ≡ fine
 
 pub front-back : (h : Header) (n : ℕ) → HeaderFits h → judgeHeader h ≡ fine → total h ≤ n → Front h n
-unfolding ReadsBack judgePreamble
+unfolding ReadsBack judgePreamble judgeFields
 front-back h n f e l =
     let b = reads-back h [] f in
     let a = sym (append-nil (preambleBytes h)) in

@@ -1,5 +1,5 @@
 -- A preamble's fields, and 01's judgements on them: refusals 5 to 10.
-use mathlib.Core.List.{List, [], _∷_}
+use mathlib.Core.List.{List, [], _∷_, _++_}
 use mathlib.Core.Bool.{Bool, not, cond, _&&_}
 use Prim.Native.Nat.{ℕ, zero, suc, _+_}
 use lib.ListN.{take, getD}
@@ -8,7 +8,7 @@ use Rattle.buffer.specs.Le.{numberAt}
 use Rattle.crc32c.specs.Crc.{crcOf}
 use Rattle.refusal.specs.declared.Refusal.{Refusal}
 use Rattle.refusal.specs.declared.Refusal.the-variants as refusal
-use Rattle.refusal.specs.Refusals.{Judged, orElse, firstOf, unless}
+use Rattle.refusal.specs.Refusals.{Judged, firstOf, unless}
 use Rattle.preamble.specs.declared.Segment.{Segment}
 use Rattle.preamble.specs.declared.Header.{Header}
 use Rattle.preamble.specs.declared.Preamble.{Preamble}
@@ -134,20 +134,22 @@ judgeStored bs stored = unless (eqb (crcOf 0 (take 28 bs)) stored) refusal.Pream
 abbrev pub judgeChecksum : List ℕ → Judged
 judgeChecksum bs = judgeStored bs (numberAt 4 28 bs)
 
--- THE ORDER at a preamble's last byte: the checksum first, then the fields. store is the store's length
-unfoldable pub judgeFields : Preamble → ℕ → Judged
-judgeFields p store =
-    firstOf
-    (judgeShape (p .header)
-    ∷ judgeFlags (p .flags) (p .reserved)
-    ∷ judgeTag (p .header .tag)
-    ∷ judgeLimits (p .header)
-    ∷ judgeStore (total (p .header)) store
-    ∷ [])
+-- THE ORDER at a preamble's last byte: the checksum first, then the fields (5 to 9), and last the store (10)
 
--- on fields that were read, and their bytes
+-- 6, 7, 8, 9
+abbrev pub fieldJudgements : Preamble → List Judged
+fieldJudgements p = judgeShape (p .header) ∷ judgeFlags (p .flags) (p .reserved) ∷ judgeTag (p .header .tag) ∷ judgeLimits (p .header) ∷ []
+
+-- 5, 6, 7, 8, 9: on fields that were read, and their bytes
+abbrev pub preambleJudgements : Preamble → List ℕ → List Judged
+preambleJudgements p bs = judgeStored bs (p .checksum) ∷ fieldJudgements p
+
+-- store is the store's length
+unfoldable pub judgeFields : Preamble → ℕ → Judged
+judgeFields p store = firstOf (fieldJudgements p ++ (judgeStore (total (p .header)) store ∷ []))
+
 abbrev pub judgeRead : Preamble → List ℕ → ℕ → Judged
-judgeRead p bs store = orElse (judgeStored bs (p .checksum)) (judgeFields p store)
+judgeRead p bs store = firstOf (preambleJudgements p bs ++ (judgeStore (total (p .header)) store ∷ []))
 
 unfoldable pub judgePreamble : List ℕ → ℕ → Judged
 judgePreamble bs store = judgeRead (preambleOf bs) bs store

@@ -4,8 +4,8 @@ use buffer::part;
 use buffer::u16_at;
 use buffer::u32_at;
 use crc32c::checksum;
+use refusal::Judgement;
 use refusal::Refusal;
-use refusal::Verdict;
 use refusal::both;
 use refusal::or_else;
 use refusal::unless;
@@ -13,10 +13,10 @@ ghost use mathlib.Core.Path.{_≡_};
 ghost use mathlib.Core.Bool.{not, _&&_};
 ghost use Prim.Native.Nat.{_<_};
 ghost use lib.Dec.{eqb};
-ghost use Rattle.refusal.specs.Refusals.{judgedBy, isFine};
-ghost use Rattle.preamble.specs.Layout.{total, frontList};
+ghost use Rattle.refusal.specs.Refusals.{judgedBy, firstOf, isFine};
+ghost use Rattle.preamble.specs.Layout.{noHeader, isNoSegment, isNoHeader, total, frontList};
 ghost use Rattle.preamble.specs.Reading.{ReadsBack};
-ghost use Rattle.preamble.specs.Judge.{first, faultWhen, lengthWrong, alignWrong, segmentFault, shapeFault, judgeShape, judgeFlags, judgeTag, above, limitFault, judgeLimits, judgeStore, judgeHeader, segmentAt, headerOf, preambleOf, judgeFields, judgeRead, judgePreamble};
+ghost use Rattle.preamble.specs.Judge.{first, faultWhen, lengthWrong, alignWrong, segmentFault, shapeFault, judgeShape, judgeFlags, judgeTag, above, limitFault, judgeLimits, judgeStore, judgeHeader, segmentAt, headerOf, preambleOf, fieldJudgements, preambleJudgements, judgeRead};
 
 // At most so many bytes in a segment, and in all segments of a frame.
 pub const SEGMENT_LIMIT: u64 = 1048576;
@@ -47,6 +47,35 @@ pub struct Preamble {
     pub flags: u8,
     pub reserved: u8,
     pub checksum: u32,
+}
+
+// What stands for a frame where there is none.
+pub fn no_header() -> Header
+    ensures { λ r. ⌜ r ≡ noHeader ⌝ }
+{
+    let none = Segment { len: 0, align: 0 };
+    Header {
+        tag: 0,
+        count: 0,
+        s1: none,
+        s2: none,
+        s3: none,
+        s4: none,
+    }
+}
+
+fn is_no_segment(s: Segment) -> bool
+    ensures { λ r. ⌜ r ≡ isNoSegment s ⌝ }
+{
+    both(s.len == 0, s.align == 0)
+}
+
+pub fn is_no_header(h: Header) -> bool
+    ensures { λ r. ⌜ r ≡ isNoHeader h ⌝ }
+{
+    let last = both(is_no_segment(h.s3), is_no_segment(h.s4));
+    let segments = both(both(is_no_segment(h.s1), is_no_segment(h.s2)), last);
+    both(both(h.tag == 0, h.count == 0), segments)
 }
 
 fn first(a: u8, b: u8) -> u8
@@ -93,21 +122,21 @@ fn shape_fault(h: Header) -> u8
     first(fault_when(!known, 1), f1)
 }
 
-fn judge_shape(h: Header) -> Verdict
+fn judge_shape(h: Header) -> Judgement
     ensures { λ r. ⌜ judgedBy r ≡ judgeShape h ⌝ }
 {
     let place = shape_fault(h);
     unless(place == 0, Refusal::Shape(place))
 }
 
-fn judge_flags(flags: u8, reserved: u8) -> Verdict
+fn judge_flags(flags: u8, reserved: u8) -> Judgement
     ensures { λ r. ⌜ judgedBy r ≡ judgeFlags flags reserved ⌝ }
 {
     let place = first(fault_when(flags != 0, 26), fault_when(reserved != 0, 27));
     unless(place == 0, Refusal::Flags(place))
 }
 
-fn judge_tag(tag: u8) -> Verdict
+fn judge_tag(tag: u8) -> Judgement
     ensures { λ r. ⌜ judgedBy r ≡ judgeTag tag ⌝ }
 {
     unless(both(1 <= tag, tag <= 20), Refusal::Tag(tag))
@@ -149,7 +178,7 @@ fn limit_fault(h: Header) -> u8
     first(above(SEGMENT_LIMIT, 2, a), n2)
 }
 
-fn judge_limits(h: Header) -> Verdict
+fn judge_limits(h: Header) -> Judgement
     ensures { λ r. ⌜ judgedBy r ≡ judgeLimits h ⌝ }
 {
     let place = limit_fault(h);
@@ -157,14 +186,14 @@ fn judge_limits(h: Header) -> Verdict
 }
 
 // The store has the bytes that a frame needs.
-fn judge_store(needed: u64, store: usize) -> Verdict
+pub fn judge_store(needed: u64, store: usize) -> Judgement
     ensures { λ r. ⌜ judgedBy r ≡ judgeStore needed store ⌝ }
 {
     unless(needed <= store as u64, Refusal::StoreShort(needed))
 }
 
 // What the builder and the receiver both ask of a header: 6, 8, 9.
-pub fn judge_header(h: Header) -> Verdict
+pub fn judge_header(h: Header) -> Judgement
     ensures { λ r. ⌜ judgedBy r ≡ judgeHeader h ⌝ }
 {
     let last = or_else(judge_tag(h.tag), judge_limits(h));
@@ -240,7 +269,7 @@ pub fn read_header(b: &[u8]) -> Header
 }
 
 // All fields of a preamble's 32 bytes.
-fn read_preamble(b: &[u8]) -> Preamble
+pub fn read_preamble(b: &[u8]) -> Preamble
     ensures { λ r. ⌜ r ≡ preambleOf (now (b .entry)) ⌝ }
 {
     Preamble {
@@ -251,12 +280,12 @@ fn read_preamble(b: &[u8]) -> Preamble
     }
 }
 
-fn judge_fields(p: Preamble, store: usize) -> Verdict
-    ensures { λ r. ⌜ judgedBy r ≡ judgeFields p store ⌝ }
+// 6 to 9.
+fn judge_fields(p: Preamble) -> Judgement
+    ensures { λ r. ⌜ judgedBy r ≡ firstOf (fieldJudgements p) ⌝ }
 {
     let h = p.header;
-    let last = or_else(judge_limits(h), judge_store(total_of(h), store));
-    let tag = or_else(judge_tag(h.tag), last);
+    let tag = or_else(judge_tag(h.tag), judge_limits(h));
     let flags = or_else(judge_flags(p.flags, p.reserved), tag);
     or_else(judge_shape(h), flags)
 }
@@ -280,21 +309,22 @@ pub fn read_block(block: &[u8; 32]) -> Preamble
     }
 }
 
-// All judgements at a preamble's last byte, in order, on the fields that were read from it.
-pub fn judge_read(p: Preamble, bytes: &[u8], store: usize) -> Verdict
-    ensures { λ r. ⌜ judgedBy r ≡ judgeRead p (now (bytes .entry)) store ⌝ }
+// What is asked of a preamble by itself, 5 to 9, on its bytes and the fields that were read from them.
+pub fn judge_but_store(p: Preamble, bytes: &[u8]) -> Judgement
+    ensures { λ r. ⌜ judgedBy r ≡ firstOf (preambleJudgements p (now (bytes .entry))) ⌝ }
 {
     let sum = checksum(0, part(bytes, 0, 28));
     let stored = p.checksum;
     let first = unless(sum == stored, Refusal::PreambleChecksum);
-    or_else(first, judge_fields(p, store))
+    or_else(first, judge_fields(p))
 }
 
-// And on its bytes.
-pub fn judge_preamble(bytes: &[u8], store: usize) -> Verdict
-    ensures { λ r. ⌜ judgedBy r ≡ judgePreamble (now (bytes .entry)) store ⌝ }
+// All judgements at a preamble's last byte, in order.
+pub fn judge_read(p: Preamble, bytes: &[u8], store: usize) -> Judgement
+    ensures { λ r. ⌜ judgedBy r ≡ judgeRead p (now (bytes .entry)) store ⌝ }
 {
-    judge_read(read_preamble(bytes), bytes, store)
+    let room = judge_store(total_of(p.header), store);
+    or_else(judge_but_store(p, bytes), room)
 }
 
 // Bytes 0 to 27 of a preamble, those that its checksum covers.

@@ -2,7 +2,7 @@
 use mathlib.Core.List.{List}
 use Prim.Native.Nat.{ℕ}
 use Rattle.fields.specs.Layout.{Kind, good}
-use Rattle.fields.specs.Field.{Field, number, negative, sized, opaque, fixed, Place, nowhere, numbersAt, bytesAt}
+use Rattle.fields.specs.Field.{Field, number, negative, payload, opaque, fixed, Place, nowhere, numbersAt, bytesAt}
 use Rattle.fields.specs.Field as field
 use Rattle.fields.specs.Reading.{Step, read, failed, takeOf, spanIn, numbersIn}
 use Rattle.reader.specs.declared.FieldRead.{FieldRead}
@@ -18,7 +18,7 @@ abbrev pub contentOf : Field → Content
 contentOf (number w n) = value n
 contentOf (negative n) = value n
 contentOf (field.numbers ns) = numbers ns
-contentOf (sized bs) = bytes bs
+contentOf (payload bs) = bytes bs
 contentOf (opaque k bs) = bytes bs
 contentOf (fixed w bs) = bytes bs
 

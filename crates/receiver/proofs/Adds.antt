@@ -19,7 +19,7 @@ use Rattle.preamble.specs.Judge.{headerOf, judgePreamble}
 use Rattle.body.specs.Body.{segmentSum, noFirstSum, firstSumLength, noEpilogue, wireLength}
 use Rattle.body.specs.End.{Ended, whole, dropped, refusedFor, ending}
 use Rattle.stream.specs.declared.Event.the-variants as event
-use Rattle.stream.specs.Events.{roleOf}
+use Rattle.stream.specs.Events.{roleOf, passing}
 use Rattle.stream.specs.Stream.{zeroed}
 use Rattle.stream.proofs.Events.{by-event}
 use Rattle.receiver.specs.declared.Stage.{Stage}
@@ -31,7 +31,6 @@ use Rattle.receiver.specs.declared.Report.the-variants as report
 use Rattle.receiver.specs.declared.Received.{Received}
 use Rattle.receiver.specs.State.{sizeOf, isRefused, hasFirstSum, agrees}
 use Rattle.receiver.specs.Step.{at, withPeer, withHeader, withFirst, absorbed, stored, size, Stepped, silent, refuse, unlessRefused, endBanner, endFrame, beginEpilogue, beginRest, beginBody, reportFirst, behindFirstSum, reached, chunk, finish, onByte, Answer, onward, feed, neededBy, shortStore, Answered, Running, refusedState, started}
-use Rattle.receiver.specs.Calls.{passing}
 use Rattle.receiver.specs.Every.{AnyCall, Handed, allTaken, roleLength, lengthOf, allReported, cameBefore, unfinished, unfinishedAfter, unfinishedBy, Refuses}
 use Rattle.body.proofs.Ends.{no-length}
 use Rattle.receiver.proofs.Frames.{rest-silent}

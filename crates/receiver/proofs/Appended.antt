@@ -7,14 +7,14 @@ use native.Mathlib.Omega.{arith}
 use Rattle.refusal.specs.Refusals.{fine, byJudgement}
 use Rattle.banner.specs.declared.Revision.{Revision}
 use Rattle.stream.specs.declared.Event.{Event}
-use Rattle.stream.specs.Events.{roleOf, judgeRole, judgeEvent}
-use Rattle.stream.specs.Stream.{Entry}
+use Rattle.stream.specs.Events.{roleOf, judgeRole, judgeEvent, passing}
+use Rattle.stream.specs.Stream.{Entry, refusedIn}
 use Rattle.stream.specs.Adds.{Adds}
 use Rattle.stream.proofs.Events.{by-event, by-adds}
 use Rattle.receiver.specs.declared.State.{State}
 use Rattle.receiver.specs.declared.Report.{Report}
 use Rattle.receiver.specs.declared.Report.the-variants as report
-use Rattle.receiver.specs.Calls.{Call, Chained, passing, takenBy, stateBy, storeBy, entered, reportedBy, refusedIn}
+use Rattle.receiver.specs.Calls.{Call, Chained, takenBy, stateBy, storeBy, entered, reportedBy}
 
 -- ---- events
 

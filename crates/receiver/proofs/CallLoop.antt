@@ -12,7 +12,8 @@ use lib.Seq.{take-suc, take-all}
 use Rattle.receiver.specs.declared.State.{State}
 use Rattle.receiver.specs.declared.Received.{Received}
 use Rattle.receiver.specs.State.{agrees, isRefused}
-use Rattle.receiver.specs.Step.{neededBy, shortStore, contradiction, answer, feed, refuseUnchanged, refusedState, Answered}
+use Rattle.refusal.specs.Refusals.{contradiction}
+use Rattle.receiver.specs.Step.{neededBy, shortStore, answer, feed, refuseUnchanged, refusedState, Answered}
 use Rattle.receiver.specs.Calls.{Call, pieceAt, Chained, takenBy, stateBy, storeBy, sizesOf}
 use Rattle.receiver.proofs.Scan.{feed-within}
 

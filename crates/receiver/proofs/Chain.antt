@@ -9,7 +9,8 @@ use Rattle.refusal.specs.declared.Numbers.{Numbers}
 use Rattle.refusal.specs.Refusals.{Judged, fine, refused, noRefusal}
 use Rattle.banner.specs.declared.Features.{Features}
 use Rattle.banner.specs.Banner.{judgeOwn}
-use Rattle.stream.specs.Stream.{Entry, Trace, ended, traceOf}
+use Rattle.stream.specs.Stream.{Entry, Trace, traceOf}
+use Rattle.stream.proofs.Laws.{trace-refused}
 use Rattle.stream.specs.Adds.{AddsUp, AllAddUp}
 use Rattle.stream.proofs.Sums.{all-add-up}
 use Rattle.receiver.specs.declared.Stage.the-variants as stage
@@ -122,10 +123,6 @@ module _ (own : Features) (store : List ℕ) (ok : judgeOwn (own .supported) (ow
       }
 
 -- ---- a start that is refused
-
-trace-refused : (own : Features) (stream store : List ℕ) (n : Numbers) → judgeOwn (own .supported) (own .required) ≡ refused n → traceOf own stream store ≡ ended store
-unfolding traceOf
-trace-refused own stream store n e = rw e
 
 refused-start : (own : Features) (n : Numbers) → judgeOwn (own .supported) (own .required) ≡ refused n → RefusedFor n (started own)
 refused-start own n e = rw (started-refused own n e) (start-refused own n e)

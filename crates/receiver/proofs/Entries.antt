@@ -8,12 +8,12 @@ use borrow.Author.Tests.{le-leb, lt-leb}
 use Rattle.refusal.specs.declared.Numbers.{Numbers}
 use Rattle.refusal.specs.Refusals.{fine}
 use Rattle.stream.specs.declared.Event.the-variants as event
-use Rattle.stream.specs.Events.{judgeEvent}
-use Rattle.stream.specs.Stream.{Entry, entry}
+use Rattle.stream.specs.Events.{judgeEvent, passing}
+use Rattle.stream.specs.Stream.{Entry, entry, refusedIn}
 use Rattle.stream.proofs.Events.{by-event}
 use Rattle.receiver.specs.declared.Report.{Report}
 use Rattle.receiver.specs.declared.Report.the-variants as report
-use Rattle.receiver.specs.Calls.{entered, dueTaken, dueReport, passing, refusedIn}
+use Rattle.receiver.specs.Calls.{entered, dueTaken, dueReport}
 
 -- the entries of a report, before later ones
 abbrev pub noted : Report → ℕ → List ℕ → List Entry → List Entry

@@ -14,7 +14,8 @@ use Rattle.receiver.specs.declared.Report.{Report}
 use Rattle.receiver.specs.declared.Report.the-variants as report
 use Rattle.receiver.specs.declared.Received.{Received}
 use Rattle.receiver.specs.State.{isRefused, given, agrees}
-use Rattle.receiver.specs.Step.{refusedState, Stepped, onByte, Answer, onward, feed, refuseUnchanged, contradiction, shortStore, neededBy, answer, Answered, Running}
+use Rattle.refusal.specs.Refusals.{contradiction}
+use Rattle.receiver.specs.Step.{refusedState, Stepped, onByte, Answer, onward, feed, refuseUnchanged, shortStore, neededBy, answer, Answered, Running}
 use Rattle.receiver.specs.Every.{Refuses, Sound}
 use Rattle.refusal.proofs.Booleans.{wrong}
 use Rattle.receiver.proofs.Live.{RefusedFor, feed-after, after-agrees, refused-for, agree-own}

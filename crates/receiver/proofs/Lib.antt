@@ -4,6 +4,7 @@ pub mod Appended
 pub mod Machine
 pub mod Lists
 pub mod Scan
+pub mod Ranks
 pub mod Gathers
 pub mod Gathered
 pub mod Stages

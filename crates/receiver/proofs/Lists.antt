@@ -10,9 +10,9 @@ use lib.Seq.{take-take, take-add, drop-drop, length-take-le}
 use Rattle.refusal.specs.declared.Numbers.{Numbers}
 use Rattle.refusal.proofs.Booleans.{wrong}
 use Rattle.stream.specs.declared.Event.the-variants as event
-use Rattle.stream.specs.Stream.{Entry}
+use Rattle.stream.specs.Stream.{Entry, refusedIn}
 use Rattle.receiver.specs.declared.Report.the-variants as report
-use Rattle.receiver.specs.Calls.{pieceAt, entered, dueTaken, dueReport, refusedIn}
+use Rattle.receiver.specs.Calls.{pieceAt, entered, dueTaken, dueReport}
 use Rattle.receiver.proofs.Entries.{noted, noted-append, next-due, Skips, Stops, skips-none, skips-noted, stops-refusal, Kind, goesOn, ends, kind, enters, clean-noted}
 use Rattle.receiver.proofs.Machine.{Machine, Answer, Scanned, before, feed, scan, scan-none, scan-append, scan-behind, AsScan, feed-scan, After, passed-running, feed-after}
 

@@ -7,9 +7,8 @@ use native.Mathlib.Omega.{arith}
 use lib.ListN.{length, take, drop, getD}
 use lib.Seq.{length-sets}
 use lib.Dec.{lit<, leb, ltb, eqb}
-use borrow.Author.Tests.{lt-ltb, ltb-true, leb-true, leb-false, le-leb, not-true}
+use borrow.Author.Tests.{eqb-true, lt-ltb, ltb-true, leb-true, leb-false, le-leb, not-true}
 use Rattle.buffer.specs.Le.{numberAt}
-use Rattle.crc32c.specs.Crc.{crcOf}
 use Rattle.refusal.specs.declared.Numbers.{Numbers}
 use Rattle.refusal.specs.declared.Refusal.the-variants as refusal
 use Rattle.refusal.specs.Refusals.{Judged, fine, refused, row, unless, isFine, noRefusal}
@@ -17,11 +16,12 @@ use Rattle.banner.specs.declared.Features.{Features}
 use Rattle.banner.specs.declared.Revision.{Revision}
 use Rattle.banner.specs.declared.Revision.the-variants.{Msgr20, Msgr21}
 use Rattle.banner.specs.Bits.{missing, lowestBit, bitCount}
-use Rattle.banner.specs.Banner.{magic, sameFrom, judgeOwn, judgeMagic, judgeLength, judgeMissing, judgeFeatures, revisionOf, featuresOf}
+use Rattle.banner.specs.Banner.{magic, sameFrom, judgeOwn, judgeMagic, judgeLength, judgeMissing, judgeFeatures, revisionOf, featuresOf, sameRevision}
 use Rattle.preamble.specs.declared.Header.{Header}
 use Rattle.preamble.specs.Layout.{total}
-use Rattle.preamble.specs.Judge.{shapeFault, flagFault, limitFault, headerOf, judgeChecksum, judgeShape, judgeFlags, judgeTag, judgeLimits, judgeStore, judgeHeader, judgeFields, judgePreamble}
-use Rattle.preamble.proofs.Laws.{accepted-preamble, accepted-header, store-fits}
+use Rattle.preamble.specs.Judge.{headerOf, judgeHeader, judgePreamble}
+use Rattle.preamble.proofs.Laws.{accepted-preamble, checked-header, store-fits}
+use Rattle.preamble.proofs.Allowed.{allowed-preamble}
 use Rattle.body.specs.declared.Late.{Late}
 use Rattle.body.specs.declared.Late.the-variants as late
 use Rattle.body.specs.Body.{segmentSum, segments, epilogueFrom, inEpilogue, noFirstSum, noEpilogue}
@@ -36,9 +36,10 @@ use Rattle.receiver.specs.declared.Known.{Known}
 use Rattle.receiver.specs.declared.State.{State}
 use Rattle.receiver.specs.declared.Report.{Report}
 use Rattle.buffer.specs.Zeros.{allZero}
-use Rattle.receiver.specs.State.{sizeOf, placeOf, isRefused, inBody, needed, blank, sameRevision, hasFirstSum, given, ownRule, payloadRule, peerRule, revisionRule, headerRule, firstRule, markRule, refusalRule, rules, leastOf, countRule, inBlock, blockRule, agreesAt, agrees}
+use Rattle.receiver.specs.State.{rank, stageOf, sizeOf, placeOf, isRefused, inBody, needed, blank, hasFirstSum, given, ownRule, payloadRule, peerRule, revisionRule, headerRule, firstSumRule, firstRule, refusalRule, rules, leastOf, countRule, inBlock, blockRule, agreesAt, agrees}
 use Rattle.receiver.specs.Step.{at, onlyOwn, withPayload, withPeer, withRevision, withHeader, withFirst, nextFrame, refusedState, blockWith, storeWith, absorbed, stored, size, Stepped, silent, refuse, unlessRefused, endBanner, endFrame, beginEpilogue, beginRest, beginBody, reportFirst, behindFirstSum, reached, chunk, finish, onByte, feed, Running}
 use Rattle.refusal.proofs.Booleans.{wrong, both-left, both-right}
+use Rattle.receiver.proofs.Ranks.{stage-at}
 use Rattle.receiver.proofs.Zeros.{zeros-later, drop-sets}
 use Rattle.refusal.proofs.Allowed.{Allowed, allowed-fine, allowed-cond, allowed-or}
 use Rattle.body.proofs.Allowed.{AllowedEnd, end-whole, end-dropped, end-turned, end-by, end-or}
@@ -64,16 +65,8 @@ given-features a b c d =
     allowed-or ofBytes k3 (allowed-or ofBytes k4 (allowed-fine ofBytes))
 
 given-preamble : (bs : List ℕ) (n : ℕ) → Given (judgePreamble bs n)
-unfolding judgePreamble judgeFields
-given-preamble bs n =
-    let h = headerOf bs in
-    let k5 : Given (judgeChecksum bs) = allowed-cond ofBytes (eqb (crcOf 0 (take 28 bs)) (numberAt 4 28 bs)) (row 5 28 0 0) refl in
-    let k6 : Given (judgeShape h) = allowed-cond ofBytes (eqb (shapeFault h) 0) (row 6 (shapeFault h) 0 0) refl in
-    let k7 : Given (judgeFlags (getD bs 26 0) (getD bs 27 0)) = allowed-cond ofBytes (eqb (flagFault (getD bs 26 0) (getD bs 27 0)) 0) (row 7 (flagFault (getD bs 26 0) (getD bs 27 0)) 0 0) refl in
-    let k8 : Given (judgeTag (h .tag)) = allowed-cond ofBytes (leb 1 (h .tag) && leb (h .tag) 20) (row 8 (h .tag) 0 0) refl in
-    let k9 : Given (judgeLimits h) = allowed-cond ofBytes (eqb (limitFault h) 0) (row 9 (limitFault h) 0 0) refl in
-    let k10 : Given (judgeStore (total h) n) = allowed-cond ofBytes (leb (total h) n) (row 10 (total h) 0 0) refl in
-    allowed-or ofBytes k5 (allowed-or ofBytes k6 (allowed-or ofBytes k7 (allowed-or ofBytes k8 (allowed-or ofBytes k9 (allowed-or ofBytes k10 (allowed-fine ofBytes))))))
+unfolding judgePreamble
+given-preamble bs n = allowed-preamble ofBytes refl (λ _. refl) (λ _. refl) (λ _. refl) (λ _. refl) (λ _. refl) bs (total (headerOf bs)) n [] (allowed-fine ofBytes)
 
 given-compare : (count k : ℕ) (fs : List ℕ) (ss : List (List ℕ)) → Given (compareFrom count k fs ss)
 given-compare count k [] ss = allowed-fine ofBytes
@@ -122,27 +115,27 @@ pub record Rules (k : Stage) (v : Known) : Type 0 where
   pub peer : peerRule k v ≡ true
   pub revision : revisionRule k v ≡ true
   pub header : headerRule k v ≡ true
-  pub first : firstRule k v ≡ true
-  pub mark : markRule k v ≡ true
+  pub first : firstSumRule k v ≡ true
+  pub mark : firstRule k v ≡ true
   pub refusal : refusalRule k v ≡ true
 
 pub rules-of : (k : Stage) (v : Known) → rules k v ≡ true → Rules k v
 rules-of k v e =
-    let a = both-left ((ownRule k v && payloadRule k v) && (peerRule k v && revisionRule k v)) ((headerRule k v && (firstRule k v && markRule k v)) && refusalRule k v) e in
-    let b = both-right ((ownRule k v && payloadRule k v) && (peerRule k v && revisionRule k v)) ((headerRule k v && (firstRule k v && markRule k v)) && refusalRule k v) e in
+    let a = both-left ((ownRule k v && payloadRule k v) && (peerRule k v && revisionRule k v)) ((headerRule k v && (firstSumRule k v && firstRule k v)) && refusalRule k v) e in
+    let b = both-right ((ownRule k v && payloadRule k v) && (peerRule k v && revisionRule k v)) ((headerRule k v && (firstSumRule k v && firstRule k v)) && refusalRule k v) e in
     let op = both-left (ownRule k v && payloadRule k v) (peerRule k v && revisionRule k v) a in
     let pr = both-right (ownRule k v && payloadRule k v) (peerRule k v && revisionRule k v) a in
-    let hf = both-left (headerRule k v && (firstRule k v && markRule k v)) (refusalRule k v) b in
-    let fm = both-right (headerRule k v) (firstRule k v && markRule k v) hf in
+    let hf = both-left (headerRule k v && (firstSumRule k v && firstRule k v)) (refusalRule k v) b in
+    let fm = both-right (headerRule k v) (firstSumRule k v && firstRule k v) hf in
     record {
       own = both-left (ownRule k v) (payloadRule k v) op;
       payload = both-right (ownRule k v) (payloadRule k v) op;
       peer = both-left (peerRule k v) (revisionRule k v) pr;
       revision = both-right (peerRule k v) (revisionRule k v) pr;
-      header = both-left (headerRule k v) (firstRule k v && markRule k v) hf;
-      first = both-left (firstRule k v) (markRule k v) fm;
-      mark = both-right (firstRule k v) (markRule k v) fm;
-      refusal = both-right (headerRule k v && (firstRule k v && markRule k v)) (refusalRule k v) b;
+      header = both-left (headerRule k v) (firstSumRule k v && firstRule k v) hf;
+      first = both-left (firstSumRule k v) (firstRule k v) fm;
+      mark = both-right (firstSumRule k v) (firstRule k v) fm;
+      refusal = both-right (headerRule k v && (firstSumRule k v && firstRule k v)) (refusalRule k v) b;
     }
 
 rules-all : (k : Stage) (v : Known) → Rules k v → rules k v ≡ true
@@ -268,7 +261,7 @@ least-other : (b : Bool) (n m : ℕ) → n ≤ m → cond b n 0 ≤ m
 least-other true n m h = h
 least-other false n m h = zero-le
 
-module _ (v : Known) (s : List ℕ) (f : Framed v) (m : markRule stage.Rest v ≡ true) (fits : total (v .header) ≤ length s) where
+module _ (v : Known) (s : List ℕ) (f : Framed v) (m : firstRule stage.Rest v ≡ true) (fits : total (v .header) ≤ length s) where
   epilogue-after : AfterStep (beginEpilogue v s)
   epilogue-after = go (noEpilogue (v .revision) (v .header)) refl
     where
@@ -344,7 +337,7 @@ finish-after stage.Preamble b v s r o f =
     judged-after (judgePreamble b (length s)) v s _ (r .own) (given-preamble b (length s))
     (λ e.
     let a = accepted-preamble b (length s) e in
-    body-after (withHeader v (headerOf b)) s (record { own = r .own; payload = r .payload; revision = r .revision; header = fine-true (accepted-header a); refusal = r .refusal }) refl (store-fits (a .store)))
+    body-after (withHeader v (headerOf b)) s (record { own = r .own; payload = r .payload; revision = r .revision; header = fine-true (checked-header (a .checked)); refusal = r .refusal }) refl (store-fits (a .store)))
 finish-after stage.First b v s r o f =
     running-at stage.FirstSum 0 v s refl (record { own = r .own; payload = r .payload; peer = refl; revision = r .revision; header = r .header; first = r .first; mark = r .mark; refusal = r .refusal }) zero-le (lit< tt) f refl
 finish-after stage.FirstSum b v s r o f = go (eqb (numberAt 4 0 b) (segmentSum (take (v .header .s1 .len) s)))
@@ -407,16 +400,8 @@ after-agrees r st s = machine.by-after Running RefusedFor r st s (λ a. a .agree
 -- ---- refused states
 
 stage-refused : (k : Stage) → isRefused k ≡ true → k ≡ stage.Refused
-stage-refused stage.Magic e = wrong e
-stage-refused stage.Length e = wrong e
-stage-refused stage.Payload e = wrong e
-stage-refused stage.Skip e = wrong e
-stage-refused stage.Preamble e = wrong e
-stage-refused stage.First e = wrong e
-stage-refused stage.FirstSum e = wrong e
-stage-refused stage.Rest e = wrong e
-stage-refused stage.Epilogue e = wrong e
-stage-refused stage.Refused e = refl
+unfolding stageOf
+stage-refused k e = stage-at k 9 (eqb-true (rank k) 9 e)
 
 rules-agreed : (st : State) → agrees st ≡ true → Rules (st .position .stage) (st .known)
 unfolding agreesAt

@@ -12,7 +12,7 @@ use Rattle.stream.specs.Stream.{Entry}
 use Rattle.stream.proofs.Events.{by-event}
 use Rattle.receiver.specs.declared.Report.{Report}
 use Rattle.receiver.specs.declared.Report.the-variants as report
-use Rattle.receiver.specs.Calls.{passing}
+use Rattle.stream.specs.Events.{passing}
 use Rattle.receiver.proofs.Entries.{noted, noted-append, Behind, behind-noted, Fills, Passes}
 
 -- what a byte comes to

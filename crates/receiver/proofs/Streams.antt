@@ -24,7 +24,8 @@ use Rattle.stream.specs.Stream.{Trace, ended, after, bodyTrace, frames, streamT
 use Rattle.receiver.specs.declared.Stage.the-variants as stage
 use Rattle.receiver.specs.declared.Known.{Known}
 use Rattle.receiver.specs.declared.State.{State}
-use Rattle.receiver.specs.State.{blank, noHeader}
+use Rattle.preamble.specs.Layout.{noHeader}
+use Rattle.receiver.specs.State.{blank}
 use Rattle.receiver.specs.Step.{Stepped, at, onlyOwn, refusedState, withPayload, withPeer, withRevision, withHeader, silent, unlessRefused, endBanner, beginBody, finish}
 use Rattle.receiver.proofs.Machine.{scan-none}
 use Rattle.receiver.proofs.Scan.{byteStep, scan}

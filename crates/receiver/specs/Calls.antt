@@ -1,18 +1,18 @@
 -- Demand 3: one claim about every stream and every list of calls on it. `Chained` is what a list of calls is, `AsDefined` what is claimed of it.
 use mathlib.Core.Path.{_≡_}
 use mathlib.Core.List.{List, [], _∷_}
-use mathlib.Core.Bool.{Bool, true, false, cond}
+use mathlib.Core.Bool.{true, cond}
 use Prim.Native.Nat.{ℕ, _+_, _-_, _≤_, min}
 use lib.ListN.{length, take, drop}
 use lib.Dec.{leb}
 use Rattle.refusal.specs.declared.Numbers.{Numbers}
-use Rattle.refusal.specs.Refusals.{Judged, fine, refused, byJudgement}
+use Rattle.refusal.specs.Refusals.{Judged, fine, refused}
 use Rattle.banner.specs.declared.Features.{Features}
 use Rattle.banner.specs.Banner.{judgeOwn}
 use Rattle.stream.specs.declared.Event.{Event}
 use Rattle.stream.specs.declared.Event.the-variants as event
-use Rattle.stream.specs.Events.{judgeEvent}
-use Rattle.stream.specs.Stream.{Entry, entry, traceOf}
+use Rattle.stream.specs.Events.{passing}
+use Rattle.stream.specs.Stream.{Entry, entry, refusedIn, traceOf}
 use Rattle.stream.specs.Adds.{AddsUp}
 use Rattle.receiver.specs.declared.State.{State}
 use Rattle.receiver.specs.declared.Report.{Report}
@@ -52,11 +52,6 @@ stateBy st (c ∷ cs) = stateBy (c .received .state) cs
 abbrev pub storeBy : List ℕ → List Call → List ℕ
 storeBy s [] = s
 storeBy s (c ∷ cs) = storeBy (c .store) cs
-
--- behind an event that is passed, what the later ones give; behind a refusal, what the refusal gives
-module _ {ℓ} {A : Type ℓ} where
-  abbrev pub passing : Event → A → (Numbers → A) → A
-  passing e a f = byJudgement (judgeEvent e) a f
 
 -- a report's entry, before those of later calls; a refusal is entered once, and ends the list
 abbrev pub entered : Report → ℕ → List ℕ → List Entry → List Entry
@@ -101,11 +96,6 @@ Repeats n (c ∷ cs) = (c .received .taken ≡ 0) × (c .received .report ≡ re
 abbrev pub EachBy : Judged → List Entry → List ℕ → List Call → Type 0
 EachBy fine es stream cs = Each es stream 0 cs
 EachBy (refused n) es stream cs = Repeats n cs
-
--- a refusal is among the entries
-abbrev pub refusedIn : List Entry → Bool
-refusedIn [] = false
-refusedIn (e ∷ es) = passing (e .event) (refusedIn es) (λ n. true)
 
 -- THE CLAIM, of the calls cs on a stream, from a start with the features own and from a store
 pub record AsDefined (own : Features) (stream store : List ℕ) (cs : List Call) : Type 0 where

@@ -9,7 +9,7 @@ use Rattle.banner.specs.declared.Features.{Features}
 use Rattle.preamble.specs.Layout.{total}
 use Rattle.body.specs.Body.{firstSumLength, wireLength}
 use Rattle.stream.specs.declared.Event.the-variants as event
-use Rattle.stream.specs.Events.{Role, bannerEnd, firstEnd, frameEnd, streamEnd, roleOf}
+use Rattle.stream.specs.Events.{Role, bannerEnd, firstEnd, frameEnd, streamEnd, roleOf, passing}
 use Rattle.receiver.specs.declared.Stage.{Stage}
 use Rattle.receiver.specs.declared.Stage.the-variants as stage
 use Rattle.receiver.specs.declared.Known.{Known}
@@ -18,8 +18,8 @@ use Rattle.receiver.specs.declared.Report.{Report}
 use Rattle.receiver.specs.declared.Report.the-variants as report
 use Rattle.receiver.specs.declared.Received.{Received}
 use Rattle.receiver.specs.State.{isRefused, agrees}
-use Rattle.receiver.specs.Calls.{passing}
-use Rattle.receiver.specs.Step.{Answered, Running, contradiction, shortStore, neededBy, refusedState, started}
+use Rattle.refusal.specs.Refusals.{contradiction}
+use Rattle.receiver.specs.Step.{Answered, Running, shortStore, neededBy, refusedState, started}
 
 -- ---- every call
 

@@ -1,20 +1,15 @@
 -- What a receiver's state is between two calls: what its next bytes are, what a stage reads, and the rules behind refusal 26 (docs/STATE.md says them in words).
 use mathlib.Core.List.{List}
-use mathlib.Core.Bool.{Bool, true, false, not, cond, _&&_, _||_}
+use mathlib.Core.Bool.{Bool, true, not, cond, _&&_, _||_}
 use Prim.Native.Nat.{ℕ, _-_}
 use lib.ListN.{drop, replicate}
 use lib.Dec.{leb, ltb, eqb}
 use Rattle.buffer.specs.Zeros.{allZero}
 use Rattle.refusal.specs.declared.Numbers.{Numbers}
 use Rattle.refusal.specs.declared.Refusal.the-variants as refusal
-use Rattle.refusal.specs.Refusals.{isFine, refusalNumber, noMissing}
-use Rattle.banner.specs.declared.Features.{Features}
-use Rattle.banner.specs.declared.Revision.{Revision}
-use Rattle.banner.specs.declared.Revision.the-variants.{Msgr20, Msgr21}
-use Rattle.banner.specs.Banner.{judgeOwn, judgeFeatures, revisionOf, judgeLength}
-use Rattle.preamble.specs.declared.Segment.{Segment}
-use Rattle.preamble.specs.declared.Header.{Header}
-use Rattle.preamble.specs.Layout.{total}
+use Rattle.refusal.specs.Refusals.{isFine, refusalNumber, noMissing, isNoRefusal}
+use Rattle.banner.specs.Banner.{isNoFeatures, isMsgr21, sameRevision, judgeOwn, judgeFeatures, revisionOf, judgeLength}
+use Rattle.preamble.specs.Layout.{total, isNoHeader}
 use Rattle.preamble.specs.Judge.{judgeHeader}
 use Rattle.body.specs.Body.{noFirstSum, epilogueLength}
 use Rattle.receiver.specs.declared.Stage.{Stage}
@@ -24,7 +19,7 @@ use Rattle.receiver.specs.declared.Place.the-variants as place
 use Rattle.receiver.specs.declared.Known.{Known}
 use Rattle.receiver.specs.declared.State.{State}
 
--- ---- stages: three lists of ten, and all else by formulas over them
+-- ---- stages: four lists of ten, and all else by formulas over them
 
 -- their order in a stream
 abbrev pub rank : Stage → ℕ
@@ -38,6 +33,19 @@ rank stage.FirstSum = 6
 rank stage.Rest = 7
 rank stage.Epilogue = 8
 rank stage.Refused = 9
+
+-- the stage of a rank: 9, and any number above it, is refused
+unfoldable pub stageOf : ℕ → Stage
+stageOf n =
+    cond (eqb n 0) stage.Magic
+    (cond (eqb n 1) stage.Length
+    (cond (eqb n 2) stage.Payload
+    (cond (eqb n 3) stage.Skip
+    (cond (eqb n 4) stage.Preamble
+    (cond (eqb n 5) stage.First
+    (cond (eqb n 6) stage.FirstSum
+    (cond (eqb n 7) stage.Rest
+    (cond (eqb n 8) stage.Epilogue stage.Refused))))))))
 
 -- how many bytes a stage reads
 abbrev pub sizeOf : Stage → Known → ℕ
@@ -80,41 +88,11 @@ liveFrom n k = leb n (rank k) && not (isRefused k)
 abbrev pub needed : Stage → Known → ℕ
 needed k v = cond (inBody k) (total (v .header)) 0
 
--- ---- values that a receiver has before it knows better
-
-abbrev pub noFeatures : Features
-noFeatures = record { supported = 0; required = 0 }
-
-abbrev pub noSegment : Segment
-noSegment = record { len = 0; align = 0 }
-
-abbrev pub noHeader : Header
-noHeader = record { tag = 0; count = 0; s1 = noSegment; s2 = noSegment; s3 = noSegment; s4 = noSegment }
-
+-- a block of which no byte came
 abbrev pub blank : List ℕ
 blank = replicate 32 0
 
 -- ---- the rules
-
-abbrev pub isMsgr21 : Revision → Bool
-isMsgr21 Msgr20 = false
-isMsgr21 Msgr21 = true
-
-abbrev pub sameRevision : Revision → Revision → Bool
-sameRevision Msgr20 r = not (isMsgr21 r)
-sameRevision Msgr21 r = isMsgr21 r
-
-abbrev pub isNoFeatures : Features → Bool
-isNoFeatures f = eqb (f .supported) 0 && eqb (f .required) 0
-
-abbrev pub isNoSegment : Segment → Bool
-isNoSegment s = eqb (s .len) 0 && eqb (s .align) 0
-
-abbrev pub isNoHeader : Header → Bool
-isNoHeader h = (eqb (h .tag) 0 && eqb (h .count) 0) && ((isNoSegment (h .s1) && isNoSegment (h .s2)) && (isNoSegment (h .s3) && isNoSegment (h .s4)))
-
-abbrev pub isNoRefusal : Numbers → Bool
-isNoRefusal n = (eqb (n .number) 0 && eqb (n .first) 0) && (eqb (n .second) 0 && eqb (n .third) 0)
 
 -- refusals with three details
 abbrev pub threeDetails : ℕ → Bool
@@ -154,22 +132,22 @@ headerRule k v = cond (inBody k) (isFine (judgeHeader (v .header))) (isNoHeader 
 abbrev pub hasFirstSum : Known → Bool
 hasFirstSum v = not (noFirstSum (v .revision) (v .header))
 
-abbrev pub firstRule : Stage → Known → Bool
-firstRule k v = cond (eqb (rank k) 5 || eqb (rank k) 6) (hasFirstSum v) true
+abbrev pub firstSumRule : Stage → Known → Bool
+firstSumRule k v = cond (eqb (rank k) 5 || eqb (rank k) 6) (hasFirstSum v) true
 
 -- segment 1's checksum was there and held: in the stages behind it, to the frame's end
-abbrev pub behindFirst : Stage → Known → Bool
-behindFirst k v = (eqb (rank k) 7 || eqb (rank k) 8) && hasFirstSum v
+abbrev pub firstSumHeld : Stage → Known → Bool
+firstSumHeld k v = (eqb (rank k) 7 || eqb (rank k) 8) && hasFirstSum v
 
-abbrev pub markRule : Stage → Known → Bool
-markRule k v = cond (v .first) (behindFirst k v) (not (behindFirst k v))
+abbrev pub firstRule : Stage → Known → Bool
+firstRule k v = cond (v .first) (firstSumHeld k v) (not (firstSumHeld k v))
 
 abbrev pub refusalRule : Stage → Known → Bool
 refusalRule k v = cond (isRefused k) (given (v .refusal)) (isNoRefusal (v .refusal))
 
 abbrev pub rules : Stage → Known → Bool
 rules k v =
-    ((ownRule k v && payloadRule k v) && (peerRule k v && revisionRule k v)) && ((headerRule k v && (firstRule k v && markRule k v)) && refusalRule k v)
+    ((ownRule k v && payloadRule k v) && (peerRule k v && revisionRule k v)) && ((headerRule k v && (firstSumRule k v && firstRule k v)) && refusalRule k v)
 
 -- how many bytes of the stage came at least: where segment 1 has its checksum, the other segments come behind it
 abbrev pub leastOf : Stage → Known → ℕ

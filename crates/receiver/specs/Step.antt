@@ -9,13 +9,13 @@ use lib.Dec.{leb, ltb, eqb}
 use Rattle.buffer.specs.Le.{numberAt}
 use Rattle.refusal.specs.declared.Numbers.{Numbers}
 use Rattle.refusal.specs.declared.Refusal.the-variants as refusal
-use Rattle.refusal.specs.Refusals.{Judged, fine, refused, numbersOf, judgedBy, noRefusal}
+use Rattle.refusal.specs.Refusals.{Judged, fine, refused, numbersOf, judgedBy, noRefusal, contradiction}
 use Rattle.banner.specs.declared.Features.{Features}
 use Rattle.banner.specs.declared.Revision.{Revision}
 use Rattle.banner.specs.declared.Revision.the-variants.{Msgr20}
-use Rattle.banner.specs.Banner.{judgeOwn, judgeFeatures, revisionOf, featuresOf, judgeMagic, judgeLength}
+use Rattle.banner.specs.Banner.{judgeOwn, judgeFeatures, revisionOf, featuresOf, judgeMagic, judgeLength, noFeatures}
 use Rattle.preamble.specs.declared.Header.{Header}
-use Rattle.preamble.specs.Layout.{total}
+use Rattle.preamble.specs.Layout.{total, noHeader}
 use Rattle.preamble.specs.Judge.{headerOf, judgePreamble}
 use Rattle.body.specs.Body.{segmentSum, noEpilogue}
 use Rattle.body.specs.End.{Ended, whole, dropped, refusedFor, ending}
@@ -36,7 +36,7 @@ use Rattle.receiver.specs.declared.Moved.{Moved}
 use Rattle.receiver.specs.declared.Taken.{Taken}
 use Rattle.receiver.specs.declared.Taken.the-variants as taken
 use Rattle.receiver.specs.declared.Started.{Started}
-use Rattle.receiver.specs.State.{sizeOf, placeOf, isRefused, needed, noFeatures, noHeader, blank, hasFirstSum, agrees}
+use Rattle.receiver.specs.State.{sizeOf, placeOf, isRefused, needed, blank, hasFirstSum, agrees}
 
 -- ---- states that follow from one another
 
@@ -206,10 +206,6 @@ feed st s (b ∷ bs) = onward (onByte st s b .report) 1 (onByte st s b) (feed (o
 abbrev pub refuseUnchanged : State → Numbers → List ℕ → Answer
 refuseUnchanged st n s = answered st 0 (report.Event (event.Refused n)) s
 
--- 26, and the refusal of a store that is too short for the frame
-abbrev pub contradiction : Numbers
-contradiction = numbersOf refusal.StateContradicts
-
 abbrev pub neededBy : State → ℕ
 neededBy st = needed (st .position .stage) (st .known)
 
@@ -256,7 +252,7 @@ started own = startedBy (judgeOwn (own .supported) (own .required)) own
 -- THE PROMISE OF A START
 pub record StartedWith (own : Features) (r : Started) : Type 0 where
   pub state : r .state ≡ started own
-  pub verdict : judgedBy (r .verdict) ≡ judgeOwn (own .supported) (own .required)
+  pub judgement : judgedBy (r .judgement) ≡ judgeOwn (own .supported) (own .required)
 
 -- ---- what the inner functions promise
 

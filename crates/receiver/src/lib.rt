@@ -10,9 +10,9 @@ use buffer::min;
 use pieces::feed;
 use pieces::fill;
 use preamble::Header;
+use refusal::Judgement;
 use refusal::Numbers;
 use refusal::Refusal;
-use refusal::Verdict;
 use refusal::numbers_of;
 use states::agree;
 use states::fresh;
@@ -116,7 +116,7 @@ pub enum Taken {
 // What a start gives: a state, and whether our own features were refused, which the state then repeats.
 pub struct Started {
     pub state: State,
-    pub verdict: Verdict,
+    pub judgement: Judgement,
 }
 
 // A receiver with our own features.
@@ -125,13 +125,13 @@ pub fn start(own: Features) -> Started
 {
     let v = judge_own(own.supported, own.required);
     match v {
-        Verdict::Fine => Started {
+        Judgement::Fine => Started {
             state: fresh(own),
-            verdict: v,
+            judgement: v,
         },
-        Verdict::Refused(why) => Started {
+        Judgement::Refused(why) => Started {
             state: refused_state(own, numbers_of(why)),
-            verdict: Verdict::Refused(why),
+            judgement: Judgement::Refused(why),
         },
     }
 }

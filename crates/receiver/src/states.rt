@@ -6,21 +6,27 @@ use crate::Stage;
 use crate::State;
 use banner::Features;
 use banner::Revision;
+use banner::is_msgr21;
+use banner::is_no_features;
 use banner::judge_features;
 use banner::judge_length;
 use banner::judge_own;
 use banner::revision_of;
+use banner::same_revision;
 use body::epilogue_length;
 use body::no_first_sum;
 use buffer::u64_at;
 use preamble::Header;
 use preamble::Segment;
 use preamble::header_is_fine;
+use preamble::is_no_header;
+use preamble::no_header;
 use preamble::total_of;
 use refusal::Numbers;
 use refusal::both;
 use refusal::either;
 use refusal::is_fine;
+use refusal::is_no_refusal;
 ghost use mathlib.Core.Path.{_≡_};
 ghost use mathlib.Core.Bool.{cond, _&&_, _||_};
 ghost use Prim.Native.Nat.{_-_, _^_};
@@ -28,7 +34,8 @@ ghost use lib.Dec.{leb, ltb};
 ghost use lib.ListN.{length, drop};
 ghost use Rattle.buffer.specs.Zeros.{allZero};
 ghost use Rattle.refusal.specs.Refusals.{noRefusal};
-ghost use Rattle.receiver.specs.State.{rank, sizeOf, placeOf, isRefused, inBody, liveFrom, needed, noHeader, isMsgr21, sameRevision, isNoFeatures, isNoSegment, isNoHeader, isNoRefusal, given, ownRule, payloadRule, peerRule, revisionRule, headerRule, hasFirstSum, firstRule, markRule, refusalRule, rules, leastOf, countRule, inBlock, blockRule, agreesAt, agrees};
+ghost use Rattle.preamble.specs.Layout.{noHeader};
+ghost use Rattle.receiver.specs.State.{rank, sizeOf, placeOf, isRefused, inBody, liveFrom, needed, given, ownRule, payloadRule, peerRule, revisionRule, headerRule, hasFirstSum, firstSumRule, firstRule, refusalRule, rules, leastOf, countRule, inBlock, blockRule, agreesAt, agrees};
 ghost use Rattle.receiver.specs.declared.Stage.the-variants as stage;
 ghost use Rattle.receiver.specs.Step.{at, onlyOwn, withPayload, withPeer, withRevision, withHeader, withFirst};
 
@@ -149,16 +156,7 @@ pub(crate) fn with_first(v: Known) -> Known
 pub(crate) fn without_header(v: Known) -> Known
     ensures { λ r. ⌜ r ≡ withHeader v noHeader ⌝ }
 {
-    let none = Segment { len: 0, align: 0 };
-    let header = Header {
-        tag: 0,
-        count: 0,
-        s1: none,
-        s2: none,
-        s3: none,
-        s4: none,
-    };
-    with_header(v, header)
+    with_header(v, no_header())
 }
 
 // ---- stages
@@ -266,51 +264,6 @@ fn pick(test: bool, a: bool, b: bool) -> bool
     if test { a } else { b }
 }
 
-pub fn is_msgr21(revision: Revision) -> bool
-    ensures { λ r. ⌜ r ≡ isMsgr21 revision ⌝ }
-{
-    match revision {
-        Revision::Msgr20 => false,
-        Revision::Msgr21 => true,
-    }
-}
-
-fn same_revision(a: Revision, b: Revision) -> bool
-    ensures { λ r. ⌜ r ≡ sameRevision a b ⌝ }
-{
-    match a {
-        Revision::Msgr20 => !is_msgr21(b),
-        Revision::Msgr21 => is_msgr21(b),
-    }
-}
-
-fn is_no_features(f: Features) -> bool
-    ensures { λ r. ⌜ r ≡ isNoFeatures f ⌝ }
-{
-    both(f.supported == 0, f.required == 0)
-}
-
-fn is_no_segment(s: Segment) -> bool
-    ensures { λ r. ⌜ r ≡ isNoSegment s ⌝ }
-{
-    both(s.len == 0, s.align == 0)
-}
-
-pub fn is_no_header(h: Header) -> bool
-    ensures { λ r. ⌜ r ≡ isNoHeader h ⌝ }
-{
-    let last = both(is_no_segment(h.s3), is_no_segment(h.s4));
-    let segments = both(both(is_no_segment(h.s1), is_no_segment(h.s2)), last);
-    both(both(h.tag == 0, h.count == 0), segments)
-}
-
-pub fn is_no_refusal(n: Numbers) -> bool
-    ensures { λ r. ⌜ r ≡ isNoRefusal n ⌝ }
-{
-    let details = both(n.second == 0, n.third == 0);
-    both(both(n.number == 0, n.first == 0), details)
-}
-
 // A refusal that a receiver gives.
 fn is_given(n: Numbers) -> bool
     ensures { λ r. ⌜ r ≡ given n ⌝ }
@@ -377,8 +330,8 @@ fn header_rule(stage: Stage, v: Known) -> bool
     is_no_header(v.header)
 }
 
-fn first_and_mark(stage: Stage, v: Known) -> bool
-    ensures { λ r. ⌜ r ≡ (firstRule stage v && markRule stage v) ⌝ }
+fn first_rules(stage: Stage, v: Known) -> bool
+    ensures { λ r. ⌜ r ≡ (firstSumRule stage v && firstRule stage v) ⌝ }
 {
     let n = rank(stage);
     let sum = has_first_sum(v);
@@ -477,7 +430,7 @@ fn banner_rules(stage: Stage, v: Known) -> bool
 fn rules_hold(stage: Stage, v: Known) -> bool
     ensures { λ r. ⌜ r ≡ rules stage v ⌝ }
 {
-    let frame = both(header_rule(stage, v), first_and_mark(stage, v));
+    let frame = both(header_rule(stage, v), first_rules(stage, v));
     let rest = both(frame, refusal_rule(stage, v));
     both(banner_rules(stage, v), rest)
 }

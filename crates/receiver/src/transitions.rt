@@ -28,9 +28,9 @@ use preamble::Header;
 use preamble::judge_read;
 use preamble::read_block;
 use preamble::total_of;
+use refusal::Judgement;
 use refusal::Numbers;
 use refusal::Refusal;
-use refusal::Verdict;
 use refusal::numbers_of;
 use stream::Event;
 ghost use mathlib.Core.Path.{_≡_};
@@ -82,12 +82,12 @@ fn begin_preamble(v: Known, event: Event) -> Transition
     at_stage(Stage::Preamble, 0, v, Report::Event(event))
 }
 
-fn unless_refused(verdict: Verdict, v: Known, t: Transition) -> Transition
-    ensures { λ r. ⌜ ((s : List ℕ) → steppedBy r s ≡ unlessRefused (judgedBy verdict) v s (steppedBy t s)) ⌝ }
+fn unless_refused(judgement: Judgement, v: Known, t: Transition) -> Transition
+    ensures { λ r. ⌜ ((s : List ℕ) → steppedBy r s ≡ unlessRefused (judgedBy judgement) v s (steppedBy t s)) ⌝ }
 {
-    match verdict {
-        Verdict::Fine => t,
-        Verdict::Refused(why) => refuse(v, numbers_of(why)),
+    match judgement {
+        Judgement::Fine => t,
+        Judgement::Refused(why) => refuse(v, numbers_of(why)),
     }
 }
 
@@ -147,8 +147,8 @@ fn begin_body(v: Known) -> Transition
 fn end_magic(block: &[u8], v: Known) -> Transition
     ensures { λ r. ⌜ ((s : List ℕ) → steppedBy r s ≡ finish stage.Magic (now (block .entry)) v s) ⌝ }
 {
-    let verdict = judge_magic(part(block, 0, 8));
-    unless_refused(verdict, v, more(Stage::Length, 0, v))
+    let judgement = judge_magic(part(block, 0, 8));
+    unless_refused(judgement, v, more(Stage::Length, 0, v))
 }
 
 fn end_length(block: &[u8], v: Known) -> Transition
@@ -174,15 +174,15 @@ fn end_preamble(block: &[u8; 32], v: Known, store: usize) -> Transition
     ensures { λ r. ⌜ ((s : List ℕ) → length s ≡ store → steppedBy r s ≡ finish stage.Preamble (now (block .entry)) v s) ⌝ }
 {
     let p = read_block(block);
-    let verdict = judge_read(p, block, store);
-    match verdict {
-        Verdict::Fine => begin_body(with_header(v, p.header)),
-        Verdict::Refused(why) => refuse(v, numbers_of(why)),
+    let judgement = judge_read(p, block, store);
+    match judgement {
+        Judgement::Fine => begin_body(with_header(v, p.header)),
+        Judgement::Refused(why) => refuse(v, numbers_of(why)),
     }
 }
 
 // Zeros in the store's first T bytes.
-fn zero_payload(store: &mut [u8], h: Header)
+fn zero_segments(store: &mut [u8], h: Header)
     requires { ⌜ total h ≤ length (now store) ⌝ }
     ensures { λ _. ⌜ now (store .exit) ≡ zeroed h (now (store .entry)) ⌝ }
 {
@@ -193,7 +193,7 @@ fn refuse_frame(v: Known, n: Numbers, store: &mut [u8]) -> Transition
     requires { ⌜ total (v .header) ≤ length (now store) ⌝ }
     ensures { λ r. ⌜ steppedBy r (now (store .exit)) ≡ endFrame (refusedFor n) v (now (store .entry)) ⌝ }
 {
-    zero_payload(store, v.header);
+    zero_segments(store, v.header);
     refuse(v, n)
 }
 
@@ -202,7 +202,7 @@ fn drop_frame(v: Known, store: &mut [u8]) -> Transition
     ensures { λ r. ⌜ steppedBy r (now (store .exit)) ≡ endFrame dropped v (now (store .entry)) ⌝ }
 {
     let header = v.header;
-    zero_payload(store, header);
+    zero_segments(store, header);
     begin_preamble(without_header(v), Event::Dropped(header))
 }
 

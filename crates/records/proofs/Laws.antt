@@ -1,4 +1,4 @@
--- Laws of records: buffers that count up, steps, records that are run as they are read, and lists of numbers.
+-- Laws of records: lines, buffers that count up, steps, records that are run as they are read, and lists of numbers.
 use mathlib.Core.Path.{_≡_, refl, sym, ap, _∙_}
 use mathlib.Core.Bool.{Bool, true, false}
 use mathlib.Core.List.{List, [], _∷_, _++_, append-assoc}
@@ -12,11 +12,20 @@ use lib.ListN.{length, take, drop, getD, set, length-append}
 use lib.Seq.{drop-cons, set-at, take-suc, take-suc-set}
 use Rattle.refusal.proofs.Booleans.{both-right}
 use Rattle.buffer.specs.Le.{leOf}
+use Rattle.crc32c.specs.Crc.{crcOf}
+use Rattle.refusal.specs.declared.WriteResult.{WriteResult}
+use Rattle.refusal.specs.Writes.{Done, done, outcomeOf}
 use Rattle.fields.specs.Field.{wordsOf}
 use Rattle.text.specs.Line.{Piece}
 use Rattle.text.specs.Page.{Page, page}
 use Rattle.records.specs.declared.Step.{Step}
-use Rattle.records.specs.Records.{Record, Did, sized, whole, isWhole, badRecord, lineThen, readAll, print, prints, counted}
+use Rattle.records.specs.Records.{outcomeLine, doneLine, Record, Did, sized, whole, isWhole, badRecord, lineThen, readAll, print, prints, counted}
+
+-- ---- lines
+
+-- what a call that writes comes to, as code comes to it
+pub done-line : (o : WriteResult) (sum : ℕ) (buf : List ℕ) (d : Done) → done (outcomeOf o) buf ≡ d → sum ≡ crcOf 4294967295 buf → outcomeLine (outcomeOf o) sum ≡ doneLine d
+done-line o sum buf d e k = ap (outcomeLine (outcomeOf o)) k ∙ ap doneLine e
 
 -- ---- buffers
 

@@ -5,7 +5,9 @@ use mathlib.Core.List.{List, [], _∷_, _++_}
 use Prim.Native.Nat.{ℕ, zero, suc, _+_, _-_, _%_, _≤_}
 use lib.Dec.{leb, ltb}
 use lib.ListN.{length}
+use Rattle.crc32c.specs.Crc.{crcOf}
 use Rattle.refusal.specs.declared.Numbers.{Numbers}
+use Rattle.refusal.specs.Writes.{WriteOutcome, wrote, refusedFor, Done}
 use Rattle.text.specs.Line.{Piece, word, number, field, hex, newline}
 use Rattle.text.specs.Page.{Page, page, puts}
 use Rattle.records.specs.declared.Step.{Step}
@@ -30,6 +32,15 @@ refusedPieces w = word "refused" ∷ whyPieces w
 
 abbrev pub refusedLine : Numbers → ℕ → List Piece
 refusedLine w c = refusedPieces w ++ sumPieces c
+
+-- what a call that writes comes to
+abbrev pub outcomeLine : WriteOutcome → ℕ → List Piece
+outcomeLine (wrote n) c = wroteLine n c
+outcomeLine (refusedFor w) c = refusedLine w c
+
+-- with the checksum of the buffer that it left
+abbrev pub doneLine : Done → List Piece
+doneLine d = outcomeLine (d .outcome) (crcOf 4294967295 (d .buffer))
 
 abbrev pub badLine : List Piece
 badLine = word "bad record\n" ∷ []

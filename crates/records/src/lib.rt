@@ -4,7 +4,9 @@ use fields::NumberList;
 use fields::number_in;
 use libc::STDOUT_FILENO;
 use refusal::Numbers;
+use refusal::WriteResult;
 use refusal::both;
+use refusal::numbers_of;
 use text::put_end;
 use text::put_field;
 use text::put_hex;
@@ -13,9 +15,10 @@ use text::put_word;
 ghost use mathlib.Core.Path.{_≡_};
 ghost use Prim.Native.Nat.{_-_};
 ghost use lib.ListN.{length, drop};
+ghost use Rattle.refusal.specs.Writes.{outcomeOf};
 ghost use Rattle.fields.specs.Field.{wordsOf};
 ghost use Rattle.text.specs.Page.{page, puts};
-ghost use Rattle.records.specs.Records.{sumPieces, whyPieces, refusedPieces, wroteLine, refusedLine, badRecord, roomed, print, prints, sized, isWhole, counted};
+ghost use Rattle.records.specs.Records.{sumPieces, whyPieces, refusedPieces, wroteLine, refusedLine, outcomeLine, badRecord, roomed, print, prints, sized, isWhole, counted};
 
 // What a record came to: how many bytes it has, 0 where it is bad, and where the text now ends.
 pub struct Step {
@@ -78,7 +81,7 @@ pub fn put_refused(text: &mut [u8], at: usize, why: Numbers) -> usize
 }
 
 // A buffer was written to: how many bytes, and its checksum.
-pub fn print_wrote(text: &mut [u8], at: usize, n: usize, sum: u32) -> usize
+fn print_wrote(text: &mut [u8], at: usize, n: usize, sum: u32) -> usize
     ensures { λ r. ⌜ page (now (text .exit)) r ≡ print (wroteLine n sum) (page (now (text .entry)) at) ⌝ }
 {
     let from = room(text, at);
@@ -87,12 +90,22 @@ pub fn print_wrote(text: &mut [u8], at: usize, n: usize, sum: u32) -> usize
 }
 
 // It was not, or not as asked.
-pub fn print_refused(text: &mut [u8], at: usize, why: Numbers, sum: u32) -> usize
+fn print_refused(text: &mut [u8], at: usize, why: Numbers, sum: u32) -> usize
     ensures { λ r. ⌜ page (now (text .exit)) r ≡ print (refusedLine why sum) (page (now (text .entry)) at) ⌝ }
 {
     let from = room(text, at);
     let a = put_refused(text, from, why);
     put_sum(text, a, sum)
+}
+
+// What a call that writes came to.
+pub fn print_outcome(text: &mut [u8], at: usize, outcome: WriteResult, sum: u32) -> usize
+    ensures { λ r. ⌜ page (now (text .exit)) r ≡ print (outcomeLine (outcomeOf outcome) sum) (page (now (text .entry)) at) ⌝ }
+{
+    match outcome {
+        WriteResult::Wrote(n) => print_wrote(text, at, n, sum),
+        WriteResult::Refused(why) => print_refused(text, at, numbers_of(why), sum),
+    }
 }
 
 pub fn bad_record(text: &mut [u8], at: usize) -> Step

@@ -1,7 +1,7 @@
 -- Laws of judgements: all of a list are fine exactly when their first refusal is none, and what a test or a case tells.
 use mathlib.Core.Path.{_≡_, refl}
 use mathlib.Core.Bool.{Bool, true, false, _&&_}
-use mathlib.Core.List.{List, [], _∷_}
+use mathlib.Core.List.{List, [], _∷_, _++_}
 use Rattle.refusal.specs.declared.Numbers.{Numbers}
 use Rattle.refusal.specs.declared.Refusal.{Refusal}
 use Rattle.refusal.specs.Refusals.{Judged, fine, refused, isFine, orElse, firstOf, unless}
@@ -20,6 +20,12 @@ fine-is (refused n) e = wrong e
 pub or-else-last : (j : Judged) → orElse j fine ≡ j
 or-else-last fine = refl
 or-else-last (refused n) = refl
+
+-- the first of two lists, one behind the other
+pub first-append : (js ks : List Judged) → orElse (firstOf js) (firstOf ks) ≡ firstOf (js ++ ks)
+first-append [] ks = refl
+first-append (fine ∷ js) ks = first-append js ks
+first-append (refused n ∷ js) ks = refl
 
 -- both of two judgements are fine
 pub both-fine : (a b : Judged) → orElse a b ≡ fine → (a ≡ fine) × (b ≡ fine)

@@ -1,13 +1,14 @@
 -- 01's table of refusals, the one place of their numbers and details (three, 0 where a case has fewer), and judgements, which name a case.
-use mathlib.Core.Bool.{Bool, true, false, cond}
+use mathlib.Core.Bool.{Bool, true, false, cond, _&&_}
 use mathlib.Core.List.{List, [], _∷_}
 use Prim.Native.Nat.{ℕ}
+use lib.Dec.{eqb}
 use Rattle.refusal.specs.declared.Missing.{Missing}
 use Rattle.refusal.specs.declared.Numbers.{Numbers}
 use Rattle.refusal.specs.declared.Refusal.{Refusal}
 use Rattle.refusal.specs.declared.Refusal.the-variants.{Magic, BannerLength, PeerRequires, PeerLacks, PreambleChecksum, Shape, Flags, Tag, Limit, StoreShort, SegmentChecksum, LateStatus, SourceLength, NoRoom, AbortOneSegment, OwnFeatures, AuthTag, NoncesSpent, Padding, BodyMalformed, UnexpectedTag, TableFull, AckAhead, NonCanonical, NumbersSpent, StateContradicts, SwitchRefused}
-use Rattle.refusal.specs.declared.Verdict.{Verdict}
-use Rattle.refusal.specs.declared.Verdict.the-variants as verdict
+use Rattle.refusal.specs.declared.Judgement.{Judgement}
+use Rattle.refusal.specs.declared.Judgement.the-variants as judgement
 
 -- a number and three details
 abbrev pub row : ℕ → ℕ → ℕ → ℕ → Numbers
@@ -50,9 +51,16 @@ refusalNumber r = numbersOf r .number
 abbrev pub noMissing : Missing
 noMissing = record { bits = 0; lowest = 0; count = 0 }
 
+-- 26, which every call that is given a state can give
+abbrev pub contradiction : Numbers
+contradiction = numbersOf StateContradicts
+
 -- the numbers of none
 abbrev pub noRefusal : Numbers
 noRefusal = row 0 0 0 0
+
+abbrev pub isNoRefusal : Numbers → Bool
+isNoRefusal n = (eqb (n .number) 0 && eqb (n .first) 0) && (eqb (n .second) 0 && eqb (n .third) 0)
 
 -- what a judgement comes to: nothing wrong, or a refusal
 pub data Judged : Type 0 where
@@ -62,9 +70,9 @@ pub data Judged : Type 0 where
 abbrev pub refusedWith : Refusal → Judged
 refusedWith r = refused (numbersOf r)
 
-abbrev pub judgedBy : Verdict → Judged
-judgedBy verdict.Fine = fine
-judgedBy (verdict.Refused r) = refusedWith r
+abbrev pub judgedBy : Judgement → Judged
+judgedBy judgement.Fine = fine
+judgedBy (judgement.Refused r) = refusedWith r
 
 abbrev pub isFine : Judged → Bool
 isFine fine = true

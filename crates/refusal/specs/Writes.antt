@@ -7,23 +7,23 @@ use Rattle.refusal.specs.declared.WriteResult.the-variants as result
 use Rattle.refusal.specs.Refusals.{numbersOf}
 
 -- so many bytes, or a refusal in 01's numbers
-pub data Outcome : Type 0 where
-  wrote : ℕ → Outcome
-  refusedFor : Numbers → Outcome
+pub data WriteOutcome : Type 0 where
+  wrote : ℕ → WriteOutcome
+  refusedFor : Numbers → WriteOutcome
 
 -- how many bytes it says were written
-abbrev pub countIn : Outcome → ℕ
+abbrev pub countIn : WriteOutcome → ℕ
 countIn (wrote n) = n
 countIn (refusedFor r) = 0
 
 -- with the buffer then
 pub record Done : Type 0 where
-  pub outcome : Outcome
+  pub outcome : WriteOutcome
   pub buffer : List ℕ
 
-abbrev pub done : Outcome → List ℕ → Done
+abbrev pub done : WriteOutcome → List ℕ → Done
 done o l = record { outcome = o; buffer = l }
 
-abbrev pub outcomeOf : WriteResult → Outcome
+abbrev pub outcomeOf : WriteResult → WriteOutcome
 outcomeOf (result.Wrote n) = wrote n
 outcomeOf (result.Refused r) = refusedFor (numbersOf r)

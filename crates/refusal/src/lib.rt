@@ -1,7 +1,7 @@
-// What can be turned away, as 01's table has it: cases, their numbers and details, and verdicts put in order.
+// What can be turned away, as 01's table has it: cases, their numbers and details, and judgements put in order.
 ghost use mathlib.Core.Path.{_≡_};
 ghost use mathlib.Core.Bool.{_&&_, _||_};
-ghost use Rattle.refusal.specs.Refusals.{row, numbersOf, judgedBy, isFine, orElse, unless};
+ghost use Rattle.refusal.specs.Refusals.{row, numbersOf, noRefusal, isNoRefusal, judgedBy, isFine, orElse, unless};
 
 // Feature bits that one side requires and the other does not support.
 pub struct Missing {
@@ -48,7 +48,7 @@ pub enum Refusal {
 }
 
 // What a judgement comes to.
-pub enum Verdict {
+pub enum Judgement {
     Fine,
     Refused(Refusal),
 }
@@ -125,34 +125,48 @@ pub fn numbers_of(refusal: Refusal) -> Numbers
     }
 }
 
+// The numbers of no refusal.
+pub fn no_refusal() -> Numbers
+    ensures { λ r. ⌜ r ≡ noRefusal ⌝ }
+{
+    one(0, 0)
+}
+
+pub fn is_no_refusal(n: Numbers) -> bool
+    ensures { λ r. ⌜ r ≡ isNoRefusal n ⌝ }
+{
+    let details = both(n.second == 0, n.third == 0);
+    both(both(n.number == 0, n.first == 0), details)
+}
+
 // Nothing is wrong.
-pub fn is_fine(v: Verdict) -> bool
+pub fn is_fine(v: Judgement) -> bool
     ensures { λ r. ⌜ r ≡ isFine (judgedBy v) ⌝ }
 {
     match v {
-        Verdict::Fine => true,
-        Verdict::Refused(_) => false,
+        Judgement::Fine => true,
+        Judgement::Refused(_) => false,
     }
 }
 
-// The first of two verdicts that is a refusal.
-pub fn or_else(a: Verdict, b: Verdict) -> Verdict
+// The first of two judgements that is a refusal.
+pub fn or_else(a: Judgement, b: Judgement) -> Judgement
     ensures { λ r. ⌜ judgedBy r ≡ orElse (judgedBy a) (judgedBy b) ⌝ }
 {
     match a {
-        Verdict::Fine => b,
-        Verdict::Refused(refusal) => Verdict::Refused(refusal),
+        Judgement::Fine => b,
+        Judgement::Refused(refusal) => Judgement::Refused(refusal),
     }
 }
 
 // The refusal, unless a test held.
-pub fn unless(ok: bool, refusal: Refusal) -> Verdict
+pub fn unless(ok: bool, refusal: Refusal) -> Judgement
     ensures { λ r. ⌜ judgedBy r ≡ unless ok refusal ⌝ }
 {
     if ok {
-        Verdict::Fine
+        Judgement::Fine
     } else {
-        Verdict::Refused(refusal)
+        Judgement::Refused(refusal)
     }
 }
 

@@ -11,7 +11,7 @@ use lib.ListN.{length, length-append}
 use Rattle.refusal.specs.declared.Numbers.{Numbers}
 use Rattle.refusal.specs.Refusals.{Judged, fine, refused}
 use Rattle.refusal.proofs.Judgements.{by-judgement}
-use Rattle.refusal.specs.Writes.{Outcome, wrote, refusedFor, outcomeOf}
+use Rattle.refusal.specs.Writes.{WriteOutcome, wrote, refusedFor, outcomeOf}
 use Rattle.preamble.specs.declared.Header.{Header}
 use Rattle.aes.specs.Aes.{keyExpansion}
 use Rattle.secure.specs.Layout.{allNonces, noncesOf, sealedParts, sealedLength, partCount, texts}
@@ -62,7 +62,7 @@ module _ (s : Sending) (b : Build) (m : Meets s b) where
         bytes =
             by-judgement (judged s b) (λ e. ap (λ (d : Done). d .buffer) (came fine e))
             (λ q e. let w = when-refused q e .0 in let z : _≡_ {A = ℕ} 0 1 = cc in absurd (omega arith));
-        nonces = ap (λ (x : Outcome). usedIn x (sentParts s (b .header) (b .abort) (b .source))) a;
+        nonces = ap (λ (x : WriteOutcome). usedIn x (sentParts s (b .header) (b .abort) (b .source))) a;
       }
 
 -- ---- the count
@@ -96,7 +96,7 @@ module _ (s : Sending) (b : Build) (m : Meets s b) (later : List (List ℕ)) whe
       let w = when-refused s b m r e in
       record {
         count = l .count;
-        is = ap (λ (a : Outcome). usedIn a (sentParts s (b .header) (b .abort) (b .source)) ++ later) (w .0) ∙ l .is ∙ ap (λ (t : Sending). run (l .count) (t .nonce)) (w .1);
+        is = ap (λ (a : WriteOutcome). usedIn a (sentParts s (b .header) (b .abort) (b .source)) ++ later) (w .0) ∙ l .is ∙ ap (λ (t : Sending). run (l .count) (t .nonce)) (w .1);
         fits = rw (sym (ap spentOf (w .1))) (l .fits);
       }
 
@@ -109,7 +109,7 @@ module _ (s : Sending) (b : Build) (m : Meets s b) (later : List (List ℕ)) whe
       record {
         count = k + l .count;
         is =
-            ap (λ (a : Outcome). usedIn a (sentParts s (b .header) (b .abort) (b .source)) ++ later) (w .0)
+            ap (λ (a : WriteOutcome). usedIn a (sentParts s (b .header) (b .abort) (b .source)) ++ later) (w .0)
             ∙ ap₂ _++_ (sent-run s (b .header) (b .abort) (b .source)) (l .is ∙ ap (λ (t : Sending). run (l .count) (t .nonce)) (w .1))
             ∙ run-on k (l .count) (s .nonce);
         fits = omega (arith, spent, l .fits);
@@ -148,12 +148,12 @@ counts s (b ∷ bs) c h =
     let w = when-fine s b (c .0) e in
     let k : ℕ = partCount (b .header) in
     let spent : spentOf (b .answer .sending) ≡ spentOf s + k = ap spentOf (w .1) ∙ spent-more s k (some (b .header)) (f .left) in
-    let here : length (usedBy s b) ≡ k = ap (λ (a : Outcome). length (usedIn a (sentParts s (b .header) (b .abort) (b .source)))) (w .0) ∙ needs s (b .header) (b .abort) (b .source) in
+    let here : length (usedBy s b) ≡ k = ap (λ (a : WriteOutcome). length (usedIn a (sentParts s (b .header) (b .abort) (b .source)))) (w .0) ∙ needs s (b .header) (b .abort) (b .source) in
     let rest = counts (b .answer .sending) bs (c .1) (rw spent (f .left)) in
     omega (arith, both, spent, here, rest))
     (λ r e.
     let w = when-refused s b (c .0) r e in
-    let here : length (usedBy s b) ≡ 0 = ap (λ (a : Outcome). length (usedIn a (sentParts s (b .header) (b .abort) (b .source)))) (w .0) in
+    let here : length (usedBy s b) ≡ 0 = ap (λ (a : WriteOutcome). length (usedIn a (sentParts s (b .header) (b .abort) (b .source)))) (w .0) in
     let spent : spentOf (b .answer .sending) ≡ spentOf s = ap spentOf (w .1) in
     let rest = counts (b .answer .sending) bs (c .1) (rw spent h) in
     omega (arith, both, spent, here, rest))

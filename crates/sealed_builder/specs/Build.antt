@@ -8,7 +8,7 @@ use lib.Dec.{leb, eqb}
 use Rattle.buffer.specs.Splice.{splice}
 use Rattle.refusal.specs.declared.Refusal.the-variants as refusal
 use Rattle.refusal.specs.Refusals.{Judged, fine, refused, orElse, firstOf, unless}
-use Rattle.refusal.specs.Writes.{Outcome, wrote, refusedFor, outcomeOf}
+use Rattle.refusal.specs.Writes.{WriteOutcome, wrote, refusedFor, outcomeOf}
 use Rattle.banner.specs.declared.Revision.the-variants.{Msgr21}
 use Rattle.preamble.specs.declared.Header.{Header}
 use Rattle.preamble.specs.Layout.{total}
@@ -86,11 +86,11 @@ judgeSealed s h abort source space queued =
 -- ---- the answer, in 01's numbers, the sending state and the buffer
 
 pub record Done : Type 0 where
-  pub answer : Outcome
+  pub answer : WriteOutcome
   pub sending : Sending
   pub buffer : List ℕ
 
-abbrev pub done : Outcome → Sending → List ℕ → Done
+abbrev pub done : WriteOutcome → Sending → List ℕ → Done
 done a s b = record { answer = a; sending = s; buffer = b }
 
 -- a refused build changes nothing and spends no nonce; another one puts its bytes behind the queued ones

@@ -7,7 +7,7 @@ use lib.ListN.{length}
 use Rattle.refusal.specs.declared.Numbers.{Numbers}
 use Rattle.refusal.specs.declared.Refusal.the-variants as refusal
 use Rattle.refusal.specs.Refusals.{fine, numbersOf}
-use Rattle.refusal.specs.Writes.{Outcome, wrote, refusedFor, outcomeOf}
+use Rattle.refusal.specs.Writes.{WriteOutcome, wrote, refusedFor, outcomeOf}
 use Rattle.preamble.specs.declared.Header.{Header}
 use Rattle.buffer.specs.Splice.{splice}
 use Rattle.aes.specs.Aes.{keyExpansion}
@@ -37,7 +37,7 @@ Chained s (b ∷ bs) = Meets s b × Chained (b .answer .sending) bs
 
 -- ---- the nonces that they used for sealing: those of the parts that their promise has the written bytes be
 
-abbrev pub usedIn : Outcome → List Part → List (List ℕ)
+abbrev pub usedIn : WriteOutcome → List Part → List (List ℕ)
 usedIn (wrote n) parts = noncesOf parts
 usedIn (refusedFor r) parts = []
 

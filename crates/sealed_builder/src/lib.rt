@@ -1,5 +1,5 @@
 // Builds sealed frames into the part of a send buffer behind what is queued, and keeps count of the nonces.
-use aes::expand;
+use aes::key_expansion;
 use banner::Revision;
 use body::late_byte;
 use buffer::behind;
@@ -15,8 +15,8 @@ use preamble::Header;
 use preamble::judge_header;
 use preamble::preamble_front;
 use preamble::total_of;
+use refusal::Judgement;
 use refusal::Refusal;
-use refusal::Verdict;
 use refusal::WriteResult;
 use refusal::both;
 use refusal::either;
@@ -25,8 +25,8 @@ use refusal::unless;
 use secure::all_zero;
 use secure::last_part_length;
 use secure::next_nonce;
-use secure::no_last;
-use secure::no_rest;
+use secure::no_last_part;
+use secure::no_second_part;
 use secure::padding;
 use secure::part_count;
 use secure::sealed_length;
@@ -43,7 +43,7 @@ ghost use Rattle.preamble.specs.Layout.{total, preambleBytes};
 ghost use Rattle.body.specs.Body.{lateByte, restLength, restSent};
 ghost use Rattle.gcm.specs.Gcm.{sealedBy};
 ghost use Rattle.gcm.specs.Calls.{limit};
-ghost use Rattle.secure.specs.Layout.{allNonces, nonceAfter, roundUp, padded, inlined, epilogue16, firstText, restText, paddedFrom, lastText, lastPart, noLast, restPartLength, lastPartLength, laterTexts, unlessNone, partsFrom, sealedParts, frameParts, sealedLength};
+ghost use Rattle.secure.specs.Layout.{allNonces, nonceAfter, roundUp, padded, inlined, epilogue16, firstText, secondText, paddedFrom, lastText, lastPart, noLastPart, secondPartLength, lastPartLength, laterTexts, unlessNone, partsFrom, sealedParts, frameParts, sealedLength};
 ghost use Rattle.sealed_builder.specs.Build.{spentOf, freshSending, refusedSending, agrees, sentMore, judgeEarlier, judgeSealed, BuiltSealed};
 ghost use Rattle.sealed_builder.specs.Nonces.{NoNonceTwice};
 ghost use Rattle.sealed_builder.specs.States.{EveryBuild};
@@ -159,7 +159,7 @@ fn judge_earlier(
     source: usize,
     space: usize,
     queued: usize,
-) -> Verdict
+) -> Judgement
     ensures { λ r. ⌜ judgedBy r ≡ judgeEarlier s h abort source space queued ⌝ }
 {
     let n = sealed_length(h);
@@ -180,7 +180,7 @@ fn judge_sealed(
     source: usize,
     space: usize,
     queued: usize,
-) -> Verdict
+) -> Judgement
     ensures { λ r. ⌜ judgedBy r ≡ judgeSealed s h abort source space queued ⌝ }
 {
     let earlier = judge_earlier(s, h, abort, source, space, queued);
@@ -299,9 +299,9 @@ fn seal_first(out: &mut [u8], w: &[[[u8; 4]; 4]; 11], nonce: [u8; 12], h: Header
     seal_front(out, w, nonce, 80);
 }
 
-fn seal_rest(out: &mut [u8], w: &[[[u8; 4]; 4]; 11], nonce: [u8; 12], first: &[u8])
+fn seal_second_part(out: &mut [u8], w: &[[[u8; 4]; 4]; 11], nonce: [u8; 12], first: &[u8])
     requires { ⌜ (roundUp (length (now first) - 48) + 16 ≤ length (now out)) × (length (now first) < 4294967296) ⌝ }
-    ensures { λ _. ⌜ now (out .exit) ≡ replaceFront (sealedBy (now (w .entry)) nonce (restText (now (first .entry)))) (now (out .entry)) ⌝ }
+    ensures { λ _. ⌜ now (out .exit) ≡ replaceFront (sealedBy (now (w .entry)) nonce (secondText (now (first .entry)))) (now (out .entry)) ⌝ }
 {
     let tail = behind(first, 48);
     let n = tail.len();
@@ -319,9 +319,9 @@ fn seal_last(
     rest: &[u8],
 )
     requires { ⌜ (length (now rest) ≡ restLength h) × (lastPartLength h ≤ length (now out)) ⌝ }
-    ensures { λ _. ⌜ now (out .exit) ≡ replaceFront (sealedParts (now (w .entry)) (partsFrom nonce (unlessNone (noLast h) (lastText h (lateByte Msgr21 abort) (restSent abort (now (rest .entry))))))) (now (out .entry)) ⌝ }
+    ensures { λ _. ⌜ now (out .exit) ≡ replaceFront (sealedParts (now (w .entry)) (partsFrom nonce (unlessNone (noLastPart h) (lastText h (lateByte Msgr21 abort) (restSent abort (now (rest .entry))))))) (now (out .entry)) ⌝ }
 {
-    if no_last(h) {
+    if no_last_part(h) {
         return;
     }
     let n = (last_part_length(h) - 16) as usize;
@@ -339,17 +339,17 @@ fn seal_later(
     first: &[u8],
     rest: &[u8],
 )
-    requires { ⌜ (length (now first) ≡ h .s1 .len) × (length (now first) < 4294967296) × (length (now rest) ≡ restLength h) × (restPartLength h + lastPartLength h ≤ length (now out)) ⌝ }
+    requires { ⌜ (length (now first) ≡ h .s1 .len) × (length (now first) < 4294967296) × (length (now rest) ≡ restLength h) × (secondPartLength h + lastPartLength h ≤ length (now out)) ⌝ }
     ensures { λ _. ⌜ now (out .exit) ≡ replaceFront (sealedParts (now (w .entry)) (partsFrom nonce (laterTexts h (lateByte Msgr21 abort) (now (first .entry)) (restSent abort (now (rest .entry)))))) (now (out .entry)) ⌝ }
 {
-    if no_rest(h) {
+    if no_second_part(h) {
         seal_last(out, w, nonce, h, abort, rest);
         return;
     }
     let n = first.len() - 48;
     let a = n + padding(n) + 16;
     let next = next_nonce(nonce);
-    seal_rest(out, w, nonce, first);
+    seal_second_part(out, w, nonce, first);
     seal_last(&mut out[a..], w, next, h, abort, rest);
 }
 
@@ -386,16 +386,16 @@ pub fn build_sealed(
 ) -> Sealed
     ensures { λ r. ⌜ BuiltSealed sending header abort (now (source .entry)) (now (buf .entry)) queued r (now (buf .exit)) ⌝ }
 {
-    let verdict = judge_sealed(sending, header, abort, source.len(), buf.len(), queued);
-    match verdict {
-        Verdict::Refused(why) => {
+    let judgement = judge_sealed(sending, header, abort, source.len(), buf.len(), queued);
+    match judgement {
+        Judgement::Refused(why) => {
             let built = WriteResult::Refused(why);
             Sealed { built, sending }
         }
-        Verdict::Fine => {
+        Judgement::Fine => {
             let key = sending.key;
             let nonce = sending.nonce;
-            let w = expand(key);
+            let w = key_expansion(key);
             put_sealed(&mut buf[queued..], &w, nonce, header, abort, source);
             let built = WriteResult::Wrote(sealed_length(header) as usize);
             let sending = sent_more(sending, part_count(header));

@@ -20,8 +20,8 @@ use Rattle.stream.proofs.Sums.{all-add-up}
 use Rattle.stream.proofs.Events.{by-front}
 use Rattle.aes.specs.Aes.{State, keyExpansion}
 use Rattle.gcm.specs.Gcm.{Opened, plain, fail, openedBy}
-use Rattle.secure.specs.Layout.{nextNonce, padding, inlineLength, lastLengths, firstLength, noRest, noLast, restPart, restPartLength, lastPart, lastPartLength, sealedLength}
-use Rattle.secure.specs.Reading.{judgeNonce, judgePadding, judgeFirst, unpadded, lastEnded, zeroed, byOpening, partTrace, Continuation, atEnd, lastTrace, restTrace, frames, sealedTrace}
+use Rattle.secure.specs.Layout.{nextNonce, padding, inlineLength, lastLengths, firstLength, noSecondPart, noLastPart, secondPart, secondPartLength, lastPart, lastPartLength, sealedLength}
+use Rattle.secure.specs.Reading.{judgeNonce, judgePadding, judgeFirst, unpadded, lastEnded, zeroed, byOpening, partTrace, Continuation, atEnd, lastTrace, secondTrace, frames, sealedTrace}
 use Rattle.connection.specs.Switched.{Switch, none, behind, spliced, traceWith}
 use Rattle.connection.specs.Calls.{takenBy, switchBy, SwitchedDemand3}
 use Rattle.connection.proofs.Chain.{switched-demand3}
@@ -57,9 +57,9 @@ finished (refusedFor n) h P at payload s next e l g = l
 module _ (w : List State) (h : Header) (P : ℕ) (next : Continuation) (g : Later next) where
   last-adds : (nonce : List ℕ) (n Q : ℕ) (rest first s : List ℕ) → Q + lastPartLength h ≡ P + sealedLength h → P < Q
       → Good P (lastTrace w h nonce n Q rest first s next)
-  last-adds nonce n Q rest first s e l = go (noLast h) (ltb (length rest) (lastPart h)) refl
+  last-adds nonce n Q rest first s e l = go (noLastPart h) (ltb (length rest) (lastPart h)) refl
     where
-      go : (b c : Bool) → noLast h ≡ b → Good P
+      go : (b c : Bool) → noLastPart h ≡ b → Good P
           (cond b (atEnd whole h Q first s (next nonce n Q rest))
           (cond c (ended (splice s (h .s1 .len) rest))
           (partTrace w nonce n (take (lastPart h) rest) (Q + lastPart h) (zeroed h s)
@@ -76,28 +76,28 @@ module _ (w : List State) (h : Header) (P : ℕ) (next : Continuation) (g : Late
           (next (nextNonce nonce) (suc n) (Q + lastPart h) (drop (lastPart h) rest)) (omega (arith, e, k)) (omega arith)
           (λ t. g (nextNonce nonce) (suc n) (Q + lastPart h) (drop (lastPart h) rest) t))
 
-  rest-adds : (nonce : List ℕ) (n : ℕ) (rest first s : List ℕ) → Good P (restTrace w h nonce n (P + firstLength) rest first s next)
+  rest-adds : (nonce : List ℕ) (n : ℕ) (rest first s : List ℕ) → Good P (secondTrace w h nonce n (P + firstLength) rest first s next)
   unfolding sealedLength
-  rest-adds nonce n rest first s = go (noRest h) (ltb (length rest) (restPart h)) refl
+  rest-adds nonce n rest first s = go (noSecondPart h) (ltb (length rest) (secondPart h)) refl
     where
-      go : (b c : Bool) → noRest h ≡ b → Good P
+      go : (b c : Bool) → noSecondPart h ≡ b → Good P
           (cond b (lastTrace w h nonce n (P + firstLength) rest first (replaceFront first s) next)
           (cond c (ended (splice (replaceFront first s) inlineLength rest))
-          (partTrace w nonce n (take (restPart h) rest) (P + firstLength + restPart h) (zeroed h s)
-          (λ text. unlessRefused (judgePadding (drop (h .s1 .len - inlineLength) text)) (P + firstLength + restPart h) (zeroed h s)
-          (lastTrace w h (nextNonce nonce) (suc n) (P + firstLength + restPart h) (drop (restPart h) rest)
+          (partTrace w nonce n (take (secondPart h) rest) (P + firstLength + secondPart h) (zeroed h s)
+          (λ text. unlessRefused (judgePadding (drop (h .s1 .len - inlineLength) text)) (P + firstLength + secondPart h) (zeroed h s)
+          (lastTrace w h (nextNonce nonce) (suc n) (P + firstLength + secondPart h) (drop (secondPart h) rest)
           (first ++ take (h .s1 .len - inlineLength) text)
           (replaceFront (first ++ take (h .s1 .len - inlineLength) text ++ replicate (padding (h .s1 .len - inlineLength) + 16) 0) s)
           next)))))
       go true c z =
-          let k : restPartLength h ≡ 0 = rw z refl in
+          let k : secondPartLength h ≡ 0 = rw z refl in
           last-adds nonce n (P + firstLength) rest first (replaceFront first s) (omega (arith, k)) (omega arith)
       go false true z = tt
       go false false z =
-          let k : restPartLength h ≡ restPart h = rw z refl in
-          part P w nonce n (take (restPart h) rest) (P + firstLength + restPart h) (zeroed h s) _ (omega arith)
-          (λ text. judged P (P + firstLength + restPart h) (judgePadding (drop (h .s1 .len - inlineLength) text)) (zeroed h s) _ (omega arith)
-          (last-adds (nextNonce nonce) (suc n) (P + firstLength + restPart h) (drop (restPart h) rest) (first ++ take (h .s1 .len - inlineLength) text)
+          let k : secondPartLength h ≡ secondPart h = rw z refl in
+          part P w nonce n (take (secondPart h) rest) (P + firstLength + secondPart h) (zeroed h s) _ (omega arith)
+          (λ text. judged P (P + firstLength + secondPart h) (judgePadding (drop (h .s1 .len - inlineLength) text)) (zeroed h s) _ (omega arith)
+          (last-adds (nextNonce nonce) (suc n) (P + firstLength + secondPart h) (drop (secondPart h) rest) (first ++ take (h .s1 .len - inlineLength) text)
           (replaceFront (first ++ take (h .s1 .len - inlineLength) text ++ replicate (padding (h .s1 .len - inlineLength) + 16) 0) s) (omega (arith, k)) (omega arith)))
 
 frames-add : (f : ℕ) (w : List State) → Later (frames f w)
@@ -109,7 +109,7 @@ frames-add (suc f) w nonce n P rest s = go (ltb (length rest) firstLength) (fram
         (cond c (ended s)
         (partTrace w nonce n (take firstLength rest) (P + firstLength) s
         (λ text. unlessRefused (judgeFirst text (length s)) (P + firstLength) s
-        (restTrace w (headerOf text) (nextNonce nonce) (suc n) (P + firstLength) (drop firstLength rest) (take (headerOf text .s1 .len) (drop 32 text)) s (frames f w)))))
+        (secondTrace w (headerOf text) (nextNonce nonce) (suc n) (P + firstLength) (drop firstLength rest) (take (headerOf text .s1 .len) (drop 32 text)) s (frames f w)))))
     go true g = tt
     go false g =
         part P w nonce n (take firstLength rest) (P + firstLength) s _ (omega arith)

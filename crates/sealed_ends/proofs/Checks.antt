@@ -1,39 +1,40 @@
 -- The judgements of a sealed frame, one after the other, hold exactly when its checks do.
-use mathlib.Core.Path.{_≡_, refl, sym, ap, ap₂, _∙_}
+use mathlib.Core.Path.{_≡_, refl, sym, ap, _∙_}
 use mathlib.Core.Bool.{Bool, true, false, cond, _&&_}
-use mathlib.Core.List.{List, [], _∷_, _++_}
+use mathlib.Core.List.{List, [], _∷_}
 use Prim.Native.Nat.{ℕ, zero, suc, _+_, _-_, _≤_, _<_}
-use native.Mathlib.Nat.{zero-add, add-zero}
+use native.Mathlib.Nat.{add-zero}
 use native.Mathlib.Numerals.{add-one}
 use native.Mathlib.Omega.{arith}
 use borrow.Author.Tests.{lt-ltb, eqb-true, eq-eqb}
 use lib.Dec.{lit<, eqb}
 use lib.ListN.{length, take, drop, getD, length-drop}
-use lib.Seq.{drop-drop, getD-drop, getD-take, length-take-le}
-use Rattle.buffer.specs.Le.{numberAt}
-use Rattle.crc32c.specs.Crc.{crcOf}
+use lib.Seq.{getD-drop, getD-take, length-take-le}
 use Rattle.refusal.specs.declared.Refusal.the-variants as refusal
 use Rattle.refusal.specs.Refusals.{Judged, fine, refused, unless}
 use Rattle.refusal.proofs.Booleans.{wrong, both-left, both-right, both-true}
-use Rattle.refusal.proofs.Judgements.{all-fine, fine-all, passed}
+use Rattle.refusal.proofs.Judgements.{passed}
 use Rattle.banner.specs.declared.Revision.the-variants.{Msgr21}
 use Rattle.preamble.specs.declared.Header.{Header}
-use Rattle.preamble.specs.Judge.{headerOf, judgeChecksum, judgeShape, judgeFlags, judgeTag, judgeLimits, judgeStore}
+use Rattle.preamble.specs.Judge.{headerOf, judgeStore}
+use Rattle.preamble.specs.Checked.{CheckedPreamble}
+use Rattle.preamble.proofs.Laws.{checked-preamble, preamble-checked}
 use Rattle.body.specs.declared.Late.{Late}
 use Rattle.body.specs.declared.Late.the-variants as late
 use Rattle.body.specs.End.{Ended, whole, dropped, lateOf}
 use Rattle.aes.specs.Aes.{State}
 use Rattle.gcm.specs.Gcm.{plain, openedBy}
 use Rattle.gcm.proofs.Opened.{text-length}
-use Rattle.secure.specs.Layout.{allNonces, nextNonce, roundUp, padding, inlineLength, lastLengths, firstLength, noRest, noLast, restPart, restPartLength, lastPart, lastPartLength, sealedLength, partCount, needed}
+use Rattle.secure.specs.Layout.{allNonces, nextNonce, roundUp, padding, inlineLength, lastLengths, firstLength, noSecondPart, noLastPart, secondPart, secondPartLength, lastPart, lastPartLength, sealedLength, partCount, needed}
 use Rattle.buffer.specs.Zeros.{allZero}
-use Rattle.secure.specs.Reading.{judgeNonce, judgePadding, judgeFirst, paddingOf, lateIn, byLateStatus, lastEnded}
+use Rattle.secure.specs.Reading.{judgeNonce, judgePadding, judgeFirst, paddingOf, lateByteIn, byLateStatus, lastEnded}
+use Rattle.secure.proofs.LastText.{late-at, padded-at}
 use Rattle.secure.proofs.Trip.{no-padding}
 use Rattle.sealed_receiver.specs.Step.{textOf}
-use Rattle.buffer.proofs.Zeros.{zeros-append}
-use Rattle.sealed_receiver.proofs.Openings.{not-spent}
-use Rattle.sealed_ends.specs.Handed.{textIn, Opens, firstBytes, firstIn, headerIn, restBytes, restIn, lastBytes, lastNonce, lastIn, lengthAt, placeAt, lateBy, ZerosAt, CheckedPreamble, CheckedSealed}
-use Rattle.sealed_ends.proofs.Judging.{PartReads, JudgesAt, least, first-length}
+use Rattle.secure.proofs.Counts.{not-spent}
+use Rattle.sealed_ends.specs.Handed.{textIn, Opens, firstBytes, firstIn, headerIn, secondBytes, secondIn, lastBytes, lastNonce, lastIn, lengthAt, placeAt, lateBy, ZerosAt, CheckedSealed}
+use Rattle.secure.proofs.Bounds.{least}
+use Rattle.sealed_ends.proofs.Judging.{PartReads, JudgesAt, first-length}
 
 -- ---- zeros
 
@@ -58,9 +59,6 @@ module _ (i : ℕ) (l : List ℕ) where
 
 -- and of bytes n to r behind a place p
 module _ (n r p : ℕ) (l : List ℕ) (fits : p + r ≤ length l) where
-  abbrev piece : List ℕ
-  piece = drop n (take r (drop p l))
-
   piece-at : (k : ℕ) → n + k < r → getD (drop n (take r (drop p l))) k 0 ≡ getD l (p + (n + k)) 0
   piece-at k h = getD-drop n (take r (drop p l)) k 0 ∙ getD-take r (drop p l) (n + k) 0 h ∙ getD-drop p l (n + k) 0
 
@@ -86,86 +84,40 @@ module _ (text : List ℕ) (store : ℕ) (size : length text ≡ 80) where
   abbrev h₁ : Header
   h₁ = headerOf text
 
-  abbrev judgements : List Judged
-  judgements =
-      judgeChecksum text
-      ∷ judgeShape h₁
-      ∷ judgeFlags (getD text 26 0) (getD text 27 0)
-      ∷ judgeTag (h₁ .tag)
-      ∷ judgeLimits h₁
-      ∷ judgeStore (needed h₁) store
-      ∷ judgePadding (drop (32 + h₁ .s1 .len) text)
-      ∷ []
+  abbrev room : Judged
+  room = judgeStore (needed h₁) store
 
-  first-checks : judgeFirst text store ≡ fine → CheckedPreamble text store × ZerosAt (32 + headerOf text .s1 .len) (32 + inlineLength) text
+  abbrev padded : Judged
+  padded = judgePadding (drop (32 + h₁ .s1 .len) text)
+
+  first-checks : judgeFirst text store ≡ fine → CheckedPreamble text × ((judgeStore (needed (headerOf text)) store ≡ fine) × ZerosAt (32 + headerOf text .s1 .len) (32 + inlineLength) text)
   unfolding judgeFirst
   first-checks e =
-      let f = all-fine judgements e in (
-        record {
-          checksum = eqb-true (crcOf 0 (take 28 text)) (numberAt 4 28 text) (passed (eqb (crcOf 0 (take 28 text)) (numberAt 4 28 text)) refusal.PreambleChecksum (f .0));
-          shape = f .1 .0;
-          flags = f .1 .1 .0;
-          tag = f .1 .1 .1 .0;
-          limits = f .1 .1 .1 .1 .0;
-          room = f .1 .1 .1 .1 .1 .0;
-        },
-        λ j a b. zeros-from (32 + h₁ .s1 .len) text (padding-fine (drop (32 + h₁ .s1 .len) text) (f .1 .1 .1 .1 .1 .1 .0)) j a (omega arith),
-      )
+      let c = checked-preamble text (room ∷ padded ∷ []) e in
+      (c .0, (c .1 .0, λ j a b. zeros-from (32 + h₁ .s1 .len) text (padding-fine (drop (32 + h₁ .s1 .len) text) (c .1 .1 .0)) j a (omega arith)))
 
-  checks-first : CheckedPreamble text store → ZerosAt (32 + headerOf text .s1 .len) (32 + inlineLength) text → judgeFirst text store ≡ fine
+  checks-first : CheckedPreamble text → judgeStore (needed (headerOf text)) store ≡ fine → ZerosAt (32 + headerOf text .s1 .len) (32 + inlineLength) text → judgeFirst text store ≡ fine
   unfolding judgeFirst
-  checks-first c z =
-      let sum : judgeChecksum text ≡ fine =
-      ap (λ (b : Bool). unless b refusal.PreambleChecksum) (eq-eqb (crcOf 0 (take 28 text)) (numberAt 4 28 text) (c .checksum)) in
-      let pad : judgePadding (drop (32 + h₁ .s1 .len) text) ≡ fine =
+  checks-first c r z =
+      let pad : padded ≡ fine =
       no-padding (drop (32 + h₁ .s1 .len) text) (from-zeros (32 + h₁ .s1 .len) text (λ j a b. z j a (omega arith))) in
-      fine-all judgements (sum, (c .shape, (c .flags, (c .tag, (c .limits, (c .room, (pad, tt)))))))
+      preamble-checked text (room ∷ padded ∷ []) c (r, (pad, tt))
 
 -- ---- the last part
 
 -- its segments' places, as they are read one behind the other
 module _ (h : Header) (text : List ℕ) where
-  abbrev r₂ : ℕ
-  r₂ = roundUp (h .s2 .len)
-
-  abbrev r₃ : ℕ
-  r₃ = roundUp (h .s3 .len)
-
-  abbrev r₄ : ℕ
-  r₄ = roundUp (h .s4 .len)
-
-  place₁ : drop r₂ text ≡ drop (placeAt h 1) text
-  place₁ = ap (λ (k : ℕ). drop k text) (sym (zero-add r₂))
-
-  place₂ : drop r₃ (drop r₂ text) ≡ drop (placeAt h 2) text
-  place₂ = drop-drop r₃ r₂ text ∙ ap (λ (k : ℕ). drop (k + r₃) text) (sym (zero-add r₂))
-
-  place₃ : drop r₄ (drop r₃ (drop r₂ text)) ≡ drop (placeAt h 3) text
-  place₃ = ap (drop r₄) place₂ ∙ drop-drop r₄ (placeAt h 2) text
-
-  late-is : lateIn (lastLengths h) text ≡ getD text (placeAt h 3) 0
-  late-is = ap (λ (l : List ℕ). getD l 0 0) place₃ ∙ getD-drop (placeAt h 3) text 0 0 ∙ ap (λ (k : ℕ). getD text k 0) (add-zero (placeAt h 3))
+  late-is : lateByteIn (lastLengths h) text ≡ getD text (placeAt h 3) 0
+  late-is = late-at (lastLengths h) 0 text
 
   abbrev pads : ℕ → List ℕ
   pads k = drop (lengthAt h k) (take (roundUp (lengthAt h k)) (drop (placeAt h k) text))
 
   abbrev behindLate : List ℕ
-  behindLate = drop 1 (drop (placeAt h 3) text)
-
-  paddings-are : paddingOf (lastLengths h) text ≡ pads 0 ++ (pads 1 ++ (pads 2 ++ behindLate))
-  paddings-are =
-      ap₂ (λ (x y : List ℕ). pads 0 ++ (drop (h .s3 .len) (take r₃ x) ++ (drop (h .s4 .len) (take r₄ y) ++ drop 1 (drop r₄ y)))) place₁ place₂
-      ∙ ap (λ (x : List ℕ). pads 0 ++ (pads 1 ++ (pads 2 ++ drop 1 x))) (drop-drop r₄ (placeAt h 2) text)
-
-  abbrev both : Bool
-  both = allZero (pads 0) && (allZero (pads 1) && (allZero (pads 2) && allZero behindLate))
+  behindLate = drop (placeAt h 3 + 1) text
 
   paddings-zero : allZero (paddingOf (lastLengths h) text) ≡ (allZero (pads 0) && (allZero (pads 1) && (allZero (pads 2) && allZero behindLate)))
-  paddings-zero =
-      ap allZero paddings-are
-      ∙ zeros-append (pads 0) (pads 1 ++ (pads 2 ++ behindLate))
-      ∙ ap (λ (b : Bool). allZero (pads 0) && b)
-      (zeros-append (pads 1) (pads 2 ++ behindLate) ∙ ap (λ (b : Bool). allZero (pads 1) && b) (zeros-append (pads 2) behindLate))
+  paddings-zero = padded-at (lastLengths h) 0 text
 
   -- its text is as long as its segments and the epilogue
   module _ (size : length text ≡ placeAt h 3 + 16) where
@@ -191,13 +143,13 @@ module _ (h : Header) (text : List ℕ) where
     late-padded e j x y =
         let a = both-right (allZero (pads 0)) (allZero (pads 1) && (allZero (pads 2) && allZero behindLate)) (sym paddings-zero ∙ e) in
         let b = both-right (allZero (pads 2)) (allZero behindLate) (both-right (allZero (pads 1)) (allZero (pads 2) && allZero behindLate) a) in
-        zeros-from (placeAt h 3 + 1) text (ap allZero (sym (drop-drop 1 (placeAt h 3) text)) ∙ b) j x (omega arith)
+        zeros-from (placeAt h 3 + 1) text b j x (omega arith)
 
     padded-back : ((k : ℕ) → k < 3 → ZerosAt (placeAt h k + lengthAt h k) (placeAt h (suc k)) text) → ZerosAt (placeAt h 3 + 1) (placeAt h 3 + 16) text
         → allZero (paddingOf (lastLengths h) text) ≡ true
     padded-back z u =
         let one : (k : ℕ) → k < 3 → allZero (pads k) ≡ true = λ k l. piece-zeros (lengthAt h k) (roundUp (lengthAt h k)) (placeAt h k) text (within k l) (z k l) in
-        let b : allZero behindLate ≡ true = ap allZero (drop-drop 1 (placeAt h 3) text) ∙ from-zeros (placeAt h 3 + 1) text (λ j x y. u j x (omega arith)) in
+        let b : allZero behindLate ≡ true = from-zeros (placeAt h 3 + 1) text (λ j x y. u j x (omega arith)) in
         paddings-zero
         ∙ both-true (allZero (pads 0)) (allZero (pads 1) && (allZero (pads 2) && allZero behindLate)) (one 0 (lit< tt))
         (both-true (allZero (pads 1)) (allZero (pads 2) && allZero behindLate) (one 1 (lit< tt)) (both-true (allZero (pads 2)) (allZero behindLate) (one 2 (lit< tt)) b))
@@ -253,24 +205,24 @@ module _ (w : List State) (nonce : List ℕ) (n : ℕ) (X : List ℕ) (store : �
   first = firstIn w nonce X
 
   abbrev rest : List ℕ
-  rest = restIn w nonce h X
+  rest = secondIn w nonce h X
 
   abbrev last : List ℕ
   last = lastIn w nonce h X
 
   -- lengths of texts
-  rest-length : sealedLength h ≤ length X → noRest h ≡ false → openedBy w (nextNonce nonce) (restBytes h X) ≡ plain rest → length rest ≡ roundUp (h .s1 .len - inlineLength)
+  rest-length : sealedLength h ≤ length X → noSecondPart h ≡ false → openedBy w (nextNonce nonce) (secondBytes h X) ≡ plain rest → length rest ≡ roundUp (h .s1 .len - inlineLength)
   unfolding sealedLength
   rest-length l e o =
       let d = length-drop firstLength X in
-      let t : length (restBytes h X) ≡ restPartLength h = length-take-le (restPartLength h) (drop firstLength X) (omega arith) in
-      let z : restPartLength h ≡ restPart h = ap (λ (b : Bool). cond b 0 (restPart h)) e in
-      text-length w (nextNonce nonce) (restBytes h X) rest o ∙ omega arith
+      let t : length (secondBytes h X) ≡ secondPartLength h = length-take-le (secondPartLength h) (drop firstLength X) (omega arith) in
+      let z : secondPartLength h ≡ secondPart h = ap (λ (b : Bool). cond b 0 (secondPart h)) e in
+      text-length w (nextNonce nonce) (secondBytes h X) rest o ∙ omega arith
 
-  last-length : sealedLength h ≤ length X → noLast h ≡ false → openedBy w (lastNonce h nonce) (lastBytes h X) ≡ plain last → length last ≡ placeAt h 3 + 16
+  last-length : sealedLength h ≤ length X → noLastPart h ≡ false → openedBy w (lastNonce h nonce) (lastBytes h X) ≡ plain last → length last ≡ placeAt h 3 + 16
   unfolding sealedLength
   last-length l e o =
-      let k : ℕ = firstLength + restPartLength h in
+      let k : ℕ = firstLength + secondPartLength h in
       let d = length-drop k X in
       let t : length (lastBytes h X) ≡ lastPartLength h = length-take-le (lastPartLength h) (drop k X) (omega arith) in
       let z : lastPartLength h ≡ lastPart h = ap (λ (b : Bool). cond b 0 (lastPart h)) e in
@@ -279,33 +231,33 @@ module _ (w : List State) (nonce : List ℕ) (n : ℕ) (X : List ℕ) (store : �
   opened-text : (o bytes : List ℕ) → Opens w o bytes → openedBy w o bytes ≡ plain (textIn w o bytes)
   opened-text o bytes e = e .1 ∙ ap plain (sym (ap textOf (e .1)))
 
-  first-parts : length first ≡ 80 → judgeFirst first store ≡ fine → CheckedPreamble first store × ZerosAt (32 + h .s1 .len) (32 + inlineLength) first
+  first-parts : length first ≡ 80 → judgeFirst first store ≡ fine → CheckedPreamble first × ((judgeStore (needed h) store ≡ fine) × ZerosAt (32 + h .s1 .len) (32 + inlineLength) first)
   unfolding headerIn
   first-parts l e = first-checks first store l e
 
-  parts-first : length first ≡ 80 → CheckedPreamble first store → ZerosAt (32 + h .s1 .len) (32 + inlineLength) first → judgeFirst first store ≡ fine
+  parts-first : length first ≡ 80 → CheckedPreamble first → judgeStore (needed h) store ≡ fine → ZerosAt (32 + h .s1 .len) (32 + inlineLength) first → judgeFirst first store ≡ fine
   unfolding headerIn
-  parts-first l c z = checks-first first store l c z
+  parts-first l c r z = checks-first first store l c r z
 
   -- what is judged of the padding and the late status
   abbrev pads₃ : List ℕ
   pads₃ = paddingOf (lastLengths h) last
 
   abbrev late₃ : ℕ
-  late₃ = lateIn (lastLengths h) last
+  late₃ = lateByteIn (lastLengths h) last
 
   abbrev ending : Ended
-  ending = endBy (noLast h) (lateOf Msgr21 late₃) late₃ (judgePadding pads₃)
+  ending = endBy (noLastPart h) (lateOf Msgr21 late₃) late₃ (judgePadding pads₃)
 
-  end-is : cond (noLast h) whole (lastEnded h last) ≡ ending
+  end-is : cond (noLastPart h) whole (lastEnded h last) ≡ ending
   unfolding lastEnded
   end-is = refl
 
-  late-said : cond (noLast h) late.Complete (lateOf Msgr21 late₃) ≡ lateBy h last
-  late-said = ap (λ (b : ℕ). cond (noLast h) late.Complete (lateOf Msgr21 b)) (late-is h last)
+  late-said : cond (noLastPart h) late.Complete (lateOf Msgr21 late₃) ≡ lateBy h last
+  late-said = ap (λ (b : ℕ). cond (noLastPart h) late.Complete (lateOf Msgr21 b)) (late-is h last)
 
-  judged-checked : (x : Ended) (kind : Late) → JudgesAt x w nonce n X store → cond (noLast h) late.Complete (lateOf Msgr21 late₃) ≡ kind
-      → (noLast h ≡ false → judgePadding pads₃ ≡ fine) → CheckedSealed kind w nonce n X store
+  judged-checked : (x : Ended) (kind : Late) → JudgesAt x w nonce n X store → cond (noLastPart h) late.Complete (lateOf Msgr21 late₃) ≡ kind
+      → (noLastPart h ≡ false → judgePadding pads₃ ≡ fine) → CheckedSealed kind w nonce n X store
   unfolding partCount
   judged-checked x kind j said pad =
       let g = j .judges in
@@ -313,26 +265,27 @@ module _ (w : List State) (nonce : List ℕ) (n : ℕ) (X : List ℕ) (store : �
       let p = first-parts (first-length w nonce n X l₁ (g .first)) (g .judged) in
       record {
         arrived = j .long;
-        nonces = λ k l. each-unspent n k (noRest h) (noLast h) l (not-spent n (g .first .fresh)) (λ e. not-spent (suc n) (g .rest e .fresh)) (λ e. not-spent (n + (1 + cond (noRest h) 0 1)) (g .last e .fresh));
+        nonces = λ k l. each-unspent n k (noSecondPart h) (noLastPart h) l (not-spent n (g .first .fresh)) (λ e. not-spent (suc n) (g .rest e .fresh)) (λ e. not-spent (n + (1 + cond (noSecondPart h) 0 1)) (g .last e .fresh));
         first = (first, g .first .opens);
-        rest = λ e. (rest, g .rest e .opens);
+        second = λ e. (rest, g .rest e .opens);
         last = λ e. (last, g .last e .opens);
         preamble = p .0;
+        room = p .1 .0;
         padding = record {
-          inline = p .1;
-          behindRest = λ e. rest-zeros e (rest-length (j .long) e (g .rest e .opens)) (g .padded e);
+          inline = p .1 .1;
+          second = λ e. rest-zeros e (rest-length (j .long) e (g .rest e .opens)) (g .padded e);
           segments = λ e. segments-padded h last (last-length (j .long) e (g .last e .opens)) (padding-fine pads₃ (pad e));
           epilogue = λ e. late-padded h last (last-length (j .long) e (g .last e .opens)) (padding-fine pads₃ (pad e));
         };
         late = sym late-said ∙ said;
       }
     where
-      rest-zeros : noRest h ≡ false → length rest ≡ roundUp (h .s1 .len - inlineLength) → judgePadding (drop (h .s1 .len - inlineLength) rest) ≡ fine
+      rest-zeros : noSecondPart h ≡ false → length rest ≡ roundUp (h .s1 .len - inlineLength) → judgePadding (drop (h .s1 .len - inlineLength) rest) ≡ fine
           → ZerosAt (h .s1 .len - inlineLength) (roundUp (h .s1 .len - inlineLength)) rest
       rest-zeros e l q i a b = zeros-from (h .s1 .len - inlineLength) rest (padding-fine (drop (h .s1 .len - inlineLength) rest) q) i a (omega arith)
 
   checked-judged : (x : Ended) (kind : Late) → CheckedSealed kind w nonce n X store
-      → ((noLast h ≡ false → judgePadding pads₃ ≡ fine) → cond (noLast h) late.Complete (lateOf Msgr21 late₃) ≡ kind → ending ≡ x)
+      → ((noLastPart h ≡ false → judgePadding pads₃ ≡ fine) → cond (noLastPart h) late.Complete (lateOf Msgr21 late₃) ≡ kind → ending ≡ x)
       → JudgesAt x w nonce n X store
   unfolding partCount
   checked-judged x kind c ends =
@@ -343,38 +296,38 @@ module _ (w : List State) (nonce : List ℕ) (n : ℕ) (X : List ℕ) (store : �
         long = c .arrived;
         judges = record {
           first = f;
-          judged = parts-first (first-length w nonce n X l₁ f) (c .preamble) (c .padding .inline);
-          rest = λ e. record { fresh = judged-unspent (suc n) (rest-unspent e (c .nonces)); opens = opened-text (nextNonce nonce) (restBytes h X) (c .rest e) };
+          judged = parts-first (first-length w nonce n X l₁ f) (c .preamble) (c .room) (c .padding .inline);
+          rest = λ e. record { fresh = judged-unspent (suc n) (rest-unspent e (c .nonces)); opens = opened-text (nextNonce nonce) (secondBytes h X) (c .second e) };
           padded = λ e. no-padding (drop (h .s1 .len - inlineLength) rest)
-              (from-zeros (h .s1 .len - inlineLength) rest (λ i a b. let z = rest-length (c .arrived) e (opened-text (nextNonce nonce) (restBytes h X) (c .rest e)) in c .padding .behindRest e i a (omega arith)));
-          last = λ e. record { fresh = judged-unspent (n + (1 + cond (noRest h) 0 1)) (last-unspent e (c .nonces)); opens = opened-text (lastNonce h nonce) (lastBytes h X) (c .last e) };
+              (from-zeros (h .s1 .len - inlineLength) rest (λ i a b. let z = rest-length (c .arrived) e (opened-text (nextNonce nonce) (secondBytes h X) (c .second e)) in c .padding .second e i a (omega arith)));
+          last = λ e. record { fresh = judged-unspent (n + (1 + cond (noSecondPart h) 0 1)) (last-unspent e (c .nonces)); opens = opened-text (lastNonce h nonce) (lastBytes h X) (c .last e) };
           end = end-is ∙ ends pads-fine (late-said ∙ c .late);
         };
       }
     where
-      rest-unspent : noRest h ≡ false → ((k : ℕ) → k < 1 + cond (noRest h) 0 1 + cond (noLast h) 0 1 → n + k < allNonces) → suc n < allNonces
+      rest-unspent : noSecondPart h ≡ false → ((k : ℕ) → k < 1 + cond (noSecondPart h) 0 1 + cond (noLastPart h) 0 1 → n + k < allNonces) → suc n < allNonces
       rest-unspent e u = rw (add-one n) at (u 1 (rw e (omega arith)))
 
-      last-unspent : noLast h ≡ false → ((k : ℕ) → k < 1 + cond (noRest h) 0 1 + cond (noLast h) 0 1 → n + k < allNonces) → n + (1 + cond (noRest h) 0 1) < allNonces
-      last-unspent e u = u (1 + cond (noRest h) 0 1) (rw e (omega arith))
+      last-unspent : noLastPart h ≡ false → ((k : ℕ) → k < 1 + cond (noSecondPart h) 0 1 + cond (noLastPart h) 0 1 → n + k < allNonces) → n + (1 + cond (noSecondPart h) 0 1) < allNonces
+      last-unspent e u = u (1 + cond (noSecondPart h) 0 1) (rw e (omega arith))
 
-      pads-fine : noLast h ≡ false → judgePadding pads₃ ≡ fine
+      pads-fine : noLastPart h ≡ false → judgePadding pads₃ ≡ fine
       pads-fine e =
           no-padding pads₃
           (padded-back h last (last-length (c .arrived) e (opened-text (lastNonce h nonce) (lastBytes h X) (c .last e))) (c .padding .segments e) (c .padding .epilogue e))
 
   pub whole-checked : JudgesAt whole w nonce n X store → CheckedSealed late.Complete w nonce n X store
   whole-checked j =
-      let e = end-whole (noLast h) (lateOf Msgr21 late₃) late₃ (judgePadding pads₃) (sym end-is ∙ j .judges .end) in
+      let e = end-whole (noLastPart h) (lateOf Msgr21 late₃) late₃ (judgePadding pads₃) (sym end-is ∙ j .judges .end) in
       judged-checked whole late.Complete j (e .0) (e .1)
 
   pub dropped-checked : JudgesAt dropped w nonce n X store → CheckedSealed late.Aborted w nonce n X store
   dropped-checked j =
-      let e = end-dropped (noLast h) (lateOf Msgr21 late₃) late₃ (judgePadding pads₃) (sym end-is ∙ j .judges .end) in
+      let e = end-dropped (noLastPart h) (lateOf Msgr21 late₃) late₃ (judgePadding pads₃) (sym end-is ∙ j .judges .end) in
       judged-checked dropped late.Aborted j (e .0) (e .1)
 
   pub checked-whole : CheckedSealed late.Complete w nonce n X store → JudgesAt whole w nonce n X store
-  checked-whole c = checked-judged whole late.Complete c (λ f e. whole-end (noLast h) (lateOf Msgr21 late₃) late₃ (judgePadding pads₃) e f)
+  checked-whole c = checked-judged whole late.Complete c (λ f e. whole-end (noLastPart h) (lateOf Msgr21 late₃) late₃ (judgePadding pads₃) e f)
 
   pub checked-dropped : CheckedSealed late.Aborted w nonce n X store → JudgesAt dropped w nonce n X store
-  checked-dropped c = checked-judged dropped late.Aborted c (λ f e. dropped-end (noLast h) (lateOf Msgr21 late₃) late₃ (judgePadding pads₃) e f)
+  checked-dropped c = checked-judged dropped late.Aborted c (λ f e. dropped-end (noLastPart h) (lateOf Msgr21 late₃) late₃ (judgePadding pads₃) e f)

@@ -7,32 +7,24 @@ use native.Mathlib.Omega.{arith}
 use lib.ListN.{length, drop, replicate, length-append, length-drop, length-replicate}
 use Rattle.buffer.proofs.Parts.{length-replaceFront}
 use Rattle.preamble.specs.declared.Header.{Header}
-use Rattle.body.specs.End.{Ended, whole, dropped, refusedFor}
+use Rattle.body.specs.End.{Ended, whole, dropped}
 use Rattle.stream.specs.declared.Event.{Event}
 use Rattle.stream.specs.declared.Event.the-variants.{Frame, Dropped}
-use Rattle.stream.specs.Stream.{Trace, ended, after}
+use Rattle.stream.specs.Stream.{Trace, after}
 use Rattle.aes.specs.Aes.{State}
 use Rattle.secure.specs.Layout.{nonceAfter, firstLength, sealedLength, partCount, needed}
-use Rattle.secure.specs.Reading.{zeroed, holding, atEnd, frames}
+use Rattle.secure.specs.Reading.{zeroed, holding, frames}
 use Rattle.secure.proofs.Runs.{after-add}
+use Rattle.secure.proofs.Opening.{none, at-end}
 use Rattle.ends.specs.Handed.{FramesUpTo}
 use Rattle.ends.proofs.Concatenation.{joined}
 use Rattle.sealed_ends.specs.Fronts.{partsOf, partsIn}
-use Rattle.sealed_ends.specs.Handed.{firstIn, restIn, lastIn, headerIn, segmentsIn}
-use Rattle.sealed_ends.proofs.Judging.{JudgesAt, least, first-length, fits, segments-short, frame-trace}
+use Rattle.sealed_ends.specs.Handed.{firstIn, secondIn, lastIn, headerIn, segmentsIn}
+use Rattle.secure.proofs.Bounds.{least}
+use Rattle.sealed_ends.proofs.Judging.{JudgesAt, first-length, fits, segments-short, frame-trace}
 use Rattle.sealed_ends.proofs.Locality.{frame-trace-more, Seen, nothing, refuses, hands, drops, seen}
 
 -- ---- how many frames there may be does not matter, as long as it is enough
-
-pub none : (f : ℕ) (w : List State) (nonce : List ℕ) (n P : ℕ) (s : List ℕ) → frames f w nonce n P [] s ≡ ended s
-unfolding frames
-none zero w nonce n P s = refl
-none (suc f) w nonce n P s = refl
-
-at-end : (x : Ended) (h : Header) (at : ℕ) (p s : List ℕ) (next next′ : List ℕ → Trace) → ((t : List ℕ) → next t ≡ next′ t) → atEnd x h at p s next ≡ atEnd x h at p s next′
-at-end whole h at p s next next′ e = ap (after (Frame h) at (holding h p s)) (e (holding h p s))
-at-end dropped h at p s next next′ e = ap (after (Dropped h) at (zeroed h s)) (e (zeroed h s))
-at-end (refusedFor n) h at p s next next′ e = refl
 
 -- the bytes behind the first frame
 shorter : (h : Header) (X : List ℕ) (f : ℕ) → sealedLength h ≤ length X → length X ≤ suc f → length (drop (sealedLength h) X) ≤ f
@@ -151,7 +143,7 @@ module _ (w : List State) (f : ℕ) (ih : Lower w f) (nonce : List ℕ) (n P : �
       let g = j .judges in
       let l₁ : firstLength ≤ length X = (let m = j .long in let z = least h in omega arith) in
       let room : needed h ≤ length s = fits w nonce n X (length s) (g .judged) in
-      let short = segments-short h (firstIn w nonce X) (restIn w nonce h X) (lastIn w nonce h X) (first-length w nonce n X l₁ (g .first)) in
+      let short = segments-short h (firstIn w nonce X) (secondIn w nonce h X) (lastIn w nonce h X) (first-length w nonce n X l₁ (g .first)) in
       let a : length (p ++ zs) ≡ length p + length zs = length-append p zs in
       let z : length zs ≡ needed h - length p = length-replicate (needed h - length p) 0 in
       concatenates-step w f ih nonce n P X Y s (Frame h) (P + sealedLength h) X′ (holding h p s) e (λ k. frame-trace-more w nonce n P X Y s k j)

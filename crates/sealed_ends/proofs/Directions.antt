@@ -18,7 +18,7 @@ use Rattle.connection.specs.Calls.{Try}
 use Rattle.refusal.specs.declared.Refusal.the-variants.{SwitchRefused}
 use Rattle.refusal.specs.Refusals.{Judged, refused, numbersOf}
 use Rattle.refusal.specs.Writes.{refusedFor, outcomeOf}
-use Rattle.sealed_ends.specs.Openings.{openings, noncesOf, Made}
+use Rattle.sealed_ends.specs.Openings.{openings, openingNonces, Made}
 use Rattle.sealed_ends.specs.Directions.{fixedPart, counterAt, Apart, fixed, ranges, NoneShared, TwoDirections}
 use Rattle.sealed_ends.proofs.Openings.{from-switch}
 
@@ -66,7 +66,7 @@ shared a b m k xs ys e f d =
 
 sends-fresh : (st : State) (c : Try) → Made st c → c .switched .sending ≡ freshSending (c .key) (c .sending)
 sends-fresh st c m =
-    m .switched .sends ∙ ap (λ (j : Judged). switchedSending j (c .key) (c .sending)) (sym (m .switched .verdict) ∙ m .verdict)
+    m .switched .sends ∙ ap (λ (j : Judged). switchedSending j (c .key) (c .sending)) (sym (m .switched .judgement) ∙ m .judgement)
 
 -- what holds of all builds from a fresh sending state on
 from-fresh : (P : Sending → Type 0) (st : State) (c : Try) → Made st c → P (freshSending (c .key) (c .sending)) → P (c .switched .sending)
@@ -107,11 +107,11 @@ two-directions =
       opened = λ st c bs cs m ch ch′ d.
           let l = from-sending st c bs m ch in
           let r = from-switch st c cs m ch′ in
-          shared (c .sending) (c .receiving) (l .count) (r .count) (used (c .switched .sending) bs) (noncesOf (openings (c .switched .state) cs)) (l .is) (r .is) d;
+          shared (c .sending) (c .receiving) (l .count) (r .count) (used (c .switched .sending) bs) (openingNonces (openings (c .switched .state) cs)) (l .is) (r .is) d;
       sealed = λ st st′ c c′ bs bs′ m m′ ch ch′ d.
           let l = from-sending st c bs m ch in
           let r = from-sending st′ c′ bs′ m′ ch′ in
           shared (c .sending) (c′ .sending) (l .count) (r .count) (used (c .switched .sending) bs) (used (c′ .switched .sending) bs′) (l .is) (r .is) d;
       none = λ st c n b w v m.
-          with-refused (c .switched .sending) b (w .sends ∙ ap (λ (j : Judged). switchedSending j (c .key) (c .sending)) (sym (w .verdict) ∙ v)) m;
+          with-refused (c .switched .sending) b (w .sends ∙ ap (λ (j : Judged). switchedSending j (c .key) (c .sending)) (sym (w .judgement) ∙ v)) m;
     }

@@ -25,10 +25,10 @@ use Rattle.ends.proofs.Locality as crc-seen
 use Rattle.ends.proofs.Locality.{behindEarly}
 use Rattle.ends.proofs.Concatenation.{joined, early-up, early-store}
 use Rattle.ends.proofs.Banners.{spoken, met-trace, up-met, follows-on}
-use Rattle.connection.specs.Switched.{Switch, closes, spliced, traceWith, framesIn}
+use Rattle.connection.specs.Switched.{Switch, endsFrame, spliced, traceWith, framesIn}
 use Rattle.connection.specs.Step.{begun}
 use Rattle.connection.specs.Calls.{Call, Chained, takenBy, listOf, switchBy, SwitchedDemand3}
-use Rattle.connection.proofs.Scans.{LastCloses}
+use Rattle.connection.proofs.Scans.{LastEndsFrame}
 use Rattle.connection.proofs.Splices.{spliced-there}
 use Rattle.connection.proofs.Chain.{switched-demand3}
 use Rattle.sealed_ends.specs.Fronts.{partsIn, Front, bytesIn, crcIn, sealedIn, switchIn, traceIn, spentIn, nextIn, Begins}
@@ -36,7 +36,7 @@ use Rattle.sealed_ends.proofs.Concatenation.{frames-concatenate}
 
 -- ---- entries up to a frame
 
-pub last-cons : (e : Entry) (es : List Entry) (t : ℕ) (s : List ℕ) → LastCloses es t s → LastCloses (e ∷ es) t s
+pub last-cons : (e : Entry) (es : List Entry) (t : ℕ) (s : List ℕ) → LastEndsFrame es t s → LastEndsFrame (e ∷ es) t s
 last-cons e [] t s l = absurd l
 last-cons e (f ∷ es) t s l = l
 
@@ -56,31 +56,31 @@ none-left N P (e ∷ es) u z = go (roleOf (e .event)) u z (λ Q. none-left N Q e
 
 abbrev Lower : ℕ → Type 0
 Lower f = (r : Revision) (P : ℕ) (X s : List ℕ) → length X ≤ f → FramesUpTo (P + length X) P (crc.frames f r P X s .entries)
-    → 0 < framesIn (crc.frames f r P X s .entries) → LastCloses (crc.frames f r P X s .entries) (P + length X) (crc.frames f r P X s .store)
+    → 0 < framesIn (crc.frames f r P X s .entries) → LastEndsFrame (crc.frames f r P X s .entries) (P + length X) (crc.frames f r P X s .store)
 
-early-last : (c : Bool) (P : ℕ) (X s : List ℕ) (t : Trace) (N : ℕ) (u : List ℕ) → LastCloses (t .entries) N u → LastCloses (behindEarly c P X s t .entries) N u
+early-last : (c : Bool) (P : ℕ) (X s : List ℕ) (t : Trace) (N : ℕ) (u : List ℕ) → LastEndsFrame (t .entries) N u → LastEndsFrame (behindEarly c P X s t .entries) N u
 early-last true P X s t N u l = last-cons _ (t .entries) N u l
 early-last false P X s t N u l = l
 
 -- a frame or a drop, to byte Q, and what follows it
-module _ (f : ℕ) (ih : Lower f) (r : Revision) (P : ℕ) (X s : List ℕ) (c : Bool) (v : Event) (Q : ℕ) (X′ s′ : List ℕ) (closing : closes v ≡ true)
+module _ (f : ℕ) (ih : Lower f) (r : Revision) (P : ℕ) (X s : List ℕ) (c : Bool) (v : Event) (Q : ℕ) (X′ s′ : List ℕ) (reportEndsFrame : endsFrame v ≡ true)
     (gives : crc.frames (suc f) r P X s ≡ behindEarly c P X s (after v Q s′ (crc.frames f r Q X′ s′)))
     (place : Q + length X′ ≡ P + length X) (enough : length X′ ≤ f) (up : FramesUpTo (P + length X) Q (crc.frames f r Q X′ s′ .entries)) where
   abbrev T : Trace
   T = crc.frames f r Q X′ s′
 
-  later : (k : ℕ) → framesIn (T .entries) ≡ k → LastCloses (after v Q s′ T .entries) (P + length X) (T .store)
+  later : (k : ℕ) → framesIn (T .entries) ≡ k → LastEndsFrame (after v Q s′ T .entries) (P + length X) (T .store)
   later zero z =
       let e : Q ≡ P + length X = none-left (P + length X) Q (T .entries) up z in
       at-once X′ refl (omega arith)
     where
-      at-once : (Z : List ℕ) → X′ ≡ Z → length X′ ≡ 0 → LastCloses (after v Q s′ T .entries) (P + length X) (T .store)
-      at-once [] y l = rw (y, crc-laws.none f r Q s′) (closing, none-left (P + length X) Q (T .entries) up z, refl)
+      at-once : (Z : List ℕ) → X′ ≡ Z → length X′ ≡ 0 → LastEndsFrame (after v Q s′ T .entries) (P + length X) (T .store)
+      at-once [] y l = rw (y, crc-laws.none f r Q s′) (reportEndsFrame, none-left (P + length X) Q (T .entries) up z, refl)
       at-once (b ∷ bs) y l = (let q : length X′ ≡ suc (length bs) = ap length y in absurd (omega arith))
   later (suc k) z =
       last-cons _ (T .entries) (P + length X) (T .store) (rw place at (ih r Q X′ s′ enough (rw place up) (omega arith)))
 
-  last-step : LastCloses (crc.frames (suc f) r P X s .entries) (P + length X) (crc.frames (suc f) r P X s .store)
+  last-step : LastEndsFrame (crc.frames (suc f) r P X s .entries) (P + length X) (crc.frames (suc f) r P X s .store)
   last-step = rw (gives, early-store c P X s (after v Q s′ T)) (early-last c P X s (after v Q s′ T) (P + length X) (T .store) (later (framesIn (T .entries)) refl))
 
 module _ (f : ℕ) (ih : Lower f) (r : Revision) (P : ℕ) (X s : List ℕ) (enough : length X ≤ suc f) where
@@ -97,7 +97,7 @@ module _ (f : ℕ) (ih : Lower f) (r : Revision) (P : ℕ) (X s : List ℕ) (eno
   frame-less l = (let d = length-drop n X in omega arith)
 
   last-seen : crc-seen.Seen r P X s → FramesUpTo (P + length X) P (crc.frames (suc f) r P X s .entries) → 0 < framesIn (crc.frames (suc f) r P X s .entries)
-      → LastCloses (crc.frames (suc f) r P X s .entries) (P + length X) (crc.frames (suc f) r P X s .store)
+      → LastEndsFrame (crc.frames (suc f) r P X s .entries) (P + length X) (crc.frames (suc f) r P X s .store)
   last-seen (crc-seen.nothing c t j e) up some = absurd (none c (rw (e f) at some))
     where
       none : (c : Bool) → 0 < framesIn (behindEarly c P X s (ended t) .entries) → ⊥
@@ -119,7 +119,7 @@ crc-last zero r P (b ∷ bs) s enough up some = absurd (omega arith)
 crc-last (suc f) r P X s enough up some = last-seen f (crc-last f) r P X s enough (crc-seen.seen r P X s) up some
 
 front-last : (own : Features) (F s : List ℕ) (r : Revision) → UpTo r (length F) (traceOf own F s .entries) → 0 < framesIn (traceOf own F s .entries)
-    → LastCloses (traceOf own F s .entries) (length F) (traceOf own F s .store)
+    → LastEndsFrame (traceOf own F s .entries) (length F) (traceOf own F s .store)
 front-last own F s r up some =
     let m = up-met own F s r (length F) up in
     let n : ℕ = 10 + payloadOf F in
@@ -128,7 +128,7 @@ front-last own F s r up some =
     let d : length (drop n F) ≡ length F - n = length-drop n F in
     let l : n + length (drop n F) ≡ length F = (let a = m .all in omega arith) in
     let T : Trace = crc.frames (length F) (spoken own F) n (drop n F) s in
-    let i : LastCloses (T .entries) (length F) (T .store) = rw l at (crc-last (length F) (spoken own F) n (drop n F) s (omega arith) (rw l (u .1)) (rw e at some)) in
+    let i : LastEndsFrame (T .entries) (length F) (T .store) = rw l at (crc-last (length F) (spoken own F) n (drop n F) s (omega arith) (rw l (u .1)) (rw e at some)) in
     rw e (last-cons _ (T .entries) (length F) (T .store) i)
 
 -- ---- the definition behind a front
@@ -165,10 +165,6 @@ module _ (own : Features) (store : List ℕ) (revision : Revision) (F : Front) (
 
   abbrev S : Trace
   S = frames (length (F .sealed)) w (F .nonce) 0 P (F .sealed) s₁
-
-  sealed-is : sealedIn own store F ≡ S
-  unfolding sealedTrace
-  sealed-is = refl
 
   -- any bytes behind the front
   pub follows : (X : List ℕ) (k : ℕ) → length X ≤ k

@@ -23,7 +23,8 @@ use Rattle.connection.specs.Calls.{Call, Chained, takenBy, listOf, switchBy, Sw
 use Rattle.connection.proofs.Chain.{switched-demand3}
 use Rattle.sealed_ends.specs.Fronts.{Front, bytesIn, sealedIn, switchIn, spentIn, nextIn, Begins}
 use Rattle.sealed_ends.specs.Handed.{textIn, headerIn, ExactlySealed, SealedBehind, headerBehind, Through, frame-taken, all-taken, refused, SealedHandedOver}
-use Rattle.sealed_ends.proofs.Judging.{JudgesAt, least, frame-trace}
+use Rattle.secure.proofs.Bounds.{least}
+use Rattle.sealed_ends.proofs.Judging.{JudgesAt, frame-trace}
 use Rattle.sealed_ends.proofs.Locality.{header-own, segments-own, extends, restricts, Seen, nothing, refuses, hands, drops, seen}
 use Rattle.sealed_ends.proofs.Concatenation.{fuel}
 use Rattle.sealed_ends.proofs.Fronts.{follows, reported}

@@ -16,10 +16,11 @@ use Rattle.preamble.specs.Judge.{headerOf}
 use Rattle.body.specs.End.{Ended, whole, dropped, refusedFor}
 use Rattle.stream.specs.Stream.{Trace, ended, refusedAt}
 use Rattle.aes.specs.Aes.{State}
-use Rattle.secure.specs.Layout.{nextNonce, nonceAfter, inlineLength, lastLengths, firstLength, noRest, noLast, restPart, restPartLength, lastPart, lastPartLength, sealedLength, partCount}
+use Rattle.secure.specs.Layout.{nextNonce, nonceAfter, inlineLength, lastLengths, firstLength, noSecondPart, noLastPart, secondPart, secondPartLength, lastPart, lastPartLength, sealedLength, partCount}
 use Rattle.secure.specs.Reading.{judgePadding, judgeFirst, unpadded, lastEnded, atEnd, frames}
-use Rattle.sealed_ends.specs.Handed.{textIn, firstBytes, firstIn, headerIn, restBytes, restIn, lastBytes, lastNonce, lastIn, segmentsIn}
-use Rattle.sealed_ends.proofs.Judging.{PartReads, PartSeen, reads, stops, part-seen, JudgesAt, least, first-step, first-stops, first-refused, first-cut, rest-cut, rest-stops, rest-refused, last-cut, last-stops, last-step, segment1, left, up-to-last, frame-trace}
+use Rattle.sealed_ends.specs.Handed.{textIn, firstBytes, firstIn, headerIn, secondBytes, secondIn, lastBytes, lastNonce, lastIn, segmentsIn}
+use Rattle.secure.proofs.Bounds.{least}
+use Rattle.sealed_ends.proofs.Judging.{PartReads, PartSeen, reads, stops, part-seen, JudgesAt, first-step, first-stops, first-refused, first-cut, rest-cut, rest-stops, rest-refused, last-cut, last-stops, last-step, segment1, left, up-to-last, frame-trace}
 
 -- ---- more bytes behind X
 
@@ -39,13 +40,13 @@ module _ (w : List State) (nonce : List ℕ) (X Y : List ℕ) (long : sealedLeng
   unfolding headerIn
   header-own = ap (λ (a : List ℕ). headerOf (textIn w nonce a)) first-own
 
-  rest-own : restBytes h (X ++ Y) ≡ restBytes h X
+  rest-own : secondBytes h (X ++ Y) ≡ secondBytes h X
   unfolding sealedLength
-  rest-own = own-bytes firstLength (restPartLength h) X Y (omega arith)
+  rest-own = own-bytes firstLength (secondPartLength h) X Y (omega arith)
 
   last-own : lastBytes h (X ++ Y) ≡ lastBytes h X
   unfolding sealedLength
-  last-own = own-bytes (firstLength + restPartLength h) (lastPartLength h) X Y long
+  last-own = own-bytes (firstLength + secondPartLength h) (lastPartLength h) X Y long
 
   pub segments-own : segmentsIn w nonce h (X ++ Y) ≡ segmentsIn w nonce h X
   segments-own = rw (first-own, rest-own, last-own)
@@ -93,17 +94,17 @@ module _ (w : List State) (nonce : List ℕ) (n P : ℕ) (X s : List ℕ) where
   header = headerIn w nonce X
 
   abbrev k : ℕ
-  k = firstLength + restPartLength header
+  k = firstLength + secondPartLength header
 
   abbrev n₂ : ℕ
-  n₂ = n + (1 + cond (noRest header) 0 1)
+  n₂ = n + (1 + cond (noSecondPart header) 0 1)
 
   -- the last part, where the ones before it are read
   module _ (l : k ≤ length X) (p : PartReads w nonce n (firstBytes X)) (j : judgeFirst (firstIn w nonce X) (length s) ≡ fine)
-      (q : noRest header ≡ false → PartReads w (nextNonce nonce) (suc n) (restBytes header X))
-      (d : noRest header ≡ false → judgePadding (drop (header .s1 .len - inlineLength) (restIn w nonce header X)) ≡ fine) where
-    judged : {x : Ended} → lastPartLength header ≤ length (drop k X) → (noLast header ≡ false → PartReads w (lastNonce header nonce) n₂ (lastBytes header X))
-        → cond (noLast header) whole (lastEnded header (lastIn w nonce header X)) ≡ x → JudgesAt x w nonce n X (length s)
+      (q : noSecondPart header ≡ false → PartReads w (nextNonce nonce) (suc n) (secondBytes header X))
+      (d : noSecondPart header ≡ false → judgePadding (drop (header .s1 .len - inlineLength) (secondIn w nonce header X)) ≡ fine) where
+    judged : {x : Ended} → lastPartLength header ≤ length (drop k X) → (noLastPart header ≡ false → PartReads w (lastNonce header nonce) n₂ (lastBytes header X))
+        → cond (noLastPart header) whole (lastEnded header (lastIn w nonce header X)) ≡ x → JudgesAt x w nonce n X (length s)
     unfolding sealedLength
     judged i r e = record {
       long = (let z = length-drop k X in omega arith);
@@ -111,7 +112,7 @@ module _ (w : List State) (nonce : List ℕ) (n P : ℕ) (X s : List ℕ) where
     }
 
     -- the bytes of a last part that is there
-    module _ (e : noLast header ≡ false) where
+    module _ (e : noLastPart header ≡ false) where
       size : lastPartLength header ≡ lastPart header
       size = ap (λ (b : Bool). cond b 0 (lastPart header)) e
 
@@ -143,7 +144,7 @@ module _ (w : List State) (nonce : List ℕ) (n P : ℕ) (X s : List ℕ) where
           ∙ last-cut w header (lastNonce header nonce) n₂ (P + k) (drop k X) (segment1 w nonce n P X s) (left w nonce n P X s) (frames f w) e i)
       by-length false i = by-part (ltb-false (length (drop k X)) (lastPart header) i) (part-seen w (lastNonce header nonce) n₂ (take (lastPart header) (drop k X)))
 
-    by-last : (b : Bool) → noLast header ≡ b → Seen w nonce n P X s
+    by-last : (b : Bool) → noLastPart header ≡ b → Seen w nonce n P X s
     by-last true e =
         hands (judged (rw (ap (λ (b : Bool). cond b 0 (lastPart header)) e) (omega arith)) (λ z. wrong (sym z ∙ e)) (ap (λ (b : Bool). cond b whole (lastEnded header (lastIn w nonce header X))) e))
     by-last false e = by-length e (ltb (length (drop k X)) (lastPart header)) refl
@@ -153,44 +154,44 @@ module _ (w : List State) (nonce : List ℕ) (n P : ℕ) (X s : List ℕ) where
     abbrev inline : List ℕ
     inline = take (header .s1 .len) (drop 32 (firstIn w nonce X))
 
-    module _ (e : noRest header ≡ false) where
+    module _ (e : noSecondPart header ≡ false) where
       abbrev bytes : List ℕ
-      bytes = take (restPart header) (drop firstLength X)
+      bytes = take (secondPart header) (drop firstLength X)
 
-      rest-size : restPartLength header ≡ restPart header
-      rest-size = ap (λ (b : Bool). cond b 0 (restPart header)) e
+      rest-size : secondPartLength header ≡ secondPart header
+      rest-size = ap (λ (b : Bool). cond b 0 (secondPart header)) e
 
-      by-padding : restPart header ≤ length (drop firstLength X) → PartReads w (nextNonce nonce) (suc n) bytes
+      by-padding : secondPart header ≤ length (drop firstLength X) → PartReads w (nextNonce nonce) (suc n) bytes
           → (x : Judged) → judgePadding (drop (header .s1 .len - inlineLength) (textIn w (nextNonce nonce) bytes)) ≡ x → Seen w nonce n P X s
       by-padding i r fine u =
           let z = length-drop firstLength X in
-          by-last (rw rest-size (omega arith)) p j (λ y. rw rest-size r) (λ y. rw rest-size u) (noLast header) refl
+          by-last (rw rest-size (omega arith)) p j (λ y. rw rest-size r) (λ y. rw rest-size u) (noLastPart header) refl
       by-padding i r (refused m) u =
           refuses m _ _
           (λ f. first-step w nonce n P X s f l p j
           ∙ rest-refused w header (nextNonce nonce) (suc n) (P + firstLength) (drop firstLength X) inline s (frames f w) m e i r u)
 
-      by-rest-part : restPart header ≤ length (drop firstLength X) → PartSeen w (nextNonce nonce) (suc n) bytes → Seen w nonce n P X s
+      by-rest-part : secondPart header ≤ length (drop firstLength X) → PartSeen w (nextNonce nonce) (suc n) bytes → Seen w nonce n P X s
       by-rest-part i (reads r) = by-padding i r _ refl
       by-rest-part i (stops m u) =
           refuses m _ _
           (λ f. first-step w nonce n P X s f l p j
           ∙ rest-stops w header (nextNonce nonce) (suc n) (P + firstLength) (drop firstLength X) inline s (frames f w) m e i u)
 
-      by-rest-length : (b : Bool) → ltb (length (drop firstLength X)) (restPart header) ≡ b → Seen w nonce n P X s
+      by-rest-length : (b : Bool) → ltb (length (drop firstLength X)) (secondPart header) ≡ b → Seen w nonce n P X s
       by-rest-length true i =
           nothing _
           (λ f. first-step w nonce n P X s f l p j
           ∙ rest-cut w header (nextNonce nonce) (suc n) (P + firstLength) (drop firstLength X) inline s (frames f w) e i)
-      by-rest-length false i = by-rest-part (ltb-false (length (drop firstLength X)) (restPart header) i) (part-seen w (nextNonce nonce) (suc n) bytes)
+      by-rest-length false i = by-rest-part (ltb-false (length (drop firstLength X)) (secondPart header) i) (part-seen w (nextNonce nonce) (suc n) bytes)
 
-    by-rest : (b : Bool) → noRest header ≡ b → Seen w nonce n P X s
+    by-rest : (b : Bool) → noSecondPart header ≡ b → Seen w nonce n P X s
     by-rest true e =
-        by-last (rw (ap (λ (b : Bool). cond b 0 (restPart header)) e) l) p j (λ y. wrong (sym y ∙ e)) (λ y. wrong (sym y ∙ e)) (noLast header) refl
-    by-rest false e = by-rest-length e (ltb (length (drop firstLength X)) (restPart header)) refl
+        by-last (rw (ap (λ (b : Bool). cond b 0 (secondPart header)) e) l) p j (λ y. wrong (sym y ∙ e)) (λ y. wrong (sym y ∙ e)) (noLastPart header) refl
+    by-rest false e = by-rest-length e (ltb (length (drop firstLength X)) (secondPart header)) refl
 
   by-first : firstLength ≤ length X → PartReads w nonce n (firstBytes X) → (x : Judged) → judgeFirst (firstIn w nonce X) (length s) ≡ x → Seen w nonce n P X s
-  by-first l p fine e = by-rest l p e (noRest header) refl
+  by-first l p fine e = by-rest l p e (noSecondPart header) refl
   by-first l p (refused m) e = refuses m (P + firstLength) s (λ f. first-refused w nonce n P X s f m l p e)
 
   by-first-part : firstLength ≤ length X → PartSeen w nonce n (firstBytes X) → Seen w nonce n P X s

@@ -19,9 +19,9 @@ use Rattle.preamble.specs.Judge.{headerOf}
 use Rattle.body.specs.End.{Ended, whole, dropped, refusedFor}
 use Rattle.receiver.specs.declared.Report.{Report}
 use Rattle.receiver.specs.declared.Report.the-variants as report
-use Rattle.receiver.specs.State.{isMsgr21}
+use Rattle.banner.specs.Banner.{isMsgr21}
 use Rattle.gcm.specs.Gcm.{Opened, plain, fail, opened}
-use Rattle.secure.specs.Layout.{allNonces, nonceAfter, padding, inlineLength, noRest, noLast, lastLengths}
+use Rattle.secure.specs.Layout.{allNonces, nonceAfter, padding, inlineLength, noSecondPart, noLastPart, lastLengths}
 use Rattle.secure.specs.Reading.{judgeNonce, judgePadding, judgeFirst, unpadded, lastEnded, zeroed}
 use Rattle.sealed_receiver.specs.declared.Stage.{Stage}
 use Rattle.sealed_receiver.specs.declared.Stage.the-variants as stage
@@ -31,7 +31,7 @@ use Rattle.sealed_receiver.specs.declared.State as sealed
 use Rattle.sealed_receiver.specs.State.{isRefused, openedOf, freshReceiving, openedMore}
 use Rattle.sealed_receiver.specs.State as sealed-states
 use Rattle.sealed_receiver.specs.Step as step
-use Rattle.sealed_receiver.specs.Step.{at, withOpened, withHeader, switched, Stepped, silent, refuse, unlessRefused, judgeOpened, textOf, judgePart, partText, endFrame, beginLast, beginRest, behindFirst, behindRest, behindLast, finish, absorbed, stored, reached, size, onByte, neededBy, feed}
+use Rattle.sealed_receiver.specs.Step.{at, withOpened, withHeader, switched, Stepped, silent, refuse, unlessRefused, judgeOpened, textOf, judgePart, partText, endFrame, beginLast, beginSecondPart, afterFirstPart, afterSecondPart, afterLastPart, finish, absorbed, stored, reached, size, onByte, neededBy, feed}
 use Rattle.sealed_receiver.proofs.Openings.{opened-next}
 use Rattle.sealed_builder.specs.Nonces.{AllDifferent}
 use Rattle.secure.proofs.Runs.{run, length-run, run-on, after-add}
@@ -42,7 +42,7 @@ use Rattle.connection.specs.declared.Mode.the-variants as mode
 use Rattle.connection.specs.Step.{agrees, Answer, answer, bySecure, Answered, judgeSwitch, switchedState, SwitchedWith}
 use Rattle.connection.specs.Calls.{Try}
 use Rattle.connection.specs.Every.{Lent, AnyCall, taking, switching, Handed}
-use Rattle.sealed_ends.specs.Openings.{Opening, partBytes, openingBy, openingAt, openingsOf, leftBy, behindBy, finishBy, reachedBy, outcomes, byteBy, unlessReported, openingsIn, openingsOn, openingsBy, openings, stateAfter, noncesOf, Under, Made, NoNonceOpenedTwice}
+use Rattle.sealed_ends.specs.Openings.{Opening, partBytes, openingBy, openingAt, openingsOf, storeLeftBy, behindBy, finishBy, reachedBy, results, byteBy, unlessReported, openingsIn, openingsOn, openingsBy, openings, stateAfter, openingNonces, Under, Made, NoNonceOpenedTwice}
 
 -- ---- what a step leaves: what opens the next part, or a refusal
 
@@ -66,18 +66,18 @@ keeps-either false x y k l = l
 keeps-last : (v : Known) (s : List ℕ) → Keeps (v .receiving) (beginLast v s)
 keeps-last v s =
     let p : List ℕ = take (v .header .s1 .len) s in
-    keeps-either (noLast (v .header)) (endFrame whole v p s) (silent (at stage.Last v) s) (keeps-end whole v p s) (kept refl refl)
+    keeps-either (noLastPart (v .header)) (endFrame whole v p s) (silent (at stage.Last v) s) (keeps-end whole v p s) (kept refl refl)
 
-keeps-rest : (v : Known) (s : List ℕ) → Keeps (v .receiving) (beginRest v s)
-keeps-rest v s = keeps-either (noRest (v .header)) (beginLast v s) (silent (at stage.Rest v) s) (keeps-last v s) (kept refl refl)
+keeps-rest : (v : Known) (s : List ℕ) → Keeps (v .receiving) (beginSecondPart v s)
+keeps-rest v s = keeps-either (noSecondPart (v .header)) (beginLast v s) (silent (at stage.Second v) s) (keeps-last v s) (kept refl refl)
 
 keeps-behind : (k : Stage) (v : Known) (text s : List ℕ) → Keeps (v .receiving) (behindBy k v text s)
-unfolding behindFirst behindRest behindLast
+unfolding afterFirstPart afterSecondPart afterLastPart
 keeps-behind stage.First v text s =
     let w : Known = withHeader v (headerOf text) in
     let t : List ℕ = replaceFront (take (headerOf text .s1 .len) (drop 32 text)) s in
-    keeps-unless (judgeFirst text (length s)) s (beginRest w t) (keeps-rest w t)
-keeps-behind stage.Rest v text s =
+    keeps-unless (judgeFirst text (length s)) s (beginSecondPart w t) (keeps-rest w t)
+keeps-behind stage.Second v text s =
     let m : ℕ = v .header .s1 .len - inlineLength in
     let t : List ℕ = splice s inlineLength (take m text ++ replicate (padding m + 16) 0) in
     keeps-unless (judgePadding (drop m text)) (zeroed (v .header) s) (beginLast v t) (keeps-last v t)
@@ -89,7 +89,7 @@ keeps-behind stage.Refused v text s = refusing (numbersOf refusal.NoncesSpent) s
 
 pub record Ran (r : Receiving) (os : List Opening) : Type 0 where
   pub count : ℕ
-  pub is : noncesOf os ≡ run count (r .nonce)
+  pub is : openingNonces os ≡ run count (r .nonce)
   pub under : Under (r .key) os
   pub fits : openedOf r + count ≤ allNonces
 
@@ -100,7 +100,7 @@ record On (r : Receiving) (k : ℕ) (y : sealed.State) : Type 0 where
   nonce : y .known .receiving .nonce ≡ nonceAfter k (r .nonce)
   opened : openedOf (y .known .receiving) ≡ openedOf r + k
 
-nonces-two : (os ps : List Opening) → noncesOf (os ++ ps) ≡ noncesOf os ++ noncesOf ps
+nonces-two : (os ps : List Opening) → openingNonces (os ++ ps) ≡ openingNonces os ++ openingNonces ps
 nonces-two [] ps = refl
 nonces-two (o ∷ os) ps = ap (λ (l : List (List ℕ)). o .nonce ∷ l) (nonces-two os ps)
 
@@ -166,11 +166,11 @@ module _ (r : Receiving) (bytes left : List ℕ) (next : List ℕ → Stepped) (
 
 finish-is : (k : Stage) (b : List ℕ) (v : Known) (s : List ℕ) → isRefused k ≡ false
     → finish k b v s
-    ≡ unlessRefused (judgePart (v .receiving) (partBytes k b (v .header) s)) (leftBy k (v .header) s)
+    ≡ unlessRefused (judgePart (v .receiving) (partBytes k b (v .header) s)) (storeLeftBy k (v .header) s)
     (behindBy k (withOpened v) (partText (v .receiving) (partBytes k b (v .header) s)) s)
 unfolding finish
 finish-is stage.First b v s e = refl
-finish-is stage.Rest b v s e = refl
+finish-is stage.Second b v s e = refl
 finish-is stage.Last b v s e = refl
 finish-is stage.Refused b v s e = wrong (sym e)
 
@@ -184,7 +184,7 @@ reached-byte false y s e l =
     let k = y .position .stage in
     let bytes : List ℕ = partBytes k (y .position .block) h s in
     subst (Byte r (openingBy (judgeNonce (openedOf r)) r bytes)) (sym (finish-is k (y .position .block) (y .known) s e))
-    (part-byte r bytes (leftBy k h s) (λ text. behindBy k (withOpened (y .known)) text s) (λ text. keeps-behind k (withOpened (y .known)) text s) l)
+    (part-byte r bytes (storeLeftBy k h s) (λ text. behindBy k (withOpened (y .known)) text s) (λ text. keeps-behind k (withOpened (y .known)) text s) l)
 
 byte-opens : (st : sealed.State) (s : List ℕ) (b : ℕ) → isRefused (st .position .stage) ≡ false → openedOf (st .known .receiving) ≤ allNonces
     → Byte (st .known .receiving) (openingsOf st s b) (onByte st s b)
@@ -194,17 +194,17 @@ byte-opens st s b e l = reached-byte (ltb (st .position .got + 1) (size st)) (ab
 -- what it comes to by the openings alone
 part-only : (r : Receiving) (bytes left : List ℕ) (next : List ℕ → Stepped) (by : List Opened → Stepped)
     → by [] ≡ refuse (numbersOf refusal.NoncesSpent) left → ((o : Opened) → by (o ∷ []) ≡ unlessRefused (judgeOpened o) left (next (textOf o)))
-    → unlessRefused (judgePart r bytes) left (next (partText r bytes)) ≡ by (outcomes (openingBy (judgeNonce (openedOf r)) r bytes))
+    → unlessRefused (judgePart r bytes) left (next (partText r bytes)) ≡ by (results (openingBy (judgeNonce (openedOf r)) r bytes))
 unfolding judgePart partText
 part-only r bytes left next by none one = go (ltb (openedOf r) allNonces)
   where
     go : (c : Bool)
         → unlessRefused (orElse (unless c refusal.NoncesSpent) (judgeOpened (opened (r .key) (r .nonce) bytes))) left (next (textOf (opened (r .key) (r .nonce) bytes)))
-        ≡ by (outcomes (openingBy (unless c refusal.NoncesSpent) r bytes))
+        ≡ by (results (openingBy (unless c refusal.NoncesSpent) r bytes))
     go true = sym (one (opened (r .key) (r .nonce) bytes))
     go false = sym none
 
-reached-only : (c : Bool) (y : sealed.State) (s : List ℕ) → isRefused (y .position .stage) ≡ false → reached y s c ≡ reachedBy (outcomes (openingAt c y s)) c y s
+reached-only : (c : Bool) (y : sealed.State) (s : List ℕ) → isRefused (y .position .stage) ≡ false → reached y s c ≡ reachedBy (results (openingAt c y s)) c y s
 reached-only true y s e = refl
 reached-only false y s e =
     let r = y .known .receiving in
@@ -212,9 +212,9 @@ reached-only false y s e =
     let k = y .position .stage in
     let bytes : List ℕ = partBytes k (y .position .block) h s in
     finish-is k (y .position .block) (y .known) s e
-    ∙ part-only r bytes (leftBy k h s) (λ text. behindBy k (withOpened (y .known)) text s) (λ os. finishBy os k (y .known) s) refl (λ o. refl)
+    ∙ part-only r bytes (storeLeftBy k h s) (λ text. behindBy k (withOpened (y .known)) text s) (λ os. finishBy os k (y .known) s) refl (λ o. refl)
 
-only : (st : sealed.State) (s : List ℕ) (b : ℕ) → isRefused (st .position .stage) ≡ false → onByte st s b ≡ byteBy (outcomes (openingsOf st s b)) st s b
+only : (st : sealed.State) (s : List ℕ) (b : ℕ) → isRefused (st .position .stage) ≡ false → onByte st s b ≡ byteBy (results (openingsOf st s b)) st s b
 unfolding openingsOf onByte byteBy
 only st s b e = reached-only (ltb (st .position .got + 1) (size st)) (absorbed st (b ∷ [])) (stored st s (b ∷ [])) e
 
@@ -308,7 +308,7 @@ record Secured (st : State) : Type 0 where
   ready : st .ready ≡ false
 
 secure-answer : (st : State) (s piece : List ℕ) → Secured st
-    → (answer st s piece ≡ bySecure st (step.answer (st .secure) s piece)) × (openingsBy st s piece ≡ openingsOn (st .secure) s piece)
+    → (answer st s piece ≡ bySecure st (step.answer (st .sealed) s piece)) × (openingsBy st s piece ≡ openingsOn (st .sealed) s piece)
 unfolding answer openingsBy
 secure-answer st s piece z = (rw (z .ready, z .mode), rw (z .ready, z .mode))
 
@@ -329,28 +329,28 @@ still st c e w = (let d = switch-refused st e in w .state ∙ ap (λ (j : Judged
 
 -- the state that a call hands back
 module _ (st : State) (c : Lent) (z : Secured st) (a : Answered st (c .store) (c .piece) (c .received) (c .after)) where
-  handed-back : c .received .state ≡ bySecure st (step.answer (st .secure) (c .store) (c .piece)) .received .state
+  handed-back : c .received .state ≡ bySecure st (step.answer (st .sealed) (c .store) (c .piece)) .received .state
   handed-back = ap (λ (y : Received). y .state) (a .received ∙ ap (λ (y : Answer). y .received) (secure-answer st (c .store) (c .piece) z .0))
 
   still-secured : Secured (c .received .state)
   still-secured = record { mode = ap (λ (y : State). y .mode) handed-back ∙ z .mode; ready = ap (λ (y : State). y .ready) handed-back ∙ z .ready }
 
-  after-secured : isRefused (st .secure .position .stage) ≡ false → openedOf (st .secure .known .receiving) ≤ allNonces
-      → AfterOpenings (st .secure .known .receiving) (openingsBy st (c .store) (c .piece)) (c .received .state .secure)
+  after-secured : isRefused (st .sealed .position .stage) ≡ false → openedOf (st .sealed .known .receiving) ≤ allNonces
+      → AfterOpenings (st .sealed .known .receiving) (openingsBy st (c .store) (c .piece)) (c .received .state .sealed)
   after-secured e l =
-      subst (λ (y : sealed.State). AfterOpenings (st .secure .known .receiving) (openingsBy st (c .store) (c .piece)) y) (sym (ap (λ (y : State). y .secure) handed-back))
-      (subst (λ (os : List Opening). AfterOpenings (st .secure .known .receiving) os (step.answer (st .secure) (c .store) (c .piece) .received .state)) (sym (secure-answer st (c .store) (c .piece) z .1))
-      (after-call (st .secure) (c .store) (c .piece) e l))
+      subst (λ (y : sealed.State). AfterOpenings (st .sealed .known .receiving) (openingsBy st (c .store) (c .piece)) y) (sym (ap (λ (y : State). y .sealed) handed-back))
+      (subst (λ (os : List Opening). AfterOpenings (st .sealed .known .receiving) os (step.answer (st .sealed) (c .store) (c .piece) .received .state)) (sym (secure-answer st (c .store) (c .piece) z .1))
+      (after-call (st .sealed) (c .store) (c .piece) e l))
 
-  secured-refused : isRefused (st .secure .position .stage) ≡ true → (openingsBy st (c .store) (c .piece) ≡ []) × (isRefused (c .received .state .secure .position .stage) ≡ true)
+  secured-refused : isRefused (st .sealed .position .stage) ≡ true → (openingsBy st (c .store) (c .piece) ≡ []) × (isRefused (c .received .state .sealed .position .stage) ≡ true)
   secured-refused e =
-      let g = call-refused (st .secure) (c .store) (c .piece) e in
-      (secure-answer st (c .store) (c .piece) z .1 ∙ g .0, ap (λ (y : State). isRefused (y .secure .position .stage)) handed-back ∙ g .1)
+      let g = call-refused (st .sealed) (c .store) (c .piece) e in
+      (secure-answer st (c .store) (c .piece) z .1 ∙ g .0, ap (λ (y : State). isRefused (y .sealed .position .stage)) handed-back ∙ g .1)
 
 -- ---- lists of calls
 
-refused-list : (st : State) (cs : List AnyCall) → Secured st → Handed st cs → isRefused (st .secure .position .stage) ≡ true
-    → (openings st cs ≡ []) × (isRefused (stateAfter st cs .secure .position .stage) ≡ true)
+refused-list : (st : State) (cs : List AnyCall) → Secured st → Handed st cs → isRefused (st .sealed .position .stage) ≡ true
+    → (openings st cs ≡ []) × (isRefused (stateAfter st cs .sealed .position .stage) ≡ true)
 refused-list st [] z ch e = (refl, e)
 refused-list st (taking c ∷ cs) z ch e =
     let g = secured-refused st c z (ch .0) e in
@@ -358,7 +358,7 @@ refused-list st (taking c ∷ cs) z ch e =
     (ap₂ (λ (os ps : List Opening). os ++ ps) (g .0) (rest .0), rest .1)
 refused-list st (switching c ∷ cs) z ch e =
     let q = still st c (z .ready) (ch .0) in
-    subst (λ (y : State). (openings y cs ≡ []) × (isRefused (stateAfter y cs .secure .position .stage) ≡ true)) (sym q)
+    subst (λ (y : State). (openings y cs ≡ []) × (isRefused (stateAfter y cs .sealed .position .stage) ≡ true)) (sym q)
     (refused-list st cs z (subst (λ (y : State). Handed y cs) q (ch .1)) e)
 
 by-after : (r : Receiving) (os ps : List Opening) (x y : sealed.State)
@@ -369,27 +369,27 @@ by-after r os ps x y live hasRefused (over a e) =
     let g = hasRefused e in
     over (subst (Ran r) (sym (ap (λ (l : List Opening). os ++ l) (g .0) ∙ append-nil os)) a) (g .1)
 
-after-list : (st : State) (cs : List AnyCall) → Secured st → Handed st cs → isRefused (st .secure .position .stage) ≡ false → openedOf (st .secure .known .receiving) ≤ allNonces
-    → AfterOpenings (st .secure .known .receiving) (openings st cs) (stateAfter st cs .secure)
-after-list st [] z ch e l = after-none (st .secure) e l
+after-list : (st : State) (cs : List AnyCall) → Secured st → Handed st cs → isRefused (st .sealed .position .stage) ≡ false → openedOf (st .sealed .known .receiving) ≤ allNonces
+    → AfterOpenings (st .sealed .known .receiving) (openings st cs) (stateAfter st cs .sealed)
+after-list st [] z ch e l = after-none (st .sealed) e l
 after-list st (taking c ∷ cs) z ch e l =
     let z′ = still-secured st c z (ch .0) in
-    by-after (st .secure .known .receiving) (openingsBy st (c .store) (c .piece)) (openings (c .received .state) cs) (c .received .state .secure) (stateAfter (c .received .state) cs .secure)
+    by-after (st .sealed .known .receiving) (openingsBy st (c .store) (c .piece)) (openings (c .received .state) cs) (c .received .state .sealed) (stateAfter (c .received .state) cs .sealed)
     (λ u v. after-list (c .received .state) cs z′ (ch .1) u v) (λ u. refused-list (c .received .state) cs z′ (ch .1) u) (after-secured st c z (ch .0) e l)
 after-list st (switching c ∷ cs) z ch e l =
     let q = still st c (z .ready) (ch .0) in
-    subst (λ (y : State). AfterOpenings (st .secure .known .receiving) (openings y cs) (stateAfter y cs .secure)) (sym q) (after-list st cs z (subst (λ (y : State). Handed y cs) q (ch .1)) e l)
+    subst (λ (y : State). AfterOpenings (st .sealed .known .receiving) (openings y cs) (stateAfter y cs .sealed)) (sym q) (after-list st cs z (subst (λ (y : State). Handed y cs) q (ch .1)) e l)
 
 -- from the switch on
 after-switch : (st : State) (c : Try) (cs : List AnyCall) → Made st c → Handed (c .switched .state) cs
-    → AfterOpenings (freshReceiving (c .key) (c .receiving)) (openings (c .switched .state) cs) (stateAfter (c .switched .state) cs .secure)
+    → AfterOpenings (freshReceiving (c .key) (c .receiving)) (openings (c .switched .state) cs) (stateAfter (c .switched .state) cs .sealed)
 unfolding switched freshReceiving
 after-switch st c cs m ch =
     let S : State = switchedState fine st (c .key) (c .receiving) in
     let w = m .switched in
-    let q : c .switched .state ≡ S = w .state ∙ ap (λ (j : Judged). switchedState j st (c .key) (c .receiving)) (sym (w .verdict) ∙ m .verdict) in
+    let q : c .switched .state ≡ S = w .state ∙ ap (λ (j : Judged). switchedState j st (c .key) (c .receiving)) (sym (w .judgement) ∙ m .judgement) in
     let z : Secured S = record { mode = refl; ready = refl } in
-    subst (λ (y : State). AfterOpenings (freshReceiving (c .key) (c .receiving)) (openings y cs) (stateAfter y cs .secure)) (sym q)
+    subst (λ (y : State). AfterOpenings (freshReceiving (c .key) (c .receiving)) (openings y cs) (stateAfter y cs .sealed)) (sym q)
     (after-list S cs z (subst (λ (y : State). Handed y cs) q ch) refl (omega arith))
 
 ran-of : {r : Receiving} {os : List Opening} {y : sealed.State} → AfterOpenings r os y → Ran r os
@@ -400,7 +400,7 @@ pub from-switch : (st : State) (c : Try) (cs : List AnyCall) → Made st c → H
 from-switch st c cs m ch = ran-of (after-switch st c cs m ch)
 
 -- as many as the state counts
-length-nonces : (os : List Opening) → length (noncesOf os) ≡ length os
+length-nonces : (os : List Opening) → length (openingNonces os) ≡ length os
 length-nonces [] = refl
 length-nonces (o ∷ os) = ap (λ (n : ℕ). suc n) (length-nonces os)
 
@@ -410,12 +410,12 @@ count-of {r} {os} (further a o) e =
 count-of (over a g) e = wrong (sym e ∙ g)
 
 counted : (st : State) (c : Try) (cs : List AnyCall) → Made st c → Handed (c .switched .state) cs
-    → isRefused (stateAfter (c .switched .state) cs .secure .position .stage) ≡ false
-    → openedOf (stateAfter (c .switched .state) cs .secure .known .receiving) ≡ length (openings (c .switched .state) cs)
+    → isRefused (stateAfter (c .switched .state) cs .sealed .position .stage) ≡ false
+    → openedOf (stateAfter (c .switched .state) cs .sealed .known .receiving) ≡ length (openings (c .switched .state) cs)
 unfolding freshReceiving
 counted st c cs m ch e = count-of (after-switch st c cs m ch) e ∙ omega arith
 
-different : (st : State) (c : Try) (cs : List AnyCall) → Made st c → Handed (c .switched .state) cs → AllDifferent (noncesOf (openings (c .switched .state) cs))
+different : (st : State) (c : Try) (cs : List AnyCall) → Made st c → Handed (c .switched .state) cs → AllDifferent (openingNonces (openings (c .switched .state) cs))
 unfolding freshReceiving
 different st c cs m ch = (let a = from-switch st c cs m ch in rw (a .is) (all-different (a .count) (c .receiving) (omega (arith, a .fits))))
 

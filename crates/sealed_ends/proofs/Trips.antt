@@ -32,20 +32,20 @@ use Rattle.sealed_builder.specs.Trip.{SentBack}
 use Rattle.sealed_builder.proofs.NoNonceTwice.{spent-more}
 use Rattle.sealed_builder.proofs.Trip.{sent-back}
 use Rattle.ends.specs.Handed.{isEarly}
-use Rattle.ends.specs.Trip as plain
+use Rattle.ends.specs.Trip as crc-trip
 use Rattle.ends.specs.Ends as crc-ends
 use Rattle.ends.specs.Ends.{Fitting, allEntries, storeAfterAll}
 use Rattle.ends.proofs.Builds as crc-builds
 use Rattle.ends.proofs.Trips.{kept-length, sent-is, sent-length, sent-entries}
-use Rattle.connection.specs.Switched.{Switch, behind, closes, spliced, traceWith, framesIn}
+use Rattle.connection.specs.Switched.{Switch, behind, endsFrame, spliced, traceWith, framesIn}
 use Rattle.connection.specs.Step.{switchedSending}
 use Rattle.connection.specs.Calls.{takenBy}
-use Rattle.connection.proofs.Scans.{LastCloses}
+use Rattle.connection.proofs.Scans.{LastEndsFrame}
 use Rattle.connection.proofs.Splices.{spliced-there}
 use Rattle.sealed_ends.specs.Fronts.{bytesIn, sealedIn, switchIn, traceIn, spentIn, nextIn}
 use Rattle.sealed_ends.specs.Trip.{writtenBy, bytesOf, Accepts, eventOf, storeAfter, SealedRoundTrip}
 use Rattle.sealed_ends.specs.Ends.{Queued, bufferBy, queuedBy, partsBy, FittingSealed, sealedEntries, storeAfterSealed, SwitchedLink, bufferAt, queuedAt, SwitchedLinked, sentBy, switchedAt, storeAt, SealedTwoEnds}
-use Rattle.sealed_ends.proofs.Judging.{least}
+use Rattle.secure.proofs.Bounds.{least}
 use Rattle.sealed_ends.proofs.Concatenation.{fuel}
 use Rattle.sealed_ends.proofs.Fronts.{last-cons, follows, same, reported}
 use Rattle.sealed_ends.proofs.Builds.{appended, allBytes, queued-up}
@@ -166,55 +166,55 @@ builds-entries (suc f) k s buf queued P (b ∷ bs) Y store q fit hf hk =
 
 -- ---- the crc builds of a link: their last entry, and how many there are
 
-closings-two : (es fs : List Entry) → framesIn (es ++ fs) ≡ framesIn es + framesIn fs
-closings-two [] fs = sym (zero-add (framesIn fs))
-closings-two (e ∷ es) fs = go (closes (e .event)) (closings-two es fs)
+frame-ends-two : (es fs : List Entry) → framesIn (es ++ fs) ≡ framesIn es + framesIn fs
+frame-ends-two [] fs = sym (zero-add (framesIn fs))
+frame-ends-two (e ∷ es) fs = go (endsFrame (e .event)) (frame-ends-two es fs)
   where
     go : (c : Bool) → framesIn (es ++ fs) ≡ framesIn es + framesIn fs
         → cond c (suc (framesIn (es ++ fs))) (framesIn (es ++ fs)) ≡ cond c (suc (framesIn es)) (framesIn es) + framesIn fs
     go true e = omega arith
     go false e = e
 
-last-two : (es fs : List Entry) (t : ℕ) (s : List ℕ) → LastCloses fs t s → LastCloses (es ++ fs) t s
+last-two : (es fs : List Entry) (t : ℕ) (s : List ℕ) → LastEndsFrame fs t s → LastEndsFrame (es ++ fs) t s
 last-two [] fs t s l = l
 last-two (e ∷ es) fs t s l = last-cons e (es ++ fs) t s (last-two es fs t s l)
 
 module _ (r : Revision) where
   -- where the last one ends
-  abbrev placeBy : ℕ → List plain.Build → ℕ
+  abbrev placeBy : ℕ → List crc-trip.Build → ℕ
   placeBy P [] = P
   placeBy P (b ∷ bs) = placeBy (P + wireLength r (b .header)) bs
 
-  build-closes : (a : Bool) (h : Header) → closes (cond a (Dropped h) (Frame h)) ≡ true
-  build-closes true h = refl
-  build-closes false h = refl
+  build-ends : (a : Bool) (h : Header) → endsFrame (cond a (Dropped h) (Frame h)) ≡ true
+  build-ends true h = refl
+  build-ends false h = refl
 
-  one-closing : (P : ℕ) (s : List ℕ) (b : plain.Build) → framesIn (plain.entriesOf r P s b) ≡ 1
-  one-closing P s b =
-      closings-two (plain.earlyEntry r P s b) (entry (plain.eventOf b) (P + wireLength r (b .header)) (plain.storeAfter b s) ∷ [])
-      ∙ ap₂ _+_ (early (isEarly r (b .header))) (ap (λ (c : Bool). cond c 1 0) (build-closes (b .abort) (b .header)))
+  one-frame-end : (P : ℕ) (s : List ℕ) (b : crc-trip.Build) → framesIn (crc-trip.entriesOf r P s b) ≡ 1
+  one-frame-end P s b =
+      frame-ends-two (crc-trip.earlyEntry r P s b) (entry (crc-trip.eventOf b) (P + wireLength r (b .header)) (crc-trip.storeAfter b s) ∷ [])
+      ∙ ap₂ _+_ (early (isEarly r (b .header))) (ap (λ (c : Bool). cond c 1 0) (build-ends (b .abort) (b .header)))
     where
       early : (c : Bool) → framesIn (cond c (entry (First (b .header)) (P + 36 + b .header .s1 .len) (replaceFront (take (b .header .s1 .len) (b .source)) s) ∷ []) []) ≡ 0
       early true = refl
       early false = refl
 
-  all-closings : (P : ℕ) (s : List ℕ) (bs : List plain.Build) → framesIn (allEntries r P s bs) ≡ length bs
-  all-closings P s [] = refl
-  all-closings P s (b ∷ bs) =
-      let i = all-closings (P + wireLength r (b .header)) (plain.storeAfter b s) bs in
-      let o = one-closing P s b in
-      closings-two (plain.entriesOf r P s b) (allEntries r (P + wireLength r (b .header)) (plain.storeAfter b s) bs) ∙ omega arith
+  all-frame-ends : (P : ℕ) (s : List ℕ) (bs : List crc-trip.Build) → framesIn (allEntries r P s bs) ≡ length bs
+  all-frame-ends P s [] = refl
+  all-frame-ends P s (b ∷ bs) =
+      let i = all-frame-ends (P + wireLength r (b .header)) (crc-trip.storeAfter b s) bs in
+      let o = one-frame-end P s b in
+      frame-ends-two (crc-trip.entriesOf r P s b) (allEntries r (P + wireLength r (b .header)) (crc-trip.storeAfter b s) bs) ∙ omega arith
 
-  all-last : (P : ℕ) (s : List ℕ) (bs : List plain.Build) → 0 < length bs → LastCloses (allEntries r P s bs) (placeBy P bs) (storeAfterAll bs s)
+  all-last : (P : ℕ) (s : List ℕ) (bs : List crc-trip.Build) → 0 < length bs → LastEndsFrame (allEntries r P s bs) (placeBy P bs) (storeAfterAll bs s)
   all-last P s [] l = absurd (omega arith)
   all-last P s (b ∷ []) l =
-      let x : List Entry = entry (plain.eventOf b) (P + wireLength r (b .header)) (plain.storeAfter b s) ∷ [] in
-      rw (append-nil (plain.earlyEntry r P s b ++ x)) (last-two (plain.earlyEntry r P s b) x _ _ (build-closes (b .abort) (b .header), refl, refl))
+      let x : List Entry = entry (crc-trip.eventOf b) (P + wireLength r (b .header)) (crc-trip.storeAfter b s) ∷ [] in
+      rw (append-nil (crc-trip.earlyEntry r P s b ++ x)) (last-two (crc-trip.earlyEntry r P s b) x _ _ (build-ends (b .abort) (b .header), refl, refl))
   all-last P s (b ∷ c ∷ bs) l =
-      last-two (plain.entriesOf r P s b) (allEntries r (P + wireLength r (b .header)) (plain.storeAfter b s) (c ∷ bs)) _ _
-      (all-last (P + wireLength r (b .header)) (plain.storeAfter b s) (c ∷ bs) (omega arith))
+      last-two (crc-trip.entriesOf r P s b) (allEntries r (P + wireLength r (b .header)) (crc-trip.storeAfter b s) (c ∷ bs)) _ _
+      (all-last (P + wireLength r (b .header)) (crc-trip.storeAfter b s) (c ∷ bs) (omega arith))
 
-  place-is : (P : ℕ) (buf : List ℕ) (queued : ℕ) (bs : List plain.Build) → crc-ends.Queued r buf queued bs → placeBy P bs ≡ P + length (crc-builds.allBytes r bs)
+  place-is : (P : ℕ) (buf : List ℕ) (queued : ℕ) (bs : List crc-trip.Build) → crc-ends.Queued r buf queued bs → placeBy P bs ≡ P + length (crc-builds.allBytes r bs)
   place-is P buf queued [] q = sym (add-zero P)
   place-is P buf queued (b ∷ bs) q =
       let a = crc-builds.appended r buf queued b (q .0) in
@@ -222,13 +222,13 @@ module _ (r : Revision) where
       let j = length-append X (crc-builds.allBytes r bs) in
       place-is (P + wireLength r (b .header)) (b .buffer) (queued + b .written) bs (q .1) ∙ omega (arith, a .length-bytes, a .wire)
 
-  all-long : (buf : List ℕ) (queued : ℕ) (bs : List plain.Build) (s : List ℕ) → crc-ends.Queued r buf queued bs → Fitting (length s) bs → length (storeAfterAll bs s) ≡ length s
+  all-long : (buf : List ℕ) (queued : ℕ) (bs : List crc-trip.Build) (s : List ℕ) → crc-ends.Queued r buf queued bs → Fitting (length s) bs → length (storeAfterAll bs s) ≡ length s
   all-long buf queued [] s q fit = refl
   all-long buf queued (b ∷ bs) s q fit =
       let k = kept-length b s (crc-builds.appended r buf queued b (q .0) .request .whole) (fit .0) in
-      all-long (b .buffer) (queued + b .written) bs (plain.storeAfter b s) (q .1) (rw k (fit .1)) ∙ k
+      all-long (b .buffer) (queued + b .written) bs (crc-trip.storeAfter b s) (q .1) (rw k (fit .1)) ∙ k
 
-queued-grows : (q : ℕ) (bs : List plain.Build) → q ≤ crc-ends.queuedBy q bs
+queued-grows : (q : ℕ) (bs : List crc-trip.Build) → q ≤ crc-ends.queuedBy q bs
 queued-grows q [] = le-refl q
 queued-grows q (b ∷ bs) = (let i = queued-grows (q + b .written) bs in omega arith)
 
@@ -259,7 +259,7 @@ module _ (r : Revision) (l : SwitchedLink) (k : SwitchedLinked r l) where
   fresh : l .switch .switched .sending ≡ freshSending (l .switch .key) (l .switch .sending)
   fresh =
       let s = k .switch in
-      s .sends ∙ ap (λ (j : Judged). switchedSending j (l .switch .key) (l .switch .sending)) (sym (s .verdict) ∙ k .made)
+      s .sends ∙ ap (λ (j : Judged). switchedSending j (l .switch .key) (l .switch .sending)) (sym (s .judgement) ∙ k .made)
 
 module _ (own : Features) (store : List ℕ) (l : SwitchedLink) (k : SwitchedLinked (revisionOf (own .supported) (l .crc .features .supported)) l)
     (ours : judgeOwn (own .supported) (own .required) ≡ fine)
@@ -277,7 +277,7 @@ module _ (own : Features) (store : List ℕ) (l : SwitchedLink) (k : SwitchedLin
   abbrev sw : Switch
   sw = behind (length (l .crc .builds)) (l .switch .key) (l .switch .sending)
 
-  last-before : LastCloses before (length clear) (storeAt l store)
+  last-before : LastEndsFrame before (length clear) (storeAt l store)
   last-before =
       let bs = l .crc .builds in
       let B : List ℕ = bannerBytes (l .crc .features .supported) (l .crc .features .required) in
@@ -285,7 +285,7 @@ module _ (own : Features) (store : List ℕ) (l : SwitchedLink) (k : SwitchedLin
       place-is r bannerLength (l .crc .buffer) (l .crc .queued + l .crc .written) bs (k .crc .builds)
       ∙ sym (ap length (sent-is r (l .crc) (k .crc)) ∙ length-append B (crc-builds.allBytes r bs)) in
       last-cons _ (allEntries r bannerLength store bs) (length clear) (storeAt l store)
-      (subst (λ (n : ℕ). LastCloses (allEntries r bannerLength store bs) n (storeAt l store)) place (all-last r bannerLength store bs (k .some)))
+      (subst (λ (n : ℕ). LastEndsFrame (allEntries r bannerLength store bs) n (storeAt l store)) place (all-last r bannerLength store bs (k .some)))
 
   -- any bytes behind the switch
   switched-entries : (Z : List ℕ)
@@ -295,7 +295,7 @@ module _ (own : Features) (store : List ℕ) (l : SwitchedLink) (k : SwitchedLin
       let later : List Entry = crc.frames (length Z) r (length clear) Z (storeAt l store) .entries in
       let last : List ℕ = traceOf own (clear ++ Z) store .store in
       ap (λ (t : Trace). t .entries)
-      (ap₂ (λ (n : ℕ) (es : List Entry). spliced n next es last) (sym (all-closings r bannerLength store (l .crc .builds))) (sent-entries own store (l .crc) (k .crc) ours fit fits Z)
+      (ap₂ (λ (n : ℕ) (es : List Entry). spliced n next es last) (sym (all-frame-ends r bannerLength store (l .crc .builds))) (sent-entries own store (l .crc) (k .crc) ours fit fits Z)
       ∙ spliced-there next later last before (length clear) (storeAt l store) last-before)
       ∙ ap (λ (x : List ℕ). before ++ sealedTrace (l .switch .key) (l .switch .sending) 0 (length clear) x (storeAt l store) .entries) (drop-at clear Z (length clear) refl)
 

@@ -8,7 +8,7 @@ use lib.Dec.{eqb}
 use Rattle.banner.specs.declared.Features.{Features}
 use Rattle.banner.specs.declared.Revision.{Revision}
 use Rattle.banner.specs.Banner.{judgeOwn}
-use Rattle.stream.specs.Events.{Role, bannerEnd, firstEnd, frameEnd, streamEnd, roleOf, closes}
+use Rattle.stream.specs.Events.{Role, bannerEnd, firstEnd, frameEnd, streamEnd, roleOf, endsFrame}
 use Rattle.stream.specs.Stream.{Entry}
 use Rattle.stream.specs.Adds.{AddsAt, AddsUp}
 use Rattle.secure.specs.Layout.{sealedLength}
@@ -17,16 +17,16 @@ use Rattle.connection.specs.Step.{begun}
 use Rattle.connection.specs.Calls.{Call, Chained, listOf, switchBy}
 
 -- a sealed frame's entry from P on, and what is asked of the later ones
-abbrev pub SealedAt : ℕ → Role → ℕ → (ℕ → Type 0) → Type 0
-SealedAt P (bannerEnd p r) at later = ⊥
-SealedAt P (firstEnd h) at later = ⊥
-SealedAt P (frameEnd h) at later = (at ≡ P + sealedLength h) × later at
-SealedAt P (streamEnd n) at later = P < at
+abbrev pub SealedAddsAt : ℕ → Role → ℕ → (ℕ → Type 0) → Type 0
+SealedAddsAt P (bannerEnd p r) at later = ⊥
+SealedAddsAt P (firstEnd h) at later = ⊥
+SealedAddsAt P (frameEnd h) at later = (at ≡ P + sealedLength h) × later at
+SealedAddsAt P (streamEnd n) at later = P < at
 
 -- sealed frames from P on
 abbrev pub SealedAdds : ℕ → List Entry → Type 0
 SealedAdds P [] = Unit {0}
-SealedAdds P (e ∷ es) = SealedAt P (roleOf (e .event)) (e .at) (λ Q. SealedAdds Q es)
+SealedAdds P (e ∷ es) = SealedAddsAt P (roleOf (e .event)) (e .at) (λ Q. SealedAdds Q es)
 
 abbrev pub either : Bool → Type 0 → Type 0 → Type 0
 either true a b = a
@@ -37,7 +37,7 @@ abbrev pub AddsBehind : ℕ → Revision → ℕ → List Entry → Type 0
 AddsBehind n revision P [] = Unit {0}
 AddsBehind n revision P (e ∷ es) =
     AddsAt revision P (roleOf (e .event)) (e .at)
-    (λ Q. either (closes (e .event) && eqb n 1) (SealedAdds Q es) (AddsBehind (cond (closes (e .event)) (n - 1) n) revision Q es))
+    (λ Q. either (endsFrame (e .event) && eqb n 1) (SealedAdds Q es) (AddsBehind (cond (endsFrame (e .event)) (n - 1) n) revision Q es))
 
 abbrev pub FirstBehind : ℕ → Role → ℕ → List Entry → Type 0
 FirstBehind n (bannerEnd p r) at es = AddsBehind n r at es

@@ -14,7 +14,7 @@ use Rattle.connection.specs.declared.State.{State}
 use Rattle.connection.specs.Step.{SwitchedWith}
 use Rattle.connection.specs.Calls.{Try}
 use Rattle.connection.specs.Every.{AnyCall, Handed}
-use Rattle.sealed_ends.specs.Openings.{openings, noncesOf, Made}
+use Rattle.sealed_ends.specs.Openings.{openings, openingNonces, Made}
 
 -- a nonce's first 4 bytes, and its counter so many parts on
 abbrev pub fixedPart : List ℕ → List ℕ
@@ -41,14 +41,14 @@ pub record TwoDirections : Type 0 where
   pub key : (st : State) (c : Try) (bs : List Build) → Made st c → Chained (c .switched .sending) bs → sendingAfter (c .switched .sending) bs .key ≡ c .key
   -- from a switch on: any builds with its sending state, and any calls
   pub opened : (st : State) (c : Try) (bs : List Build) (cs : List AnyCall) → Made st c → Chained (c .switched .sending) bs → Handed (c .switched .state) cs
-      → Apart (c .sending) (length (used (c .switched .sending) bs)) (c .receiving) (length (noncesOf (openings (c .switched .state) cs)))
-      → NoneShared (used (c .switched .sending) bs) (noncesOf (openings (c .switched .state) cs))
+      → Apart (c .sending) (length (used (c .switched .sending) bs)) (c .receiving) (length (openingNonces (openings (c .switched .state) cs)))
+      → NoneShared (used (c .switched .sending) bs) (openingNonces (openings (c .switched .state) cs))
   -- and what the two ends seal, each from its own switch on, whether it has come in or not
   pub sealed : (st st′ : State) (c c′ : Try) (bs bs′ : List Build) → Made st c → Made st′ c′
       → Chained (c .switched .sending) bs → Chained (c′ .switched .sending) bs′
       → Apart (c .sending) (length (used (c .switched .sending) bs)) (c′ .sending) (length (used (c′ .switched .sending) bs′))
       → NoneShared (used (c .switched .sending) bs) (used (c′ .switched .sending) bs′)
   -- nothing is sealed with what a refused try hands back: every build gives 27 and changes nothing
-  pub none : (st : State) (c : Try) (n : Numbers) (b : Build) → SwitchedWith st (c .key) (c .receiving) (c .sending) (c .switched) → judgedBy (c .switched .verdict) ≡ refused n
+  pub none : (st : State) (c : Try) (n : Numbers) (b : Build) → SwitchedWith st (c .key) (c .receiving) (c .sending) (c .switched) → judgedBy (c .switched .judgement) ≡ refused n
       → Meets (c .switched .sending) b
       → (outcomeOf (b .answer .built) ≡ refusedFor (numbersOf SwitchRefused)) × (b .answer .sending ≡ c .switched .sending) × (b .after ≡ b .buffer)

@@ -81,7 +81,7 @@ pub record SwitchedLinked (revision : Revision) (l : SwitchedLink) : Type 0 wher
   pub crc : Linked revision (l .crc)
   pub some : 0 < length (l .crc .builds)
   pub switch : SwitchedWith (l .state) (l .switch .key) (l .switch .receiving) (l .switch .sending) (l .switch .switched)
-  pub made : judgedBy (l .switch .switched .verdict) ≡ fine
+  pub made : judgedBy (l .switch .switched .judgement) ≡ fine
   pub builds : Queued (l .switch .switched .sending) (bufferAt l) (queuedAt l) (l .builds)
 
 -- the bytes that were queued

@@ -6,24 +6,22 @@ use mathlib.Core.List.{List, _∷_, _++_}
 use mathlib.Core.Bool.{true, false, cond}
 use Prim.Native.Nat.{ℕ, zero, suc, _+_, _-_, _≤_, _<_}
 use lib.ListN.{length, take, drop, getD}
-use Rattle.buffer.specs.Le.{numberAt}
-use Rattle.crc32c.specs.Crc.{crcOf}
 use Rattle.refusal.specs.Refusals.{fine}
 use Rattle.banner.specs.declared.Features.{Features}
 use Rattle.banner.specs.declared.Revision.{Revision}
 use Rattle.banner.specs.declared.Revision.the-variants.{Msgr21}
 use Rattle.banner.specs.Banner.{judgeOwn}
 use Rattle.preamble.specs.declared.Header.{Header}
-use Rattle.preamble.specs.Judge.{headerOf, judgeShape, judgeFlags, judgeTag, judgeLimits, judgeStore}
+use Rattle.preamble.specs.Judge.{headerOf, judgeStore}
+use Rattle.preamble.specs.Checked.{CheckedPreamble}
 use Rattle.body.specs.declared.Late.{Late}
 use Rattle.body.specs.declared.Late.the-variants as late
 use Rattle.body.specs.End.{lateOf}
 use Rattle.stream.specs.declared.Event.the-variants.{Frame, Dropped}
-use Rattle.stream.specs.Stream.{Entry, entry}
-use Rattle.receiver.specs.Calls.{refusedIn}
+use Rattle.stream.specs.Stream.{Entry, entry, refusedIn}
 use Rattle.aes.specs.Aes.{State, keyExpansion}
 use Rattle.gcm.specs.Gcm.{plain, openedBy}
-use Rattle.secure.specs.Layout.{allNonces, nextNonce, nonceAfter, roundUp, inlineLength, lastLengths, firstLength, noRest, noLast, restPartLength, lastPartLength, sealedLength, partCount, needed}
+use Rattle.secure.specs.Layout.{allNonces, nextNonce, nonceAfter, roundUp, inlineLength, lastLengths, firstLength, noSecondPart, noLastPart, secondPartLength, lastPartLength, sealedLength, partCount, needed}
 use Rattle.secure.specs.Reading.{zeroed, holding, sealedTrace}
 use Rattle.sealed_receiver.specs.Step.{textOf}
 use Rattle.ends.specs.Handed.{isFrame, isDrop, firstIs}
@@ -52,18 +50,18 @@ unfoldable pub headerIn : List State → List ℕ → List ℕ → Header
 headerIn w nonce X = headerOf (firstIn w nonce X)
 
 -- the rest of segment 1, where there is one
-abbrev pub restBytes : Header → List ℕ → List ℕ
-restBytes h X = take (restPartLength h) (drop firstLength X)
+abbrev pub secondBytes : Header → List ℕ → List ℕ
+secondBytes h X = take (secondPartLength h) (drop firstLength X)
 
-abbrev pub restIn : List State → List ℕ → Header → List ℕ → List ℕ
-restIn w nonce h X = textIn w (nextNonce nonce) (restBytes h X)
+abbrev pub secondIn : List State → List ℕ → Header → List ℕ → List ℕ
+secondIn w nonce h X = textIn w (nextNonce nonce) (secondBytes h X)
 
 -- and the last part; its nonce is that behind the parts before it
 abbrev pub lastBytes : Header → List ℕ → List ℕ
-lastBytes h X = take (lastPartLength h) (drop (firstLength + restPartLength h) X)
+lastBytes h X = take (lastPartLength h) (drop (firstLength + secondPartLength h) X)
 
 abbrev pub lastNonce : Header → List ℕ → List ℕ
-lastNonce h nonce = nonceAfter (1 + cond (noRest h) 0 1) nonce
+lastNonce h nonce = nonceAfter (1 + cond (noSecondPart h) 0 1) nonce
 
 abbrev pub lastIn : List State → List ℕ → Header → List ℕ → List ℕ
 lastIn w nonce h X = textIn w (lastNonce h nonce) (lastBytes h X)
@@ -88,7 +86,7 @@ segmentsOf h first rest last =
 
 -- whether the frame is complete, by its late status; a frame without one always is
 abbrev pub lateBy : Header → List ℕ → Late
-lateBy h last = cond (noLast h) late.Complete (lateOf Msgr21 (getD last (placeAt h 3) 0))
+lateBy h last = cond (noLastPart h) late.Complete (lateOf Msgr21 (getD last (placeAt h 3) 0))
 
 -- bytes i up to k of a text are zeros
 abbrev pub ZerosAt : ℕ → ℕ → List ℕ → Type 0
@@ -97,20 +95,11 @@ ZerosAt i k text = (j : ℕ) → i ≤ j → j < k → getD text j 0 ≡ 0
 -- all padding is zero: behind segment 1 in the inline buffer, behind its rest, behind each other segment, and behind the late status
 pub record Padded (h : Header) (first rest last : List ℕ) : Type 0 where
   pub inline : ZerosAt (32 + h .s1 .len) (32 + inlineLength) first
-  pub behindRest : noRest h ≡ false → ZerosAt (h .s1 .len - inlineLength) (roundUp (h .s1 .len - inlineLength)) rest
-  pub segments : noLast h ≡ false → (k : ℕ) → k < 3 → ZerosAt (placeAt h k + lengthAt h k) (placeAt h (suc k)) last
-  pub epilogue : noLast h ≡ false → ZerosAt (placeAt h 3 + 1) (placeAt h 3 + 16) last
+  pub second : noSecondPart h ≡ false → ZerosAt (h .s1 .len - inlineLength) (roundUp (h .s1 .len - inlineLength)) rest
+  pub segments : noLastPart h ≡ false → (k : ℕ) → k < 3 → ZerosAt (placeAt h k + lengthAt h k) (placeAt h (suc k)) last
+  pub epilogue : noLastPart h ≡ false → ZerosAt (placeAt h 3 + 1) (placeAt h 3 + 16) last
 
--- the preamble: its CRC32-C, and 01's checks of its fields, in a store of so many bytes
-pub record CheckedPreamble (first : List ℕ) (store : ℕ) : Type 0 where
-  pub checksum : crcOf 0 (take 28 first) ≡ numberAt 4 28 first
-  pub shape : judgeShape (headerOf first) ≡ fine
-  pub flags : judgeFlags (getD first 26 0) (getD first 27 0) ≡ fine
-  pub tag : judgeTag (headerOf first .tag) ≡ fine
-  pub limits : judgeLimits (headerOf first) ≡ fine
-  pub room : judgeStore (needed (headerOf first)) store ≡ fine
-
--- ---- the checks of the whole frame, behind n parts that were opened
+-- ---- the checks of the whole frame, behind n parts that were opened, in a store of so many bytes
 
 pub record CheckedSealed (kind : Late) (w : List State) (nonce : List ℕ) (n : ℕ) (X : List ℕ) (store : ℕ) : Type 0 where
   pub arrived : sealedLength (headerIn w nonce X) ≤ length X
@@ -118,16 +107,17 @@ pub record CheckedSealed (kind : Late) (w : List State) (nonce : List ℕ) (n : 
   pub nonces : (k : ℕ) → k < partCount (headerIn w nonce X) → n + k < allNonces
   -- and its tag is good
   pub first : Opens w nonce (firstBytes X)
-  pub rest : noRest (headerIn w nonce X) ≡ false → Opens w (nextNonce nonce) (restBytes (headerIn w nonce X) X)
-  pub last : noLast (headerIn w nonce X) ≡ false → Opens w (lastNonce (headerIn w nonce X) nonce) (lastBytes (headerIn w nonce X) X)
-  pub preamble : CheckedPreamble (firstIn w nonce X) store
-  pub padding : Padded (headerIn w nonce X) (firstIn w nonce X) (restIn w nonce (headerIn w nonce X) X) (lastIn w nonce (headerIn w nonce X) X)
+  pub second : noSecondPart (headerIn w nonce X) ≡ false → Opens w (nextNonce nonce) (secondBytes (headerIn w nonce X) X)
+  pub last : noLastPart (headerIn w nonce X) ≡ false → Opens w (lastNonce (headerIn w nonce X) nonce) (lastBytes (headerIn w nonce X) X)
+  pub preamble : CheckedPreamble (firstIn w nonce X)
+  pub room : judgeStore (needed (headerIn w nonce X)) store ≡ fine
+  pub padding : Padded (headerIn w nonce X) (firstIn w nonce X) (secondIn w nonce (headerIn w nonce X) X) (lastIn w nonce (headerIn w nonce X) X)
   -- complete or aborted
   pub late : lateBy (headerIn w nonce X) (lastIn w nonce (headerIn w nonce X) X) ≡ kind
 
 -- its segments
 abbrev pub segmentsIn : List State → List ℕ → Header → List ℕ → List ℕ
-segmentsIn w nonce h X = segmentsOf h (firstIn w nonce X) (restIn w nonce h X) (lastIn w nonce h X)
+segmentsIn w nonce h X = segmentsOf h (firstIn w nonce X) (secondIn w nonce h X) (lastIn w nonce h X)
 
 -- ---- the claim
 

@@ -19,7 +19,7 @@ use Rattle.sealed_receiver.specs.declared.Known.{Known}
 use Rattle.sealed_receiver.specs.declared.State as sealed
 use Rattle.sealed_receiver.specs.State.{isRefused, openedOf}
 use Rattle.sealed_receiver.specs.State as sealed-states
-use Rattle.sealed_receiver.specs.Step.{withOpened, Stepped, silent, refuse, unlessRefused, judgeOpened, textOf, behindFirst, behindRest, behindLast, sealedIn, absorbed, stored, size, onByte, neededBy}
+use Rattle.sealed_receiver.specs.Step.{withOpened, Stepped, silent, refuse, unlessRefused, judgeOpened, textOf, afterFirstPart, afterSecondPart, afterLastPart, sealedIn, absorbed, stored, size, onByte, neededBy}
 use Rattle.sealed_builder.specs.Nonces.{AllDifferent}
 use Rattle.connection.specs.declared.State.{State}
 use Rattle.connection.specs.Step.{isSecure, readyRule, SwitchedWith}
@@ -34,13 +34,13 @@ pub record Opening : Type 0 where
   pub nonce : List ℕ
   pub bytes : List ℕ
 
-abbrev pub outcomeOf : Opening → Opened
-outcomeOf o = opened (o .key) (o .nonce) (o .bytes)
+abbrev pub resultOf : Opening → Opened
+resultOf o = opened (o .key) (o .nonce) (o .bytes)
 
 -- the part whose last byte came; block holds a first part's bytes
 abbrev pub partBytes : Stage → List ℕ → Header → List ℕ → List ℕ
 partBytes stage.First block h s = block
-partBytes stage.Rest block h s = sealedIn stage.Rest h s
+partBytes stage.Second block h s = sealedIn stage.Second h s
 partBytes stage.Last block h s = sealedIn stage.Last h s
 partBytes stage.Refused block h s = []
 
@@ -58,33 +58,33 @@ openingAt false st s =
 unfoldable pub openingsOf : sealed.State → List ℕ → ℕ → List Opening
 openingsOf st s b = openingAt (ltb (st .position .got + 1) (size st)) (absorbed st (b ∷ [])) (stored st s (b ∷ []))
 
--- ---- and nothing else: what a byte comes to by the outcomes of these openings alone
+-- ---- and nothing else: what a byte comes to by the results of these openings alone
 
 -- what 18 and 17 leave in the store
-abbrev pub leftBy : Stage → Header → List ℕ → List ℕ
-leftBy stage.First h s = s
-leftBy stage.Rest h s = zeroed h s
-leftBy stage.Last h s = zeroed h s
-leftBy stage.Refused h s = s
+abbrev pub storeLeftBy : Stage → Header → List ℕ → List ℕ
+storeLeftBy stage.First h s = s
+storeLeftBy stage.Second h s = zeroed h s
+storeLeftBy stage.Last h s = zeroed h s
+storeLeftBy stage.Refused h s = s
 
 abbrev pub behindBy : Stage → Known → List ℕ → List ℕ → Stepped
-behindBy stage.First v text s = behindFirst v text s
-behindBy stage.Rest v text s = behindRest v text s
-behindBy stage.Last v text s = behindLast v text s
+behindBy stage.First v text s = afterFirstPart v text s
+behindBy stage.Second v text s = afterSecondPart v text s
+behindBy stage.Last v text s = afterLastPart v text s
 behindBy stage.Refused v text s = refuse (numbersOf refusal.NoncesSpent) s
 
 -- the last byte of a part: 18 where nothing was opened, 17, or what its text leads to
 abbrev pub finishBy : List Opened → Stage → Known → List ℕ → Stepped
-finishBy [] k v s = refuse (numbersOf refusal.NoncesSpent) (leftBy k (v .header) s)
-finishBy (o ∷ os) k v s = unlessRefused (judgeOpened o) (leftBy k (v .header) s) (behindBy k (withOpened v) (textOf o) s)
+finishBy [] k v s = refuse (numbersOf refusal.NoncesSpent) (storeLeftBy k (v .header) s)
+finishBy (o ∷ os) k v s = unlessRefused (judgeOpened o) (storeLeftBy k (v .header) s) (behindBy k (withOpened v) (textOf o) s)
 
 abbrev pub reachedBy : List Opened → Bool → sealed.State → List ℕ → Stepped
 reachedBy os true st s = silent st s
 reachedBy os false st s = finishBy os (st .position .stage) (st .known) s
 
-abbrev pub outcomes : List Opening → List Opened
-outcomes [] = []
-outcomes (o ∷ os) = outcomeOf o ∷ outcomes os
+abbrev pub results : List Opening → List Opened
+results [] = []
+results (o ∷ os) = resultOf o ∷ results os
 
 unfoldable pub byteBy : List Opened → sealed.State → List ℕ → ℕ → Stepped
 byteBy os st s b = reachedBy os (ltb (st .position .got + 1) (size st)) (absorbed st (b ∷ [])) (stored st s (b ∷ []))
@@ -107,7 +107,7 @@ openingsOn st s piece =
 
 -- and nothing before a switch
 unfoldable pub openingsBy : State → List ℕ → List ℕ → List Opening
-openingsBy st s piece = cond (readyRule st) (cond (isSecure (st .mode)) (openingsOn (st .secure) s piece) []) []
+openingsBy st s piece = cond (readyRule st) (cond (isSecure (st .mode)) (openingsOn (st .sealed) s piece) []) []
 
 -- ---- lists of calls, each given the state that the last one handed back: with any piece and any store, or a try to switch
 
@@ -123,9 +123,9 @@ stateAfter st (switching c ∷ cs) = stateAfter (c .switched .state) cs
 
 -- ---- the claim
 
-abbrev pub noncesOf : List Opening → List (List ℕ)
-noncesOf [] = []
-noncesOf (o ∷ os) = o .nonce ∷ noncesOf os
+abbrev pub openingNonces : List Opening → List (List ℕ)
+openingNonces [] = []
+openingNonces (o ∷ os) = o .nonce ∷ openingNonces os
 
 abbrev pub Under : List ℕ → List Opening → Type 0
 Under key [] = Unit {0}
@@ -134,15 +134,15 @@ Under key (o ∷ os) = (o .key ≡ key) × Under key os
 -- a switch that was made
 pub record Made (st : State) (c : Try) : Type 0 where
   pub switched : SwitchedWith st (c .key) (c .receiving) (c .sending) (c .switched)
-  pub verdict : judgedBy (c .switched .verdict) ≡ fine
+  pub judgement : judgedBy (c .switched .judgement) ≡ fine
 
 pub record NoNonceOpenedTwice : Type 0 where
   -- the nonces are all different, and all parts are opened under the switch's key
-  pub different : (st : State) (c : Try) (cs : List AnyCall) → Made st c → Handed (c .switched .state) cs → AllDifferent (noncesOf (openings (c .switched .state) cs))
+  pub different : (st : State) (c : Try) (cs : List AnyCall) → Made st c → Handed (c .switched .state) cs → AllDifferent (openingNonces (openings (c .switched .state) cs))
   pub oneKey : (st : State) (c : Try) (cs : List AnyCall) → Made st c → Handed (c .switched .state) cs → Under (c .key) (openings (c .switched .state) cs)
   -- as many parts were opened as the state that they left says, unless it is refused, which keeps no count
   pub counted : (st : State) (c : Try) (cs : List AnyCall) → Made st c → Handed (c .switched .state) cs
-      → isRefused (stateAfter (c .switched .state) cs .secure .position .stage) ≡ false
-      → openedOf (stateAfter (c .switched .state) cs .secure .known .receiving) ≡ length (openings (c .switched .state) cs)
+      → isRefused (stateAfter (c .switched .state) cs .sealed .position .stage) ≡ false
+      → openedOf (stateAfter (c .switched .state) cs .sealed .known .receiving) ≡ length (openings (c .switched .state) cs)
   -- these are all: what a byte comes to is settled by what they give
-  pub only : (st : sealed.State) (s : List ℕ) (b : ℕ) → isRefused (st .position .stage) ≡ false → onByte st s b ≡ byteBy (outcomes (openingsOf st s b)) st s b
+  pub only : (st : sealed.State) (s : List ℕ) (b : ℕ) → isRefused (st .position .stage) ≡ false → onByte st s b ≡ byteBy (results (openingsOf st s b)) st s b

@@ -1,7 +1,7 @@
 -- The receiver gathers the bytes of a part (Gathers): a piece, fed byte by byte, is the machine's.
 use Prim.Native.Nat.{ℕ, _+_}
 use mathlib.Core.List.{List, [], _∷_, _++_}
-use mathlib.Core.Path.{_≡_, refl, sym, ap, subst, _∙_}
+use mathlib.Core.Path.{_≡_, refl, sym, ap, _∙_}
 use mathlib.Core.Bool.{Bool, true, false}
 use native.Mathlib.Nat.{add-assoc}
 use lib.ListN.{length}
@@ -15,7 +15,7 @@ use Rattle.receiver.proofs.Feeding.{Lasting}
 use Rattle.sealed_receiver.specs.declared.State.{State}
 use Rattle.sealed_receiver.specs.State.{isFirst, inFrame, placeOf}
 use Rattle.sealed_receiver.specs.Step.{Stepped, blockWith, storeWith, absorbed, stored, reached, size, chunk, onByte, Answer, onward, feed, Running}
-use Rattle.sealed_receiver.proofs.Live.{RefusedFor, After, inside-of, chunk-leaves}
+use Rattle.sealed_receiver.proofs.Live.{RefusedFor, inside-of, chunk-leaves}
 
 abbrev pub bare : Stepped → machine.Stepped State
 bare y = record { state = y .state; store = y .store; report = y .report }
@@ -57,11 +57,8 @@ parts = record {
   stored-none = λ st s. store-none (inFrame (st .position .stage)) (placeOf (st .position .stage) (st .known .header) + st .position .got) s;
 }
 
-pub chunk-keeps : (st : State) (s xs : List ℕ) → Running st s → (let y = chunk st s xs in After (y .report) (y .state) (y .store))
-chunk-keeps st s xs r = chunk-leaves st s xs r .after
-
 abbrev pub lasting : Lasting parts
-lasting = record { Running = Running; RefusedFor = RefusedFor; unfilled = inside-of; keeps = chunk-keeps }
+lasting = record { Running = Running; RefusedFor = RefusedFor; unfilled = inside-of; keeps = chunk-leaves }
 
 -- and an answer of the receiver is one of the machine
 abbrev pub machineAnswer : Answer → machine.Answer State
@@ -78,9 +75,3 @@ machine-feed st s (b ∷ bs) =
     let x = chunk st s (b ∷ []) in
     machine-onward (x .report) x (feed (x .state) (x .store) bs)
     ∙ ap (machine.onward (x .report) (bare x)) (machine-feed (x .state) (x .store) bs)
-
-pub feed-after : (st : State) (s piece : List ℕ) → Running st s
-    → After (feed st s piece .received .report) (feed st s piece .received .state) (feed st s piece .store)
-feed-after st s piece r =
-    subst (λ (a : machine.Answer State). After (a .report) (a .state) (a .store)) (sym (machine-feed st s piece))
-    (machine.feed-after Running RefusedFor (byteStep parts) (λ x t b q. chunk-keeps x t (b ∷ []) q) st s piece r)

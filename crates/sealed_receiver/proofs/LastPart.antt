@@ -1,12 +1,12 @@
 -- The last part: its segments and what pads them, its end, and its segments one behind the other.
-use mathlib.Core.Path.{_≡_, refl, sym, ap, ap₂, _∙_}
-use mathlib.Core.List.{List, [], _∷_, _++_, append-assoc, append-nil}
+use mathlib.Core.Path.{_≡_, sym, ap, ap₂, _∙_}
+use mathlib.Core.List.{List, [], _++_, append-assoc, append-nil}
 use mathlib.Core.Bool.{Bool, false, _&&_, and-assoc}
 use Prim.Native.Nat.{ℕ, _+_, _-_, _≤_}
-use native.Mathlib.Nat.{add-zero}
+use native.Mathlib.Nat.{zero-add}
 use native.Mathlib.Omega.{arith}
 use lib.ListN.{length, take, drop, getD, length-append, length-take, length-drop}
-use lib.Seq.{take-take, take-add, drop-drop, getD-drop, length-take-le}
+use lib.Seq.{take-add, drop-drop, length-take-le}
 use Rattle.buffer.specs.Splice.{splice}
 use Rattle.buffer.proofs.Parts.{splice-next, drop-take}
 use Rattle.refusal.specs.declared.Numbers.{Numbers}
@@ -16,23 +16,19 @@ use Rattle.preamble.specs.declared.Header.{Header}
 use Rattle.preamble.specs.Layout.{total}
 use Rattle.banner.specs.declared.Revision.the-variants.{Msgr21}
 use Rattle.body.specs.End.{Ended, whole, lateOf}
-use Rattle.secure.specs.Layout.{padding, roundUp, noLast, lastLengths, lastPart, lastPartLength, needed}
+use Rattle.secure.specs.Layout.{padding, roundUp, noLastPart, lastLengths, lastPart, lastPartLength, needed}
 use Rattle.buffer.specs.Zeros.{allZero}
-use Rattle.secure.specs.Reading.{unpadded, paddingOf, lateIn, byLateStatus, lastEnded, zeroed}
+use Rattle.secure.specs.Reading.{unpadded, paddingOf, lateByteIn, byLateStatus, lastEnded, zeroed}
 use Rattle.sealed_receiver.specs.declared.Stage.the-variants as stage
 use Rattle.sealed_receiver.specs.declared.Receiving.{Receiving}
 use Rattle.sealed_receiver.specs.declared.Known.{Known}
-use Rattle.sealed_receiver.specs.Step.{Stepped, refuse, withOpened, judgePart, partText, endFrame, behindLast, finish, ClosedUp}
+use Rattle.sealed_receiver.specs.Step.{Stepped, refuse, withOpened, judgePart, partText, endFrame, afterLastPart, finish, ClosedUp}
 use Rattle.buffer.proofs.Splices.{splice-upto, splice-behind}
-use Rattle.buffer.proofs.Zeros.{zeros-append}
 use Rattle.sealed_receiver.proofs.Regions.{end-same, after, after-length, after-before, after-behind, part-refused, part-opened}
+use Rattle.secure.proofs.LastText.{behindAll, late-at, padded-at, unpadded-at, unpadded-short, rounds, unpadded-front}
 use Rattle.secure.proofs.Bounds.{segments-fit, moves-fit, round-up, last-size, last-fits}
 
 -- ---- padded segments
-
-abbrev rounds : List ℕ → ℕ
-rounds [] = 0
-rounds (n ∷ ns) = roundUp n + rounds ns
 
 -- what pads n bytes, of which the first stands at a place
 pub pads : (text : List ℕ) (at n pad : ℕ) → pad ≡ padding n → take pad (drop (at + n) text) ≡ drop n (take (roundUp n) (drop at text))
@@ -40,21 +36,6 @@ pads text at n pad e =
     ap (take pad) (sym (drop-drop n at text))
     ∙ sym (drop-take n pad (drop at text))
     ∙ ap (λ (k : ℕ). drop n (take (n + k) (drop at text))) e
-
--- the segments are in the text's front
-unpadded-front : (ns : List ℕ) (m : ℕ) (l : List ℕ) → rounds ns ≤ m → unpadded ns (take m l) ≡ unpadded ns l
-unpadded-front [] m l h = refl
-unpadded-front (n ∷ ns) m l h =
-    let r : ℕ = roundUp n in
-    let e : r + (m - r) ≡ m = omega arith in
-    ap₂ (λ (x y : List ℕ). x ++ y) (take-take n m l (omega arith))
-    (ap (unpadded ns) (ap (λ (k : ℕ). drop r (take k l)) (sym e) ∙ drop-take r (m - r) l) ∙ unpadded-front ns (m - r) (drop r l) (omega arith))
-
-unpadded-length : (ns text : List ℕ) → length (unpadded ns text) ≤ rounds ns
-unpadded-length [] text = omega arith
-unpadded-length (n ∷ ns) text =
-    let ih = unpadded-length ns (drop (roundUp n) text) in
-    omega (arith, length-append (take n text) (unpadded ns (drop (roundUp n) text)), length-take n text, ih)
 
 module _ (h : Header) (s text : List ℕ) where
   abbrev pub payload : List ℕ
@@ -64,61 +45,45 @@ module _ (h : Header) (s text : List ℕ) where
   payload-fits =
       let first : List ℕ = take (h .s1 .len) s in
       let others : List ℕ = unpadded (lastLengths h) text in
-      omega (arith, length-append first others, length-take (h .s1 .len) s, unpadded-length (lastLengths h) text, last-fits h)
+      omega (arith, length-append first others, length-take (h .s1 .len) s, unpadded-short (lastLengths h) text, segments-fit h)
 
 -- ---- how it ends
 
 module _ (h : Header) (text : List ℕ) (r₂ r₃ r₄ : ℕ)
     (e₂ : r₂ ≡ roundUp (h .s2 .len)) (e₃ : r₃ ≡ roundUp (h .s3 .len)) (e₄ : r₄ ≡ roundUp (h .s4 .len)) where
-  abbrev t₃ : List ℕ
-  t₃ = drop (roundUp (h .s2 .len)) text
+  abbrev places : ℕ → ℕ → ℕ → Bool
+  places i j k =
+      allZero (drop (h .s2 .len) (take (roundUp (h .s2 .len)) text))
+      && (allZero (drop (h .s3 .len) (take (roundUp (h .s3 .len)) (drop i text)))
+      && (allZero (drop (h .s4 .len) (take (roundUp (h .s4 .len)) (drop j text))) && allZero (drop (k + 1) text)))
 
-  abbrev t₄ : List ℕ
-  t₄ = drop (roundUp (h .s3 .len)) t₃
+  third-at : r₂ ≡ 0 + roundUp (h .s2 .len)
+  third-at = e₂ ∙ sym (zero-add (roundUp (h .s2 .len)))
 
-  abbrev t₅ : List ℕ
-  t₅ = drop (roundUp (h .s4 .len)) t₄
+  fourth-at : r₂ + r₃ ≡ 0 + roundUp (h .s2 .len) + roundUp (h .s3 .len)
+  fourth-at = ap₂ _+_ third-at e₃
 
-  from-third : drop r₂ text ≡ t₃
-  from-third = ap (λ (k : ℕ). drop k text) e₂
+  epilogue-at : r₂ + r₃ + r₄ ≡ behindAll 0 (lastLengths h)
+  epilogue-at = ap₂ _+_ fourth-at e₄
 
-  from-fourth : drop (r₂ + r₃) text ≡ t₄
-  from-fourth = sym (drop-drop r₃ r₂ text) ∙ ap₂ (λ (k : ℕ) (t : List ℕ). drop k t) e₃ from-third
+  late-is : getD text (r₂ + r₃ + r₄) 0 ≡ lateByteIn (lastLengths h) text
+  late-is = ap (λ (k : ℕ). getD text k 0) epilogue-at ∙ sym (late-at (lastLengths h) 0 text)
 
-  from-epilogue : drop (r₂ + r₃ + r₄) text ≡ t₅
-  from-epilogue = sym (drop-drop r₄ (r₂ + r₃) text) ∙ ap₂ (λ (k : ℕ) (t : List ℕ). drop k t) e₄ from-fourth
-
-  late-is : getD text (r₂ + r₃ + r₄) 0 ≡ lateIn (lastLengths h) text
-  late-is =
-      ap (λ (k : ℕ). getD text k 0) (sym (add-zero (r₂ + r₃ + r₄)))
-      ∙ sym (getD-drop (r₂ + r₃ + r₄) text 0 0)
-      ∙ ap (λ (t : List ℕ). getD t 0 0) from-epilogue
-
-  abbrev pads₂ : List ℕ
-  pads₂ = drop (h .s2 .len) (take (roundUp (h .s2 .len)) text)
-
-  abbrev pads₃ : List ℕ → List ℕ
-  pads₃ t = drop (h .s3 .len) (take (roundUp (h .s3 .len)) t)
-
-  abbrev pads₄ : List ℕ → List ℕ
-  pads₄ t = drop (h .s4 .len) (take (roundUp (h .s4 .len)) t)
-
-  abbrev zeros₄ : Bool
-  zeros₄ = allZero (pads₄ (drop (r₂ + r₃) text)) && allZero (drop (r₂ + r₃ + r₄ + 1) text)
-
+  -- as code tests it
   abbrev zeros₂ : Bool
-  zeros₂ = allZero pads₂ && allZero (pads₃ (drop r₂ text)) && zeros₄
+  zeros₂ =
+      allZero (drop (h .s2 .len) (take (roundUp (h .s2 .len)) text))
+      && allZero (drop (h .s3 .len) (take (roundUp (h .s3 .len)) (drop r₂ text)))
+      && (allZero (drop (h .s4 .len) (take (roundUp (h .s4 .len)) (drop (r₂ + r₃) text))) && allZero (drop (r₂ + r₃ + r₄ + 1) text))
 
   padded-is : zeros₂ ≡ allZero (paddingOf (lastLengths h) text)
   padded-is =
-      let tail : drop (r₂ + r₃ + r₄ + 1) text ≡ drop 1 t₅ = sym (drop-drop 1 (r₂ + r₃ + r₄) text) ∙ ap (drop 1) from-epilogue in
-      let back : zeros₄ ≡ allZero (pads₄ t₄ ++ drop 1 t₅) =
-      ap₂ (λ (x y : List ℕ). allZero (pads₄ x) && allZero y) from-fourth tail ∙ sym (zeros-append (pads₄ t₄) (drop 1 t₅)) in
-      let rest : (allZero (pads₃ (drop r₂ text)) && zeros₄) ≡ allZero (pads₃ t₃ ++ (pads₄ t₄ ++ drop 1 t₅)) =
-      ap₂ (λ (x : List ℕ) (b : Bool). allZero (pads₃ x) && b) from-third back ∙ sym (zeros-append (pads₃ t₃) (pads₄ t₄ ++ drop 1 t₅)) in
-      and-assoc (allZero pads₂) (allZero (pads₃ (drop r₂ text))) zeros₄
-      ∙ ap (λ (b : Bool). allZero pads₂ && b) rest
-      ∙ sym (zeros-append pads₂ (pads₃ t₃ ++ (pads₄ t₄ ++ drop 1 t₅)))
+      and-assoc (allZero (drop (h .s2 .len) (take (roundUp (h .s2 .len)) text)))
+      (allZero (drop (h .s3 .len) (take (roundUp (h .s3 .len)) (drop r₂ text))))
+      (allZero (drop (h .s4 .len) (take (roundUp (h .s4 .len)) (drop (r₂ + r₃) text))) && allZero (drop (r₂ + r₃ + r₄ + 1) text))
+      ∙ ap (λ (i : ℕ). places i (r₂ + r₃) (r₂ + r₃ + r₄)) third-at
+      ∙ ap₂ (places (0 + roundUp (h .s2 .len))) fourth-at epilogue-at
+      ∙ sym (padded-at (lastLengths h) 0 text)
 
   pub last-ended : (late : ℕ) (padded : Bool) → late ≡ getD text (r₂ + r₃ + r₄) 0 → padded ≡ zeros₂
       → byLateStatus (lateOf Msgr21 late) late (unless padded refusal.Padding) ≡ lastEnded h text
@@ -180,10 +145,10 @@ module _ (h : Header) (s s₁ s₂ : List ℕ) (r₂ r₃ : ℕ)
 
     segments-are : take n₂ (drop n₁ s) ++ (x₃ ++ x₄) ≡ unpadded (lastLengths h) (drop n₁ s)
     segments-are =
-        let third : drop (n₁ + r₂) s ≡ drop (roundUp n₂) (drop n₁ s) = sym (drop-drop r₂ n₁ s) ∙ ap (λ (k : ℕ). drop k (drop n₁ s)) e₂ in
-        let fourth : drop (n₁ + r₂ + r₃) s ≡ drop (roundUp n₃) (drop (roundUp n₂) (drop n₁ s)) =
-        sym (drop-drop r₃ (n₁ + r₂) s) ∙ ap₂ (λ (k : ℕ) (t : List ℕ). drop k t) e₃ third in
-        ap₂ (λ (a b : List ℕ). take n₂ (drop n₁ s) ++ (take n₃ a ++ b)) third (sym (append-nil x₄) ∙ ap (λ (t : List ℕ). take n₄ t ++ []) fourth)
+        let third : n₁ + r₂ ≡ n₁ + roundUp n₂ = ap (λ (k : ℕ). n₁ + k) e₂ in
+        ap (λ (t : List ℕ). take n₂ (drop n₁ s) ++ (x₃ ++ t)) (sym (append-nil x₄))
+        ∙ ap₂ (λ (i j : ℕ). take n₂ (drop n₁ s) ++ (take n₃ (drop i s) ++ (take n₄ (drop j s) ++ []))) third (ap₂ _+_ third e₃)
+        ∙ sym (unpadded-at (lastLengths h) n₁ s)
 
     pub closed-up : ClosedUp h s s₂
     closed-up =
@@ -214,11 +179,11 @@ module _ (v : Known) (s : List ℕ) where
     read-is = ap (λ (k : ℕ). take k (drop (g .s1 .len) s)) em
 
     module _ (o : Ended) (eo : o ≡ lastEnded g (take m (drop (g .s1 .len) s))) where
-      pub last-ends : (x : Ended) → o ≡ x → endFrame x v (payload g s text) s ≡ behindLast v text s
-      unfolding behindLast
+      pub last-ends : (x : Ended) → o ≡ x → endFrame x v (payload g s text) s ≡ afterLastPart v text s
+      unfolding afterLastPart
       last-ends x e = ap (λ (y : Ended). endFrame y v (payload g s text) s) (sym e ∙ eo ∙ ap (lastEnded g) read-is)
 
-      pub last-whole : (s₁ : List ℕ) → o ≡ whole → ClosedUp g s s₁ → endFrame whole v (take (total g) s₁) s₁ ≡ behindLast v text s
+      pub last-whole : (s₁ : List ℕ) → o ≡ whole → ClosedUp g s s₁ → endFrame whole v (take (total g) s₁) s₁ ≡ afterLastPart v text s
       last-whole s₁ e closed =
           let all : rounds (lastLengths g) ≤ lastPart g - 16 = omega arith in
           let front : unpadded (lastLengths g) (drop (g .s1 .len) s) ≡ unpadded (lastLengths g) text =
@@ -229,7 +194,7 @@ module _ (v : Known) (s : List ℕ) where
 
   -- ---- opened where it stands
 
-  module _ (ys : List ℕ) (m : ℕ) (em : m ≡ lastPartLength g) (e : noLast g ≡ false)
+  module _ (ys : List ℕ) (m : ℕ) (em : m ≡ lastPartLength g) (e : noLastPart g ≡ false)
       (room : needed g ≤ length s) (kept : length ys ≡ length (take m (drop (g .s1 .len) s))) where
     abbrev r : Receiving
     r = v .receiving
@@ -241,7 +206,7 @@ module _ (v : Known) (s : List ℕ) where
     left = after s place m ys
 
     abbrev next : List ℕ → List ℕ → Stepped
-    next = behindLast (withOpened v)
+    next = afterLastPart (withOpened v)
 
     size : m ≡ lastPart g - 16 + 16
     size = em ∙ last-size g e ∙ omega arith
@@ -253,7 +218,7 @@ module _ (v : Known) (s : List ℕ) where
     last-left = omega (arith, after-length g s ys place m inside room kept)
 
     last-same : (text : List ℕ) → length text ≡ lastPart g - 16 → next text left ≡ next text s
-    unfolding behindLast
+    unfolding afterLastPart
     last-same text l =
         ap (λ (t : List ℕ). endFrame (lastEnded g text) (withOpened v) (t ++ unpadded (lastLengths g) text) left)
         (after-before g s ys place m inside room kept)

@@ -1,7 +1,7 @@
 pub mod Openings
 pub mod Regions
 pub mod FirstPart
-pub mod RestPart
+pub mod SecondPart
 pub mod LastPart
 pub mod Live
 pub mod Bounds

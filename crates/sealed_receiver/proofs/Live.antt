@@ -1,39 +1,38 @@
--- What the step keeps: a receiver that is not refused has its fields in order, a refusal leaves it refused, and the store stays as long as it was.
+-- What the step keeps: a receiver that is not refused has its fields in order, and a refusal leaves it refused.
 use Prim.Native.Nat.{ℕ, _+_, _-_, _≤_, _<_, zero-le}
 use mathlib.Core.List.{List, [], _∷_, _++_}
 use mathlib.Core.Path.{_≡_, refl, sym, ap, _∙_}
 use mathlib.Core.Bool.{Bool, true, false, not, cond, _&&_, _||_, not-or-self}
 use native.Mathlib.Omega.{arith}
-use lib.ListN.{length, take, drop, getD, replicate, length-take, length-append, length-replicate}
+use lib.ListN.{length, take, drop, replicate, length-take, length-append, length-replicate}
 use lib.Seq.{length-sets}
 use lib.Dec.{lit<, leb, ltb, eqb}
 use borrow.Author.Tests.{le-leb, lt-ltb, ltb-true, leb-true}
-use Rattle.buffer.specs.Le.{numberAt}
 use Rattle.buffer.specs.Splice.{replaceFront, splice}
 use Rattle.buffer.proofs.Parts.{length-replaceFront, length-splice}
-use Rattle.crc32c.specs.Crc.{crcOf}
 use Rattle.refusal.specs.declared.Numbers.{Numbers}
 use Rattle.refusal.specs.declared.Refusal.the-variants as refusal
-use Rattle.refusal.specs.Refusals.{Judged, fine, refused, row, isFine}
+use Rattle.refusal.specs.Refusals.{Judged, fine, refused, row, isFine, isNoRefusal}
 use Rattle.refusal.proofs.Booleans.{wrong, both-left, both-right}
 use Rattle.refusal.proofs.Judgements.{both-fine, passed}
 use Rattle.preamble.specs.declared.Header.{Header}
-use Rattle.preamble.specs.Judge.{shapeFault, flagFault, limitFault, headerOf, judgeChecksum, judgeShape, judgeFlags, judgeTag, judgeLimits, judgeStore, judgeHeader}
+use Rattle.preamble.proofs.Allowed.{allowed-preamble}
+use Rattle.preamble.specs.Judge.{headerOf, judgeHeader}
 use Rattle.body.specs.declared.Late.{Late}
 use Rattle.body.specs.declared.Late.the-variants as late
 use Rattle.banner.specs.declared.Revision.the-variants.{Msgr21}
 use Rattle.body.specs.End.{Ended, whole, dropped, refusedFor, lateOf}
 use Rattle.receiver.specs.declared.Report.{Report}
-use Rattle.receiver.specs.State.{noHeader, isNoRefusal}
+use Rattle.preamble.specs.Layout.{noHeader}
 use Rattle.receiver.proofs.Zeros.{zeros-later, drop-sets}
 use Rattle.refusal.proofs.Allowed.{Allowed, allowed-fine, allowed-refused, allowed-cond, allowed-or}
 use Rattle.body.proofs.Allowed.{AllowedEnd, end-whole, end-dropped, end-turned, end-by}
 use Rattle.receiver.proofs.Machine as machine
 use Rattle.gcm.specs.Gcm.{Opened, plain, fail, opened}
-use Rattle.secure.specs.Layout.{allNonces, padding, noRest, noLast, lastLengths, restPart, lastPart}
+use Rattle.secure.specs.Layout.{allNonces, padding, noSecondPart, noLastPart, lastLengths, secondPart, lastPart}
 use Rattle.secure.specs.Layout as layout
 use Rattle.buffer.specs.Zeros.{allZero}
-use Rattle.secure.specs.Reading.{judgeNonce, judgePadding, judgeFirst, unpadded, paddingOf, lateIn, byLateStatus, droppedBy, lastEnded, zeroed, holding}
+use Rattle.secure.specs.Reading.{judgeNonce, judgePadding, judgeFirst, unpadded, paddingOf, lateByteIn, byLateStatus, droppedBy, lastEnded, zeroed, holding}
 use Rattle.secure.proofs.Counts.{came-round}
 use Rattle.sealed_receiver.specs.declared.Stage.{Stage}
 use Rattle.sealed_receiver.specs.declared.Stage.the-variants as stage
@@ -41,11 +40,10 @@ use Rattle.sealed_receiver.specs.declared.Receiving.{Receiving}
 use Rattle.sealed_receiver.specs.declared.Known.{Known}
 use Rattle.sealed_receiver.specs.declared.State.{State}
 use Rattle.sealed_receiver.specs.State.{isFirst, isRefused, inFrame, sizeOf, needed, openedOf, freshReceiving, openedMore, noReceiving, receivingRule, openedRule, headerRule, given, refusalRule, rules, countRule, blockRule, agreesAt, agrees}
-use Rattle.sealed_receiver.specs.Step.{blank, at, knowing, withOpened, withHeader, nextFrame, switched, refusedState, Stepped, silent, refuse, unlessRefused, judgeOpened, judgePart, partText, endFrame, beginLast, beginRest, behindFirst, behindRest, behindLast, sealedIn, finish, blockWith, storeWith, absorbed, stored, reached, size, chunk, onByte, Running}
+use Rattle.sealed_receiver.specs.Step.{blank, at, knowing, withOpened, withHeader, nextFrame, switched, refusedState, Stepped, silent, unlessRefused, judgeOpened, judgePart, partText, endFrame, beginLast, beginSecondPart, afterFirstPart, afterSecondPart, afterLastPart, sealedIn, finish, blockWith, storeWith, absorbed, stored, reached, size, chunk, onByte, Running}
 use Rattle.secure.proofs.Bounds.{there, segments-fit, rest-beyond, pads-fit}
 use Rattle.sealed_receiver.proofs.Openings.{opened-next}
 use Rattle.sealed_receiver.proofs.FirstPart.{first-fits, first-header}
-use Rattle.sealed_receiver.proofs.LastPart.{payload-fits}
 
 -- ---- refusals that a receiver of sealed frames gives
 
@@ -66,16 +64,9 @@ given-first : (text : List ℕ) (n : ℕ) → Allowed given (judgeFirst text n)
 unfolding judgeFirst
 given-first text n =
     let h = headerOf text in
-    let k5 : Allowed given (judgeChecksum text) = allowed-cond given (eqb (crcOf 0 (take 28 text)) (numberAt 4 28 text)) (row 5 28 0 0) refl in
-    let k6 : Allowed given (judgeShape h) = allowed-cond given (eqb (shapeFault h) 0) (row 6 (shapeFault h) 0 0) refl in
-    let flags = flagFault (getD text 26 0) (getD text 27 0) in
-    let k7 : Allowed given (judgeFlags (getD text 26 0) (getD text 27 0)) = allowed-cond given (eqb flags 0) (row 7 flags 0 0) refl in
-    let k8 : Allowed given (judgeTag (h .tag)) = allowed-cond given (leb 1 (h .tag) && leb (h .tag) 20) (row 8 (h .tag) 0 0) refl in
-    let k9 : Allowed given (judgeLimits h) = allowed-cond given (eqb (limitFault h) 0) (row 9 (limitFault h) 0 0) refl in
-    let k10 : Allowed given (judgeStore (layout.needed h) n) = allowed-cond given (leb (layout.needed h) n) (row 10 (layout.needed h) 0 0) refl in
-    let k19 = given-padding (drop (32 + h .s1 .len) text) in
-    let last = allowed-or given k9 (allowed-or given k10 (allowed-or given k19 (allowed-fine given))) in
-    allowed-or given k5 (allowed-or given k6 (allowed-or given k7 (allowed-or given k8 last)))
+    let pads : List ℕ = drop (32 + h .s1 .len) text in
+    allowed-preamble given refl (λ _. refl) (λ _. refl) (λ _. refl) (λ _. refl) (λ _. refl) text (layout.needed h) n
+    (judgePadding pads ∷ []) (allowed-or given (given-padding pads) (allowed-fine given))
 
 given-late : (x : Late) (b : ℕ) (j : Judged) → Allowed given j → AllowedEnd given (byLateStatus x b j)
 given-late late.Wrong b j k = end-turned given (row 12 b 0 0) refl
@@ -89,7 +80,7 @@ given-late late.Complete b j k = end-by given j k
 given-last : (h : Header) (text : List ℕ) → AllowedEnd given (lastEnded h text)
 unfolding lastEnded
 given-last h text =
-    let b = lateIn (lastLengths h) text in
+    let b = lateByteIn (lastLengths h) text in
     given-late (lateOf Msgr21 b) b (judgePadding (paddingOf (lastLengths h) text)) (given-padding (paddingOf (lastLengths h) text))
 
 -- ---- what an accepted part tells
@@ -191,7 +182,7 @@ refused-at n g = record { stage = refl; why = refl; agree = rw g; gives = g }
 
 blank-zeros : (k : Stage) → blockRule k 0 blank ≡ true
 blank-zeros stage.First = refl
-blank-zeros stage.Rest = refl
+blank-zeros stage.Second = refl
 blank-zeros stage.Last = refl
 blank-zeros stage.Refused = refl
 
@@ -214,41 +205,23 @@ switched-running key nonce s = between (knowing (freshReceiving key nonce) noHea
 abbrev pub After : Report → State → List ℕ → Type 0
 After = machine.After Running RefusedFor
 
--- by its report a receiver that runs, or one that is refused; and a store of so many bytes
-pub record Leaves (n : ℕ) (x : Stepped) : Type 0 where
-  pub after : After (x .report) (x .state) (x .store)
-  pub same : length (x .store) ≡ n
+-- by its report a receiver that runs, or one that is refused
+abbrev pub Leaves : Stepped → Type 0
+Leaves x = After (x .report) (x .state) (x .store)
 
-refuse-leaves : (n : Numbers) (s : List ℕ) → given n ≡ true → Leaves (length s) (refuse n s)
-refuse-leaves n s g = record { after = refused-at n g; same = refl }
-
-judged-leaves : (j : Judged) (s : List ℕ) (x : Stepped) (m : ℕ) → Allowed given j → length s ≡ m → (j ≡ fine → Leaves m x) → Leaves m (unlessRefused j s x)
-judged-leaves fine s x m k e f = f refl
-judged-leaves (refused n) s x m k e f = rw e at (refuse-leaves n s (k .gives n refl))
-
--- ---- the store's length
+judged-leaves : (j : Judged) (s : List ℕ) (x : Stepped) → Allowed given j → (j ≡ fine → Leaves x) → Leaves (unlessRefused j s x)
+judged-leaves fine s x k f = f refl
+judged-leaves (refused n) s x k f = refused-at n (k .gives n refl)
 
 pub taken-most : (n : ℕ) (l : List ℕ) → length (take n l) ≤ n
 taken-most n l = omega (arith, length-take n l)
 
-length-zeroed : (h : Header) (s : List ℕ) → layout.needed h ≤ length s → length (zeroed h s) ≡ length s
-length-zeroed h s l =
-    let e = length-replicate {A = ℕ} (layout.needed h) 0 in
-    length-replaceFront (replicate (layout.needed h) 0) s (omega arith)
-
-length-holding : (h : Header) (p s : List ℕ) → length p ≤ layout.needed h → layout.needed h ≤ length s → length (holding h p s) ≡ length s
-length-holding h p s k l =
-    let e = length-replicate {A = ℕ} (layout.needed h - length p) 0 in
-    let a = length-append p (replicate (layout.needed h - length p) 0) in
-    length-replaceFront (p ++ replicate (layout.needed h - length p) 0) s (omega arith)
-
 -- ---- the end of a frame, and its later parts
 
-frame-leaves : (x : Ended) (v : Known) (p s : List ℕ) → Opens v → AllowedEnd given x → length p ≤ layout.needed (v .header)
-    → layout.needed (v .header) ≤ length s → Leaves (length s) (endFrame x v p s)
-frame-leaves whole v p s o k l f = record { after = between v (holding (v .header) p s) o; same = length-holding (v .header) p s l f }
-frame-leaves dropped v p s o k l f = record { after = between v (zeroed (v .header) s) o; same = length-zeroed (v .header) s f }
-frame-leaves (refusedFor n) v p s o k l f = record { after = refused-at n (k .gives n refl); same = length-zeroed (v .header) s f }
+frame-leaves : (x : Ended) (v : Known) (p s : List ℕ) → Opens v → AllowedEnd given x → Leaves (endFrame x v p s)
+frame-leaves whole v p s o k = between v (holding (v .header) p s) o
+frame-leaves dropped v p s o k = between v (zeroed (v .header) s) o
+frame-leaves (refusedFor n) v p s o k = refused-at n (k .gives n refl)
 
 module _ (v : Known) (s : List ℕ) (o : Opens v) (e : isFine (judgeHeader (v .header)) ≡ true) (f : layout.needed (v .header) ≤ length s) where
   abbrev r : Receiving
@@ -257,44 +230,44 @@ module _ (v : Known) (s : List ℕ) (o : Opens v) (e : isFine (judgeHeader (v .h
   abbrev h : Header
   h = v .header
 
-  last-leaves : 1 + cond (noRest h) 0 1 ≤ openedOf r → Leaves (length s) (beginLast v s)
-  last-leaves l = go (noLast h) refl
+  last-leaves : 1 + cond (noSecondPart h) 0 1 ≤ openedOf r → Leaves (beginLast v s)
+  last-leaves l = go (noLastPart h) refl
     where
-      go : (b : Bool) → noLast h ≡ b → Leaves (length s) (cond b (endFrame whole v (take (h .s1 .len) s) s) (silent (at stage.Last v) s))
-      go true z = frame-leaves whole v (take (h .s1 .len) s) s o (end-whole given) (omega (arith, taken-most (h .s1 .len) s, segments-fit h)) f
+      go : (b : Bool) → noLastPart h ≡ b → Leaves (cond b (endFrame whole v (take (h .s1 .len) s) s) (silent (at stage.Last v) s))
+      go true z = frame-leaves whole v (take (h .s1 .len) s) s o (end-whole given)
       go false z =
-          let i : 0 < cond (noLast h) 0 (lastPart h) = rw z (omega arith) in
-          record { after = running-at stage.Last v s refl (record { receiving = o .receiving; opened = le-leb (1 + cond (noRest h) 0 1) (openedOf r) l; header = e; refusal = o .refusal }) i f; same = refl }
+          let i : 0 < cond (noLastPart h) 0 (lastPart h) = rw z (omega arith) in
+          running-at stage.Last v s refl (record { receiving = o .receiving; opened = le-leb (1 + cond (noSecondPart h) 0 1) (openedOf r) l; header = e; refusal = o .refusal }) i f
 
-  rest-leaves : 1 ≤ openedOf r → Leaves (length s) (beginRest v s)
-  rest-leaves l = go (noRest h) refl
+  rest-leaves : 1 ≤ openedOf r → Leaves (beginSecondPart v s)
+  rest-leaves l = go (noSecondPart h) refl
     where
-      go : (b : Bool) → noRest h ≡ b → Leaves (length s) (cond b (beginLast v s) (silent (at stage.Rest v) s))
-      go true z = let one : 1 + cond (noRest h) 0 1 ≤ openedOf r = rw z l in last-leaves one
+      go : (b : Bool) → noSecondPart h ≡ b → Leaves (cond b (beginLast v s) (silent (at stage.Second v) s))
+      go true z = let one : 1 + cond (noSecondPart h) 0 1 ≤ openedOf r = rw z l in last-leaves one
       go false z =
-          let i : 0 < cond (noRest h) 0 (restPart h) = rw z (omega arith) in
-          record { after = running-at stage.Rest v s refl (record { receiving = o .receiving; opened = le-leb 1 (openedOf r) l; header = e; refusal = o .refusal }) i f; same = refl }
+          let i : 0 < cond (noSecondPart h) 0 (secondPart h) = rw z (omega arith) in
+          running-at stage.Second v s refl (record { receiving = o .receiving; opened = le-leb 1 (openedOf r) l; header = e; refusal = o .refusal }) i f
 
 -- ---- behind an opened part
 
-first-leaves : (v : Known) (text s : List ℕ) → Opens v → 1 ≤ openedOf (v .receiving) → Leaves (length s) (behindFirst v text s)
-unfolding behindFirst
+first-leaves : (v : Known) (text s : List ℕ) → Opens v → 1 ≤ openedOf (v .receiving) → Leaves (afterFirstPart v text s)
+unfolding afterFirstPart
 first-leaves v text s o one =
-    judged-leaves (judgeFirst text (length s)) s _ (length s) (given-first text (length s)) refl
+    judged-leaves (judgeFirst text (length s)) s _ (given-first text (length s))
     (λ e.
     let h = headerOf text in
     let f = first-fits text (length s) e in
     let xs = take (h .s1 .len) (drop 32 text) in
     let l : length (replaceFront xs s) ≡ length s = length-replaceFront xs s (omega (arith, taken-most (h .s1 .len) (drop 32 text), segments-fit h)) in
-    rw l at (rest-leaves (withHeader v h) (replaceFront xs s) (record { receiving = o .receiving; refusal = o .refusal }) (ap isFine (first-header text (length s) e)) (rw l f) one))
+    rest-leaves (withHeader v h) (replaceFront xs s) (record { receiving = o .receiving; refusal = o .refusal }) (ap isFine (first-header text (length s) e)) (rw l f) one)
 
 later-leaves : (v : Known) (text s : List ℕ) → Opens v → 2 ≤ openedOf (v .receiving) → isFine (judgeHeader (v .header)) ≡ true
-    → layout.needed (v .header) ≤ length s → noRest (v .header) ≡ false → Leaves (length s) (behindRest v text s)
-unfolding behindRest
+    → layout.needed (v .header) ≤ length s → noSecondPart (v .header) ≡ false → Leaves (afterSecondPart v text s)
+unfolding afterSecondPart
 later-leaves v text s o two e f some =
     let h = v .header in
     let n = h .s1 .len - 48 in
-    judged-leaves (judgePadding (drop n text)) (zeroed h s) _ (length s) (given-padding (drop n text)) (length-zeroed h s f)
+    judged-leaves (judgePadding (drop n text)) (zeroed h s) _ (given-padding (drop n text))
     (λ _.
     let zs : List ℕ = replicate (padding n + 16) 0 in
     let k : length (take n text ++ zs) ≡ length (take n text) + (padding n + 16) =
@@ -303,34 +276,34 @@ later-leaves v text s o two e f some =
     let l : length (splice s 48 (take n text ++ zs)) ≡ length s =
     length-splice s 48 (take n text ++ zs) (omega (arith, k, taken-most n text, rest-beyond h some, pads-fit h some (padding n) refl))
     in
-    let both : 1 + cond (noRest h) 0 1 ≤ openedOf (v .receiving) = rw some two in
-    rw l at (last-leaves v (splice s 48 (take n text ++ zs)) o e (rw l f) both))
+    let both : 1 + cond (noSecondPart h) 0 1 ≤ openedOf (v .receiving) = rw some two in
+    last-leaves v (splice s 48 (take n text ++ zs)) o e (rw l f) both)
 
-ended-leaves : (v : Known) (text s : List ℕ) → Opens v → layout.needed (v .header) ≤ length s → Leaves (length s) (behindLast v text s)
-unfolding behindLast
-ended-leaves v text s o f =
+ended-leaves : (v : Known) (text s : List ℕ) → Opens v → Leaves (afterLastPart v text s)
+unfolding afterLastPart
+ended-leaves v text s o =
     let h = v .header in
-    frame-leaves (lastEnded h text) v (take (h .s1 .len) s ++ unpadded (lastLengths h) text) s o (given-last h text) (payload-fits h s text) f
+    frame-leaves (lastEnded h text) v (take (h .s1 .len) s ++ unpadded (lastLengths h) text) s o (given-last h text)
 
 finish-leaves : (k : Stage) (b : List ℕ) (v : Known) (s : List ℕ) → Rules k v → isRefused k ≡ false → 0 < sizeOf k (v .header)
-    → needed k (v .header) ≤ length s → Leaves (length s) (finish k b v s)
+    → needed k (v .header) ≤ length s → Leaves (finish k b v s)
 unfolding finish
 finish-leaves stage.First b v s r o i f =
-    judged-leaves (judgePart (v .receiving) b) s _ (length s) (given-part (v .receiving) b) refl
+    judged-leaves (judgePart (v .receiving) b) s _ (given-part (v .receiving) b)
     (λ e. first-leaves (withOpened v) (partText (v .receiving) b) s (opened-opens v b e) (omega (arith, opened-next (v .receiving) b e)))
-finish-leaves stage.Rest b v s r o i f =
+finish-leaves stage.Second b v s r o i f =
     let h = v .header in
-    let bytes = sealedIn stage.Rest h s in
-    judged-leaves (judgePart (v .receiving) bytes) (zeroed h s) _ (length s) (given-part (v .receiving) bytes) (length-zeroed h s f)
+    let bytes = sealedIn stage.Second h s in
+    judged-leaves (judgePart (v .receiving) bytes) (zeroed h s) _ (given-part (v .receiving) bytes)
     (λ e.
     let two : 2 ≤ openedOf (openedMore (v .receiving)) = omega (arith, opened-next (v .receiving) bytes e, leb-true 1 (openedOf (v .receiving)) (r .opened)) in
     later-leaves (withOpened v) (partText (v .receiving) bytes) s (opened-opens v bytes e) two (r .header) f
-    (there (noRest h) (restPart h) i))
+    (there (noSecondPart h) (secondPart h) i))
 finish-leaves stage.Last b v s r o i f =
     let h = v .header in
     let bytes = sealedIn stage.Last h s in
-    judged-leaves (judgePart (v .receiving) bytes) (zeroed h s) _ (length s) (given-part (v .receiving) bytes) (length-zeroed h s f)
-    (λ e. ended-leaves (withOpened v) (partText (v .receiving) bytes) s (opened-opens v bytes e) f)
+    judged-leaves (judgePart (v .receiving) bytes) (zeroed h s) _ (given-part (v .receiving) bytes)
+    (λ e. ended-leaves (withOpened v) (partText (v .receiving) bytes) s (opened-opens v bytes e))
 finish-leaves stage.Refused b v s r o i f = wrong (sym o)
 
 -- ---- bytes of a part leave the rest as it was
@@ -347,7 +320,7 @@ length-with false place s xs = refl
 pub length-stored : (st : State) (s xs : List ℕ) → length (stored st s xs) ≡ length s
 length-stored st s xs = length-with (inFrame (st .position .stage)) _ s xs
 
-pub chunk-leaves : (st : State) (s xs : List ℕ) → Running st s → Leaves (length s) (chunk st s xs)
+pub chunk-leaves : (st : State) (s xs : List ℕ) → Running st s → Leaves (chunk st s xs)
 chunk-leaves st s xs r = go (ltb (st .position .got + length xs) (size st)) refl
   where
     l : Live (st .position .stage) (st .position .got) (st .position .block) (st .known)
@@ -356,23 +329,20 @@ chunk-leaves st s xs r = go (ltb (st .position .got + length xs) (size st)) refl
     n : length (stored st s xs) ≡ length s
     n = length-stored st s xs
 
-    go : (t : Bool) → ltb (st .position .got + length xs) (size st) ≡ t → Leaves (length s) (reached (absorbed st xs) (stored st s xs) t)
+    go : (t : Bool) → ltb (st .position .got + length xs) (size st) ≡ t → Leaves (reached (absorbed st xs) (stored st s xs) t)
     go true e = record {
-      after = record {
-        agree = agree-live (st .position .stage) (st .position .got + length xs) _ (st .known) (r .live) (record {
-          rule = l .rule;
-          inside = ltb-true (st .position .got + length xs) (size st) e;
-          zeros = block-kept (isFirst (st .position .stage)) (st .position .got) (st .position .block) xs (l .zeros);
-        });
-        live = r .live;
-        fits = rw n (r .fits);
-      };
-      same = n;
+      agree = agree-live (st .position .stage) (st .position .got + length xs) _ (st .known) (r .live) (record {
+        rule = l .rule;
+        inside = ltb-true (st .position .got + length xs) (size st) e;
+        zeros = block-kept (isFirst (st .position .stage)) (st .position .got) (st .position .block) xs (l .zeros);
+      });
+      live = r .live;
+      fits = rw n (r .fits);
     }
     go false e =
         let b = blockWith (isFirst (st .position .stage)) (st .position .got) (st .position .block) xs in
-        rw n at (finish-leaves (st .position .stage) b (st .known) (stored st s xs) (l .rule) (r .live) (omega (arith, l .inside)) (rw n (r .fits)))
+        finish-leaves (st .position .stage) b (st .known) (stored st s xs) (l .rule) (r .live) (omega (arith, l .inside)) (rw n (r .fits))
 
-pub byte-leaves : (st : State) (s : List ℕ) (b : ℕ) → Running st s → Leaves (length s) (onByte st s b)
+pub byte-leaves : (st : State) (s : List ℕ) (b : ℕ) → Running st s → Leaves (onByte st s b)
 unfolding onByte
 byte-leaves st s b r = chunk-leaves st s (b ∷ []) r

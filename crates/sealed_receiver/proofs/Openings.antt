@@ -2,28 +2,29 @@
 use mathlib.Core.Path.{_≡_, refl, sym, ap, ap₂, _∙_}
 use mathlib.Core.List.{List, _++_}
 use mathlib.Core.Bool.{Bool, true, false, cond, _||_}
-use Prim.Native.Nat.{ℕ, suc, _+_, _-_, _%_, _≤_, _<_}
-use native.Mathlib.Nat.{mod-eq-of-lt}
+use Prim.Native.Nat.{ℕ, suc, _+_, _-_, _≤_, _<_}
 use native.Mathlib.Omega.{arith}
-use borrow.Author.Tests.{le-leb, lt-ltb, ltb-true, leb-true, leb-false}
-use lib.Dec.{leb, ltb}
+use borrow.Author.Tests.{le-leb, lt-ltb}
+use lib.Dec.{leb}
 use lib.ListN.{length, drop}
 use Rattle.refusal.specs.declared.Numbers.{Numbers}
 use Rattle.refusal.specs.declared.Refusal.the-variants as refusal
-use Rattle.refusal.specs.declared.Verdict.{Verdict}
-use Rattle.refusal.specs.declared.Verdict.the-variants as verdict
+use Rattle.refusal.specs.declared.Judgement.{Judgement}
+use Rattle.refusal.specs.declared.Judgement.the-variants as judgement
 use Rattle.refusal.specs.Refusals.{Judged, fine, refused, numbersOf, refusedWith, judgedBy, orElse, unless}
-use Rattle.refusal.proofs.Judgements.{both-fine, passed}
+use Rattle.refusal.proofs.Judgements.{both-fine}
 use Rattle.aes.specs.Aes.{State, keyExpansion}
 use Rattle.gcm.specs.Gcm.{Opened, plain, fail, openedBy, opened}
 use Rattle.refusal.specs.Writes as writes
-use Rattle.gcm.specs.Calls.{limit, judgeOpen, byTag, byBoth, openDone, Opening}
+use Rattle.gcm.specs.Calls.{limit, byTag, Opening}
 use Rattle.refusal.specs.declared.WriteResult.{WriteResult}
 use Rattle.refusal.specs.declared.WriteResult.the-variants as outcome
 use Rattle.refusal.specs.Writes.{wrote, Done, done, outcomeOf}
 use Rattle.gcm.proofs.Opened.{text-length}
+use Rattle.gcm.proofs.Answers.{open-in-place}
 use Rattle.secure.specs.Layout.{allNonces}
 use Rattle.secure.specs.Reading.{judgeNonce}
+use Rattle.secure.proofs.Counts.{not-spent, one-more}
 use Rattle.sealed_receiver.specs.declared.Receiving.{Receiving}
 use Rattle.sealed_receiver.specs.State.{openedOf, openedMore}
 use Rattle.sealed_receiver.specs.Step.{judgeOpened, textOf, judgePart, partText, judgedAs, OpenedPart}
@@ -42,18 +43,6 @@ part-text-length r bytes f = text-if (keyExpansion (r .key)) (r .nonce) bytes (j
 
 -- ---- one nonce more is used
 
-pub not-spent : (n : ℕ) → judgeNonce n ≡ fine → n < allNonces
-not-spent n j = ltb-true n allNonces (passed (ltb n allNonces) refusal.NoncesSpent j)
-
-one-more : (exhausted : Bool) (n : ℕ) → cond exhausted allNonces n < allNonces
-    → cond (leb allNonces (n + 1)) allNonces ((n + 1) % allNonces) ≡ suc (cond exhausted allNonces n)
-one-more true n h = absurd (omega arith)
-one-more false n h = go (leb allNonces (n + 1)) refl
-  where
-    go : (b : Bool) → leb allNonces (n + 1) ≡ b → cond (leb allNonces (n + 1)) allNonces ((n + 1) % allNonces) ≡ suc n
-    go true e = let l = leb-true allNonces (n + 1) e in rw e (omega arith)
-    go false e = let l = leb-false allNonces (n + 1) e in rw e (mod-eq-of-lt (let l′ : n + 1 < allNonces = omega arith in l′) ∙ omega arith)
-
 pub opened-next : (r : Receiving) (bytes : List ℕ) → judgePart r bytes ≡ fine → openedOf (openedMore r) ≡ suc (openedOf r)
 unfolding judgePart openedMore
 opened-next r bytes j =
@@ -67,7 +56,7 @@ enough false m e l = ap (λ (i : ℕ). leb i m) e
 
 -- ---- no nonce is left
 
-pub none-left : (r : Receiving) (bytes after : List ℕ) → r .exhausted ≡ true → OpenedPart r bytes (verdict.Refused refusal.NoncesSpent) after
+pub none-left : (r : Receiving) (bytes after : List ℕ) → r .exhausted ≡ true → OpenedPart r bytes (judgement.Refused refusal.NoncesSpent) after
 unfolding judgePart
 none-left r bytes after e =
     let j : judgePart r bytes ≡ refusedWith refusal.NoncesSpent =
@@ -84,15 +73,7 @@ refused-is : (o : WriteResult) (n : Numbers) → outcomeOf o ≡ writes.refusedF
 refused-is (outcome.Wrote m) n e = cc
 refused-is (outcome.Refused x) n e = cc
 
-in-place : (w : List State) (nonce s : List ℕ) → 16 ≤ length s → length s ≤ limit + 16
-    → openDone w nonce s s ≡ byTag (openedBy w nonce s) (length s - 16) s
-unfolding openDone
-in-place w nonce s h k =
-    let j : judgeOpen (length s) (length s) ≡ fine =
-    simp (le-leb 16 (length s) h, le-leb (length s - 16) limit (omega arith), le-leb (length s - 16) (length s) (omega arith)) in
-    ap (λ (x : Judged). byBoth x (openedBy w nonce s) (length s - 16) s) j
-
-module _ (r : Receiving) (bytes after : List ℕ) (v : Verdict) (o : WriteResult) (ev : judgedBy v ≡ judgedAs o) where
+module _ (r : Receiving) (bytes after : List ℕ) (v : Judgement) (o : WriteResult) (ev : judgedBy v ≡ judgedAs o) where
   by-opened : (x : Opened) → opened (r .key) (r .nonce) bytes ≡ x → judgePart r bytes ≡ judgeOpened x → partText r bytes ≡ textOf x
       → done (outcomeOf o) after ≡ byTag x (length bytes - 16) bytes → OpenedPart r bytes v after
   by-opened (plain text) ex j t d =
@@ -115,4 +96,4 @@ module _ (r : Receiving) (bytes after : List ℕ) (v : Verdict) (o : WriteResult
       let j : judgePart r bytes ≡ judgeOpened x =
       ap (λ (b : Bool). orElse (judgeNonce (cond b allNonces (r .opened))) (judgeOpened x)) e
       ∙ ap (λ (b : Bool). orElse (unless b refusal.NoncesSpent) (judgeOpened x)) (lt-ltb (r .opened) allNonces l) in
-      by-opened x refl j refl (opening .is ∙ in-place (keyExpansion (r .key)) (r .nonce) bytes h k)
+      by-opened x refl j refl (opening .is ∙ open-in-place (keyExpansion (r .key)) (r .nonce) bytes h k)

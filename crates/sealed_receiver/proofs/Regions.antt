@@ -3,41 +3,26 @@ use mathlib.Core.Path.{_≡_, sym, ap, _∙_}
 use mathlib.Core.List.{List, _++_, append-assoc}
 use Prim.Native.Nat.{ℕ, _+_, _-_, _≤_}
 use native.Mathlib.Omega.{arith}
-use lib.ListN.{length, take, drop, replicate, length-append, length-drop, length-replicate, take-append-drop}
+use lib.ListN.{length, take, drop, length-drop}
 use lib.Seq.{take-at, length-take-le}
-use Rattle.buffer.specs.Splice.{replaceFront, splice, overwrite}
-use Rattle.buffer.proofs.Parts.{rest, back, length-splice, overwrite-fits, next-overwrite}
+use Rattle.buffer.specs.Splice.{splice}
+use Rattle.buffer.proofs.Parts.{length-splice}
 use Rattle.refusal.specs.declared.Numbers.{Numbers}
 use Rattle.refusal.specs.Refusals.{Judged, fine, refused}
 use Rattle.preamble.specs.declared.Header.{Header}
-use Rattle.preamble.specs.Layout.{total}
 use Rattle.body.specs.End.{Ended, whole, dropped, refusedFor}
 use Rattle.stream.specs.declared.Event.the-variants as event
 use Rattle.receiver.specs.declared.Report.the-variants as report
 use Rattle.secure.specs.Layout.{needed}
-use Rattle.secure.specs.Reading.{zeroed, holding}
+use Rattle.secure.specs.Reading.{zeroed}
 use Rattle.sealed_receiver.specs.declared.Receiving.{Receiving}
 use Rattle.sealed_receiver.specs.declared.Known.{Known}
 use Rattle.sealed_receiver.specs.Step.{Stepped, stepped, refuse, unlessRefused, judgePart, partText, nextFrame, endFrame}
 use Rattle.buffer.proofs.Splices.{splice-before, splice-from, splice-behind, splice-again, given-back}
 use Rattle.sealed_receiver.proofs.Openings.{part-text-length}
-use Rattle.secure.proofs.Bounds.{segments-fit}
+use Rattle.secure.proofs.Stores.{zeroed-same, holding-same}
 
 -- ---- what a frame's end leaves
-
-front-same : (xs s s′ : List ℕ) (n : ℕ) → length xs ≡ n → drop n s′ ≡ drop n s → replaceFront xs s′ ≡ replaceFront xs s
-front-same xs s s′ n e d =
-    ap (λ (t : List ℕ). xs ++ t) (ap (λ (k : ℕ). drop k s′) e ∙ d ∙ ap (λ (k : ℕ). drop k s) (sym e))
-
-module _ (h : Header) (s s′ : List ℕ) (d : drop (needed h) s′ ≡ drop (needed h) s) where
-  pub zeroed-same : zeroed h s′ ≡ zeroed h s
-  zeroed-same = front-same (replicate (needed h) 0) s s′ (needed h) (length-replicate (needed h) 0) d
-
-  holding-same : (payload : List ℕ) → length payload ≤ needed h → holding h payload s′ ≡ holding h payload s
-  holding-same payload l =
-      let zeros : List ℕ = replicate (needed h - length payload) 0 in
-      front-same (payload ++ zeros) s s′ (needed h)
-      (length-append payload zeros ∙ omega (arith, length-replicate {A = ℕ} (needed h - length payload) 0)) d
 
 pub end-same : (v : Known) (s s′ : List ℕ) → drop (needed (v .header)) s′ ≡ drop (needed (v .header)) s → (o : Ended) (payload : List ℕ)
     → length payload ≤ needed (v .header) → endFrame o v payload s′ ≡ endFrame o v payload s
@@ -46,25 +31,6 @@ end-same v s s′ d whole payload l =
 end-same v s s′ d dropped payload l =
     ap (λ (t : List ℕ). stepped (nextFrame v) t (report.Event (event.Dropped (v .header)))) (zeroed-same (v .header) s s′ d)
 end-same v s s′ d (refusedFor n) payload l = ap (refuse n) (zeroed-same (v .header) s s′ d)
-
--- zeros over all that the frame needs
-pub zeros-over : (h : Header) (s zs : List ℕ) (n : ℕ) → n ≡ needed h → needed h ≤ length s → zs ≡ overwrite (replicate n 0) s → zs ≡ zeroed h s
-zeros-over h s zs n en room e =
-    e ∙ ap (λ (k : ℕ). overwrite (replicate k 0) s) en
-    ∙ overwrite-fits (replicate (needed h) 0) s (omega (arith, length-replicate {A = ℕ} (needed h) 0))
-
--- and behind the segments, which stand at the front
-pub zeros-behind : (h : Header) (s zs : List ℕ) (n m : ℕ) → n ≡ total h → m ≡ needed h → needed h ≤ length s
-    → zs ≡ overwrite (replicate (m - n) 0) (rest s n) → back s n zs ≡ holding h (take (total h) s) s
-zeros-behind h s zs n m en em room e =
-    let f : total h ≤ needed h = segments-fit h in
-    let l : length (take n s) ≡ n = length-take-le n s (omega arith) in
-    let l′ : length (take (total h) s) ≡ total h = length-take-le (total h) s (omega arith) in
-    let self : s ≡ replaceFront (take n s) s = sym (take-append-drop n s) ∙ ap (λ (k : ℕ). take n s ++ drop k s) (sym l) in
-    let left : m - n ≡ needed h - length (take (total h) s) = omega arith in
-    next-overwrite s s (take n s) (replicate (m - n) 0) zs n l (omega (arith, length-replicate {A = ℕ} (m - n) 0)) self e
-    ∙ ap (λ (k : ℕ). replaceFront (take k s ++ replicate (m - n) 0) s) en
-    ∙ ap (λ (k : ℕ). replaceFront (take (total h) s ++ replicate k 0) s) left
 
 -- ---- the m bytes from i on, which were lent, came back as ys
 

@@ -19,20 +19,20 @@ use Rattle.stream.specs.declared.Event.the-variants as event
 use Rattle.stream.specs.Stream.{Trace, ended, after}
 use Rattle.stream.specs.Stream as stream
 use Rattle.receiver.specs.declared.Report.the-variants as report
-use Rattle.receiver.specs.State.{noHeader}
+use Rattle.preamble.specs.Layout.{noHeader}
 use Rattle.buffer.proofs.Sets.{sets-whole}
 use Rattle.receiver.proofs.Machine.{Silent, scan, scan-none, scan-silent}
 use Rattle.receiver.proofs.Gathers.{traceBy, run, byteStep, short, full}
 use Rattle.aes.specs.Aes.{keyExpansion}
 use Rattle.gcm.specs.Gcm.{Opened, plain, fail, openedBy}
-use Rattle.secure.specs.Layout.{nextNonce, padding, inlineLength, firstLength, noRest, noLast, restPart, lastPart, restPartLength, lastPartLength, lastLengths, needed}
-use Rattle.secure.specs.Reading.{judgeNonce, judgePadding, judgeFirst, unpadded, lastEnded, zeroed, holding, byOpening, partTrace, atEnd, lastTrace, restTrace, frames, sealedTrace}
+use Rattle.secure.specs.Layout.{nextNonce, padding, inlineLength, firstLength, noSecondPart, noLastPart, secondPart, lastPart, secondPartLength, lastPartLength, lastLengths, needed}
+use Rattle.secure.specs.Reading.{judgeNonce, judgePadding, judgeFirst, unpadded, lastEnded, zeroed, holding, byOpening, partTrace, atEnd, lastTrace, secondTrace, frames, sealedTrace}
 use Rattle.sealed_receiver.specs.declared.Stage.the-variants as stage
 use Rattle.sealed_receiver.specs.declared.Receiving.{Receiving}
 use Rattle.sealed_receiver.specs.declared.Known.{Known}
 use Rattle.sealed_receiver.specs.declared.State.{State}
 use Rattle.sealed_receiver.specs.State.{openedOf, freshReceiving, openedMore}
-use Rattle.sealed_receiver.specs.Step.{blank, at, knowing, withOpened, withHeader, nextFrame, switched, refusedState, Stepped, unlessRefused, judgeOpened, textOf, judgePart, partText, endFrame, beginLast, beginRest, behindFirst, behindRest, behindLast, finish, stored}
+use Rattle.sealed_receiver.specs.Step.{blank, at, knowing, withOpened, withHeader, nextFrame, switched, refusedState, Stepped, unlessRefused, judgeOpened, textOf, judgePart, partText, endFrame, beginLast, beginSecondPart, afterFirstPart, afterSecondPart, afterLastPart, finish, stored}
 use Rattle.secure.proofs.Bounds.{segments-fit, rest-beyond, rest-size, rest-fits, last-size, last-fits}
 use Rattle.sealed_receiver.proofs.Openings.{part-text-length, opened-next}
 use Rattle.sealed_receiver.proofs.FirstPart.{first-fits}
@@ -80,7 +80,7 @@ part-next fine P s x y h = h refl
 part-next (refused n) P s x y h = refl
 
 -- what of segment 1 stands in the inline buffer
-inline-size : (text : List ℕ) (h : Header) (b : Bool) → noRest h ≡ b → length text ≡ 80 → length (take (h .s1 .len) (drop 32 text)) ≡ cond b (h .s1 .len) inlineLength
+inline-size : (text : List ℕ) (h : Header) (b : Bool) → noSecondPart h ≡ b → length text ≡ 80 → length (take (h .s1 .len) (drop 32 text)) ≡ cond b (h .s1 .len) inlineLength
 inline-size text h true e k = length-take-le (h .s1 .len) (drop 32 text) (let l = leb-true (h .s1 .len) inlineLength e in omega (arith, l, k, length-drop 32 text))
 inline-size text h false e k =
     let l = leb-false (h .s1 .len) inlineLength e in
@@ -128,10 +128,10 @@ module _ (f : ℕ) (below : Below f) where
     last-placed : (zs : List ℕ) → length zs ≤ lastPart h → stored (at stage.Last v) s zs ≡ splice s n₁ zs
     last-placed zs l = ap (λ (k : ℕ). sets s k zs) (add-zero n₁) ∙ sets-eq zs s n₁ (let q = last-fits h in omega (arith, q))
 
-    last-finish : noLast h ≡ false → lastPart h ≤ length ys
+    last-finish : noLastPart h ≡ false → lastPart h ≤ length ys
         → finish stage.Last blank v (splice s n₁ xs)
         ≡ unlessRefused (judgePart r xs) (zeroed h s) (endFrame (lastEnded h (partText r xs)) (withOpened v) (first ++ unpadded (lastLengths h) (partText r xs)) s)
-    unfolding finish behindLast
+    unfolding finish afterLastPart
     last-finish e l =
         let q = last-fits h in
         let n : length xs ≡ lastPart h = length-take-le (lastPart h) ys l in
@@ -139,13 +139,13 @@ module _ (f : ℕ) (below : Below f) where
         let m : n₁ + length xs ≤ needed h = omega (arith, q) in
         let x = lastEnded h (partText r xs) in
         let u = unpadded (lastLengths h) (partText r xs) in
-        ap₂ (λ (b z : List ℕ). unlessRefused (judgePart r b) z (behindLast (withOpened v) (partText r b) (splice s n₁ xs)))
+        ap₂ (λ (b z : List ℕ). unlessRefused (judgePart r b) z (afterLastPart (withOpened v) (partText r b) (splice s n₁ xs)))
         (splice-at s n₁ xs k (lastPartLength h) (n ∙ sym (last-size h e))) (zeroed-over h s xs n₁ k m)
         ∙ ap (unlessRefused (judgePart r xs) (zeroed h s))
         (end-over x (withOpened v) (take n₁ (splice s n₁ xs) ++ u) s xs n₁ k m ∙ ap (λ (p : List ℕ). endFrame x (withOpened v) (p ++ u) s) (splice-before s n₁ xs k ∙ stands))
 
     -- all of it came
-    last-whole : noLast h ≡ false → lastPart h ≤ length ys
+    last-whole : noLastPart h ≡ false → lastPart h ≤ length ys
         → traced (at stage.Last v) s P ys
         ≡ partTrace (keyExpansion (r .key)) (r .nonce) (openedOf r) xs (P + lastPart h) (zeroed h s)
         (λ text. atEnd (lastEnded h text) h (P + lastPart h) (first ++ unpadded (lastLengths h) text) s
@@ -168,12 +168,12 @@ module _ (f : ℕ) (below : Below f) where
         (λ text. atEnd (lastEnded h text) h (P + lastPart h) (first ++ unpadded (lastLengths h) text) s
         (frames f (keyExpansion (r .key)) (nextNonce (r .nonce)) (suc (openedOf r)) (P + lastPart h) (drop (lastPart h) ys)))
 
-    last-cut : noLast h ≡ false → length ys < lastPart h → traced (at stage.Last v) s P ys ≡ ended (splice s n₁ ys)
+    last-cut : noLastPart h ≡ false → length ys < lastPart h → traced (at stage.Last v) s P ys ≡ ended (splice s n₁ ys)
     last-cut e l =
         let k : 0 + length ys < lastPartLength h = rw (last-size h e) (omega arith) in
         short parts (at stage.Last v) s P ys k ∙ ap ended (last-placed ys (omega arith))
 
-    last-by : (b c : Bool) → noLast h ≡ b → ltb (length ys) (lastPart h) ≡ c
+    last-by : (b c : Bool) → noLastPart h ≡ b → ltb (length ys) (lastPart h) ≡ c
         → runs (cond b (endFrame whole v (take n₁ s) s) (record { state = at stage.Last v; store = s; report = report.More })) P ys
         ≡ cond b (atEnd whole h P first s (frames f (keyExpansion (r .key)) (r .nonce) (openedOf r) P ys))
         (cond c (ended (splice s n₁ ys))
@@ -185,7 +185,7 @@ module _ (f : ℕ) (below : Below f) where
     last-by false false e q = last-whole e (ltb-false (length ys) (lastPart h) q)
 
     last-run : runs (beginLast v s) P ys ≡ lastTrace (keyExpansion (r .key)) h (r .nonce) (openedOf r) P ys first s (frames f (keyExpansion (r .key)))
-    last-run = last-by (noLast h) (ltb (length ys) (lastPart h)) refl refl
+    last-run = last-by (noLastPart h) (ltb (length ys) (lastPart h)) refl refl
 
   -- ---- the rest of segment 1
 
@@ -200,7 +200,7 @@ module _ (f : ℕ) (below : Below f) where
     m₁ = h₁ .s1 .len - inlineLength
 
     abbrev rs : List ℕ
-    rs = take (restPart h₁) ys
+    rs = take (secondPart h₁) ys
 
     -- the store with the inline bytes at its front
     abbrev inline : List ℕ
@@ -209,25 +209,25 @@ module _ (f : ℕ) (below : Below f) where
     -- what an opened second part leads to
     abbrev behind₁ : List ℕ → Trace
     behind₁ text =
-        stream.unlessRefused (judgePadding (drop m₁ text)) (P + restPart h₁) (zeroed h₁ s)
-        (lastTrace (keyExpansion (r₁ .key)) h₁ (nextNonce (r₁ .nonce)) (suc (openedOf r₁)) (P + restPart h₁) (drop (restPart h₁) ys) (first ++ take m₁ text)
+        stream.unlessRefused (judgePadding (drop m₁ text)) (P + secondPart h₁) (zeroed h₁ s)
+        (lastTrace (keyExpansion (r₁ .key)) h₁ (nextNonce (r₁ .nonce)) (suc (openedOf r₁)) (P + secondPart h₁) (drop (secondPart h₁) ys) (first ++ take m₁ text)
         (replaceFront (first ++ take m₁ text ++ replicate (padding m₁ + 16) 0) s) (frames f (keyExpansion (r₁ .key))))
 
-    module _ (e : noRest h₁ ≡ false) (size₁ : length first ≡ inlineLength) where
+    module _ (e : noSecondPart h₁ ≡ false) (size₁ : length first ≡ inlineLength) where
       inline-fits : length inline ≡ length s
       inline-fits = length-replaceFront first s (let q = rest-fits h₁ e in omega (arith, q))
 
-      rest-placed : (zs : List ℕ) → length zs ≤ restPart h₁ → stored (at stage.Rest v) inline zs ≡ splice inline inlineLength zs
+      rest-placed : (zs : List ℕ) → length zs ≤ secondPart h₁ → stored (at stage.Second v) inline zs ≡ splice inline inlineLength zs
       rest-placed zs l = ap (λ (k : ℕ). sets inline k zs) (add-zero inlineLength) ∙ sets-eq zs inline inlineLength (let q = rest-fits h₁ e in let i = inline-fits in omega (arith, q, i))
 
-      rest-cut : length ys < restPart h₁ → traced (at stage.Rest v) inline P ys ≡ ended (splice inline inlineLength ys)
+      rest-cut : length ys < secondPart h₁ → traced (at stage.Second v) inline P ys ≡ ended (splice inline inlineLength ys)
       rest-cut l =
-          let k : 0 + length ys < restPartLength h₁ = rw (rest-size h₁ e) (omega arith) in
-          short parts (at stage.Rest v) inline P ys k ∙ ap ended (rest-placed ys (omega arith))
+          let k : 0 + length ys < secondPartLength h₁ = rw (rest-size h₁ e) (omega arith) in
+          short parts (at stage.Second v) inline P ys k ∙ ap ended (rest-placed ys (omega arith))
 
-      module _ (l : restPart h₁ ≤ length ys) where
-        rest-n : length rs ≡ restPart h₁
-        rest-n = length-take-le (restPart h₁) ys l
+      module _ (l : secondPart h₁ ≤ length ys) where
+        rest-n : length rs ≡ secondPart h₁
+        rest-n = length-take-le (secondPart h₁) ys l
 
         inline-room : inlineLength ≤ length inline
         inline-room = let q = rest-fits h₁ e in let i = inline-fits in omega (arith, q, i)
@@ -238,12 +238,12 @@ module _ (f : ℕ) (below : Below f) where
             let z = length-replicate {A = ℕ} (needed h₁) 0 in
             zeroed-over h₁ inline rs inlineLength inline-room (let n = rest-n in omega (arith, q, n)) ∙ over-longer first (replicate (needed h₁) 0) s (omega (arith, z, q, size₁))
 
-        rest-finish : finish stage.Rest blank v (splice inline inlineLength rs)
-            ≡ unlessRefused (judgePart r₁ rs) (zeroed h₁ s) (behindRest (withOpened v) (partText r₁ rs) (splice inline inlineLength rs))
+        rest-finish : finish stage.Second blank v (splice inline inlineLength rs)
+            ≡ unlessRefused (judgePart r₁ rs) (zeroed h₁ s) (afterSecondPart (withOpened v) (partText r₁ rs) (splice inline inlineLength rs))
         unfolding finish
         rest-finish =
-            ap₂ (λ (b z : List ℕ). unlessRefused (judgePart r₁ b) z (behindRest (withOpened v) (partText r₁ b) (splice inline inlineLength rs)))
-            (splice-at inline inlineLength rs inline-room (restPartLength h₁) (rest-n ∙ sym (rest-size h₁ e))) rest-zeroed
+            ap₂ (λ (b z : List ℕ). unlessRefused (judgePart r₁ b) z (afterSecondPart (withOpened v) (partText r₁ b) (splice inline inlineLength rs)))
+            (splice-at inline inlineLength rs inline-room (secondPartLength h₁) (rest-n ∙ sym (rest-size h₁ e))) rest-zeroed
 
         -- an opened one, and what is behind it
         module _ (j : judgePart r₁ rs ≡ fine) where
@@ -288,10 +288,10 @@ module _ (f : ℕ) (below : Below f) where
               ∙ take-at whole₁ (zeros₁ ++ drop (length (whole₁ ++ zeros₁)) s) (h₁ .s1 .len) whole-length
 
           rest-behind : (P′ : ℕ) (zs : List ℕ) → length zs ≤ f
-              → runs (behindRest (withOpened v) text₁ (splice inline inlineLength rs)) P′ zs
+              → runs (afterSecondPart (withOpened v) text₁ (splice inline inlineLength rs)) P′ zs
               ≡ stream.unlessRefused (judgePadding (drop m₁ text₁)) P′ (zeroed h₁ s)
               (lastTrace (keyExpansion (r₁ .key)) h₁ (nextNonce (r₁ .nonce)) (suc (openedOf r₁)) P′ zs whole₁ (replaceFront (whole₁ ++ zeros₁) s) (frames f (keyExpansion (r₁ .key))))
-          unfolding behindRest openedMore
+          unfolding afterSecondPart openedMore
           rest-behind P′ zs k =
               let s′ = splice inline inlineLength rs in
               let s″ = replaceFront (whole₁ ++ zeros₁) s in
@@ -302,56 +302,56 @@ module _ (f : ℕ) (below : Below f) where
               (last-run (withOpened v) P′ zs whole₁ s″ (rw rest-kept fits) rest-stands k
               ∙ ap (λ (n : ℕ). lastTrace (keyExpansion (r₁ .key)) h₁ (nextNonce (r₁ .nonce)) n P′ zs whole₁ s″ (frames f (keyExpansion (r₁ .key)))) (opened-next r₁ rs j))
 
-        rest-whole : traced (at stage.Rest v) inline P ys
-            ≡ partTrace (keyExpansion (r₁ .key)) (r₁ .nonce) (openedOf r₁) rs (P + restPart h₁) (zeroed h₁ s) behind₁
+        rest-whole : traced (at stage.Second v) inline P ys
+            ≡ partTrace (keyExpansion (r₁ .key)) (r₁ .nonce) (openedOf r₁) rs (P + secondPart h₁) (zeroed h₁ s) behind₁
         rest-whole =
-            let some : 0 < restPart h₁ = omega arith in
-            let len : length (drop (restPart h₁) ys) ≤ f = omega (arith, length-drop (restPart h₁) ys) in
+            let some : 0 < secondPart h₁ = omega arith in
+            let len : length (drop (secondPart h₁) ys) ≤ f = omega (arith, length-drop (secondPart h₁) ys) in
             let s′ = splice inline inlineLength rs in
-            full parts (at stage.Rest v) inline P (restPart h₁) ys some (zero-add (restPart h₁) ∙ sym (rest-size h₁ e)) l
-            ∙ ap (λ (t : List ℕ). runs (finish stage.Rest blank v t) (P + restPart h₁) (drop (restPart h₁) ys)) (rest-placed rs (let n = rest-n in omega (arith, n)))
-            ∙ ap (λ (y : Stepped). runs y (P + restPart h₁) (drop (restPart h₁) ys)) rest-finish
-            ∙ run-unless (judgePart r₁ rs) (zeroed h₁ s) (behindRest (withOpened v) (partText r₁ rs) s′) (P + restPart h₁) (drop (restPart h₁) ys)
-            ∙ part-next (judgePart r₁ rs) (P + restPart h₁) (zeroed h₁ s) _ (behind₁ (partText r₁ rs)) (λ j. rest-behind j (P + restPart h₁) (drop (restPart h₁) ys) len)
-            ∙ part-trace r₁ rs (P + restPart h₁) (zeroed h₁ s) behind₁
+            full parts (at stage.Second v) inline P (secondPart h₁) ys some (zero-add (secondPart h₁) ∙ sym (rest-size h₁ e)) l
+            ∙ ap (λ (t : List ℕ). runs (finish stage.Second blank v t) (P + secondPart h₁) (drop (secondPart h₁) ys)) (rest-placed rs (let n = rest-n in omega (arith, n)))
+            ∙ ap (λ (y : Stepped). runs y (P + secondPart h₁) (drop (secondPart h₁) ys)) rest-finish
+            ∙ run-unless (judgePart r₁ rs) (zeroed h₁ s) (afterSecondPart (withOpened v) (partText r₁ rs) s′) (P + secondPart h₁) (drop (secondPart h₁) ys)
+            ∙ part-next (judgePart r₁ rs) (P + secondPart h₁) (zeroed h₁ s) _ (behind₁ (partText r₁ rs)) (λ j. rest-behind j (P + secondPart h₁) (drop (secondPart h₁) ys) len)
+            ∙ part-trace r₁ rs (P + secondPart h₁) (zeroed h₁ s) behind₁
 
     -- segment 1 is as long as the inline buffer has it
     abbrev InlineSize : Type 0
-    InlineSize = length first ≡ cond (noRest h₁) (h₁ .s1 .len) inlineLength
+    InlineSize = length first ≡ cond (noSecondPart h₁) (h₁ .s1 .len) inlineLength
 
-    rest-by : (b c : Bool) → noRest h₁ ≡ b → ltb (length ys) (restPart h₁) ≡ c → length first ≡ cond b (h₁ .s1 .len) inlineLength
-        → runs (cond b (beginLast v inline) (record { state = at stage.Rest v; store = inline; report = report.More })) P ys
+    rest-by : (b c : Bool) → noSecondPart h₁ ≡ b → ltb (length ys) (secondPart h₁) ≡ c → length first ≡ cond b (h₁ .s1 .len) inlineLength
+        → runs (cond b (beginLast v inline) (record { state = at stage.Second v; store = inline; report = report.More })) P ys
         ≡ cond b (lastTrace (keyExpansion (r₁ .key)) h₁ (r₁ .nonce) (openedOf r₁) P ys first inline (frames f (keyExpansion (r₁ .key))))
-        (cond c (ended (splice inline inlineLength ys)) (partTrace (keyExpansion (r₁ .key)) (r₁ .nonce) (openedOf r₁) rs (P + restPart h₁) (zeroed h₁ s) behind₁))
+        (cond c (ended (splice inline inlineLength ys)) (partTrace (keyExpansion (r₁ .key)) (r₁ .nonce) (openedOf r₁) rs (P + secondPart h₁) (zeroed h₁ s) behind₁))
     rest-by true c e q k =
         let l : length first ≤ length s = (let z = segments-fit h₁ in omega (arith, z)) in
         last-run v P ys first inline (rw (length-replaceFront first s l) fits) (take-at first (drop (length first) s) (h₁ .s1 .len) k) left
-    rest-by false true e q k = rest-cut e k (ltb-true (length ys) (restPart h₁) q)
-    rest-by false false e q k = rest-whole e k (ltb-false (length ys) (restPart h₁) q)
+    rest-by false true e q k = rest-cut e k (ltb-true (length ys) (secondPart h₁) q)
+    rest-by false false e q k = rest-whole e k (ltb-false (length ys) (secondPart h₁) q)
 
-    rest-run : InlineSize → runs (beginRest v inline) P ys ≡ restTrace (keyExpansion (r₁ .key)) h₁ (r₁ .nonce) (openedOf r₁) P ys first s (frames f (keyExpansion (r₁ .key)))
-    rest-run k = rest-by (noRest h₁) (ltb (length ys) (restPart h₁)) refl refl k
+    rest-run : InlineSize → runs (beginSecondPart v inline) P ys ≡ secondTrace (keyExpansion (r₁ .key)) h₁ (r₁ .nonce) (openedOf r₁) P ys first s (frames f (keyExpansion (r₁ .key)))
+    rest-run k = rest-by (noSecondPart h₁) (ltb (length ys) (secondPart h₁)) refl refl k
 
   -- ---- the first part
 
   abbrev behind₀ : Receiving → ℕ → List ℕ → List ℕ → List ℕ → Trace
   behind₀ r P ys s text =
       stream.unlessRefused (judgeFirst text (length s)) P s
-      (restTrace (keyExpansion (r .key)) (headerOf text) (nextNonce (r .nonce)) (suc (openedOf r)) P ys (take (headerOf text .s1 .len) (drop 32 text)) s (frames f (keyExpansion (r .key))))
+      (secondTrace (keyExpansion (r .key)) (headerOf text) (nextNonce (r .nonce)) (suc (openedOf r)) P ys (take (headerOf text .s1 .len) (drop 32 text)) s (frames f (keyExpansion (r .key))))
 
   first-behind : (v : Known) (P : ℕ) (ys s bytes : List ℕ) → length ys ≤ f → length bytes ≡ firstLength → judgePart (v .receiving) bytes ≡ fine
-      → runs (behindFirst (withOpened v) (partText (v .receiving) bytes) s) P ys ≡ behind₀ (v .receiving) P ys s (partText (v .receiving) bytes)
-  unfolding behindFirst openedMore
+      → runs (afterFirstPart (withOpened v) (partText (v .receiving) bytes) s) P ys ≡ behind₀ (v .receiving) P ys s (partText (v .receiving) bytes)
+  unfolding afterFirstPart openedMore
   first-behind v P ys s bytes left n j =
       let r = v .receiving in
       let text = partText r bytes in
       let h = headerOf text in
       let first = take (h .s1 .len) (drop 32 text) in
-      run-unless (judgeFirst text (length s)) s (beginRest (withHeader (withOpened v) h) (replaceFront first s)) P ys
+      run-unless (judgeFirst text (length s)) s (beginSecondPart (withHeader (withOpened v) h) (replaceFront first s)) P ys
       ∙ part-next (judgeFirst text (length s)) P s _ _
       (λ q. rest-run (withHeader (withOpened v) h) P ys first s (first-fits text (length s) q) left
-      (inline-size text h (noRest h) refl (part-text-length r bytes j ∙ rw n))
-      ∙ ap (λ (m : ℕ). restTrace (keyExpansion (r .key)) h (nextNonce (r .nonce)) m P ys first s (frames f (keyExpansion (r .key)))) (opened-next r bytes j))
+      (inline-size text h (noSecondPart h) refl (part-text-length r bytes j ∙ rw n))
+      ∙ ap (λ (m : ℕ). secondTrace (keyExpansion (r .key)) h (nextNonce (r .nonce)) m P ys first s (frames f (keyExpansion (r .key)))) (opened-next r bytes j))
 
   module _ (v : Known) (P : ℕ) (ys s : List ℕ) (left : length ys ≤ suc f) where
     abbrev begun : Known
@@ -371,8 +371,8 @@ module _ (f : ℕ) (below : Below f) where
         let some : 0 < firstLength = lit< tt in
         let len : length (drop firstLength ys) ≤ f = omega (arith, length-drop firstLength ys) in
         full parts (nextFrame v) s P firstLength ys some refl l
-        ∙ ap (λ (b : List ℕ). runs (unlessRefused (judgePart r₀ b) s (behindFirst (withOpened begun) (partText r₀ b) s)) (P + firstLength) (drop firstLength ys)) (sets-whole blank fs n)
-        ∙ run-unless (judgePart r₀ fs) s (behindFirst (withOpened begun) (partText r₀ fs) s) (P + firstLength) (drop firstLength ys)
+        ∙ ap (λ (b : List ℕ). runs (unlessRefused (judgePart r₀ b) s (afterFirstPart (withOpened begun) (partText r₀ b) s)) (P + firstLength) (drop firstLength ys)) (sets-whole blank fs n)
+        ∙ run-unless (judgePart r₀ fs) s (afterFirstPart (withOpened begun) (partText r₀ fs) s) (P + firstLength) (drop firstLength ys)
         ∙ part-next (judgePart r₀ fs) (P + firstLength) s _ (behind₀ r₀ (P + firstLength) (drop firstLength ys) s (partText r₀ fs))
         (λ j. first-behind begun (P + firstLength) (drop firstLength ys) s fs len n j)
         ∙ part-trace r₀ fs (P + firstLength) s (behind₀ r₀ (P + firstLength) (drop firstLength ys) s)

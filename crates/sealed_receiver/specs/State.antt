@@ -6,11 +6,11 @@ use lib.ListN.{drop, replicate}
 use lib.Dec.{leb, ltb, eqb}
 use Rattle.refusal.specs.declared.Numbers.{Numbers}
 use Rattle.refusal.specs.declared.Refusal.the-variants as refusal
-use Rattle.refusal.specs.Refusals.{isFine, refusalNumber}
+use Rattle.refusal.specs.Refusals.{isFine, refusalNumber, isNoRefusal}
 use Rattle.preamble.specs.declared.Header.{Header}
 use Rattle.preamble.specs.Judge.{judgeHeader}
-use Rattle.receiver.specs.State.{isNoHeader, isNoRefusal}
-use Rattle.secure.specs.Layout.{allNonces, nextNonce, inlineLength, firstLength, noRest, restPartLength, lastPartLength}
+use Rattle.preamble.specs.Layout.{isNoHeader}
+use Rattle.secure.specs.Layout.{allNonces, nextNonce, inlineLength, firstLength, noSecondPart, secondPartLength, lastPartLength}
 use Rattle.buffer.specs.Zeros.{allZero}
 use Rattle.secure.specs.Layout as layout
 use Rattle.sealed_receiver.specs.declared.Stage.{Stage}
@@ -23,27 +23,27 @@ use Rattle.sealed_receiver.specs.declared.State.{State}
 
 abbrev pub isFirst : Stage → Bool
 isFirst stage.First = true
-isFirst stage.Rest = false
+isFirst stage.Second = false
 isFirst stage.Last = false
 isFirst stage.Refused = false
 
 abbrev pub isRefused : Stage → Bool
 isRefused stage.First = false
-isRefused stage.Rest = false
+isRefused stage.Second = false
 isRefused stage.Last = false
 isRefused stage.Refused = true
 
 -- how many bytes a part has, with its tag; none where the frame has no such part
 abbrev pub sizeOf : Stage → Header → ℕ
 sizeOf stage.First h = firstLength
-sizeOf stage.Rest h = restPartLength h
+sizeOf stage.Second h = secondPartLength h
 sizeOf stage.Last h = lastPartLength h
 sizeOf stage.Refused h = 0
 
 -- where they go in the store: behind the opened segment bytes. The first part's go into the block
 abbrev pub placeOf : Stage → Header → ℕ
 placeOf stage.First h = 0
-placeOf stage.Rest h = inlineLength
+placeOf stage.Second h = inlineLength
 placeOf stage.Last h = h .s1 .len
 placeOf stage.Refused h = 0
 
@@ -87,8 +87,8 @@ receivingRule k r = cond (isRefused k) (isNoReceiving r) (not (r .exhausted) || 
 -- the parts of the frame under way before this one, each of which was opened with a nonce of its own
 abbrev pub openedBefore : Stage → Header → ℕ
 openedBefore stage.First h = 0
-openedBefore stage.Rest h = 1
-openedBefore stage.Last h = 1 + cond (noRest h) 0 1
+openedBefore stage.Second h = 1
+openedBefore stage.Last h = 1 + cond (noSecondPart h) 0 1
 openedBefore stage.Refused h = 0
 
 abbrev pub openedRule : Stage → Header → Receiving → Bool

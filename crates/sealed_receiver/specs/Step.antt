@@ -9,22 +9,21 @@ use lib.Dec.{ltb}
 use Rattle.buffer.specs.Splice.{replaceFront, splice}
 use Rattle.refusal.specs.declared.Numbers.{Numbers}
 use Rattle.refusal.specs.declared.Refusal.the-variants as refusal
-use Rattle.refusal.specs.declared.Verdict.{Verdict}
-use Rattle.refusal.specs.Refusals.{Judged, fine, refused, numbersOf, refusedWith, judgedBy, orElse, isFine, noRefusal}
+use Rattle.refusal.specs.declared.Judgement.{Judgement}
+use Rattle.refusal.specs.Refusals.{contradiction, Judged, fine, refused, numbersOf, refusedWith, judgedBy, orElse, isFine, noRefusal}
 use Rattle.preamble.specs.declared.Header.{Header}
-use Rattle.preamble.specs.Layout.{total}
+use Rattle.preamble.specs.Layout.{total, noHeader}
 use Rattle.preamble.specs.Judge.{headerOf, judgeHeader}
 use Rattle.body.specs.End.{Ended, whole, dropped, refusedFor}
 use Rattle.stream.specs.declared.Event.{Event}
 use Rattle.stream.specs.declared.Event.the-variants as event
 use Rattle.receiver.specs.declared.Report.{Report}
 use Rattle.receiver.specs.declared.Report.the-variants as report
-use Rattle.receiver.specs.State.{noHeader}
 use Rattle.refusal.specs.declared.WriteResult.{WriteResult}
 use Rattle.refusal.specs.declared.WriteResult.the-variants as outcome
 use Rattle.gcm.specs.Gcm.{Opened, plain, fail, opened}
 use Rattle.secure.specs.Layout as layout
-use Rattle.secure.specs.Layout.{padding, inlineLength, noRest, noLast, lastLengths}
+use Rattle.secure.specs.Layout.{padding, inlineLength, noSecondPart, noLastPart, lastLengths}
 use Rattle.secure.specs.Reading.{judgeNonce, judgePadding, judgeFirst, unpadded, lastEnded, zeroed, holding}
 use Rattle.sealed_receiver.specs.declared.Stage.{Stage}
 use Rattle.sealed_receiver.specs.declared.Stage.the-variants as stage
@@ -113,27 +112,27 @@ endFrame (refusedFor n) v segments s = refuse n (zeroed (v .header) s)
 
 -- behind segment 1: the last part, where there is one
 abbrev pub beginLast : Known → List ℕ → Stepped
-beginLast v s = cond (noLast (v .header)) (endFrame whole v (take (v .header .s1 .len) s) s) (silent (at stage.Last v) s)
+beginLast v s = cond (noLastPart (v .header)) (endFrame whole v (take (v .header .s1 .len) s) s) (silent (at stage.Last v) s)
 
 -- behind the inline buffer: the rest of segment 1, where there is one
-abbrev pub beginRest : Known → List ℕ → Stepped
-beginRest v s = cond (noRest (v .header)) (beginLast v s) (silent (at stage.Rest v) s)
+abbrev pub beginSecondPart : Known → List ℕ → Stepped
+beginSecondPart v s = cond (noSecondPart (v .header)) (beginLast v s) (silent (at stage.Second v) s)
 
 -- an opened first part: 5 to 10, 19, and segment 1's inline bytes at the store's front
-unfoldable pub behindFirst : Known → List ℕ → List ℕ → Stepped
-behindFirst v text s =
+unfoldable pub afterFirstPart : Known → List ℕ → List ℕ → Stepped
+afterFirstPart v text s =
     unlessRefused (judgeFirst text (length s)) s
-    (beginRest (withHeader v (headerOf text)) (replaceFront (take (headerOf text .s1 .len) (drop 32 text)) s))
+    (beginSecondPart (withHeader v (headerOf text)) (replaceFront (take (headerOf text .s1 .len) (drop 32 text)) s))
 
 -- an opened second part: 19, and the rest of segment 1 behind its front, with zeros to the part's end
-unfoldable pub behindRest : Known → List ℕ → List ℕ → Stepped
-behindRest v text s =
+unfoldable pub afterSecondPart : Known → List ℕ → List ℕ → Stepped
+afterSecondPart v text s =
     unlessRefused (judgePadding (drop (v .header .s1 .len - inlineLength) text)) (zeroed (v .header) s)
     (beginLast v (splice s inlineLength (take (v .header .s1 .len - inlineLength) text ++ replicate (padding (v .header .s1 .len - inlineLength) + 16) 0)))
 
 -- an opened last part: 12, 19, drop, or the frame
-unfoldable pub behindLast : Known → List ℕ → List ℕ → Stepped
-behindLast v text s =
+unfoldable pub afterLastPart : Known → List ℕ → List ℕ → Stepped
+afterLastPart v text s =
     endFrame (lastEnded (v .header) text) v (take (v .header .s1 .len) s ++ unpadded (lastLengths (v .header)) text) s
 
 -- the bytes of a later part, in the store
@@ -142,13 +141,13 @@ sealedIn k h s = take (sizeOf k h) (drop (placeOf k h) s)
 
 -- the last byte of a part came: by the stage, the block, and what is known
 unfoldable pub finish : Stage → List ℕ → Known → List ℕ → Stepped
-finish stage.First b v s = unlessRefused (judgePart (v .receiving) b) s (behindFirst (withOpened v) (partText (v .receiving) b) s)
-finish stage.Rest b v s =
-    unlessRefused (judgePart (v .receiving) (sealedIn stage.Rest (v .header) s)) (zeroed (v .header) s)
-    (behindRest (withOpened v) (partText (v .receiving) (sealedIn stage.Rest (v .header) s)) s)
+finish stage.First b v s = unlessRefused (judgePart (v .receiving) b) s (afterFirstPart (withOpened v) (partText (v .receiving) b) s)
+finish stage.Second b v s =
+    unlessRefused (judgePart (v .receiving) (sealedIn stage.Second (v .header) s)) (zeroed (v .header) s)
+    (afterSecondPart (withOpened v) (partText (v .receiving) (sealedIn stage.Second (v .header) s)) s)
 finish stage.Last b v s =
     unlessRefused (judgePart (v .receiving) (sealedIn stage.Last (v .header) s)) (zeroed (v .header) s)
-    (behindLast (withOpened v) (partText (v .receiving) (sealedIn stage.Last (v .header) s)) s)
+    (afterLastPart (withOpened v) (partText (v .receiving) (sealedIn stage.Last (v .header) s)) s)
 finish stage.Refused b v s = silent (at stage.Refused v) s
 
 -- bytes go to their place: those of a first part into the block, those of a later one into the store
@@ -217,7 +216,7 @@ answer st s piece =
     (cond (isRefused (st .position .stage)) (refuseUnchanged st (st .known .refusal) s)
     (cond (ltb (length s) (neededBy st)) (refuseUnchanged (refusedState (shortStore st)) (shortStore st) s)
     (feed st s piece)))
-    (refuseUnchanged st (numbersOf refusal.StateContradicts) s)
+    (refuseUnchanged st contradiction s)
 
 -- THE PROMISE OF A CALL
 pub record Answered (st : State) (s piece : List ℕ) (r : Received) (s′ : List ℕ) : Type 0 where
@@ -227,7 +226,7 @@ pub record Answered (st : State) (s piece : List ℕ) (r : Received) (s′ : Lis
 -- ---- what the inner functions promise
 
 -- a part that was opened where it stands: 18 or 17, or its text at its front
-pub record OpenedPart (r : Receiving) (bytes : List ℕ) (v : Verdict) (after : List ℕ) : Type 0 where
+pub record OpenedPart (r : Receiving) (bytes : List ℕ) (v : Judgement) (after : List ℕ) : Type 0 where
   pub judged : judgedBy v ≡ judgePart r bytes
   pub text : judgePart r bytes ≡ fine → after ≡ partText r bytes ++ drop (length bytes - 16) bytes
 

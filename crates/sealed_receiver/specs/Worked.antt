@@ -6,7 +6,7 @@ use lib.ListN.{replicate, set}
 use Rattle.refusal.specs.Refusals.{row}
 use Rattle.preamble.specs.declared.Header.{Header}
 use Rattle.stream.specs.Rows.{Row, _⇒_, Holds, sized, header, segment}
-use Rattle.receiver.specs.State.{noHeader}
+use Rattle.preamble.specs.Layout.{noHeader}
 use Rattle.sealed_receiver.specs.declared.Stage.the-variants as stage
 use Rattle.sealed_receiver.specs.declared.Receiving.{Receiving}
 use Rattle.sealed_receiver.specs.declared.Known.{Known}
@@ -37,22 +37,22 @@ partRows =
     -- fewer bytes came than the part has
     agrees (stateAt stage.First 95 blank begun) ⇒ true
     ∷ agrees (stateAt stage.First 96 blank begun) ⇒ false
-    ∷ agrees (stateAt stage.Rest 31 blank (within 1 three)) ⇒ true
-    ∷ agrees (stateAt stage.Rest 32 blank (within 1 three)) ⇒ false
+    ∷ agrees (stateAt stage.Second 31 blank (within 1 three)) ⇒ true
+    ∷ agrees (stateAt stage.Second 32 blank (within 1 three)) ⇒ false
     ∷ agrees (stateAt stage.Last 47 blank (within 2 three)) ⇒ true
     ∷ agrees (stateAt stage.Last 48 blank (within 2 three)) ⇒ false
     -- the frame has the part
-    ∷ agrees (at stage.Rest (within 1 three)) ⇒ true
+    ∷ agrees (at stage.Second (within 1 three)) ⇒ true
     ∷ agrees (at stage.Last (within 2 three)) ⇒ true
-    ∷ agrees (at stage.Rest (within 1 one)) ⇒ false
+    ∷ agrees (at stage.Second (within 1 one)) ⇒ false
     ∷ agrees (at stage.Last (within 1 one)) ⇒ false
-    ∷ agrees (at stage.Rest (within 1 (sized 2 48 1 0 0))) ⇒ false
+    ∷ agrees (at stage.Second (within 1 (sized 2 48 1 0 0))) ⇒ false
     ∷ agrees (at stage.Last (within 2 (sized 1 49 0 0 0))) ⇒ false
     -- the block: zeros behind what came of a first part, and all zeros in a later one
     ∷ agrees (stateAt stage.First 1 (set blank 0 7) begun) ⇒ true
     ∷ agrees (stateAt stage.First 1 (set blank 1 7) begun) ⇒ false
     ∷ agrees (stateAt stage.First 1 (set blank 95 7) begun) ⇒ false
-    ∷ agrees (stateAt stage.Rest 1 (set blank 0 7) (within 1 three)) ⇒ false
+    ∷ agrees (stateAt stage.Second 1 (set blank 0 7) (within 1 three)) ⇒ false
     ∷ agrees (stateAt stage.Last 1 (set blank 0 7) (within 2 three)) ⇒ false
     ∷ []
 
@@ -61,24 +61,24 @@ knownRows =
     -- the header: none in a first part, and one that was accepted in a later one
     agrees (at stage.First begun) ⇒ true
     ∷ agrees (at stage.First (within 1 three)) ⇒ false
-    ∷ agrees (at stage.Rest (within 1 (header 21 2 (segment 49 0) (segment 1 0) (segment 0 0) (segment 0 0)))) ⇒ false
+    ∷ agrees (at stage.Second (within 1 (header 21 2 (segment 49 0) (segment 1 0) (segment 0 0) (segment 0 0)))) ⇒ false
     ∷ agrees (at stage.Last (within 2 (sized 2 49 1 1 0))) ⇒ false
-    ∷ agrees (at stage.Rest (within 1 (sized 1 1048577 0 0 0))) ⇒ false
+    ∷ agrees (at stage.Second (within 1 (sized 1 1048577 0 0 0))) ⇒ false
     -- a nonce was used for each part of the frame that came before
-    ∷ agrees (at stage.Rest (within 0 three)) ⇒ false
+    ∷ agrees (at stage.Second (within 0 three)) ⇒ false
     ∷ agrees (at stage.Last (within 1 three)) ⇒ false
     ∷ agrees (at stage.Last (within 1 (sized 2 48 1 0 0))) ⇒ true
     ∷ agrees (at stage.Last (within 0 (sized 2 48 1 0 0))) ⇒ false
-    ∷ agrees (at stage.Rest (knowing (receiving 0 true) three)) ⇒ true
+    ∷ agrees (at stage.Second (knowing (receiving 0 true) three)) ⇒ true
     ∷ agrees (at stage.Last (knowing (receiving 0 true) three)) ⇒ true
     -- all nonces are used: opened is 0
     ∷ agrees (at stage.First (knowing (receiving 0 true) noHeader)) ⇒ true
     ∷ agrees (at stage.First (knowing (receiving 1 true) noHeader)) ⇒ false
-    ∷ agrees (at stage.Rest (knowing (receiving 1 true) three)) ⇒ false
+    ∷ agrees (at stage.Second (knowing (receiving 1 true) three)) ⇒ false
     ∷ agrees (at stage.Last (knowing (receiving 1 true) three)) ⇒ false
     -- a refusal before the stream is refused
     ∷ agrees (at stage.First (record { receiving = receiving 0 false; header = noHeader; refusal = row 17 0 0 0 })) ⇒ false
-    ∷ agrees (at stage.Rest (record { receiving = receiving 1 false; header = three; refusal = row 17 0 0 0 })) ⇒ false
+    ∷ agrees (at stage.Second (record { receiving = receiving 1 false; header = three; refusal = row 17 0 0 0 })) ⇒ false
     ∷ agrees (at stage.Last (record { receiving = receiving 2 false; header = three; refusal = row 17 0 0 0 })) ⇒ false
     ∷ []
 

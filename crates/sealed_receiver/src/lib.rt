@@ -5,6 +5,7 @@ pub mod states;
 
 use pieces::take_piece;
 use preamble::Header;
+use preamble::no_header;
 use receiver::Report;
 use refusal::Numbers;
 use refusal::Refusal;
@@ -14,7 +15,6 @@ use states::fresh_receiving;
 use states::is_refused;
 use states::knowing;
 use states::needed_by;
-use states::no_header;
 use states::refused_state;
 use states::state_at;
 use stream::Event;
@@ -27,7 +27,7 @@ ghost use Rattle.sealed_receiver.specs.Worked.{WorkedStates};
 // Which part the next bytes of the stream are of.
 pub enum Stage {
     First,
-    Rest,
+    Second,
     Last,
     Refused,
 }

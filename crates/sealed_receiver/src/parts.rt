@@ -9,7 +9,7 @@ use crate::states::refused_state;
 use crate::states::state_at;
 use crate::states::with_header;
 use crate::states::with_opened;
-use aes::expand;
+use aes::key_expansion;
 use banner::Revision;
 use body::Ending;
 use body::Late;
@@ -21,13 +21,15 @@ use buffer::put;
 use buffer::put_zeros;
 use gcm::open_in_place;
 use preamble::Header;
-use preamble::judge_preamble;
+use preamble::judge_but_store;
+use preamble::judge_store;
 use preamble::read_header;
+use preamble::read_preamble;
 use preamble::total_of;
 use receiver::Report;
+use refusal::Judgement;
 use refusal::Numbers;
 use refusal::Refusal;
-use refusal::Verdict;
 use refusal::WriteResult;
 use refusal::both;
 use refusal::numbers_of;
@@ -36,10 +38,10 @@ use refusal::unless;
 use secure::all_zero;
 use secure::last_part_length;
 use secure::needed_of;
-use secure::no_last;
-use secure::no_rest;
+use secure::no_last_part;
+use secure::no_second_part;
 use secure::padding;
-use secure::rest_part_length;
+use secure::second_part_length;
 use stream::Event;
 ghost use mathlib.Core.Path.{_≡_};
 ghost use mathlib.Core.List.{List};
@@ -52,11 +54,11 @@ ghost use Rattle.refusal.specs.Refusals.{numbersOf, judgedBy, unless, isFine};
 ghost use Rattle.preamble.specs.Judge.{judgeHeader};
 ghost use Rattle.preamble.specs.Layout.{total};
 ghost use Rattle.body.specs.End.{whole, dropped, endedAs};
-ghost use Rattle.secure.specs.Layout.{inlineLength, roundUp, noRest, noLast, restPart, lastPart, needed};
+ghost use Rattle.secure.specs.Layout.{inlineLength, roundUp, noSecondPart, noLastPart, secondPart, lastPart, needed};
 ghost use Rattle.buffer.specs.Zeros.{allZero};
 ghost use Rattle.secure.specs.Reading.{judgeFirst, byLateStatus, lastEnded, zeroed};
 ghost use Rattle.sealed_receiver.specs.declared.Stage.the-variants as stage;
-ghost use Rattle.sealed_receiver.specs.Step.{stepped, silent, refuse, endFrame, beginLast, beginRest, behindFirst, behindRest, behindLast, finish, judgedAs, OpenedPart, ClosedUp, Ready};
+ghost use Rattle.sealed_receiver.specs.Step.{stepped, silent, refuse, endFrame, beginLast, beginSecondPart, afterFirstPart, afterSecondPart, afterLastPart, finish, judgedAs, OpenedPart, ClosedUp, Ready};
 
 fn more(st: State) -> Transition
     ensures { λ r. ⌜ ((s : List ℕ) → stepped (r .state) s (r .report) ≡ silent st s) ⌝ }
@@ -78,27 +80,27 @@ fn refuse(n: Numbers) -> Transition
 
 // ---- opening
 
-fn verdict_of(o: WriteResult) -> Verdict
+fn judgement_of(o: WriteResult) -> Judgement
     ensures { λ v. ⌜ judgedBy v ≡ judgedAs o ⌝ }
 {
     match o {
-        WriteResult::Wrote(_) => Verdict::Fine,
-        WriteResult::Refused(why) => Verdict::Refused(why),
+        WriteResult::Wrote(_) => Judgement::Fine,
+        WriteResult::Refused(why) => Judgement::Refused(why),
     }
 }
 
 // Opens a part where it stands: 18 in place of that where no nonce is left.
-fn open_part(r: Receiving, bytes: &mut [u8]) -> Verdict
+fn open_part(r: Receiving, bytes: &mut [u8]) -> Judgement
     requires { ⌜ (16 ≤ length (now bytes)) × (length (now bytes) ≤ 68719476720) ⌝ }
     ensures { λ v. ⌜ OpenedPart r (now (bytes .entry)) v (now (bytes .exit)) ⌝ }
 {
     if r.exhausted {
-        return Verdict::Refused(Refusal::NoncesSpent);
+        return Judgement::Refused(Refusal::NoncesSpent);
     }
     let key = r.key;
     let nonce = r.nonce;
-    let w = expand(key);
-    verdict_of(open_in_place(&w, nonce, bytes))
+    let w = key_expansion(key);
+    judgement_of(open_in_place(&w, nonce, bytes))
 }
 
 // ---- the end of a frame
@@ -150,51 +152,50 @@ fn begin_last(v: Known, store: &mut [u8]) -> Transition
     requires { ⌜ (needed (v .header) ≤ length (now store)) × (isFine (judgeHeader (v .header)) ≡ true) ⌝ }
     ensures { λ r. ⌜ stepped (r .state) (now (store .exit)) (r .report) ≡ beginLast v (now (store .entry)) ⌝ }
 {
-    if no_last(v.header) {
+    if no_last_part(v.header) {
         return end_whole(v, store);
     }
     more(state_at(Stage::Last, v))
 }
 
 // Behind the inline buffer.
-fn begin_rest(v: Known, store: &mut [u8]) -> Transition
+fn begin_second_part(v: Known, store: &mut [u8]) -> Transition
     requires { ⌜ (needed (v .header) ≤ length (now store)) × (isFine (judgeHeader (v .header)) ≡ true) ⌝ }
-    ensures { λ r. ⌜ stepped (r .state) (now (store .exit)) (r .report) ≡ beginRest v (now (store .entry)) ⌝ }
+    ensures { λ r. ⌜ stepped (r .state) (now (store .exit)) (r .report) ≡ beginSecondPart v (now (store .entry)) ⌝ }
 {
-    if no_rest(v.header) {
+    if no_second_part(v.header) {
         return begin_last(v, store);
     }
-    more(state_at(Stage::Rest, v))
+    more(state_at(Stage::Second, v))
 }
 
 // ---- the first part
 
 // All judgements on an opened first part, in order.
-fn judge_first(text: &[u8], store: usize) -> Verdict
+fn judge_first(text: &[u8], store: usize) -> Judgement
     ensures { λ r. ⌜ judgedBy r ≡ judgeFirst (now (text .entry)) store ⌝ }
 {
-    let h = read_header(text);
+    let p = read_preamble(text);
+    let h = p.header;
     let n = h.s1.len as usize;
     let pad = all_zero(behind(text, 32 + n));
-    let need = needed_of(h);
-    let room = unless(need <= store as u64, Refusal::StoreShort(need));
+    let room = judge_store(needed_of(h), store);
     let last = or_else(room, unless(pad, Refusal::Padding));
-    // 5 to 9: every frame within the limits fits into a store of this length.
-    or_else(judge_preamble(text, 4294967296), last)
+    or_else(judge_but_store(p, text), last)
 }
 
-fn behind_first(v: Known, text: &[u8], store: &mut [u8]) -> Transition
+fn after_first_part(v: Known, text: &[u8], store: &mut [u8]) -> Transition
     requires { ⌜ length (now text) ≡ 80 ⌝ }
-    ensures { λ r. ⌜ stepped (r .state) (now (store .exit)) (r .report) ≡ behindFirst v (now (text .entry)) (now (store .entry)) ⌝ }
+    ensures { λ r. ⌜ stepped (r .state) (now (store .exit)) (r .report) ≡ afterFirstPart v (now (text .entry)) (now (store .entry)) ⌝ }
 {
     let judged = judge_first(text, store.len());
     match judged {
-        Verdict::Fine => {
+        Judgement::Fine => {
             let h = read_header(text);
             put(store, part(text, 32, h.s1.len as usize));
-            begin_rest(with_header(v, h), store)
+            begin_second_part(with_header(v, h), store)
         }
-        Verdict::Refused(why) => refuse(numbers_of(why)),
+        Judgement::Refused(why) => refuse(numbers_of(why)),
     }
 }
 
@@ -205,17 +206,17 @@ fn end_first(block: [u8; 96], v: Known, store: &mut [u8]) -> Transition
     let r = v.receiving;
     let opened = open_part(r, &mut b[0..]);
     match opened {
-        Verdict::Fine => behind_first(with_opened(v), part(&b, 0, 80), store),
-        Verdict::Refused(why) => refuse(numbers_of(why)),
+        Judgement::Fine => after_first_part(with_opened(v), part(&b, 0, 80), store),
+        Judgement::Refused(why) => refuse(numbers_of(why)),
     }
 }
 
 // ---- the rest of segment 1
 
 // Its text stands in the store, from byte 48 on.
-fn behind_rest(v: Known, store: &mut [u8]) -> Transition
-    requires { ⌜ (needed (v .header) ≤ length (now store)) × (isFine (judgeHeader (v .header)) ≡ true) × (noRest (v .header) ≡ false) ⌝ }
-    ensures { λ r. ⌜ stepped (r .state) (now (store .exit)) (r .report) ≡ behindRest v (take (restPart (v .header) - 16) (drop inlineLength (now (store .entry)))) (now (store .entry)) ⌝ }
+fn after_second_part(v: Known, store: &mut [u8]) -> Transition
+    requires { ⌜ (needed (v .header) ≤ length (now store)) × (isFine (judgeHeader (v .header)) ≡ true) × (noSecondPart (v .header) ≡ false) ⌝ }
+    ensures { λ r. ⌜ stepped (r .state) (now (store .exit)) (r .report) ≡ afterSecondPart v (take (secondPart (v .header) - 16) (drop inlineLength (now (store .entry)))) (now (store .entry)) ⌝ }
 {
     let n = v.header.s1.len as usize;
     let pad = padding(n - 48);
@@ -226,17 +227,17 @@ fn behind_rest(v: Known, store: &mut [u8]) -> Transition
     refuse_frame(v.header, Refusal::Padding, store)
 }
 
-fn end_rest(v: Known, store: &mut [u8]) -> Transition
-    requires { ⌜ Ready stage.Rest v (now store) ⌝ }
-    ensures { λ q. ⌜ ((b : List ℕ) → stepped (q .state) (now (store .exit)) (q .report) ≡ finish stage.Rest b v (now (store .entry))) ⌝ }
+fn end_second_part(v: Known, store: &mut [u8]) -> Transition
+    requires { ⌜ Ready stage.Second v (now store) ⌝ }
+    ensures { λ q. ⌜ ((b : List ℕ) → stepped (q .state) (now (store .exit)) (q .report) ≡ finish stage.Second b v (now (store .entry))) ⌝ }
 {
     let r = v.receiving;
     let h = v.header;
-    let n = rest_part_length(h) as usize;
+    let n = second_part_length(h) as usize;
     let opened = open_part(r, &mut store[48..48 + n]);
     match opened {
-        Verdict::Fine => behind_rest(with_opened(v), store),
-        Verdict::Refused(why) => refuse_frame(h, why, store),
+        Judgement::Fine => after_second_part(with_opened(v), store),
+        Judgement::Refused(why) => refuse_frame(h, why, store),
     }
 }
 
@@ -324,9 +325,9 @@ fn close_up(h: Header, store: &mut [u8])
 }
 
 // Its text stands in the store, behind segment 1.
-fn behind_last(v: Known, store: &mut [u8]) -> Transition
-    requires { ⌜ (needed (v .header) ≤ length (now store)) × (noLast (v .header) ≡ false) ⌝ }
-    ensures { λ r. ⌜ stepped (r .state) (now (store .exit)) (r .report) ≡ behindLast v (take (lastPart (v .header) - 16) (drop (v .header .s1 .len) (now (store .entry)))) (now (store .entry)) ⌝ }
+fn after_last_part(v: Known, store: &mut [u8]) -> Transition
+    requires { ⌜ (needed (v .header) ≤ length (now store)) × (noLastPart (v .header) ≡ false) ⌝ }
+    ensures { λ r. ⌜ stepped (r .state) (now (store .exit)) (r .report) ≡ afterLastPart v (take (lastPart (v .header) - 16) (drop (v .header .s1 .len) (now (store .entry)))) (now (store .entry)) ⌝ }
 {
     let h = v.header;
     let at = h.s1.len as usize;
@@ -352,8 +353,8 @@ fn end_last(v: Known, store: &mut [u8]) -> Transition
     let n = last_part_length(h) as usize;
     let opened = open_part(r, &mut store[at..at + n]);
     match opened {
-        Verdict::Fine => behind_last(with_opened(v), store),
-        Verdict::Refused(why) => refuse_frame(h, why, store),
+        Judgement::Fine => after_last_part(with_opened(v), store),
+        Judgement::Refused(why) => refuse_frame(h, why, store),
     }
 }
 
@@ -364,7 +365,7 @@ pub(crate) fn end_part(stage: Stage, block: [u8; 96], v: Known, store: &mut [u8]
 {
     match stage {
         Stage::First => end_first(block, v, store),
-        Stage::Rest => end_rest(v, store),
+        Stage::Second => end_second_part(v, store),
         Stage::Last => end_last(v, store),
         Stage::Refused => more(state_at(Stage::Refused, v)),
     }

@@ -6,55 +6,29 @@ use crate::Stage;
 use crate::State;
 use buffer::behind;
 use preamble::Header;
-use preamble::Segment;
 use preamble::header_is_fine;
-use receiver::states::is_no_header;
-use receiver::states::is_no_refusal;
+use preamble::is_no_header;
+use preamble::no_header;
 use refusal::Numbers;
 use refusal::both;
 use refusal::either;
+use refusal::is_no_refusal;
+use refusal::no_refusal;
 use secure::all_zero;
 use secure::last_part_length;
 use secure::needed_of;
 use secure::next_nonce;
-use secure::no_rest;
-use secure::rest_part_length;
+use secure::no_second_part;
+use secure::second_part_length;
 ghost use mathlib.Core.Path.{_≡_};
 ghost use mathlib.Core.Bool.{cond};
 ghost use Prim.Native.Nat.{_+_, _<_};
-ghost use Rattle.refusal.specs.Refusals.{noRefusal};
-ghost use Rattle.receiver.specs.State.{noHeader};
-ghost use Rattle.secure.specs.Layout.{noRest};
+ghost use Rattle.secure.specs.Layout.{noSecondPart};
 ghost use Rattle.sealed_receiver.specs.declared.Stage.the-variants as stage;
 ghost use Rattle.sealed_receiver.specs.State.{isFirst, isRefused, sizeOf, placeOf, inFrame, needed, freshReceiving, openedMore, noReceiving, isNoReceiving, receivingRule, openedBefore, openedRule, headerRule, given, refusalRule, countRule, inBlock, blockRule, rules, agrees};
 ghost use Rattle.sealed_receiver.specs.Step.{at, knowing, withOpened, withHeader, nextFrame, refusedState};
 
 // ---- states
-
-pub(crate) fn no_header() -> Header
-    ensures { λ r. ⌜ r ≡ noHeader ⌝ }
-{
-    let none = Segment { len: 0, align: 0 };
-    Header {
-        tag: 0,
-        count: 0,
-        s1: none,
-        s2: none,
-        s3: none,
-        s4: none,
-    }
-}
-
-fn no_refusal() -> Numbers
-    ensures { λ r. ⌜ r ≡ noRefusal ⌝ }
-{
-    Numbers {
-        number: 0,
-        first: 0,
-        second: 0,
-        third: 0,
-    }
-}
 
 // Before a part's first byte.
 pub(crate) fn state_at(stage: Stage, known: Known) -> State
@@ -161,7 +135,7 @@ pub(crate) fn is_first(stage: Stage) -> bool
 {
     match stage {
         Stage::First => true,
-        Stage::Rest => false,
+        Stage::Second => false,
         Stage::Last => false,
         Stage::Refused => false,
     }
@@ -172,7 +146,7 @@ pub(crate) fn is_refused(stage: Stage) -> bool
 {
     match stage {
         Stage::First => false,
-        Stage::Rest => false,
+        Stage::Second => false,
         Stage::Last => false,
         Stage::Refused => true,
     }
@@ -184,7 +158,7 @@ pub(crate) fn size_of(stage: Stage, h: Header) -> usize
 {
     match stage {
         Stage::First => 96,
-        Stage::Rest => rest_part_length(h) as usize,
+        Stage::Second => second_part_length(h) as usize,
         Stage::Last => last_part_length(h) as usize,
         Stage::Refused => 0,
     }
@@ -196,7 +170,7 @@ pub(crate) fn place_of(stage: Stage, h: Header) -> usize
 {
     match stage {
         Stage::First => 0,
-        Stage::Rest => 48,
+        Stage::Second => 48,
         Stage::Last => h.s1.len as usize,
         Stage::Refused => 0,
     }
@@ -239,9 +213,9 @@ fn receiving_rule(stage: Stage, r: Receiving) -> bool
 
 // The parts of a frame before its last one.
 fn before_last(h: Header) -> u64
-    ensures { λ r. ⌜ (r ≡ 1 + cond (noRest h) 0 1) × (r < 3) ⌝ }
+    ensures { λ r. ⌜ (r ≡ 1 + cond (noSecondPart h) 0 1) × (r < 3) ⌝ }
 {
-    if no_rest(h) {
+    if no_second_part(h) {
         return 1;
     }
     2
@@ -253,7 +227,7 @@ fn opened_before(stage: Stage, h: Header) -> u64
 {
     match stage {
         Stage::First => 0,
-        Stage::Rest => 1,
+        Stage::Second => 1,
         Stage::Last => before_last(h),
         Stage::Refused => 0,
     }

@@ -1,5 +1,5 @@
 -- Laws of sealing and opening by a record.
-use mathlib.Core.Path.{_≡_, ap, _∙_}
+use mathlib.Core.Path.{_≡_, _∙_}
 use mathlib.Core.Bool.{Bool, true, _&&_}
 use mathlib.Core.List.{List, append-nil}
 use Prim.Native.Nat.{ℕ, _+_, _-_, _≤_}
@@ -12,12 +12,9 @@ use Rattle.refusal.proofs.Booleans.{both-left}
 use Rattle.buffer.specs.Le.{numberAt}
 use Rattle.buffer.specs.Splice.{overwrite}
 use Rattle.buffer.proofs.Parts.{overwrite-fits}
-use Rattle.crc32c.specs.Crc.{crcOf}
-use Rattle.refusal.specs.declared.WriteResult.{WriteResult}
-use Rattle.refusal.specs.Writes.{Done, done, outcomeOf}
 use Rattle.records.specs.Records.{isWhole, allowed}
 use Rattle.records.proofs.Laws.{sized-good, whole-within}
-use Rattle.sealing_cases.specs.Sealing.{answerLine, doneLine, sealingSize, keyOf, nonceOf, givenOf, bufferOf, doneBy, doneOf}
+use Rattle.sealing_cases.specs.Sealing.{sealingSize, keyOf, nonceOf, givenOf, bufferOf, doneBy, doneOf}
 
 -- n bytes from a place on, over as many
 pub bytes-all : (s l : List ℕ) (at n : ℕ) → length l ≡ n → at + n ≤ length s → overwrite (take n (drop at s)) l ≡ take n (drop at s)
@@ -47,7 +44,3 @@ pub sealing-done : (opens : Bool) (s key nonce text buf : List ℕ)
     → doneBy opens key nonce text buf ≡ doneOf opens s
 unfolding doneOf
 sealing-done opens s key nonce text buf ek en et eb = rw (ek, en, et, eb)
-
--- the line as code comes to it
-pub outcome-line : (o : WriteResult) (sum : ℕ) (buf : List ℕ) (d : Done) → done (outcomeOf o) buf ≡ d → sum ≡ crcOf 4294967295 buf → answerLine (outcomeOf o) sum ≡ doneLine d
-outcome-line o sum buf d e k = ap (answerLine (outcomeOf o)) k ∙ ap doneLine e

@@ -4,21 +4,11 @@ use mathlib.Core.List.{List, [], _∷_}
 use Prim.Native.Nat.{ℕ, _+_}
 use lib.Dec.{leb}
 use lib.ListN.{take, drop, getD}
-use Rattle.refusal.specs.Writes.{Outcome, wrote, refusedFor, Done}
+use Rattle.refusal.specs.Writes.{Done}
 use Rattle.buffer.specs.Le.{numberAt}
-use Rattle.crc32c.specs.Crc.{crcOf}
 use Rattle.aes.specs.Aes.{keyExpansion}
 use Rattle.gcm.specs.Calls.{sealDone, openDone}
-use Rattle.text.specs.Line.{Piece}
-use Rattle.records.specs.Records.{Record, wroteLine, refusedLine, sized, allowed, whole, counted}
-
-abbrev pub answerLine : Outcome → ℕ → List Piece
-answerLine (wrote n) c = wroteLine n c
-answerLine (refusedFor w) c = refusedLine w c
-
--- its answer, and the checksum of the buffer that it left
-abbrev pub doneLine : Done → List Piece
-doneLine d = answerLine (d .outcome) (crcOf 4294967295 (d .buffer))
+use Rattle.records.specs.Records.{Record, doneLine, sized, allowed, whole, counted}
 
 -- key 16 bytes, nonce 12 bytes, buffer length u32, fill u8, length u32, bytes; there is room for so long a buffer
 abbrev pub sealingSize : ℕ → List ℕ → ℕ

@@ -11,28 +11,16 @@ use records::Step;
 use records::bad_record;
 use records::count_up;
 use records::is_whole;
-use records::print_refused;
-use records::print_wrote;
+use records::print_outcome;
 use records::sized;
 use refusal::WriteResult;
 use refusal::both;
-use refusal::numbers_of;
 ghost use mathlib.Core.Path.{_≡_};
 ghost use Prim.Native.Nat.{_+_, _≤_};
 ghost use lib.ListN.{length, take, drop};
 ghost use Rattle.refusal.specs.Writes.{done, outcomeOf};
-ghost use Rattle.text.specs.Page.{page};
-ghost use Rattle.records.specs.Records.{Did, print};
-ghost use Rattle.sealing_cases.specs.Sealing.{answerLine, sealingSize, doneBy, sealingRecord};
-
-fn print_outcome(text: &mut [u8], at: usize, outcome: WriteResult, sum: u32) -> usize
-    ensures { λ r. ⌜ page (now (text .exit)) r ≡ print (answerLine (outcomeOf outcome) sum) (page (now (text .entry)) at) ⌝ }
-{
-    match outcome {
-        WriteResult::Wrote(n) => print_wrote(text, at, n, sum),
-        WriteResult::Refused(why) => print_refused(text, at, numbers_of(why), sum),
-    }
-}
+ghost use Rattle.records.specs.Records.{Did};
+ghost use Rattle.sealing_cases.specs.Sealing.{sealingSize, doneBy, sealingRecord};
 
 fn sealing_size(room: usize, s: &[u8]) -> usize
     ensures { λ r. ⌜ r ≡ sealingSize room (now (s .entry)) ⌝ }

@@ -6,14 +6,14 @@ use native.Mathlib.Omega.{arith}
 use borrow.Author.Tests.{leb-false}
 use Rattle.preamble.specs.declared.Header.{Header}
 use Rattle.preamble.specs.Layout.{total}
-use Rattle.secure.specs.Layout.{padding, roundUp, inlineLength, noRest, noLast, restPart, restPartLength, lastPart, lastPartLength, needed}
+use Rattle.secure.specs.Layout.{padding, roundUp, inlineLength, noSecondPart, noLastPart, firstLength, secondPart, secondPartLength, lastPart, lastPartLength, sealedLength, needed}
 
 -- a part that has bytes is there
 pub there : (b : Bool) (n : ℕ) → 0 < cond b 0 n → b ≡ false
 there true n h = absurd (omega arith)
 there false n h = refl
 
-few : (n : ℕ) → padding n < 16
+pub few : (n : ℕ) → padding n < 16
 few n = omega arith
 
 pub segments-fit : (h : Header) → total h ≤ needed h
@@ -33,14 +33,14 @@ round-up n r e = omega arith
 rest-room : (n p q a b c : ℕ) → 48 < n → p < 16 → 48 + (n - 48 + p + 16) ≤ n + q + a + b + c + 32
 rest-room n p q a b c h k = omega arith
 
-module _ (h : Header) (e : noRest h ≡ false) where
+module _ (h : Header) (e : noSecondPart h ≡ false) where
   pub rest-beyond : inlineLength < h .s1 .len
   rest-beyond = leb-false (h .s1 .len) inlineLength e
 
-  pub rest-size : restPartLength h ≡ restPart h
-  rest-size = ap (λ (b : Bool). cond b 0 (restPart h)) e
+  pub rest-size : secondPartLength h ≡ secondPart h
+  rest-size = ap (λ (b : Bool). cond b 0 (secondPart h)) e
 
-  pub rest-fits : inlineLength + restPart h ≤ needed h
+  pub rest-fits : inlineLength + secondPart h ≤ needed h
   unfolding needed
   rest-fits =
       rest-room (h .s1 .len) (padding (h .s1 .len - inlineLength)) (padding (h .s1 .len))
@@ -56,9 +56,19 @@ last-room : (n q a b c : ℕ) → n + (a + b + c + 32) ≤ n + q + a + b + c + 3
 last-room n q a b c = omega arith
 
 module _ (h : Header) where
-  pub last-size : noLast h ≡ false → lastPartLength h ≡ lastPart h
+  pub last-size : noLastPart h ≡ false → lastPartLength h ≡ lastPart h
   last-size e = ap (λ (b : Bool). cond b 0 (lastPart h)) e
 
   pub last-fits : h .s1 .len + lastPart h ≤ needed h
   unfolding needed
   last-fits = last-room (h .s1 .len) (padding (h .s1 .len)) (roundUp (h .s2 .len)) (roundUp (h .s3 .len)) (roundUp (h .s4 .len))
+
+-- ---- on the wire
+
+pub least : (h : Header) → firstLength ≤ sealedLength h
+unfolding sealedLength
+least h = omega arith
+
+pub first-two-fit : (h : Header) (k : ℕ) → sealedLength h ≤ k → firstLength + secondPartLength h ≤ k
+unfolding sealedLength
+first-two-fit h k l = omega arith

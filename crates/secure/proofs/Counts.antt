@@ -1,12 +1,16 @@
 -- Nonces counted in 64 bits.
 use mathlib.Core.Path.{_≡_, refl, sym, ap, _∙_}
-use mathlib.Core.Bool.{Bool, true, false}
-use Prim.Native.Nat.{ℕ, _+_, _-_, _%_, _^_, _≤_}
+use mathlib.Core.Bool.{Bool, true, false, cond}
+use Prim.Native.Nat.{ℕ, suc, _+_, _-_, _%_, _^_, _≤_, _<_}
 use native.Mathlib.Nat.{mod-eq-of-lt}
 use native.Mathlib.Omega.{arith}
-use borrow.Author.Tests.{leb-true, leb-false, le-leb, lt-leb, ne-eqb}
-use lib.Dec.{leb, eqb}
+use borrow.Author.Tests.{leb-true, leb-false, le-leb, lt-leb, ltb-true, ne-eqb}
+use lib.Dec.{leb, ltb, eqb}
+use Rattle.refusal.specs.declared.Refusal.the-variants as refusal
+use Rattle.refusal.specs.Refusals.{fine}
+use Rattle.refusal.proofs.Judgements.{passed}
 use Rattle.secure.specs.Layout.{allNonces}
+use Rattle.secure.specs.Reading.{judgeNonce}
 
 -- k nonces are left, as code tests it without a sum that could wrap
 pub left-is : (n k : ℕ) → 1 ≤ k → k ≤ 3 → leb n (18446744073709551615 - (k - 1)) ≡ leb (n + k) allNonces
@@ -29,3 +33,16 @@ came-round n k h₁ h₂ = go (leb allNonces (n + k)) refl
         let l = leb-false allNonces (n + k) e in
         let s : (n + k) % 2 ^ 64 ≡ n + k = mod-eq-of-lt l in
         ap (λ (m : ℕ). eqb m 0) s ∙ ne-eqb (n + k) 0 (λ z. omega arith) ∙ sym e
+
+-- a nonce that is left, and the count behind it
+pub not-spent : (n : ℕ) → judgeNonce n ≡ fine → n < allNonces
+not-spent n j = ltb-true n allNonces (passed (ltb n allNonces) refusal.NoncesSpent j)
+
+pub one-more : (exhausted : Bool) (n : ℕ) → cond exhausted allNonces n < allNonces
+    → cond (leb allNonces (n + 1)) allNonces ((n + 1) % allNonces) ≡ suc (cond exhausted allNonces n)
+one-more true n h = absurd (omega arith)
+one-more false n h = go (leb allNonces (n + 1)) refl
+  where
+    go : (b : Bool) → leb allNonces (n + 1) ≡ b → cond (leb allNonces (n + 1)) allNonces ((n + 1) % allNonces) ≡ suc n
+    go true e = let l = leb-true allNonces (n + 1) e in rw e (omega arith)
+    go false e = let l = leb-false allNonces (n + 1) e in rw e (mod-eq-of-lt (let l′ : n + 1 < allNonces = omega arith in l′) ∙ omega arith)

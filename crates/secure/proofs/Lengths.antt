@@ -16,7 +16,7 @@ use Rattle.banner.specs.declared.Revision.the-variants.{Msgr21}
 use Rattle.aes.specs.Aes.{State}
 use Rattle.gcm.specs.Gcm.{sealedBy}
 use Rattle.gcm.proofs.Placing.{sealed-length}
-use Rattle.secure.specs.Layout.{nextNonce, padding, roundUp, padded, inlined, epilogue16, firstText, restText, lastText, noRest, noLast, unlessNone, laterTexts, texts, partsFrom, sealedParts, sealedFrame, restPart, lastPart, sealedLength, partCount}
+use Rattle.secure.specs.Layout.{nextNonce, padding, roundUp, padded, inlined, epilogue16, firstText, secondText, lastText, noSecondPart, noLastPart, unlessNone, laterTexts, texts, partsFrom, sealedParts, sealedFrame, secondPart, lastPart, sealedLength, partCount}
 
 pub length-inlined : (first : List ℕ) → length (inlined first) ≡ 48
 length-inlined first =
@@ -51,7 +51,7 @@ length-last-text h late bytes e =
     let a₄ : length p₄ ≡ length (padded (take (h .s4 .len) b₄)) + 16 = length-append (padded (take (h .s4 .len) b₄)) (epilogue16 late) in
     omega arith
 
-pub length-rest-text : (h : Header) (first : List ℕ) → length first ≡ h .s1 .len → length (restText first) + 16 ≡ restPart h
+pub length-rest-text : (h : Header) (first : List ℕ) → length first ≡ h .s1 .len → length (secondText first) + 16 ≡ secondPart h
 length-rest-text h first e =
     ap (λ (k : ℕ). k + 16) (length-padded (drop 48 first) ∙ ap roundUp (length-drop 48 first ∙ ap (λ (k : ℕ). k - 48) e))
 
@@ -76,9 +76,9 @@ length-frame w nonce h abort source e =
     let late : ℕ = lateByte Msgr21 abort in
     let e₁ : length first ≡ h .s1 .len = length-take-le (h .s1 .len) source (omega arith) in
     let e₂ : length others ≡ restLength h = length-sent abort (drop (h .s1 .len) source) ∙ length-drop (h .s1 .len) source ∙ omega arith in
-    let later : List ℕ = sealedParts w (partsFrom (nextNonce nonce) (unlessNone (noRest h) (restText first) ++ unlessNone (noLast h) (lastText h late others))) in
-    let two : length later ≡ cond (noRest h) 0 (restPart h) + cond (noLast h) 0 (lastPart h) =
-    length-two w (nextNonce nonce) (restText first) (lastText h late others) (noRest h) (noLast h) (restPart h) (lastPart h) (length-rest-text h first e₁) (length-last-text h late others e₂) in
+    let later : List ℕ = sealedParts w (partsFrom (nextNonce nonce) (unlessNone (noSecondPart h) (secondText first) ++ unlessNone (noLastPart h) (lastText h late others))) in
+    let two : length later ≡ cond (noSecondPart h) 0 (secondPart h) + cond (noLastPart h) 0 (lastPart h) =
+    length-two w (nextNonce nonce) (secondText first) (lastText h late others) (noSecondPart h) (noLastPart h) (secondPart h) (lastPart h) (length-rest-text h first e₁) (length-last-text h late others e₂) in
     length-append (sealedBy w nonce (firstText h first)) later
     ∙ ap₂ _+_ (sealed-length w nonce (firstText h first) ∙ ap (λ (k : ℕ). k + 16) (length-first-text h first)) two
     ∙ omega arith
@@ -93,7 +93,7 @@ count-two false false x y = refl
 
 pub texts-count : (h : Header) (abort : Bool) (source : List ℕ) → length (texts h abort source) ≡ partCount h
 unfolding texts laterTexts partCount
-texts-count h abort source = count-two (noRest h) (noLast h) _ _
+texts-count h abort source = count-two (noSecondPart h) (noLastPart h) _ _
 
 pub some : (h : Header) → 1 ≤ partCount h
 unfolding partCount

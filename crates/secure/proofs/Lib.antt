@@ -1,6 +1,7 @@
 pub mod Zeros
 pub mod Bounds
 pub mod Stores
+pub mod LastText
 pub mod Counts
 pub mod Runs
 pub mod Opening

@@ -1,20 +1,20 @@
 -- Parts read one by one, by what they open to.
 use mathlib.Core.Path.{_≡_, ap, refl}
 use mathlib.Core.Bool.{cond}
-use mathlib.Core.List.{List, _++_}
+use mathlib.Core.List.{List, []}
 use Prim.Native.Nat.{ℕ, suc, _+_, _-_, zero, _<_}
 use lib.Dec.{ltb}
-use lib.ListN.{length, take, drop, replicate}
+use lib.ListN.{length, take, drop}
 use borrow.Author.Tests.{lt-ltb}
-use Rattle.buffer.specs.Splice.{replaceFront, splice}
 use Rattle.preamble.specs.declared.Header.{Header}
 use Rattle.preamble.specs.Judge.{headerOf}
-use Rattle.body.specs.End.{whole}
-use Rattle.stream.specs.Stream.{ended, unlessRefused}
+use Rattle.body.specs.End.{Ended, whole, dropped, refusedFor}
+use Rattle.stream.specs.declared.Event.the-variants.{Frame, Dropped}
+use Rattle.stream.specs.Stream.{Trace, ended, after, unlessRefused}
 use Rattle.aes.specs.Aes.{State, keyExpansion}
 use Rattle.gcm.specs.Gcm.{Opened, openedBy}
-use Rattle.secure.specs.Layout.{nextNonce, padding, inlineLength, firstLength, lastLengths, noRest, noLast, restPart, lastPart}
-use Rattle.secure.specs.Reading.{Continuation, judgeNonce, judgePadding, judgeFirst, unpadded, lastEnded, zeroed, byOpening, atEnd, lastTrace, restTrace, frames, sealedTrace}
+use Rattle.secure.specs.Layout.{nextNonce, firstLength}
+use Rattle.secure.specs.Reading.{judgeNonce, judgeFirst, byOpening, secondTrace, frames, sealedTrace, zeroed, holding, atEnd}
 
 module _ (w : List State) (nonce : List ℕ) (n P : ℕ) (bytes : List ℕ) (o : Opened) where
   pub read-first : (f : ℕ) (store : List ℕ) → openedBy w nonce (take firstLength bytes) ≡ o
@@ -23,7 +23,7 @@ module _ (w : List State) (nonce : List ℕ) (n P : ℕ) (bytes : List ℕ) (o :
       (unlessRefused (judgeNonce n) (P + firstLength) store
       (byOpening o (P + firstLength) store
       (λ text. unlessRefused (judgeFirst text (length store)) (P + firstLength) store
-      (restTrace w (headerOf text) (nextNonce nonce) (suc n) (P + firstLength) (drop firstLength bytes)
+      (secondTrace w (headerOf text) (nextNonce nonce) (suc n) (P + firstLength) (drop firstLength bytes)
       (take (headerOf text .s1 .len) (drop 32 text)) store (frames f w)))))
   unfolding frames
   read-first f store e =
@@ -33,54 +33,9 @@ module _ (w : List State) (nonce : List ℕ) (n P : ℕ) (bytes : List ℕ) (o :
       (unlessRefused (judgeNonce n) (P + firstLength) store
       (byOpening x (P + firstLength) store
       (λ text. unlessRefused (judgeFirst text (length store)) (P + firstLength) store
-      (restTrace w (headerOf text) (nextNonce nonce) (suc n) (P + firstLength) (drop firstLength bytes)
+      (secondTrace w (headerOf text) (nextNonce nonce) (suc n) (P + firstLength) (drop firstLength bytes)
       (take (headerOf text .s1 .len) (drop 32 text)) store (frames f w))))))
       e
-
-  module _ (h : Header) (first store : List ℕ) (next : Continuation) where
-    pub read-rest : openedBy w nonce (take (restPart h) bytes) ≡ o
-        → restTrace w h nonce n P bytes first store next
-        ≡ cond (noRest h) (lastTrace w h nonce n P bytes first (replaceFront first store) next)
-        (cond (ltb (length bytes) (restPart h)) (ended (splice (replaceFront first store) inlineLength bytes))
-        (unlessRefused (judgeNonce n) (P + restPart h) (zeroed h store)
-        (byOpening o (P + restPart h) (zeroed h store)
-        (λ text. unlessRefused (judgePadding (drop (h .s1 .len - inlineLength) text)) (P + restPart h) (zeroed h store)
-        (lastTrace w h (nextNonce nonce) (suc n) (P + restPart h) (drop (restPart h) bytes)
-        (first ++ take (h .s1 .len - inlineLength) text)
-        (replaceFront (first ++ take (h .s1 .len - inlineLength) text ++ replicate (padding (h .s1 .len - inlineLength) + 16) 0) store)
-        next)))))
-    read-rest e =
-        ap
-        (λ (x : Opened).
-        cond (noRest h) (lastTrace w h nonce n P bytes first (replaceFront first store) next)
-        (cond (ltb (length bytes) (restPart h)) (ended (splice (replaceFront first store) inlineLength bytes))
-        (unlessRefused (judgeNonce n) (P + restPart h) (zeroed h store)
-        (byOpening x (P + restPart h) (zeroed h store)
-        (λ text. unlessRefused (judgePadding (drop (h .s1 .len - inlineLength) text)) (P + restPart h) (zeroed h store)
-        (lastTrace w h (nextNonce nonce) (suc n) (P + restPart h) (drop (restPart h) bytes)
-        (first ++ take (h .s1 .len - inlineLength) text)
-        (replaceFront (first ++ take (h .s1 .len - inlineLength) text ++ replicate (padding (h .s1 .len - inlineLength) + 16) 0) store)
-        next))))))
-        e
-
-    pub read-last : openedBy w nonce (take (lastPart h) bytes) ≡ o
-        → lastTrace w h nonce n P bytes first store next
-        ≡ cond (noLast h) (atEnd whole h P first store (next nonce n P bytes))
-        (cond (ltb (length bytes) (lastPart h)) (ended (splice store (h .s1 .len) bytes))
-        (unlessRefused (judgeNonce n) (P + lastPart h) (zeroed h store)
-        (byOpening o (P + lastPart h) (zeroed h store)
-        (λ text. atEnd (lastEnded h text) h (P + lastPart h) (first ++ unpadded (lastLengths h) text) store
-        (next (nextNonce nonce) (suc n) (P + lastPart h) (drop (lastPart h) bytes))))))
-    read-last e =
-        ap
-        (λ (x : Opened).
-        cond (noLast h) (atEnd whole h P first store (next nonce n P bytes))
-        (cond (ltb (length bytes) (lastPart h)) (ended (splice store (h .s1 .len) bytes))
-        (unlessRefused (judgeNonce n) (P + lastPart h) (zeroed h store)
-        (byOpening x (P + lastPart h) (zeroed h store)
-        (λ text. atEnd (lastEnded h text) h (P + lastPart h) (first ++ unpadded (lastLengths h) text) store
-        (next (nextNonce nonce) (suc n) (P + lastPart h) (drop (lastPart h) bytes)))))))
-        e
 
 -- less than a first part
 pub short : (key nonce : List ℕ) (P : ℕ) (s bytes : List ℕ) → length bytes < 96 → sealedTrace key nonce 0 P bytes s ≡ ended s
@@ -90,3 +45,15 @@ short key nonce P s bytes h = go (length bytes)
     go : (f : ℕ) → frames f (keyExpansion key) nonce 0 P bytes s ≡ ended s
     go zero = refl
     go (suc f) = rw (lt-ltb (length bytes) 96 h)
+
+-- no bytes
+pub none : (f : ℕ) (w : List State) (nonce : List ℕ) (n P : ℕ) (s : List ℕ) → frames f w nonce n P [] s ≡ ended s
+unfolding frames
+none zero w nonce n P s = refl
+none (suc f) w nonce n P s = refl
+
+-- what follows the end of a frame, by the store that the end leaves
+pub at-end : (x : Ended) (h : Header) (at : ℕ) (p s : List ℕ) (next next′ : List ℕ → Trace) → ((t : List ℕ) → next t ≡ next′ t) → atEnd x h at p s next ≡ atEnd x h at p s next′
+at-end whole h at p s next next′ e = ap (after (Frame h) at (holding h p s)) (e (holding h p s))
+at-end dropped h at p s next next′ e = ap (after (Dropped h) at (zeroed h s)) (e (zeroed h s))
+at-end (refusedFor n) h at p s next next′ e = refl

@@ -35,10 +35,10 @@ use Rattle.aes.specs.Aes.{State}
 use Rattle.gcm.specs.Gcm.{Opened, sealedBy, openedBy}
 use Rattle.gcm.proofs.Placing.{sealed-length}
 use Rattle.gcm.proofs.RoundTrip.{lists}
-use Rattle.secure.specs.Layout.{allNonces, nextNonce, nonceAfter, padding, roundUp, padded, inlined, paddedFrom, firstText, restText, lastText, lastLengths, noRest, noLast, unlessNone, laterTexts, texts, partsFrom, sealedParts, sealedFrame, restPart, lastPart, sealedLength, partCount, needed}
+use Rattle.secure.specs.Layout.{allNonces, nextNonce, nonceAfter, padding, roundUp, padded, inlined, paddedFrom, firstText, secondText, lastText, lastLengths, noSecondPart, noLastPart, unlessNone, laterTexts, texts, partsFrom, sealedParts, sealedFrame, secondPart, lastPart, sealedLength, partCount, needed}
 use Rattle.secure.proofs.Lengths.{length-segment, length-inlined, length-first-text, length-rest-text, length-last-text}
 use Rattle.buffer.specs.Zeros.{allZero}
-use Rattle.secure.specs.Reading.{Continuation, judgePadding, judgeFirst, unpadded, paddingOf, lateIn, byLateStatus, lastEnded, zeroed, holding, byOpening, partTrace, atEnd, lastTrace, restTrace, frames}
+use Rattle.secure.specs.Reading.{Continuation, judgePadding, judgeFirst, unpadded, paddingOf, lateByteIn, byLateStatus, lastEnded, zeroed, holding, byOpening, partTrace, atEnd, lastTrace, secondTrace, frames}
 use Rattle.secure.specs.Trip.{Sent, ComesBack, SealedTrip}
 
 -- ---- zeros and padding
@@ -158,12 +158,12 @@ module _ (h : Header) (first : List ℕ) (f : HeaderFits h) (j : judgeHeader h �
 
   pub first-read : (w : List State) (nonce : List ℕ) (n P fuel : ℕ) (tail store : List ℕ) → n < allNonces → needed h ≤ length store
       → frames (suc fuel) w nonce n P (sealedBy w nonce (firstText h first) ++ tail) store
-      ≡ restTrace w h (nextNonce nonce) (suc n) (P + 96) tail (take 48 first) store (frames fuel w)
+      ≡ secondTrace w h (nextNonce nonce) (suc n) (P + 96) tail (take 48 first) store (frames fuel w)
   unfolding frames
   first-read w nonce n P fuel tail store l r =
       let t : List ℕ = firstText h first in
       let bytes : List ℕ = sealedBy w nonce t ++ tail in
-      let next : Header → List ℕ → List ℕ → Trace = λ x d i. restTrace w x (nextNonce nonce) (suc n) (P + 96) d i store (frames fuel w) in
+      let next : Header → List ℕ → List ℕ → Trace = λ x d i. secondTrace w x (nextNonce nonce) (suc n) (P + 96) d i store (frames fuel w) in
       let body : List ℕ → Trace = λ x. unlessRefused (judgeFirst x (length store)) (P + 96) store (next (headerOf x) (drop 96 bytes) (take (headerOf x .s1 .len) (drop 32 x))) in
       ap (λ (b : Bool). cond b (ended store) (partTrace w nonce n (take 96 bytes) (P + 96) store body)) (long-enough w nonce n 96 t tail (length-first h first))
       ∙ part-read w nonce n 96 t tail (length-first h first) l (P + 96) store body
@@ -177,12 +177,12 @@ module _ (h : Header) (first : List ℕ) (e : length first ≡ h .s1 .len) where
   tail-length : length (drop 48 first) ≡ h .s1 .len - 48
   tail-length = length-drop 48 first ∙ ap (λ (k : ℕ). k - 48) e
 
-  pub rest-read : (w : List State) (nonce : List ℕ) (n P : ℕ) (tail store : List ℕ) (next : Continuation) → noRest h ≡ false → n < allNonces
-      → restTrace w h nonce n P (sealedBy w nonce (restText first) ++ tail) (take 48 first) store next
-      ≡ lastTrace w h (nextNonce nonce) (suc n) (P + restPart h) tail first (replaceFront (first ++ replicate (padding (h .s1 .len - 48) + 16) 0) store) next
+  pub rest-read : (w : List State) (nonce : List ℕ) (n P : ℕ) (tail store : List ℕ) (next : Continuation) → noSecondPart h ≡ false → n < allNonces
+      → secondTrace w h nonce n P (sealedBy w nonce (secondText first) ++ tail) (take 48 first) store next
+      ≡ lastTrace w h (nextNonce nonce) (suc n) (P + secondPart h) tail first (replaceFront (first ++ replicate (padding (h .s1 .len - 48) + 16) 0) store) next
   rest-read w nonce n P tail store next there l =
-      let t : List ℕ = restText first in
-      let m : ℕ = restPart h in
+      let t : List ℕ = secondText first in
+      let m : ℕ = secondPart h in
       let k : ℕ = h .s1 .len - 48 in
       let bytes : List ℕ = sealedBy w nonce t ++ tail in
       let pad : ℕ = padding k + 16 in
@@ -260,13 +260,13 @@ zeros-back (n ∷ ns) late bytes e =
     (segment-zeros n bytes h later)
     (ap (λ (x : List ℕ). allZero (paddingOf ns x)) (past-segment n bytes h later) ∙ zeros-back ns late (drop n bytes) (less n (sum ns) bytes e))
 
-late-back : (ns : List ℕ) (late : ℕ) (bytes : List ℕ) → length bytes ≡ sum ns → lateIn ns (paddedFrom ns late bytes) ≡ late
+late-back : (ns : List ℕ) (late : ℕ) (bytes : List ℕ) → length bytes ≡ sum ns → lateByteIn ns (paddedFrom ns late bytes) ≡ late
 unfolding sum
 late-back [] late bytes e = refl
 late-back (n ∷ ns) late bytes e =
     let h = enough n (sum ns) (length bytes) e in
     let later : List ℕ = paddedFrom ns late (drop n bytes) in
-    ap (lateIn ns) (past-segment n bytes h later) ∙ late-back ns late (drop n bytes) (less n (sum ns) bytes e)
+    ap (lateByteIn ns) (past-segment n bytes h later) ∙ late-back ns late (drop n bytes) (less n (sum ns) bytes e)
 
 module _ (h : Header) (late : ℕ) (bytes : List ℕ) (e : length bytes ≡ restLength h) where
   summed : length bytes ≡ sum (lastLengths h)
@@ -283,7 +283,7 @@ module _ (h : Header) (late : ℕ) (bytes : List ℕ) (e : length bytes ≡ rest
   unfolding lastText
   last-bytes = bytes-back (lastLengths h) late bytes summed
 
-  pub last-read : (w : List State) (nonce : List ℕ) (n P : ℕ) (tail first store : List ℕ) (next : Continuation) → noLast h ≡ false → n < allNonces
+  pub last-read : (w : List State) (nonce : List ℕ) (n P : ℕ) (tail first store : List ℕ) (next : Continuation) → noLastPart h ≡ false → n < allNonces
       → lastTrace w h nonce n P (sealedBy w nonce (lastText h late bytes) ++ tail) first store next
       ≡ atEnd (byLateStatus (lateOf Msgr21 late) late fine) h (P + lastPart h) (first ++ bytes) store (next (nextNonce nonce) (suc n) (P + lastPart h) tail)
   last-read w nonce n P tail first store next there l =
@@ -323,8 +323,8 @@ room-for : (h : Header) (l m k : ℕ) → l ≡ h .s1 .len → k ≡ l + (paddin
 unfolding needed
 room-for h l m k e f = omega (arith, mod-lt (16 - m % 16) {m = 16} (omega arith))
 
-pub without-rest : (w : List State) (h : Header) (nonce : List ℕ) (n P : ℕ) (bytes first store : List ℕ) (next : Continuation) → noRest h ≡ true
-    → restTrace w h nonce n P bytes first store next ≡ lastTrace w h nonce n P bytes first (replaceFront first store) next
+pub without-rest : (w : List State) (h : Header) (nonce : List ℕ) (n P : ℕ) (bytes first store : List ℕ) (next : Continuation) → noSecondPart h ≡ true
+    → secondTrace w h nonce n P bytes first store next ≡ lastTrace w h nonce n P bytes first (replaceFront first store) next
 without-rest w h nonce n P bytes first store next e = simp e
 
 module _ (w : List State) (h : Header) (late : ℕ) (first bytes tail store : List ℕ) (next : Continuation)
@@ -333,10 +333,10 @@ module _ (w : List State) (h : Header) (late : ℕ) (first bytes tail store : Li
   out none = cond none whole (byLateStatus (lateOf Msgr21 late) late fine)
 
   abbrev sealedLater : List ℕ → Bool → Bool → List ℕ
-  sealedLater nonce a b = sealedParts w (partsFrom nonce (unlessNone a (restText first) ++ unlessNone b (lastText h late bytes)))
+  sealedLater nonce a b = sealedParts w (partsFrom nonce (unlessNone a (secondText first) ++ unlessNone b (lastText h late bytes)))
 
   -- the last part, or none
-  last-or-none : (b : Bool) (nonce : List ℕ) (n P : ℕ) (s : List ℕ) → noLast h ≡ b → (b ≡ true → bytes ≡ []) → n + cond b 0 1 ≤ allNonces
+  last-or-none : (b : Bool) (nonce : List ℕ) (n P : ℕ) (s : List ℕ) → noLastPart h ≡ b → (b ≡ true → bytes ≡ []) → n + cond b 0 1 ≤ allNonces
       → lastTrace w h nonce n P (sealedParts w (partsFrom nonce (unlessNone b (lastText h late bytes))) ++ tail) first s next
       ≡ atEnd (out b) h (P + cond b 0 (lastPart h)) (first ++ bytes) s (next (nonceAfter (cond b 0 1) nonce) (n + cond b 0 1) (P + cond b 0 (lastPart h)) tail)
   unfolding nonceAfter
@@ -353,10 +353,10 @@ module _ (w : List State) (h : Header) (late : ℕ) (first bytes tail store : Li
       ∙ last-read h late bytes e₂ w nonce n P tail first s next e (omega arith)
       ∙ ap (λ (k : ℕ). atEnd (out false) h (P + lastPart h) (first ++ bytes) s (next (nextNonce nonce) k (P + lastPart h) tail)) (sym (add-one n))
 
-  rest-or-none : (a b : Bool) (nonce : List ℕ) (n P : ℕ) → noRest h ≡ a → noLast h ≡ b → (b ≡ true → bytes ≡ []) → n + (cond a 0 1 + cond b 0 1) ≤ allNonces
-      → restTrace w h nonce n P (sealedLater nonce a b ++ tail) (take 48 first) store next
-      ≡ atEnd (out b) h (P + (cond a 0 (restPart h) + cond b 0 (lastPart h))) (first ++ bytes) store
-      (next (nonceAfter (cond a 0 1 + cond b 0 1) nonce) (n + (cond a 0 1 + cond b 0 1)) (P + (cond a 0 (restPart h) + cond b 0 (lastPart h))) tail)
+  rest-or-none : (a b : Bool) (nonce : List ℕ) (n P : ℕ) → noSecondPart h ≡ a → noLastPart h ≡ b → (b ≡ true → bytes ≡ []) → n + (cond a 0 1 + cond b 0 1) ≤ allNonces
+      → secondTrace w h nonce n P (sealedLater nonce a b ++ tail) (take 48 first) store next
+      ≡ atEnd (out b) h (P + (cond a 0 (secondPart h) + cond b 0 (lastPart h))) (first ++ bytes) store
+      (next (nonceAfter (cond a 0 1 + cond b 0 1) nonce) (n + (cond a 0 1 + cond b 0 1)) (P + (cond a 0 (secondPart h) + cond b 0 (lastPart h))) tail)
   unfolding nonceAfter
   rest-or-none true b nonce n P ea eb none l =
       let short : take 48 first ≡ first = take-all 48 first (omega (arith, leb-true (h .s1 .len) 48 ea)) in
@@ -375,15 +375,15 @@ module _ (w : List State) (h : Header) (late : ℕ) (first bytes tail store : Li
       let zs : List ℕ = replicate (padding m + 16) 0 in
       let lz : length (first ++ zs) ≡ length first + (padding m + 16) = length-append first zs ∙ ap (λ (i : ℕ). length first + i) (length-replicate (padding m + 16) 0) in
       let one : length (first ++ zs) ≤ needed h = room-for h (length first) m (length (first ++ zs)) e₁ lz in
-      let p : P + restPart h + cond b 0 (lastPart h) ≡ P + (restPart h + cond b 0 (lastPart h)) = omega arith in
+      let p : P + secondPart h + cond b 0 (lastPart h) ≡ P + (secondPart h + cond b 0 (lastPart h)) = omega arith in
       let k : suc n + cond b 0 1 ≡ n + (1 + cond b 0 1) = omega arith in
       let i : suc (cond b 0 1) ≡ 1 + cond b 0 1 = omega arith in
-      ap (λ (x : List ℕ). restTrace w h nonce n P x (take 48 first) store next) (append-assoc (sealedBy w nonce (restText first)) rest₁ tail)
+      ap (λ (x : List ℕ). secondTrace w h nonce n P x (take 48 first) store next) (append-assoc (sealedBy w nonce (secondText first)) rest₁ tail)
       ∙ rest-read h first e₁ w nonce n P (rest₁ ++ tail) store next ea (omega arith)
-      ∙ last-or-none b (nextNonce nonce) (suc n) (P + restPart h) (replaceFront (first ++ zs) store) eb none (omega arith)
-      ∙ at-end-same h (first ++ bytes) (first ++ zs) store fits one (out b) (P + restPart h + cond b 0 (lastPart h)) (next (nonceAfter (cond b 0 1) (nextNonce nonce)) (suc n + cond b 0 1) (P + restPart h + cond b 0 (lastPart h)) tail)
+      ∙ last-or-none b (nextNonce nonce) (suc n) (P + secondPart h) (replaceFront (first ++ zs) store) eb none (omega arith)
+      ∙ at-end-same h (first ++ bytes) (first ++ zs) store fits one (out b) (P + secondPart h + cond b 0 (lastPart h)) (next (nonceAfter (cond b 0 1) (nextNonce nonce)) (suc n + cond b 0 1) (P + secondPart h + cond b 0 (lastPart h)) tail)
       ∙ ap₂ (λ (j q : ℕ). atEnd (out b) h j (first ++ bytes) store (next (nonceAfter (suc (cond b 0 1)) nonce) q j tail)) p k
-      ∙ ap (λ (c : ℕ). atEnd (out b) h (P + (restPart h + cond b 0 (lastPart h))) (first ++ bytes) store (next (nonceAfter c nonce) (n + (1 + cond b 0 1)) (P + (restPart h + cond b 0 (lastPart h))) tail)) i
+      ∙ ap (λ (c : ℕ). atEnd (out b) h (P + (secondPart h + cond b 0 (lastPart h))) (first ++ bytes) store (next (nonceAfter c nonce) (n + (1 + cond b 0 1)) (P + (secondPart h + cond b 0 (lastPart h))) tail)) i
 
 -- ---- a header with one segment has no others
 
@@ -399,7 +399,7 @@ unused count k p s h e =
     empty true t n = eqb-true (s .len) 0 t
     empty false t n = wrong (sym n ∙ ap not t)
 
-pub one-segment : (h : Header) → judgeHeader h ≡ fine → noLast h ≡ true → restLength h ≡ 0
+pub one-segment : (h : Header) → judgeHeader h ≡ fine → noLastPart h ≡ true → restLength h ≡ 0
 unfolding shapeFault
 one-segment h j e =
     let z : shapeFault h ≡ 0 = shape-fine h j in
@@ -444,24 +444,24 @@ module _ (w : List State) (nonce : List ℕ) (n : ℕ) (h : Header) (source stor
 
   frame-read : (abort : Bool) (f P : ℕ) (tail : List ℕ)
       → frames (suc f) w nonce n P (sealedFrame w nonce h abort source ++ tail) store
-      ≡ atEnd (cond (noLast h) whole (byLateStatus (lateOf Msgr21 (lateByte Msgr21 abort)) (lateByte Msgr21 abort) fine)) h (P + sealedLength h) (segment1 ++ others abort) store
+      ≡ atEnd (cond (noLastPart h) whole (byLateStatus (lateOf Msgr21 (lateByte Msgr21 abort)) (lateByte Msgr21 abort) fine)) h (P + sealedLength h) (segment1 ++ others abort) store
       (frames f w (nonceAfter (partCount h) nonce) (n + partCount h) (P + sealedLength h) tail)
   unfolding nonceAfter partCount sealedLength sealedFrame texts laterTexts
   frame-read abort f P tail =
       let late : ℕ = lateByte Msgr21 abort in
-      let later : List ℕ = sealedLater w h late segment1 (others abort) tail store (frames f w) length-one (length-others abort) (fits-in abort) (nextNonce nonce) (noRest h) (noLast h) in
-      let a : ℕ = cond (noRest h) 0 1 in
-      let b : ℕ = cond (noLast h) 0 1 in
-      let p : P + 96 + (cond (noRest h) 0 (restPart h) + cond (noLast h) 0 (lastPart h)) ≡ P + (96 + cond (noRest h) 0 (restPart h) + cond (noLast h) 0 (lastPart h)) = omega arith in
+      let later : List ℕ = sealedLater w h late segment1 (others abort) tail store (frames f w) length-one (length-others abort) (fits-in abort) (nextNonce nonce) (noSecondPart h) (noLastPart h) in
+      let a : ℕ = cond (noSecondPart h) 0 1 in
+      let b : ℕ = cond (noLastPart h) 0 1 in
+      let p : P + 96 + (cond (noSecondPart h) 0 (secondPart h) + cond (noLastPart h) 0 (lastPart h)) ≡ P + (96 + cond (noSecondPart h) 0 (secondPart h) + cond (noLastPart h) 0 (lastPart h)) = omega arith in
       let k : suc n + (a + b) ≡ n + (1 + a + b) = omega arith in
       let i : suc (a + b) ≡ 1 + a + b = omega arith in
-      let o : Ended = cond (noLast h) whole (byLateStatus (lateOf Msgr21 late) late fine) in
+      let o : Ended = cond (noLastPart h) whole (byLateStatus (lateOf Msgr21 late) late fine) in
       ap (λ (x : List ℕ). frames (suc f) w nonce n P x store) (append-assoc (sealedBy w nonce (firstText h segment1)) later tail)
       ∙ first-read h segment1 (s .fits) (s .header) length-one w nonce n P f (later ++ tail) store (omega (arith, s .nonces)) (s .room)
-      ∙ rest-or-none w h late segment1 (others abort) tail store (frames f w) length-one (length-others abort) (fits-in abort) (noRest h) (noLast h) (nextNonce nonce) (suc n) (P + 96) refl refl
+      ∙ rest-or-none w h late segment1 (others abort) tail store (frames f w) length-one (length-others abort) (fits-in abort) (noSecondPart h) (noLastPart h) (nextNonce nonce) (suc n) (P + 96) refl refl
       (λ e. nothing (others abort) (length-others abort ∙ one-segment h (s .header) e)) (omega (arith, s .nonces))
       ∙ ap₂ (λ (j q : ℕ). atEnd o h j (segment1 ++ others abort) store (frames f w (nonceAfter (suc (a + b)) nonce) q j tail)) p k
-      ∙ ap (λ (c : ℕ). atEnd o h (P + (96 + cond (noRest h) 0 (restPart h) + cond (noLast h) 0 (lastPart h))) (segment1 ++ others abort) store (frames f w (nonceAfter c nonce) (n + (1 + a + b)) (P + (96 + cond (noRest h) 0 (restPart h) + cond (noLast h) 0 (lastPart h))) tail)) i
+      ∙ ap (λ (c : ℕ). atEnd o h (P + (96 + cond (noSecondPart h) 0 (secondPart h) + cond (noLastPart h) 0 (lastPart h))) (segment1 ++ others abort) store (frames f w (nonceAfter c nonce) (n + (1 + a + b)) (P + (96 + cond (noSecondPart h) 0 (secondPart h) + cond (noLastPart h) 0 (lastPart h))) tail)) i
 
   complete : (b : Bool) → cond b whole (byLateStatus (lateOf Msgr21 0x0E) 0x0E fine) ≡ whole
   complete true = refl
@@ -472,7 +472,7 @@ module _ (w : List State) (nonce : List ℕ) (n : ℕ) (h : Header) (source stor
       record {
         whole = λ f P tail.
             frame-read false f P tail
-            ∙ ap₂ (λ (o : Ended) (x : List ℕ). atEnd o h (P + sealedLength h) x store (frames f w (nonceAfter (partCount h) nonce) (n + partCount h) (P + sealedLength h) tail)) (complete (noLast h)) (take-append-drop (h .s1 .len) source);
+            ∙ ap₂ (λ (o : Ended) (x : List ℕ). atEnd o h (P + sealedLength h) x store (frames f w (nonceAfter (partCount h) nonce) (n + partCount h) (P + sealedLength h) tail)) (complete (noLastPart h)) (take-append-drop (h .s1 .len) source);
         aborted = λ c f P tail.
             frame-read true f P tail
             ∙ ap (λ (b : Bool). atEnd (cond b whole (byLateStatus (lateOf Msgr21 0x01) 0x01 fine)) h (P + sealedLength h) (segment1 ++ others true) store (frames f w (nonceAfter (partCount h) nonce) (n + partCount h) (P + sealedLength h) tail)) (lt-leb (h .count) 1 c);

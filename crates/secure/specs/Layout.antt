@@ -55,8 +55,8 @@ unfoldable pub firstText : Header → List ℕ → List ℕ
 firstText h first = preambleBytes h ++ inlined first
 
 -- what of segment 1 did not go in
-abbrev pub restText : List ℕ → List ℕ
-restText first = padded (drop inlineLength first)
+abbrev pub secondText : List ℕ → List ℕ
+secondText first = padded (drop inlineLength first)
 
 -- the epilogue: late_status and 15 zeros
 abbrev pub epilogue16 : ℕ → List ℕ
@@ -74,17 +74,17 @@ unfoldable pub lastText : Header → ℕ → List ℕ → List ℕ
 lastText h late rest = paddedFrom (lastLengths h) late rest
 
 -- there is no second part where segment 1 fits into the inline buffer, and no last part where there is one segment only
-abbrev pub noRest : Header → Bool
-noRest h = leb (h .s1 .len) inlineLength
+abbrev pub noSecondPart : Header → Bool
+noSecondPart h = leb (h .s1 .len) inlineLength
 
-abbrev pub noLast : Header → Bool
-noLast h = noEpilogue Msgr21 h
+abbrev pub noLastPart : Header → Bool
+noLastPart h = noEpilogue Msgr21 h
 
 abbrev pub unlessNone : Bool → List ℕ → List (List ℕ)
 unlessNone none text = cond none [] (text ∷ [])
 
 unfoldable pub laterTexts : Header → ℕ → List ℕ → List ℕ → List (List ℕ)
-laterTexts h late first rest = unlessNone (noRest h) (restText first) ++ unlessNone (noLast h) (lastText h late rest)
+laterTexts h late first rest = unlessNone (noSecondPart h) (secondText first) ++ unlessNone (noLastPart h) (lastText h late rest)
 
 -- THE TEXTS OF A FRAME, whole or aborted, of segments whose bytes, one behind the other, are source
 unfoldable pub texts : Header → Bool → List ℕ → List (List ℕ)
@@ -128,24 +128,24 @@ sealedFrame w nonce h abort source = sealedParts w (frameParts nonce h abort sou
 abbrev pub firstLength : ℕ
 firstLength = 32 + inlineLength + 16
 
-abbrev pub restPart : Header → ℕ
-restPart h = roundUp (h .s1 .len - inlineLength) + 16
+abbrev pub secondPart : Header → ℕ
+secondPart h = roundUp (h .s1 .len - inlineLength) + 16
 
-abbrev pub restPartLength : Header → ℕ
-restPartLength h = cond (noRest h) 0 (restPart h)
+abbrev pub secondPartLength : Header → ℕ
+secondPartLength h = cond (noSecondPart h) 0 (secondPart h)
 
 abbrev pub lastPart : Header → ℕ
 lastPart h = roundUp (h .s2 .len) + roundUp (h .s3 .len) + roundUp (h .s4 .len) + 32
 
 abbrev pub lastPartLength : Header → ℕ
-lastPartLength h = cond (noLast h) 0 (lastPart h)
+lastPartLength h = cond (noLastPart h) 0 (lastPart h)
 
 -- on the wire
 unfoldable pub sealedLength : Header → ℕ
-sealedLength h = firstLength + restPartLength h + lastPartLength h
+sealedLength h = firstLength + secondPartLength h + lastPartLength h
 
 unfoldable pub partCount : Header → ℕ
-partCount h = 1 + cond (noRest h) 0 1 + cond (noLast h) 0 1
+partCount h = 1 + cond (noSecondPart h) 0 1 + cond (noLastPart h) 0 1
 
 -- in a reader's store
 unfoldable pub needed : Header → ℕ

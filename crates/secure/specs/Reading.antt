@@ -11,7 +11,7 @@ use Rattle.refusal.specs.declared.Refusal.the-variants as refusal
 use Rattle.refusal.specs.Refusals.{Judged, fine, refused, numbersOf, firstOf, unless}
 use Rattle.banner.specs.declared.Revision.the-variants.{Msgr21}
 use Rattle.preamble.specs.declared.Header.{Header}
-use Rattle.preamble.specs.Judge.{headerOf, judgeChecksum, judgeShape, judgeFlags, judgeTag, judgeLimits, judgeStore}
+use Rattle.preamble.specs.Judge.{headerOf, preambleOf, preambleJudgements, judgeStore}
 use Rattle.body.specs.declared.Late.{Late}
 use Rattle.body.specs.declared.Late.the-variants as late
 use Rattle.body.specs.End.{Ended, whole, dropped, refusedFor, endedBy, lateOf}
@@ -19,7 +19,7 @@ use Rattle.stream.specs.declared.Event.the-variants.{Frame, Dropped}
 use Rattle.stream.specs.Stream.{Trace, ended, after, refusedAt, unlessRefused}
 use Rattle.aes.specs.Aes.{State, keyExpansion}
 use Rattle.gcm.specs.Gcm.{Opened, plain, fail, openedBy}
-use Rattle.secure.specs.Layout.{allNonces, nextNonce, padding, roundUp, inlineLength, lastLengths, firstLength, noRest, noLast, restPart, lastPart, needed}
+use Rattle.secure.specs.Layout.{allNonces, nextNonce, padding, roundUp, inlineLength, lastLengths, firstLength, noSecondPart, noLastPart, secondPart, lastPart, needed}
 
 -- ---- judgements
 
@@ -30,18 +30,12 @@ judgeNonce n = unless (ltb n allNonces) refusal.NoncesSpent
 abbrev pub judgePadding : List ℕ → Judged
 judgePadding bytes = unless (allZero bytes) refusal.Padding
 
--- THE ORDER at byte 96, behind 18 and 17: 5 to 10, then the inline buffer's padding
+-- THE ORDER at byte 96, behind 18 and 17: 5 to 9, the store (10), then the inline buffer's padding (19)
 unfoldable pub judgeFirst : List ℕ → ℕ → Judged
 judgeFirst text store =
     firstOf
-    (judgeChecksum text
-    ∷ judgeShape (headerOf text)
-    ∷ judgeFlags (getD text 26 0) (getD text 27 0)
-    ∷ judgeTag (headerOf text .tag)
-    ∷ judgeLimits (headerOf text)
-    ∷ judgeStore (needed (headerOf text)) store
-    ∷ judgePadding (drop (32 + headerOf text .s1 .len) text)
-    ∷ [])
+    (preambleJudgements (preambleOf text) text
+    ++ (judgeStore (needed (headerOf text)) store ∷ judgePadding (drop (32 + headerOf text .s1 .len) text) ∷ []))
 
 -- the segments in the text of a last part, one behind the other, what pads them and the epilogue, and the late byte
 abbrev pub unpadded : List ℕ → List ℕ → List ℕ
@@ -52,9 +46,9 @@ abbrev pub paddingOf : List ℕ → List ℕ → List ℕ
 paddingOf [] text = drop 1 text
 paddingOf (n ∷ ns) text = drop n (take (roundUp n) text) ++ paddingOf ns (drop (roundUp n) text)
 
-abbrev pub lateIn : List ℕ → List ℕ → ℕ
-lateIn [] text = getD text 0 0
-lateIn (n ∷ ns) text = lateIn ns (drop (roundUp n) text)
+abbrev pub lateByteIn : List ℕ → List ℕ → ℕ
+lateByteIn [] text = getD text 0 0
+lateByteIn (n ∷ ns) text = lateByteIn ns (drop (roundUp n) text)
 
 -- THE ORDER at the end of a last part, behind 18 and 17: 12, 19, drop
 abbrev pub droppedBy : Judged → Ended
@@ -68,7 +62,7 @@ byLateStatus late.Complete b j = endedBy j
 
 unfoldable pub lastEnded : Header → List ℕ → Ended
 lastEnded h text =
-    byLateStatus (lateOf Msgr21 (lateIn (lastLengths h) text)) (lateIn (lastLengths h) text) (judgePadding (paddingOf (lastLengths h) text))
+    byLateStatus (lateOf Msgr21 (lateByteIn (lastLengths h) text)) (lateByteIn (lastLengths h) text) (judgePadding (paddingOf (lastLengths h) text))
 
 -- ---- the store
 
@@ -102,20 +96,20 @@ atEnd (refusedFor n) h at payload store next = refusedAt n at (zeroed h store)
 -- the last part, from P on, where the frame has one; first is segment 1. Its sealed bytes go behind segment 1
 abbrev pub lastTrace : List State → Header → List ℕ → ℕ → ℕ → List ℕ → List ℕ → List ℕ → Continuation → Trace
 lastTrace w h nonce n P rest first store next =
-    cond (noLast h) (atEnd whole h P first store (next nonce n P rest))
+    cond (noLastPart h) (atEnd whole h P first store (next nonce n P rest))
     (cond (ltb (length rest) (lastPart h)) (ended (splice store (h .s1 .len) rest))
     (partTrace w nonce n (take (lastPart h) rest) (P + lastPart h) (zeroed h store)
     (λ text. atEnd (lastEnded h text) h (P + lastPart h) (first ++ unpadded (lastLengths h) text) store
     (next (nextNonce nonce) (suc n) (P + lastPart h) (drop (lastPart h) rest)))))
 
 -- the rest of segment 1, from P on, where there is one; first is what the inline buffer had of it. Its sealed bytes go behind that
-abbrev pub restTrace : List State → Header → List ℕ → ℕ → ℕ → List ℕ → List ℕ → List ℕ → Continuation → Trace
-restTrace w h nonce n P rest first store next =
-    cond (noRest h) (lastTrace w h nonce n P rest first (replaceFront first store) next)
-    (cond (ltb (length rest) (restPart h)) (ended (splice (replaceFront first store) inlineLength rest))
-    (partTrace w nonce n (take (restPart h) rest) (P + restPart h) (zeroed h store)
-    (λ text. unlessRefused (judgePadding (drop (h .s1 .len - inlineLength) text)) (P + restPart h) (zeroed h store)
-    (lastTrace w h (nextNonce nonce) (suc n) (P + restPart h) (drop (restPart h) rest)
+abbrev pub secondTrace : List State → Header → List ℕ → ℕ → ℕ → List ℕ → List ℕ → List ℕ → Continuation → Trace
+secondTrace w h nonce n P rest first store next =
+    cond (noSecondPart h) (lastTrace w h nonce n P rest first (replaceFront first store) next)
+    (cond (ltb (length rest) (secondPart h)) (ended (splice (replaceFront first store) inlineLength rest))
+    (partTrace w nonce n (take (secondPart h) rest) (P + secondPart h) (zeroed h store)
+    (λ text. unlessRefused (judgePadding (drop (h .s1 .len - inlineLength) text)) (P + secondPart h) (zeroed h store)
+    (lastTrace w h (nextNonce nonce) (suc n) (P + secondPart h) (drop (secondPart h) rest)
     (first ++ take (h .s1 .len - inlineLength) text)
     (replaceFront (first ++ take (h .s1 .len - inlineLength) text ++ replicate (padding (h .s1 .len - inlineLength) + 16) 0) store)
     next))))
@@ -127,7 +121,7 @@ frames (suc f) w nonce n P rest store =
     cond (ltb (length rest) firstLength) (ended store)
     (partTrace w nonce n (take firstLength rest) (P + firstLength) store
     (λ text. unlessRefused (judgeFirst text (length store)) (P + firstLength) store
-    (restTrace w (headerOf text) (nextNonce nonce) (suc n) (P + firstLength) (drop firstLength rest)
+    (secondTrace w (headerOf text) (nextNonce nonce) (suc n) (P + firstLength) (drop firstLength rest)
     (take (headerOf text .s1 .len) (drop 32 text)) store (frames f w))))
 
 -- THE DEFINITION: the stream's bytes from P on, read with a key and a nonce, of which n parts are already spent

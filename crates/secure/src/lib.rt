@@ -8,7 +8,7 @@ ghost use mathlib.Core.Bool.{cond};
 ghost use Prim.Native.Nat.{_+_, _-_, _<_, _≤_};
 ghost use Rattle.buffer.specs.Zeros.{allZero};
 ghost use Rattle.secure.specs.Trip.{SealedTrip};
-ghost use Rattle.secure.specs.Layout.{nonceOf, nextNonce, padding, roundUp, noRest, noLast, restPartLength, lastPartLength, sealedLength, partCount, needed};
+ghost use Rattle.secure.specs.Layout.{nonceOf, nextNonce, padding, roundUp, noSecondPart, noLastPart, secondPartLength, lastPartLength, sealedLength, partCount, needed};
 
 // ---- nonces
 
@@ -66,15 +66,15 @@ pub fn all_zero(bytes: &[u8]) -> bool
 // ---- lengths
 
 // Segment 1 fits into the inline buffer.
-pub fn no_rest(h: Header) -> bool
-    ensures { λ r. ⌜ r ≡ noRest h ⌝ }
+pub fn no_second_part(h: Header) -> bool
+    ensures { λ r. ⌜ r ≡ noSecondPart h ⌝ }
 {
     h.s1.len <= 48
 }
 
 // There is one segment only.
-pub fn no_last(h: Header) -> bool
-    ensures { λ r. ⌜ r ≡ noLast h ⌝ }
+pub fn no_last_part(h: Header) -> bool
+    ensures { λ r. ⌜ r ≡ noLastPart h ⌝ }
 {
     no_epilogue(Revision::Msgr21, h)
 }
@@ -87,10 +87,10 @@ fn rounded(n: u32) -> u64
 }
 
 // The bytes of the second part, that of segment 1's rest; 0 where there is none.
-pub fn rest_part_length(h: Header) -> u64
-    ensures { λ r. ⌜ (r ≡ restPartLength h) × (r < 8589934592) ⌝ }
+pub fn second_part_length(h: Header) -> u64
+    ensures { λ r. ⌜ (r ≡ secondPartLength h) × (r < 8589934592) ⌝ }
 {
-    if no_rest(h) {
+    if no_second_part(h) {
         return 0;
     }
     let n = h.s1.len;
@@ -101,7 +101,7 @@ pub fn rest_part_length(h: Header) -> u64
 pub fn last_part_length(h: Header) -> u64
     ensures { λ r. ⌜ (r ≡ lastPartLength h) × (r < 17179869184) ⌝ }
 {
-    if no_last(h) {
+    if no_last_part(h) {
         return 0;
     }
     let a = rounded(h.s2.len);
@@ -114,7 +114,7 @@ pub fn last_part_length(h: Header) -> u64
 pub fn sealed_length(h: Header) -> u64
     ensures { λ r. ⌜ r ≡ sealedLength h ⌝ }
 {
-    96 + rest_part_length(h) + last_part_length(h)
+    96 + second_part_length(h) + last_part_length(h)
 }
 
 // The bytes of a reader's store that it needs.
@@ -138,7 +138,7 @@ fn one_unless(none: bool) -> u64
 pub fn part_count(h: Header) -> u64
     ensures { λ r. ⌜ (r ≡ partCount h) × (1 ≤ r) × (r ≤ 3) ⌝ }
 {
-    1 + one_unless(no_rest(h)) + one_unless(no_last(h))
+    1 + one_unless(no_second_part(h)) + one_unless(no_last_part(h))
 }
 
 // Reading what was sealed gives it back. The body does nothing: the promise is a theorem about the definitions.

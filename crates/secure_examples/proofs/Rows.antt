@@ -16,7 +16,7 @@ use Rattle.stream.specs.Rows.{Holds}
 use Rattle.aes.specs.Aes.{keyExpansion}
 use Rattle.ghash.specs.Ghash.{quadAt, blockAt}
 use Rattle.gcm.specs.Gcm.{Opened, columnNumber, blockNumber, blockBytes, sameAs, openedBy}
-use Rattle.secure.specs.Layout.{nextNonce, padding, inlineLength, firstLength, lastLengths, noRest, noLast, restPart, lastPart, needed}
+use Rattle.secure.specs.Layout.{nextNonce, padding, inlineLength, firstLength, lastLengths, noSecondPart, noLastPart, secondPart, lastPart, needed}
 use Rattle.secure.specs.Reading.{Continuation, judgeNonce, judgePadding, judgeFirst, unpadded, lastEnded, zeroed, byOpening, atEnd, frames, sealedTrace}
 use Rattle.secure_examples.specs.Parts.{key, nonce0, nonce1, two0, none0, sumAndShape0, shapeAndFlags0, flagsAndTag0, tagAndLimit0, limitAndStore0, padded0, full0, blocks0, two1, padded1, blocks1, full1, late1, none1, two2, aborted2, high2, highAborted2, lateAndPadding2, paddingAndDrop2, padded2, single0, one0, first1}
 use Rattle.secure_examples.specs.Examples.{seg1, two, store, frameRows, firstRows, judgeRows, paddingRows, laterRows, cutRows}
@@ -27,7 +27,7 @@ use Rattle.secure_examples.proofs.Seals.{opening, opened-by}
 module _ (opens : List ℕ → List ℕ → Opened) where
   abbrev pub lastBy : Header → List ℕ → ℕ → ℕ → List ℕ → List ℕ → List ℕ → Continuation → Trace
   lastBy h nonce n P rest first store next =
-      cond (noLast h) (atEnd whole h P first store (next nonce n P rest))
+      cond (noLastPart h) (atEnd whole h P first store (next nonce n P rest))
       (cond (ltb (length rest) (lastPart h)) (ended (splice store (h .s1 .len) rest))
       (unlessRefused (judgeNonce n) (P + lastPart h) (zeroed h store)
       (byOpening (opens nonce (take (lastPart h) rest)) (P + lastPart h) (zeroed h store)
@@ -36,12 +36,12 @@ module _ (opens : List ℕ → List ℕ → Opened) where
 
   abbrev pub restBy : Header → List ℕ → ℕ → ℕ → List ℕ → List ℕ → List ℕ → Continuation → Trace
   restBy h nonce n P rest first store next =
-      cond (noRest h) (lastBy h nonce n P rest first (replaceFront first store) next)
-      (cond (ltb (length rest) (restPart h)) (ended (splice (replaceFront first store) inlineLength rest))
-      (unlessRefused (judgeNonce n) (P + restPart h) (zeroed h store)
-      (byOpening (opens nonce (take (restPart h) rest)) (P + restPart h) (zeroed h store)
-      (λ text. unlessRefused (judgePadding (drop (h .s1 .len - inlineLength) text)) (P + restPart h) (zeroed h store)
-      (lastBy h (nextNonce nonce) (suc n) (P + restPart h) (drop (restPart h) rest)
+      cond (noSecondPart h) (lastBy h nonce n P rest first (replaceFront first store) next)
+      (cond (ltb (length rest) (secondPart h)) (ended (splice (replaceFront first store) inlineLength rest))
+      (unlessRefused (judgeNonce n) (P + secondPart h) (zeroed h store)
+      (byOpening (opens nonce (take (secondPart h) rest)) (P + secondPart h) (zeroed h store)
+      (λ text. unlessRefused (judgePadding (drop (h .s1 .len - inlineLength) text)) (P + secondPart h) (zeroed h store)
+      (lastBy h (nextNonce nonce) (suc n) (P + secondPart h) (drop (secondPart h) rest)
       (first ++ take (h .s1 .len - inlineLength) text)
       (replaceFront (first ++ take (h .s1 .len - inlineLength) text ++ replicate (padding (h .s1 .len - inlineLength) + 16) 0) store)
       next)))))

@@ -11,8 +11,8 @@ use Rattle.refusal.specs.declared.Refusal.the-variants as why
 use Rattle.refusal.specs.Refusals.{Judged, fine, refused, unless, firstOf, byJudgement}
 use Rattle.session.specs.declared.Session.{Session}
 use Rattle.session.specs.declared.Message.{Message}
-use Rattle.session.specs.declared.Report.{Report}
-use Rattle.session.specs.declared.Report.the-variants as report
+use Rattle.session.specs.declared.Answer.{Answer}
+use Rattle.session.specs.declared.Answer.the-variants as answer
 use Rattle.session.specs.declared.Outcome.{Outcome}
 use Rattle.session.specs.Calls.{places, finalNumber, heldFrom, heldOf, agrees, freshSession, acked, outcome, refusing}
 use Rattle.session.specs.Laws.{Call, accept, ack, reconnect, reset, callOf, Event, accepted, acknowledged, dropped, nothing, above, after}
@@ -190,24 +190,24 @@ module _ (past : List Event) (s t : Session) (u : Upto past s) where
 
 -- ---- the next call
 
-report-by : (j : Judged) (s t : Session) (r : Report) → byJudgement j (outcome t r) (refusing s) .report ≡ byJudgement j r report.Refused
-report-by fine s t r = refl
-report-by (refused n) s t r = refl
+answer-by : (j : Judged) (s t : Session) (r : Answer) → byJudgement j (outcome t r) (refusing s) .answer ≡ byJudgement j r answer.Refused
+answer-by fine s t r = refl
+answer-by (refused n) s t r = refl
 
 module _ (past : List Event) (s : Session) (u : Upto past s) where
-  reported : (c : Call) → callOf s c .report ≡ due past c
-  reported (accept h) =
-      rw (accept-is s (u .agreeing) h, report-by (firstOf (unless (ltb (s .last) finalNumber) why.NumbersSpent ∷ unless (ltb (length (heldOf s)) places) why.TableFull ∷ [])) s, u .held, u .last)
-  reported (ack n) = rw (ack-is s (u .agreeing) n, report-by (unless (leb n (s .last)) why.AckAhead) s, u .last)
-  reported (reconnect n) = rw (reconnect-is s (u .agreeing) n, ← u .last) (go (leb n (s .last)) refl)
+  answered : (c : Call) → callOf s c .answer ≡ due past c
+  answered (accept h) =
+      rw (accept-is s (u .agreeing) h, answer-by (firstOf (unless (ltb (s .last) finalNumber) why.NumbersSpent ∷ unless (ltb (length (heldOf s)) places) why.TableFull ∷ [])) s, u .held, u .last)
+  answered (ack n) = rw (ack-is s (u .agreeing) n, answer-by (unless (leb n (s .last)) why.AckAhead) s, u .last)
+  answered (reconnect n) = rw (reconnect-is s (u .agreeing) n, ← u .last) (go (leb n (s .last)) refl)
     where
       go : (t : Bool) → leb n (s .last) ≡ t
-          → byJudgement (unless t why.AckAhead) (outcome (acked s n) (report.Resend (length (heldOf (acked s n))))) (refusing s) .report
-          ≡ byJudgement (unless t why.AckAhead) (report.Resend (length (withFate isHeld (past ++ (acknowledged n ∷ []))))) report.Refused
-      go true t = ap (λ (l : List Message). report.Resend (length l))
+          → byJudgement (unless t why.AckAhead) (outcome (acked s n) (answer.Resend (length (heldOf (acked s n))))) (refusing s) .answer
+          ≡ byJudgement (unless t why.AckAhead) (answer.Resend (length (withFate isHeld (past ++ (acknowledged n ∷ []))))) answer.Refused
+      go true t = ap (λ (l : List Message). answer.Resend (length l))
           (acked-is s (u .agreeing) n (leb-true n (s .last) t) .table ∙ ap (above n) (u .held) ∙ sym (held-snoc past (acknowledged n)))
       go false t = refl
-  reported (reset full) = rw (reset-is s (u .agreeing) full)
+  answered (reset full) = rw (reset-is s (u .agreeing) full)
 
   module _ (e : Entry) (met : e .outcome ≡ callOf s (e .call)) where
     entry-good : Good s (e .call) (e .outcome)
@@ -216,8 +216,8 @@ module _ (past : List Event) (s : Session) (u : Upto past s) where
     entry-next : Upto (past ++ (eventBy e ∷ [])) (e .outcome .session)
     entry-next = next past s (e .outcome .session) u (eventBy e) (entry-good .moves) (entry-good .agreeing) (entry-good .sized) (entry-good .table)
 
-    entry-report : e .outcome .report ≡ due past (e .call)
-    entry-report = ap (λ (o : Outcome). o .report) met ∙ reported (e .call)
+    entry-answer : e .outcome .answer ≡ due past (e .call)
+    entry-answer = ap (λ (o : Outcome). o .answer) met ∙ answered (e .call)
 
     entry-old : (n : ℕ) → eventBy e ≡ acknowledged n → n ≤ highest past → e .outcome .session ≡ s
     entry-old n is low =
@@ -229,7 +229,7 @@ module _ (past : List Event) (s : Session) (u : Upto past s) where
 each : (past : List Event) (s : Session) (es : List Entry) → Upto past s → Chained s es → Each past s es
 each past s [] u c = tt
 each past s (e ∷ es) u c =
-    (entry-report past s u e (c .0), entry-old past s u e (c .0), each (past ++ (eventBy e ∷ [])) (e .outcome .session) es (entry-next past s u e (c .0)) (c .1))
+    (entry-answer past s u e (c .0), entry-old past s u e (c .0), each (past ++ (eventBy e ∷ [])) (e .outcome .session) es (entry-next past s u e (c .0)) (c .1))
 
 final : (past : List Event) (s : Session) (es : List Entry) → Upto past s → Chained s es → Upto (past ++ eventsOf es) (sessionBy s es)
 final past s [] u c = rw append-nil u

@@ -1,4 +1,4 @@
--- The calls on a lent session, all four by one walk: `let done = CALL(*s, x); *s = done.session; done.report`. The borrow is opened, the session is copied out and passed to
+-- The calls on a lent session, all four by one walk: `let done = CALL(*s, x); *s = done.session; done.answer`. The borrow is opened, the session is copied out and passed to
 -- the call by value, the session of the result is stored whole, and the borrow is closed at it. Nothing is known of the call but that it meets its contract.
 use mathlib.Core.Path.{_≡_, refl, ap, subst}
 use mathlib.Core.List.{[], _∷_, List}
@@ -44,8 +44,8 @@ use Rattle.session.proofs.Session as T
 use Rattle.session.proofs.Session.Laws as T′
 use Rattle.session.proofs.Outcome as O
 use Rattle.session.proofs.Outcome.Laws as O′
-use Rattle.session.proofs.Report as S
-use Rattle.session.proofs.Report.Laws as S′
+use Rattle.session.proofs.Answer as S
+use Rattle.session.proofs.Answer.Laws as S′
 
 -- the type of a call's argument: one machine value, and what is known of it
 pub record Argument : Type 2 where
@@ -88,10 +88,10 @@ session-is r vs is =
     let p = LL.owed O.the-type O′.the-laws r vs is .0 in
     subst (λ (us : List Val). Is T.the-row (r .session) us) (T′.lowers .val-is (r .session) _ p) p
 
-report-is : (r : Outcome) (vs : List Val) → Is O.the-row r vs → Is S.the-row (r .report) (S′.lowered (r .report) ∷ [])
-report-is r vs is =
+answer-is : (r : Outcome) (vs : List Val) → Is O.the-row r vs → Is S.the-row (r .answer) (S′.lowered (r .answer) ∷ [])
+answer-is r vs is =
     let p = LL.owed O.the-type O′.the-laws r vs is .1 .0 in
-    subst (λ (us : List Val). Is S.the-row (r .report) us) (S′.lowers .val-is (r .report) _ p) p
+    subst (λ (us : List Val). Is S.the-row (r .answer) us) (S′.lowers .val-is (r .answer) _ p) p
 
 module _ (p : Argument) where
   abbrev row : RattleType
@@ -164,14 +164,14 @@ module _ (p : Argument) where
       said : (r : Outcome) → ent 𝓤 (ensured 𝓤 H A by-value Answers tt (h, (n, tt)) tt r) (fact 𝓤 (Said r))
       said r = exE 𝓤 _ (λ ws. snd∗ 𝓤 (sem 𝓤 H A (lasts by-value tt (h, (n, tt)) ws)) (fact 𝓤 (Said r)))
 
-      exits : (r : Outcome) → Is S.the-row (r .report) (S′.lowered (r .report) ∷ []) → Said r
-          → ent 𝓤 (sep 𝓤 (A .obs γ (T.the-row .coded .code (r .session))) (sep 𝓤 (A .bor κ (Body (mem T.the-row) b o γ)) (A .lft κ q))) (Post (S′.lowered (r .report)))
+      exits : (r : Outcome) → Is S.the-row (r .answer) (S′.lowered (r .answer) ∷ []) → Said r
+          → ent 𝓤 (sep 𝓤 (A .obs γ (T.the-row .coded .code (r .session))) (sep 𝓤 (A .bor κ (Body (mem T.the-row) b o γ)) (A .lft κ q))) (Post (S′.lowered (r .answer)))
       exits r is e =
           qed W (‵ (fobs γ (T.the-row .coded .code (r .session))) ∷ ‵ (fbor κ (Body (mem T.the-row) b o γ)) ∷ ‵ (flft κ q) ∷ []) ∵
-          suffices ! _ (ends-at 𝓤 H A lent stayed AnswersLent W (((κ, tt), (q, tt), tt, x, at), tt) (S′.lowered (r .report)) (r .report) (r .session, (tt, tt)) (tt, (tt, tt))) $ says ! e $
+          suffices ! _ (ends-at 𝓤 H A lent stayed AnswersLent W (((κ, tt), (q, tt), tt, x, at), tt) (S′.lowered (r .answer)) (r .answer) (r .session, (tt, tt)) (tt, (tt, tt))) $ says ! e $
           nothing ! $ move ! (3 ∷ 0 ∷ []) $ join ! $ frame ! $ feqI ! (List Val) (vptr b o ∷ []) (vptr b o ∷ []) refl $ fjoin3 ! $ nothing ! $
           owned ! row (Is row) (p .makes 𝓤 H A W) n _ is-n $ fjoin ! $ move ! (1 ∷ 0 ∷ []) $ fjoin ! $
-          owned ! S.the-row (Is S.the-row) (EL.makes S.the-type S′.the-plain 𝓤 H A) (r .report) _ is $ move ! (1 ∷ 0 ∷ []) $ done !
+          owned ! S.the-row (Is S.the-row) (EL.makes S.the-type S′.the-plain 𝓤 H A) (r .answer) _ is $ move ! (1 ∷ 0 ∷ []) $ done !
 
       module _ (f : Name) (C : Calls 𝓤 H) (Λ : Loops 𝓤 H) (fm : FmC 𝓤 H (W .laws) C) (known : Triple 𝓤 (C f) Callee) where
         walk : ent 𝓤 (onEntry 𝓤 H A (lent .signature) (κ, tt) (q, tt) x at) (WpFn 𝓤 H C Λ (thin f) (vptr b o ∷ p .val n ∷ []) Post)
@@ -192,12 +192,12 @@ module _ (p : Argument) where
             -- [what the Outcome owns; the struct's cell; the open borrow; obs; auth; _4; …; room for _3; …; _2; …; _1; …; room for _0; …]
             land ! (from ! (stop !)) (init ! 7 refl (LL.lawful O.the-type O′.the-laws 𝓤 H A W .typed r _ is .0)) $ rewrite ! 7 (λ (u : Val). ‵ (fat fullShare O′.mir l₃ 0 u)) (ap only (O′.lowers .val-is r _ is)) refl $
             assigns ! (of-opd ! (load ! (from ! (fld ! refl (stop !))) (look-in ! 7 (sub ! 0 refl (whole !))))) (from ! (hop ! (look ! 11 refl) (stop !))) (store-raw ! 1 refl (LL.lawful T.the-type T′.the-laws 𝓤 H A W .typed (r .session) _ (session-is r _ is) .0)) $
-            assigns ! (of-opd ! (load ! (from ! (fld ! refl (stop !))) (look-in ! 7 (sub ! 1 refl (whole !))))) (from ! (stop !)) (init ! 13 refl (EL.lawful S.the-type S′.the-laws 𝓤 H A W tt .typed (r .report) _ (report-is r _ is) .0)) $
+            assigns ! (of-opd ! (load ! (from ! (fld ! refl (stop !))) (look-in ! 7 (sub ! 1 refl (whole !))))) (from ! (stop !)) (init ! 13 refl (EL.lawful S.the-type S′.the-laws 𝓤 H A W tt .typed (r .answer) _ (answer-is r _ is) .0)) $
             drop ! $ owned ! T.the-row (Is T.the-row) (LL.makes T.the-type T′.the-plain 𝓤 H A) (r .session) _ (session-is r _ is) $ move ! (1 ∷ 0 ∷ []) $ closes ! tt T.the-row (r .session) (T′.lowered (r .session) ∷ []) b o $
             -- [obs; the borrow; the token; _4; …; _3; …; _2; …; _1; …; _0; …]
             returns ! (look ! 11 refl) $ forget ! 3 refl $ forget ! 5 refl $ forget ! 7 refl $ forget ! 9 refl $ forget ! 11 refl $
             move ! (11 ∷ 12 ∷ []) $ free1 ! $ move ! (9 ∷ 10 ∷ []) $ free1 ! $ move ! (7 ∷ 8 ∷ []) $ free1 ! $ move ! (5 ∷ 6 ∷ []) $ free1 ! $ move ! (3 ∷ 4 ∷ []) $ free1 ! $ free0 ! $
-            keep ! (0 ∷ 1 ∷ 2 ∷ []) $ by ! (exits r (report-is r _ is) e))))))))))))
+            keep ! (0 ∷ 1 ∷ 2 ∷ []) $ by ! (exits r (answer-is r _ is) e))))))))))))
 
     module _ (W : Given 𝓤 H A) (f : Name) where
       walks : (C : Calls 𝓤 H) (Λ : Loops 𝓤 H) → FmC 𝓤 H (W .laws) C → Triple 𝓤 (C f) Callee → Walks 𝓤 H A lent stayed (WpFn 𝓤 H C Λ (thin f)) AnswersLent

@@ -9,8 +9,8 @@ use lib.ListN.{length}
 use Rattle.refusal.specs.Refusals.{Judged, fine, refused, byJudgement}
 use Rattle.session.specs.declared.Session.{Session}
 use Rattle.session.specs.declared.Message.{Message}
-use Rattle.session.specs.declared.Report.{Report}
-use Rattle.session.specs.declared.Report.the-variants as report
+use Rattle.session.specs.declared.Answer.{Answer}
+use Rattle.session.specs.declared.Answer.the-variants as answer
 use Rattle.session.specs.Calls.{places, heldOf, agrees, outcome, refusing, acked, cleared}
 use Rattle.session.specs.Laws as session
 use Rattle.session.specs.Laws.{callOf, eventOf, above, after, EveryCall}
@@ -31,20 +31,20 @@ oneReleases m (c ∷ cs) = cond (releases m c) true (oneReleases m cs)
 -- ---- fates
 
 -- a call that does not release the message leaves its fate to the later ones
-pub stays : (m : ℕ) (c : session.Call) (r : Report) (es : List session.Event) → releases m c ≡ false → fateOf m (eventOf c r ∷ es) ≡ fateOf m es
+pub stays : (m : ℕ) (c : session.Call) (r : Answer) (es : List session.Event) → releases m c ≡ false → fateOf m (eventOf c r ∷ es) ≡ fateOf m es
 unfolding fateOf
-stays m (session.accept h) (report.Accepted n) es e = refl
-stays m (session.accept h) report.Done es e = refl
-stays m (session.accept h) (report.Resend n) es e = refl
-stays m (session.accept h) (report.Refused n) es e = refl
-stays m (session.ack n) (report.Accepted k) es e = rw e
-stays m (session.ack n) report.Done es e = rw e
-stays m (session.ack n) (report.Resend k) es e = rw e
-stays m (session.ack n) (report.Refused k) es e = refl
-stays m (session.reconnect n) (report.Accepted k) es e = rw e
-stays m (session.reconnect n) report.Done es e = rw e
-stays m (session.reconnect n) (report.Resend k) es e = rw e
-stays m (session.reconnect n) (report.Refused k) es e = refl
+stays m (session.accept h) (answer.Accepted n) es e = refl
+stays m (session.accept h) answer.Done es e = refl
+stays m (session.accept h) (answer.Resend n) es e = refl
+stays m (session.accept h) (answer.Refused n) es e = refl
+stays m (session.ack n) (answer.Accepted k) es e = rw e
+stays m (session.ack n) answer.Done es e = rw e
+stays m (session.ack n) (answer.Resend k) es e = rw e
+stays m (session.ack n) (answer.Refused k) es e = refl
+stays m (session.reconnect n) (answer.Accepted k) es e = rw e
+stays m (session.reconnect n) answer.Done es e = rw e
+stays m (session.reconnect n) (answer.Resend k) es e = rw e
+stays m (session.reconnect n) (answer.Refused k) es e = refl
 stays m (session.reset true) r es e = absurd (true≢false e)
 stays m (session.reset false) r es e = refl
 
@@ -75,19 +75,19 @@ mem-above x n (y ∷ ms) e (List·Memᴰ·tail k) = go (ltb n (y .number)) (mem-
     go true i = List·Memᴰ·tail i
     go false i = i
 
-keeps : (c : session.Call) (r : Report) (ms : List Message) (x : Message) → releases (x .number) c ≡ false → List·Memᴰ x ms → List·Memᴰ x (after (eventOf c r) ms)
-keeps (session.accept h) (report.Accepted n) ms x e k = Memᴰ·append-left _ k
-keeps (session.accept h) report.Done ms x e k = k
-keeps (session.accept h) (report.Resend n) ms x e k = k
-keeps (session.accept h) (report.Refused n) ms x e k = k
-keeps (session.ack n) (report.Accepted i) ms x e k = mem-above x n ms e k
-keeps (session.ack n) report.Done ms x e k = mem-above x n ms e k
-keeps (session.ack n) (report.Resend i) ms x e k = mem-above x n ms e k
-keeps (session.ack n) (report.Refused i) ms x e k = k
-keeps (session.reconnect n) (report.Accepted i) ms x e k = mem-above x n ms e k
-keeps (session.reconnect n) report.Done ms x e k = mem-above x n ms e k
-keeps (session.reconnect n) (report.Resend i) ms x e k = mem-above x n ms e k
-keeps (session.reconnect n) (report.Refused i) ms x e k = k
+keeps : (c : session.Call) (r : Answer) (ms : List Message) (x : Message) → releases (x .number) c ≡ false → List·Memᴰ x ms → List·Memᴰ x (after (eventOf c r) ms)
+keeps (session.accept h) (answer.Accepted n) ms x e k = Memᴰ·append-left _ k
+keeps (session.accept h) answer.Done ms x e k = k
+keeps (session.accept h) (answer.Resend n) ms x e k = k
+keeps (session.accept h) (answer.Refused n) ms x e k = k
+keeps (session.ack n) (answer.Accepted i) ms x e k = mem-above x n ms e k
+keeps (session.ack n) answer.Done ms x e k = mem-above x n ms e k
+keeps (session.ack n) (answer.Resend i) ms x e k = mem-above x n ms e k
+keeps (session.ack n) (answer.Refused i) ms x e k = k
+keeps (session.reconnect n) (answer.Accepted i) ms x e k = mem-above x n ms e k
+keeps (session.reconnect n) answer.Done ms x e k = mem-above x n ms e k
+keeps (session.reconnect n) (answer.Resend i) ms x e k = mem-above x n ms e k
+keeps (session.reconnect n) (answer.Refused i) ms x e k = k
 keeps (session.reset true) r ms x e k = absurd (true≢false e)
 keeps (session.reset false) r ms x e k = k
 
@@ -103,11 +103,11 @@ call-good every s c g =
 
 pub call-keeps : EveryCall → (s : Session) (c : session.Call) (x : Message) → Good s → releases (x .number) c ≡ false → List·Memᴰ x (heldOf s) → List·Memᴰ x (heldOf (callOf s c .session))
 call-keeps every s c x g e k =
-    subst (λ (ms : List Message). List·Memᴰ x ms) (sym (every .each s c (g .sized) .table (g .agreeing))) (keeps c (callOf s c .report) (heldOf s) x e k)
+    subst (λ (ms : List Message). List·Memᴰ x ms) (sym (every .each s c (g .sized) .table (g .agreeing))) (keeps c (callOf s c .answer) (heldOf s) x e k)
 
 -- ---- handles
 
-pub kept : (s t : Session) (j : Judged) (r : Report) → t .handles ≡ s .handles → byJudgement j (outcome t r) (refusing s) .session .handles ≡ s .handles
+pub kept : (s t : Session) (j : Judged) (r : Answer) → t .handles ≡ s .handles → byJudgement j (outcome t r) (refusing s) .session .handles ≡ s .handles
 kept s t fine r h = h
 kept s t (refused n) r h = refl
 

@@ -12,12 +12,12 @@ use Rattle.refusal.specs.declared.Refusal.the-variants as why
 use Rattle.refusal.specs.Refusals.{unless, firstOf, row, byJudgement}
 use Rattle.refusal.proofs.Judgements.{or-else-last}
 use Rattle.session.specs.declared.Session.{Session}
-use Rattle.session.specs.declared.Report.{Report}
-use Rattle.session.specs.declared.Report.the-variants as report
+use Rattle.session.specs.declared.Answer.{Answer}
+use Rattle.session.specs.declared.Answer.the-variants as answer
 use Rattle.session.specs.declared.Outcome.{Outcome}
 use Rattle.session.specs.declared.Held.the-variants as held
 use Rattle.session.specs.Calls.{places, finalNumber, messageAt, heldFrom, heldOf, agrees, freshSession, judgeState, judgeAccept, judgeAck, adding, releasing, acked, cleared, outcome, refusing, acceptOf, ackOf, reconnectOf, resetOf, heldAt}
-use Rattle.session.specs.Laws.{Call, accept, ack, reconnect, reset, callOf, Event, accepted, acknowledged, dropped, nothing, eventOf, above, after, answersOf, Sound, EveryCall}
+use Rattle.session.specs.Laws.{Call, accept, ack, reconnect, reset, callOf, Event, accepted, acknowledged, dropped, nothing, eventOf, above, after, heldAnswers, Sound, EveryCall}
 use Rattle.session.proofs.Table.{held-more, all-above, some-above, found-held, Agreeing, agreeing, agrees-by, held-size}
 
 -- ---- the calls, by their tests
@@ -33,24 +33,24 @@ contradicted s (reset full) e = rw e
 module _ (s : Session) (ok : agrees s ≡ true) where
   -- the judgements behind 26
   abbrev pub acceptBy : Bool → Bool → ℕ → Outcome
-  acceptBy left room h = byJudgement (firstOf (unless left why.NumbersSpent ∷ unless room why.TableFull ∷ [])) (outcome (adding s (s .last + 1) h) (report.Accepted (s .last + 1))) (refusing s)
+  acceptBy left room h = byJudgement (firstOf (unless left why.NumbersSpent ∷ unless room why.TableFull ∷ [])) (outcome (adding s (s .last + 1) h) (answer.Accepted (s .last + 1))) (refusing s)
 
-  abbrev pub ackBy : Bool → ℕ → Report → Outcome
+  abbrev pub ackBy : Bool → ℕ → Answer → Outcome
   ackBy sent n r = byJudgement (unless sent why.AckAhead) (outcome (acked s n) r) (refusing s)
 
   pub accept-is : (h : ℕ) → acceptOf s h ≡ acceptBy (ltb (s .last) finalNumber) (ltb (length (heldOf s)) places) h
   unfolding acceptOf judgeAccept judgeState
   accept-is h = rw ok
 
-  pub ack-is : (n : ℕ) → ackOf s n ≡ ackBy (leb n (s .last)) n report.Done
+  pub ack-is : (n : ℕ) → ackOf s n ≡ ackBy (leb n (s .last)) n answer.Done
   unfolding ackOf judgeAck judgeState
   ack-is n = rw (ok, or-else-last (unless (leb n (s .last)) why.AckAhead))
 
-  pub reconnect-is : (n : ℕ) → reconnectOf s n ≡ ackBy (leb n (s .last)) n (report.Resend (length (heldOf (acked s n))))
+  pub reconnect-is : (n : ℕ) → reconnectOf s n ≡ ackBy (leb n (s .last)) n (answer.Resend (length (heldOf (acked s n))))
   unfolding reconnectOf judgeAck judgeState
   reconnect-is n = rw (ok, or-else-last (unless (leb n (s .last)) why.AckAhead))
 
-  pub reset-is : (full : Bool) → resetOf s full ≡ outcome (cleared s full) report.Done
+  pub reset-is : (full : Bool) → resetOf s full ≡ outcome (cleared s full) answer.Done
   unfolding resetOf judgeState
   reset-is full = rw ok
 
@@ -63,27 +63,27 @@ Moves dropped s t = (t .last ≡ s .last) × (s .released ≤ t .released)
 Moves nothing s t = t ≡ s
 
 pub record Good (s : Session) (c : Call) (o : Outcome) : Type 0 where
-  pub never26 : o .report ≡ report.Refused (row 26 0 0 0) → ⊥
+  pub never26 : o .answer ≡ answer.Refused (row 26 0 0 0) → ⊥
   pub agreeing : agrees (o .session) ≡ true
   pub sized : length (o .session .handles) ≡ places
-  pub unchanged : (n : Numbers) → o .report ≡ report.Refused n → o .session ≡ s
-  pub table : heldOf (o .session) ≡ after (eventOf c (o .report)) (heldOf s)
-  pub moves : Moves (eventOf c (o .report)) s (o .session)
+  pub unchanged : (n : Numbers) → o .answer ≡ answer.Refused n → o .session ≡ s
+  pub table : heldOf (o .session) ≡ after (eventOf c (o .answer)) (heldOf s)
+  pub moves : Moves (eventOf c (o .answer)) s (o .session)
 
--- the number of a refusal, and whether a report is one
-numberBy : Report → ℕ
-numberBy (report.Accepted n) = 0
-numberBy report.Done = 0
-numberBy (report.Resend k) = 0
-numberBy (report.Refused n) = n .number
+-- the number of a refusal, and whether an answer is one
+numberBy : Answer → ℕ
+numberBy (answer.Accepted n) = 0
+numberBy answer.Done = 0
+numberBy (answer.Resend k) = 0
+numberBy (answer.Refused n) = n .number
 
-isRefusal : Report → Bool
-isRefusal (report.Accepted n) = false
-isRefusal report.Done = false
-isRefusal (report.Resend k) = false
-isRefusal (report.Refused n) = true
+isRefusal : Answer → Bool
+isRefusal (answer.Accepted n) = false
+isRefusal answer.Done = false
+isRefusal (answer.Resend k) = false
+isRefusal (answer.Refused n) = true
 
-no-refusal : {A : Type 0} (r : Report) → isRefusal r ≡ false → (n : Numbers) → r ≡ report.Refused n → A
+no-refusal : {A : Type 0} (r : Answer) → isRefusal r ≡ false → (n : Numbers) → r ≡ answer.Refused n → A
 unfolding isRefusal
 no-refusal r z n e = absurd (true≢false (sym (ap isRefusal e) ∙ z))
 
@@ -117,7 +117,7 @@ acked-is s ok n sent = go (leb n (s .released)) refl (agreeing s ok)
         }
 
 module _ (s : Session) (ok : agrees s ≡ true) (sized : length (s .handles) ≡ places) where
-  good-refused : (c : Call) (n : Numbers) → (n .number ≡ 26 → ⊥) → eventOf c (report.Refused n) ≡ nothing → Good s c (refusing s n)
+  good-refused : (c : Call) (n : Numbers) → (n .number ≡ 26 → ⊥) → eventOf c (answer.Refused n) ≡ nothing → Good s c (refusing s n)
   unfolding numberBy
   good-refused c n other e = record {
     never26 = λ k. other (ap numberBy k);
@@ -128,7 +128,7 @@ module _ (s : Session) (ok : agrees s ≡ true) (sized : length (s .handles) ≡
     moves = rw e;
   }
 
-  good-accepted : (h : ℕ) → length (heldOf s) < places → Good s (accept h) (outcome (adding s (s .last + 1) h) (report.Accepted (s .last + 1)))
+  good-accepted : (h : ℕ) → length (heldOf s) < places → Good s (accept h) (outcome (adding s (s .last + 1) h) (answer.Accepted (s .last + 1)))
   unfolding isRefusal
   good-accepted h room =
       let a : Agreeing s = agreeing s ok in
@@ -136,15 +136,15 @@ module _ (s : Session) (ok : agrees s ≡ true) (sized : length (s .handles) ≡
       let more : s .last + 1 - s .released ≡ suc (s .last - s .released) = omega arith in
       let next : s .released + suc (s .last - s .released) ≡ s .last + 1 = omega arith in
       record {
-        never26 = no-refusal (report.Accepted (s .last + 1)) refl (row 26 0 0 0);
+        never26 = no-refusal (answer.Accepted (s .last + 1)) refl (row 26 0 0 0);
         agreeing = agrees-by (adding s (s .last + 1) h) (omega arith) (omega arith);
         sized = length-set (s .handles) ((s .last + 1) % places) h ∙ sized;
-        unchanged = no-refusal (report.Accepted (s .last + 1)) refl;
+        unchanged = no-refusal (answer.Accepted (s .last + 1)) refl;
         table = rw (more, ← next) (held-more (s .handles) (s .released) (s .last - s .released) h sized (omega arith));
         moves = (refl, refl, omega arith);
       }
 
-  good-acked : (c : Call) (n : ℕ) (r : Report) → isRefusal r ≡ false → eventOf c r ≡ acknowledged n → n ≤ s .last → Good s c (outcome (acked s n) r)
+  good-acked : (c : Call) (n : ℕ) (r : Answer) → isRefusal r ≡ false → eventOf c r ≡ acknowledged n → n ≤ s .last → Good s c (outcome (acked s n) r)
   good-acked c n r not e sent =
       let k : Acked s n (acked s n) = acked-is s ok n sent in
       record {
@@ -156,21 +156,21 @@ module _ (s : Session) (ok : agrees s ≡ true) (sized : length (s .handles) ≡
         moves = rw e (k .moves);
       }
 
-  good-reset : (full : Bool) → Good s (reset full) (outcome (cleared s full) report.Done)
+  good-reset : (full : Bool) → Good s (reset full) (outcome (cleared s full) answer.Done)
   unfolding isRefusal heldFrom
   good-reset true =
       let a : Agreeing s = agreeing s ok in
       let none : s .last - s .last ≡ 0 = omega arith in
       record {
-        never26 = no-refusal report.Done refl (row 26 0 0 0);
+        never26 = no-refusal answer.Done refl (row 26 0 0 0);
         agreeing = agrees-by (releasing s (s .last)) (omega arith) (omega arith);
         sized = sized;
-        unchanged = no-refusal report.Done refl;
+        unchanged = no-refusal answer.Done refl;
         table = rw none;
         moves = (refl, a .order);
       }
   good-reset false = record {
-    never26 = no-refusal report.Done refl (row 26 0 0 0);
+    never26 = no-refusal answer.Done refl (row 26 0 0 0);
     agreeing = ok;
     sized = sized;
     unchanged = λ n k. refl;
@@ -183,7 +183,7 @@ module _ (s : Session) (ok : agrees s ≡ true) (sized : length (s .handles) ≡
   accept-good true false h k = good-refused (accept h) (row 22 0 0 0) (λ e. omega arith) refl
   accept-good false room h k = good-refused (accept h) (row 25 0 0 0) (λ e. omega arith) refl
 
-  ack-good : (c : Call) (n : ℕ) (r : Report) → isRefusal r ≡ false → eventOf c r ≡ acknowledged n → eventOf c (report.Refused (row 23 0 0 0)) ≡ nothing
+  ack-good : (c : Call) (n : ℕ) (r : Answer) → isRefusal r ≡ false → eventOf c r ≡ acknowledged n → eventOf c (answer.Refused (row 23 0 0 0)) ≡ nothing
       → (sent : Bool) → (sent ≡ true → n ≤ s .last) → Good s c (ackBy s ok sent n r)
   ack-good c n r not e e′ true k = good-acked c n r not e (k refl)
   ack-good c n r not e e′ false k = good-refused c (row 23 0 0 0) (λ z. omega arith) e′
@@ -191,9 +191,9 @@ module _ (s : Session) (ok : agrees s ≡ true) (sized : length (s .handles) ≡
   pub good : (c : Call) → Good s c (callOf s c)
   unfolding isRefusal
   good (accept h) = rw (accept-is s ok h) (accept-good (ltb (s .last) finalNumber) (ltb (length (heldOf s)) places) h (ltb-true (length (heldOf s)) places))
-  good (ack n) = rw (ack-is s ok n) (ack-good (ack n) n report.Done refl refl refl (leb n (s .last)) (leb-true n (s .last)))
+  good (ack n) = rw (ack-is s ok n) (ack-good (ack n) n answer.Done refl refl refl (leb n (s .last)) (leb-true n (s .last)))
   good (reconnect n) =
-      rw (reconnect-is s ok n) (ack-good (reconnect n) n (report.Resend (length (heldOf (acked s n)))) refl refl refl (leb n (s .last)) (leb-true n (s .last)))
+      rw (reconnect-is s ok n) (ack-good (reconnect n) n (answer.Resend (length (heldOf (acked s n)))) refl refl refl (leb n (s .last)) (leb-true n (s .last)))
   good (reset full) = rw (reset-is s ok full) (good-reset full)
 
 -- ---- the claim
@@ -223,23 +223,23 @@ sound s c sized = go (agrees s) refl
           table = λ ok. absurd (true≢false (sym ok ∙ bad));
         }
 
--- the answers of `held_at` are the messages held
+-- what `held_at` gives are the messages held
 at-is : (s : Session) → agrees s ≡ true → (i : ℕ) → i < s .last - s .released → heldAt s i ≡ held.At (messageAt (s .handles) (s .released + 1 + i))
 unfolding heldAt judgeState
 at-is s ok i h = rw ok (found-held (s .handles) (s .released) (s .last - s .released) i h)
 
-answers-are : (s : Session) → agrees s ≡ true → (i k : ℕ) → i + k ≡ s .last - s .released → answersOf s i k ≡ map held.At (heldFrom (s .handles) (s .released + i) k)
-unfolding answersOf heldFrom
-answers-are s ok i zero e = refl
-answers-are s ok i (suc k) e =
+held-answers : (s : Session) → agrees s ≡ true → (i k : ℕ) → i + k ≡ s .last - s .released → heldAnswers s i k ≡ map held.At (heldFrom (s .handles) (s .released + i) k)
+unfolding heldAnswers heldFrom
+held-answers s ok i zero e = refl
+held-answers s ok i (suc k) e =
     let here : s .released + 1 + i ≡ s .released + i + 1 = omega arith in
     let next : s .released + (i + 1) ≡ s .released + i + 1 = omega arith in
-    rw (at-is s ok i (omega arith), answers-are s ok (i + 1) k (omega arith), here, next)
+    rw (at-is s ok i (omega arith), held-answers s ok (i + 1) k (omega arith), here, next)
 
-resent-held : (s : Session) → agrees s ≡ true → answersOf s 0 (length (heldOf s)) ≡ map held.At (heldOf s)
+resent-held : (s : Session) → agrees s ≡ true → heldAnswers s 0 (length (heldOf s)) ≡ map held.At (heldOf s)
 resent-held s ok =
     let start : s .released + 0 ≡ s .released = omega arith in
-    rw (held-size s) (rw start at (answers-are s ok 0 (s .last - s .released) (omega arith)))
+    rw (held-size s) (rw start at (held-answers s ok 0 (s .last - s .released) (omega arith)))
 
 pub every-call : EveryCall
 every-call = record {

@@ -11,15 +11,15 @@ use lib.Dec.{leb, ltb}
 use borrow.Author.Tests.{lt-ltb, ltb-true, ltb-false, leb-true, le-leb}
 use Rattle.refusal.specs.declared.Numbers.{Numbers}
 use Rattle.refusal.specs.declared.Refusal.{Refusal}
-use Rattle.refusal.specs.declared.Verdict.{Verdict}
-use Rattle.refusal.specs.declared.Verdict.the-variants as verdict
+use Rattle.refusal.specs.declared.Judgement.{Judgement}
+use Rattle.refusal.specs.declared.Judgement.the-variants as judgement
 use Rattle.refusal.specs.declared.Refusal.the-variants as why
 use Rattle.refusal.specs.Refusals.{Judged, fine, numbersOf, judgedBy, unless, byJudgement}
 use Rattle.refusal.proofs.Judgements.{passed, all-fine}
 use Rattle.refusal.proofs.Booleans.{both-left, both-right}
 use Rattle.session.specs.declared.Session.{Session}
 use Rattle.session.specs.declared.Message.{Message}
-use Rattle.session.specs.declared.Report.the-variants as report
+use Rattle.session.specs.declared.Answer.the-variants as answer
 use Rattle.session.specs.declared.Held.the-variants as held
 use Rattle.session.specs.Laws.{above}
 use Rattle.session.specs.Calls.{places, finalNumber, message, messageAt, heldFrom, heldOf, agrees, judgeState, judgeAccept, found, outcome}
@@ -106,7 +106,7 @@ pub held-size : (s : Session) → length (heldOf s) ≡ s .last - s .released
 held-size s = held-length (s .handles) (s .released) (s .last - s .released)
 
 -- as many messages are to be sent again as are held
-pub resend-held : (s t : Session) (k : ℕ) → s ≡ t → k ≡ s .last - s .released → outcome s (report.Resend k) ≡ outcome t (report.Resend (length (heldOf t)))
+pub resend-held : (s t : Session) (k : ℕ) → s ≡ t → k ≡ s .last - s .released → outcome s (answer.Resend k) ≡ outcome t (answer.Resend (length (heldOf t)))
 resend-held s t k e is = cc (held-size s)
 
 -- what the fields of a session that agrees with itself say
@@ -132,11 +132,11 @@ fine-accept s e =
     ltb-true (s .last) finalNumber
     (passed (ltb (s .last) finalNumber) why.NumbersSpent (all-fine (judgeState s ∷ unless (ltb (s .last) finalNumber) why.NumbersSpent ∷ unless (ltb (length (heldOf s)) places) why.TableFull ∷ []) e .1 .0))
 
--- ---- what a call answers, by its verdict
+-- ---- what a call answers, by its judgement
 
-module _ {A : Type 0} (v : Verdict) (j : Judged) (refusal : Numbers → A) (a b : A) (by : judgedBy v ≡ j) where
-  pub when-fine : v ≡ verdict.Fine → b ≡ a → b ≡ byJudgement j a refusal
+module _ {A : Type 0} (v : Judgement) (j : Judged) (refusal : Numbers → A) (a b : A) (by : judgedBy v ≡ j) where
+  pub when-fine : v ≡ judgement.Fine → b ≡ a → b ≡ byJudgement j a refusal
   when-fine e is = rw (sym by ∙ ap judgedBy e) is
 
-  pub when-refused : (why : Refusal) → v ≡ verdict.Refused why → b ≡ refusal (numbersOf why) → b ≡ byJudgement j a refusal
+  pub when-refused : (why : Refusal) → v ≡ judgement.Refused why → b ≡ refusal (numbersOf why) → b ≡ byJudgement j a refusal
   when-refused why e is = rw (sym by ∙ ap judgedBy e) is

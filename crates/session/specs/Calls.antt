@@ -9,8 +9,8 @@ use Rattle.refusal.specs.declared.Refusal.the-variants as refusal
 use Rattle.refusal.specs.Refusals.{Judged, unless, firstOf, byJudgement}
 use Rattle.session.specs.declared.Session.{Session}
 use Rattle.session.specs.declared.Message.{Message}
-use Rattle.session.specs.declared.Report.{Report}
-use Rattle.session.specs.declared.Report.the-variants as report
+use Rattle.session.specs.declared.Answer.{Answer}
+use Rattle.session.specs.declared.Answer.the-variants as answer
 use Rattle.session.specs.declared.Outcome.{Outcome}
 use Rattle.session.specs.declared.Held.{Held}
 use Rattle.session.specs.declared.Held.the-variants as held
@@ -78,25 +78,25 @@ cleared s full = cond full (releasing s (s .last)) s
 
 -- ---- THE ANSWERS OF THE CALLS
 
-abbrev pub outcome : Session → Report → Outcome
-outcome s r = record { session = s; report = r }
+abbrev pub outcome : Session → Answer → Outcome
+outcome s r = record { session = s; answer = r }
 
 -- a refusal hands the session back as it was
 abbrev pub refusing : Session → Numbers → Outcome
-refusing s n = outcome s (report.Refused n)
+refusing s n = outcome s (answer.Refused n)
 
 unfoldable pub acceptOf : Session → ℕ → Outcome
-acceptOf s h = byJudgement (judgeAccept s) (outcome (adding s (s .last + 1) h) (report.Accepted (s .last + 1))) (refusing s)
+acceptOf s h = byJudgement (judgeAccept s) (outcome (adding s (s .last + 1) h) (answer.Accepted (s .last + 1))) (refusing s)
 
 unfoldable pub ackOf : Session → ℕ → Outcome
-ackOf s n = byJudgement (judgeAck s n) (outcome (acked s n) report.Done) (refusing s)
+ackOf s n = byJudgement (judgeAck s n) (outcome (acked s n) answer.Done) (refusing s)
 
 -- reconnect_ok with the msg_seq n
 unfoldable pub reconnectOf : Session → ℕ → Outcome
-reconnectOf s n = byJudgement (judgeAck s n) (outcome (acked s n) (report.Resend (length (heldOf (acked s n))))) (refusing s)
+reconnectOf s n = byJudgement (judgeAck s n) (outcome (acked s n) (answer.Resend (length (heldOf (acked s n))))) (refusing s)
 
 unfoldable pub resetOf : Session → Bool → Outcome
-resetOf s full = byJudgement (judgeState s) (outcome (cleared s full) report.Done) (refusing s)
+resetOf s full = byJudgement (judgeState s) (outcome (cleared s full) answer.Done) (refusing s)
 
 -- the message at a place of a list
 unfoldable pub found : List Message → ℕ → Held

@@ -9,8 +9,8 @@ use Rattle.refusal.specs.declared.Refusal.the-variants as refusal
 use Rattle.refusal.specs.Refusals.{Judged, unless, firstOf, byJudgement}
 use Rattle.session.specs.declared.Session.{Session}
 use Rattle.session.specs.declared.Message.{Message}
-use Rattle.session.specs.declared.Report.{Report}
-use Rattle.session.specs.declared.Report.the-variants as report
+use Rattle.session.specs.declared.Answer.{Answer}
+use Rattle.session.specs.declared.Answer.the-variants as answer
 use Rattle.session.specs.declared.Outcome.{Outcome}
 use Rattle.session.specs.Calls.{places, finalNumber, heldOf, agrees, freshSession}
 use Rattle.session.specs.Laws.{Call, accept, ack, reconnect, reset, callOf, Event, accepted, acknowledged, dropped, nothing, eventOf}
@@ -31,9 +31,9 @@ abbrev pub sessionBy : Session → List Entry → Session
 sessionBy s [] = s
 sessionBy s (e ∷ es) = sessionBy (e .outcome .session) es
 
--- what it says of the messages, by the calls and their reports alone
+-- what it says of the messages, by the calls and their answers alone
 abbrev pub eventBy : Entry → Event
-eventBy e = eventOf (e .call) (e .outcome .report)
+eventBy e = eventOf (e .call) (e .outcome .answer)
 
 abbrev pub eventsOf : List Entry → List Event
 eventsOf [] = []
@@ -88,26 +88,26 @@ highest (acknowledged n ∷ es) = max n (highest es)
 highest (dropped ∷ es) = highest es
 highest (nothing ∷ es) = highest es
 
--- ---- the report that is due, by the events before the call
+-- ---- the answer that is due, by the events before the call
 
-abbrev pub dueBy : Judged → Report → Report
-dueBy j r = byJudgement j r report.Refused
+abbrev pub dueBy : Judged → Answer → Answer
+dueBy j r = byJudgement j r answer.Refused
 
-abbrev pub due : List Event → Call → Report
+abbrev pub due : List Event → Call → Answer
 due past (accept h) =
     dueBy (firstOf (unless (ltb (length (acceptedIn past)) finalNumber) refusal.NumbersSpent ∷ unless (ltb (length (withFate isHeld past)) places) refusal.TableFull ∷ []))
-    (report.Accepted (length (acceptedIn past) + 1))
-due past (ack n) = dueBy (unless (leb n (length (acceptedIn past))) refusal.AckAhead) report.Done
+    (answer.Accepted (length (acceptedIn past) + 1))
+due past (ack n) = dueBy (unless (leb n (length (acceptedIn past))) refusal.AckAhead) answer.Done
 due past (reconnect n) =
     dueBy (unless (leb n (length (acceptedIn past))) refusal.AckAhead)
-    (report.Resend (length (withFate isHeld (past ++ (acknowledged n ∷ [])))))
-due past (reset full) = report.Done
+    (answer.Resend (length (withFate isHeld (past ++ (acknowledged n ∷ [])))))
+due past (reset full) = answer.Done
 
 -- from the session s, after those events
 abbrev pub Each : List Event → Session → List Entry → Type 0
 Each past s [] = Unit {0}
 Each past s (e ∷ es) =
-    (e .outcome .report ≡ due past (e .call))
+    (e .outcome .answer ≡ due past (e .call))
     -- an ack at or below the highest one before it changes nothing
     × ((n : ℕ) → eventBy e ≡ acknowledged n → n ≤ highest past → e .outcome .session ≡ s)
     × Each (past ++ (eventBy e ∷ [])) (e .outcome .session) es
@@ -133,7 +133,7 @@ AllDifferent (n ∷ ns) = NotAmong n ns × AllDifferent ns
 
 -- THE CLAIM, of the calls es on a fresh session
 pub record Accounted (es : List Entry) : Type 0 where
-  -- each report is the one that is due
+  -- each answer is the one that is due
   pub each : Each [] freshSession es
   -- numbers start at 1 and go up by one; none is given twice
   pub counted : numbers (acceptedIn (eventsOf es)) ≡ countUp 1 (length (acceptedIn (eventsOf es)))

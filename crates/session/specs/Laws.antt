@@ -10,8 +10,8 @@ use Rattle.refusal.specs.declared.Refusal.the-variants.{StateContradicts, AckAh
 use Rattle.refusal.specs.Refusals.{numbersOf}
 use Rattle.session.specs.declared.Session.{Session}
 use Rattle.session.specs.declared.Message.{Message}
-use Rattle.session.specs.declared.Report.{Report}
-use Rattle.session.specs.declared.Report.the-variants as report
+use Rattle.session.specs.declared.Answer.{Answer}
+use Rattle.session.specs.declared.Answer.the-variants as answer
 use Rattle.session.specs.declared.Outcome.{Outcome}
 use Rattle.session.specs.declared.Held.{Held}
 use Rattle.session.specs.declared.Held.the-variants as held
@@ -31,7 +31,7 @@ callOf s (ack n) = ackOf s n
 callOf s (reconnect n) = reconnectOf s n
 callOf s (reset full) = resetOf s full
 
--- ---- what a call and its report say of the messages
+-- ---- what a call and its answer say of the messages
 
 pub data Event : Type 0 where
   accepted : Message → Event
@@ -41,17 +41,17 @@ pub data Event : Type 0 where
   dropped : Event
   nothing : Event
 
-abbrev pub eventUnlessRefused : Report → Event → Event
-eventUnlessRefused (report.Accepted n) e = e
-eventUnlessRefused report.Done e = e
-eventUnlessRefused (report.Resend k) e = e
-eventUnlessRefused (report.Refused n) e = nothing
+abbrev pub eventUnlessRefused : Answer → Event → Event
+eventUnlessRefused (answer.Accepted n) e = e
+eventUnlessRefused answer.Done e = e
+eventUnlessRefused (answer.Resend k) e = e
+eventUnlessRefused (answer.Refused n) e = nothing
 
-abbrev pub eventOf : Call → Report → Event
-eventOf (accept h) (report.Accepted n) = accepted (message n h)
-eventOf (accept h) report.Done = nothing
-eventOf (accept h) (report.Resend k) = nothing
-eventOf (accept h) (report.Refused n) = nothing
+abbrev pub eventOf : Call → Answer → Event
+eventOf (accept h) (answer.Accepted n) = accepted (message n h)
+eventOf (accept h) answer.Done = nothing
+eventOf (accept h) (answer.Resend k) = nothing
+eventOf (accept h) (answer.Refused n) = nothing
 eventOf (ack n) r = eventUnlessRefused r (acknowledged n)
 eventOf (reconnect n) r = eventUnlessRefused r (acknowledged n)
 eventOf (reset true) r = eventUnlessRefused r dropped
@@ -69,40 +69,40 @@ after (acknowledged n) ms = above n ms
 after dropped ms = []
 after nothing ms = ms
 
--- ---- what is sent again after a reconnect: the answers of `held_at`, as many as the report says; none on a refusal
+-- ---- what is sent again after a reconnect: what `held_at` gives, as often as the answer says; none on a refusal
 
-unfoldable pub answersOf : Session → ℕ → ℕ → List Held
-answersOf s i zero = []
-answersOf s i (suc k) = heldAt s i ∷ answersOf s (i + 1) k
+unfoldable pub heldAnswers : Session → ℕ → ℕ → List Held
+heldAnswers s i zero = []
+heldAnswers s i (suc k) = heldAt s i ∷ heldAnswers s (i + 1) k
 
-abbrev pub resentBy : Report → Session → List Held
-resentBy (report.Accepted n) s = []
-resentBy report.Done s = []
-resentBy (report.Resend k) s = answersOf s 0 k
-resentBy (report.Refused n) s = []
+abbrev pub resentBy : Answer → Session → List Held
+resentBy (answer.Accepted n) s = []
+resentBy answer.Done s = []
+resentBy (answer.Resend k) s = heldAnswers s 0 k
+resentBy (answer.Refused n) s = []
 
 abbrev pub resent : Outcome → List Held
-resent o = resentBy (o .report) (o .session)
+resent o = resentBy (o .answer) (o .session)
 
 -- ---- THE CLAIM, of a session that has its 64 places, as every one has
 
 pub record Sound (s : Session) (c : Call) : Type 0 where
   -- 26 exactly where the fields contradict each other, and such a session is handed back by no other call
   pub contradicts : agrees s ≡ false → callOf s c ≡ refusing s (numbersOf StateContradicts)
-  pub never26 : agrees s ≡ true → callOf s c .report ≡ report.Refused (numbersOf StateContradicts) → ⊥
+  pub never26 : agrees s ≡ true → callOf s c .answer ≡ answer.Refused (numbersOf StateContradicts) → ⊥
   pub agreeing : agrees s ≡ true → agrees (callOf s c .session) ≡ true
   pub sized : length (callOf s c .session .handles) ≡ places
   -- a refusal changes nothing
-  pub unchanged : (n : Numbers) → callOf s c .report ≡ report.Refused n → callOf s c .session ≡ s
+  pub unchanged : (n : Numbers) → callOf s c .answer ≡ answer.Refused n → callOf s c .session ≡ s
   -- what is then held
-  pub table : agrees s ≡ true → heldOf (callOf s c .session) ≡ after (eventOf c (callOf s c .report)) (heldOf s)
+  pub table : agrees s ≡ true → heldOf (callOf s c .session) ≡ after (eventOf c (callOf s c .answer)) (heldOf s)
 
 pub record EveryCall : Type 0 where
   pub fresh : agrees freshSession ≡ true
   pub each : (s : Session) (c : Call) → length (s .handles) ≡ places → Sound s c
   -- an ack at or below the last one changes nothing
   pub old : (s : Session) (n : ℕ) → agrees s ≡ true → n ≤ s .released
-      → (ackOf s n ≡ outcome s report.Done) × (reconnectOf s n ≡ outcome s (report.Resend (length (heldOf s))))
+      → (ackOf s n ≡ outcome s answer.Done) × (reconnectOf s n ≡ outcome s (answer.Resend (length (heldOf s))))
   -- after a reconnect the messages then held are sent again, in order, and none on 23
   pub resends : (s : Session) (n : ℕ) → agrees s ≡ true → n ≤ s .last → resent (reconnectOf s n) ≡ map held.At (above n (heldOf s))
   pub none : (s : Session) (n : ℕ) → agrees s ≡ true → s .last < n → (reconnectOf s n ≡ refusing s (numbersOf AckAhead)) × (resent (reconnectOf s n) ≡ [])

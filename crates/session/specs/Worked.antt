@@ -7,8 +7,8 @@ use lib.ListN.{replicate}
 use Rattle.refusal.specs.Refusals.{row}
 use Rattle.session.specs.declared.Session.{Session}
 use Rattle.session.specs.declared.Message.{Message}
-use Rattle.session.specs.declared.Report.{Report}
-use Rattle.session.specs.declared.Report.the-variants.{Accepted, Done, Resend, Refused}
+use Rattle.session.specs.declared.Answer.{Answer}
+use Rattle.session.specs.declared.Answer.the-variants.{Accepted, Done, Resend, Refused}
 use Rattle.session.specs.declared.Held.{Held}
 use Rattle.session.specs.declared.Held.the-variants.{At, Beyond}
 use Rattle.session.specs.declared.Held.the-variants as held
@@ -19,8 +19,8 @@ infix 70 _⇒_
 pub data Act : Type 0 where
   -- k messages with the handles h, h + 1, .. get the numbers n, n + 1, ..
   sends : ℕ → ℕ → ℕ → Act
-  -- a call and its report
-  _⇒_ : Call → Report → Act
+  -- a call and its answer
+  _⇒_ : Call → Answer → Act
   -- a place and what `held_at` gives there
   finds : ℕ → Held → Act
 
@@ -41,15 +41,15 @@ history n acts ms = record { start = n; acts = acts; held = ms }
 
 -- ---- what an example says of the definitions
 
-pub data Answer : Type 0 where
-  said : Report → Answer
-  gave : Held → Answer
+pub data Reply : Type 0 where
+  said : Answer → Reply
+  gave : Held → Reply
 
-abbrev pub accepts : ℕ → ℕ → List Answer
+abbrev pub accepts : ℕ → ℕ → List Reply
 accepts zero n = []
 accepts (suc k) n = said (Accepted n) ∷ accepts k (n + 1)
 
-abbrev pub expected : List Act → List Answer
+abbrev pub expected : List Act → List Reply
 expected [] = []
 expected (sends k h n ∷ acts) = accepts k n ++ expected acts
 expected ((c ⇒ r) ∷ acts) = said r ∷ expected acts
@@ -57,27 +57,27 @@ expected (finds i h ∷ acts) = gave h ∷ expected acts
 
 -- what the calls answer, and what is held after them
 pub record Played : Type 0 where
-  pub answers : List Answer
+  pub replies : List Reply
   pub held : List Message
 
-abbrev pub played : List Answer → List Message → Played
-played answers ms = record { answers = answers; held = ms }
+abbrev pub played : List Reply → List Message → Played
+played replies ms = record { replies = replies; held = ms }
 
-abbrev pub saying : Answer → Played → Played
-saying a p = played (a ∷ p .answers) (p .held)
+abbrev pub saying : Reply → Played → Played
+saying a p = played (a ∷ p .replies) (p .held)
 
 abbrev pub sending : ℕ → ℕ → Session → (Session → Played) → Played
 sending zero h s then = then s
 sending (suc k) h s then =
     let o = acceptOf s h in
-    saying (said (o .report)) (sending k (h + 1) (o .session) then)
+    saying (said (o .answer)) (sending k (h + 1) (o .session) then)
 
 abbrev pub play : List Act → Session → Played
 play [] s = played [] (heldOf s)
 play (sends k h n ∷ acts) s = sending k h s (play acts)
 play ((c ⇒ r) ∷ acts) s =
     let o = callOf s c in
-    saying (said (o .report)) (play acts (o .session))
+    saying (said (o .answer)) (play acts (o .session))
 play (finds i h ∷ acts) s = saying (gave (heldAt s i)) (play acts s)
 
 abbrev pub session : ℕ → ℕ → Session

@@ -1,7 +1,7 @@
 // A session that outlives its connections: the messages sent and not yet acknowledged, each a number and the caller's handle, to be sent again after a reconnect.
+use refusal::Judgement;
 use refusal::Numbers;
 use refusal::Refusal;
-use refusal::Verdict;
 use refusal::both;
 use refusal::numbers_of;
 use refusal::or_else;
@@ -29,7 +29,7 @@ pub struct Message {
     pub handle: u64,
 }
 
-pub enum Report {
+pub enum Answer {
     // The message's number.
     Accepted(u64),
     Done,
@@ -38,10 +38,10 @@ pub enum Report {
     Refused(Numbers),
 }
 
-// What a call answers.
+// The session after a call, and its answer.
 pub struct Outcome {
     pub session: Session,
-    pub report: Report,
+    pub answer: Answer,
 }
 
 // The message at a place of those held, oldest first.
@@ -69,13 +69,13 @@ fn agrees_with_itself(s: Session) -> bool
     both(s.released <= s.last, held_count(s) <= 64)
 }
 
-fn judge_state(s: Session) -> Verdict
+fn judge_state(s: Session) -> Judgement
     ensures { λ r. ⌜ judgedBy r ≡ judgeState s ⌝ }
 {
     unless(agrees_with_itself(s), Refusal::StateContradicts)
 }
 
-fn judge_accept(s: Session) -> Verdict
+fn judge_accept(s: Session) -> Judgement
     ensures { λ r. ⌜ judgedBy r ≡ judgeAccept s ⌝ }
 {
     let spent = unless(s.last < 0xFFFFFFFFFFFFFFFF, Refusal::NumbersSpent);
@@ -83,7 +83,7 @@ fn judge_accept(s: Session) -> Verdict
     or_else(judge_state(s), or_else(spent, full))
 }
 
-fn judge_ack(s: Session, number: u64) -> Verdict
+fn judge_ack(s: Session, number: u64) -> Judgement
     ensures { λ r. ⌜ judgedBy r ≡ judgeAck s number ⌝ }
 {
     or_else(judge_state(s), unless(number <= s.last, Refusal::AckAhead))
@@ -94,7 +94,7 @@ fn refuse(s: Session, why: Refusal) -> Outcome
 {
     Outcome {
         session: s,
-        report: Report::Refused(numbers_of(why)),
+        answer: Answer::Refused(numbers_of(why)),
     }
 }
 
@@ -138,7 +138,7 @@ fn cleared(s: Session, full: bool) -> Session
 }
 
 // A session of which no message was sent.
-pub fn fresh() -> Session
+pub fn start() -> Session
     ensures { λ r. ⌜ r ≡ freshSession ⌝ }
 {
     Session {
@@ -154,14 +154,14 @@ pub fn accept(s: Session, handle: u64) -> Outcome
 {
     let v = judge_accept(s);
     match v {
-        Verdict::Fine => {
+        Judgement::Fine => {
             let number = s.last + 1;
             Outcome {
                 session: add(s, number, handle),
-                report: Report::Accepted(number),
+                answer: Answer::Accepted(number),
             }
         }
-        Verdict::Refused(why) => refuse(s, why),
+        Judgement::Refused(why) => refuse(s, why),
     }
 }
 
@@ -171,11 +171,11 @@ pub fn ack(s: Session, number: u64) -> Outcome
 {
     let v = judge_ack(s, number);
     match v {
-        Verdict::Fine => Outcome {
+        Judgement::Fine => Outcome {
             session: acked(s, number),
-            report: Report::Done,
+            answer: Answer::Done,
         },
-        Verdict::Refused(why) => refuse(s, why),
+        Judgement::Refused(why) => refuse(s, why),
     }
 }
 
@@ -185,14 +185,14 @@ pub fn reconnect(s: Session, msg_seq: u64) -> Outcome
 {
     let v = judge_ack(s, msg_seq);
     match v {
-        Verdict::Fine => {
+        Judgement::Fine => {
             let next = acked(s, msg_seq);
             Outcome {
                 session: next,
-                report: Report::Resend(held_count(next)),
+                answer: Answer::Resend(held_count(next)),
             }
         }
-        Verdict::Refused(why) => refuse(s, why),
+        Judgement::Refused(why) => refuse(s, why),
     }
 }
 
@@ -202,11 +202,11 @@ pub fn reset(s: Session, full: bool) -> Outcome
 {
     let v = judge_state(s);
     match v {
-        Verdict::Fine => Outcome {
+        Judgement::Fine => Outcome {
             session: cleared(s, full),
-            report: Report::Done,
+            answer: Answer::Done,
         },
-        Verdict::Refused(why) => refuse(s, why),
+        Judgement::Refused(why) => refuse(s, why),
     }
 }
 
@@ -216,7 +216,7 @@ pub fn held_at(s: Session, i: u64) -> Held
 {
     let v = judge_state(s);
     match v {
-        Verdict::Fine => {
+        Judgement::Fine => {
             if held_count(s) <= i {
                 return Held::Beyond;
             }
@@ -228,41 +228,41 @@ pub fn held_at(s: Session, i: u64) -> Held
                 handle: handles[place],
             })
         }
-        Verdict::Refused(why) => Held::Refused(numbers_of(why)),
+        Judgement::Refused(why) => Held::Refused(numbers_of(why)),
     }
 }
 
 // The same calls on a session that is lent and changed in place.
-pub fn accept_in(s: &mut Session, handle: u64) -> Report
+pub fn accept_in(s: &mut Session, handle: u64) -> Answer
     ensures { λ r. ⌜ outcome (now (s .exit)) r ≡ acceptOf (now (s .entry)) handle ⌝ }
 {
     let done = accept(*s, handle);
     *s = done.session;
-    done.report
+    done.answer
 }
 
-pub fn ack_in(s: &mut Session, number: u64) -> Report
+pub fn ack_in(s: &mut Session, number: u64) -> Answer
     ensures { λ r. ⌜ outcome (now (s .exit)) r ≡ ackOf (now (s .entry)) number ⌝ }
 {
     let done = ack(*s, number);
     *s = done.session;
-    done.report
+    done.answer
 }
 
-pub fn reconnect_in(s: &mut Session, msg_seq: u64) -> Report
+pub fn reconnect_in(s: &mut Session, msg_seq: u64) -> Answer
     ensures { λ r. ⌜ outcome (now (s .exit)) r ≡ reconnectOf (now (s .entry)) «msg_seq» ⌝ }
 {
     let done = reconnect(*s, msg_seq);
     *s = done.session;
-    done.report
+    done.answer
 }
 
-pub fn reset_in(s: &mut Session, full: bool) -> Report
+pub fn reset_in(s: &mut Session, full: bool) -> Answer
     ensures { λ r. ⌜ outcome (now (s .exit)) r ≡ resetOf (now (s .entry)) full ⌝ }
 {
     let done = reset(*s, full);
     *s = done.session;
-    done.report
+    done.answer
 }
 
 // What holds of every single call, as a promise. The body does nothing: the promise is a theorem.
@@ -275,7 +275,7 @@ pub fn every_history()
     ensures { λ _. ⌜ EveryHistory ⌝ }
 {}
 
-// The worked histories give the reports that the rules say.
+// The worked histories give the answers that the rules say.
 pub fn worked_histories()
     ensures { λ _. ⌜ Worked ⌝ }
 {}

@@ -13,68 +13,68 @@ use Rattle.session.specs.declared.Session.{Session}
 use Rattle.session.specs.declared.Outcome.{Outcome}
 use Rattle.session.specs.declared.Held.{Held}
 use Rattle.session.specs.Calls.{acceptOf, ackOf, reconnectOf, resetOf, heldAt}
-use Rattle.session.specs.Laws.{answersOf}
+use Rattle.session.specs.Laws.{heldAnswers}
 use Rattle.text.specs.Line.{codes}
 use Rattle.text.specs.Page.{Page, page, puts}
 use Rattle.text.proofs.Laws.{puts-append}
 use Rattle.records.specs.Records.{Record, print, badRecord, lineThen, readAll}
 use Rattle.records.proofs.Laws.{Left, left-is, left-next}
 use Rattle.session_cases.specs.declared.Called.{Called}
-use Rattle.session_cases.specs.Session.{heldPieces, resentPieces, heldLine, Answer, reported, answerOf, Reported, CallDid, valueAt, callGood, answerAt, callsFrom, sessionAfter, sessionRecord}
+use Rattle.session_cases.specs.Session.{heldPieces, resentPieces, heldLine, CallLine, answered, lineOf, Answered, CallDid, valueAt, callGood, lineAt, callsFrom, sessionAfter, sessionRecord}
 
 -- ---- what is sent again
 
 -- one more message
 pub resent-on : (s : Session) (i k : ℕ) (p : Page) {q : Page} → i < k → q ≡ puts (heldPieces (heldAt s i)) p
-    → puts (resentPieces (answersOf s (i + 1) (k - (i + 1)))) q ≡ puts (resentPieces (answersOf s i (k - i))) p
-unfolding answersOf resentPieces
+    → puts (resentPieces (heldAnswers s (i + 1) (k - (i + 1)))) q ≡ puts (resentPieces (heldAnswers s i (k - i))) p
+unfolding heldAnswers resentPieces
 resent-on s i k p {q} h e =
     let n : k - i ≡ suc (k - (i + 1)) = omega arith in
-    let r = resentPieces (answersOf s (i + 1) (k - (i + 1))) in
+    let r = resentPieces (heldAnswers s (i + 1) (k - (i + 1))) in
     ap (puts r) e ∙ sym (puts-append (heldPieces (heldAt s i)) r p) ∙ rw n
 
-pub resent-none : (s : Session) (i : ℕ) (p : Page) → puts (resentPieces (answersOf s i (i - i))) p ≡ p
-unfolding answersOf resentPieces
+pub resent-none : (s : Session) (i : ℕ) (p : Page) → puts (resentPieces (heldAnswers s i (i - i))) p ≡ p
+unfolding heldAnswers resentPieces
 resent-none s i p = let n : i - i ≡ 0 = omega arith in rw n
 
 -- ---- a call
 
 module _ (s : Session) (k v : ℕ) where
-  pub call-accept : k ≡ 0 → answerOf s k v ≡ reported [] (acceptOf s v)
-  unfolding answerOf
+  pub call-accept : k ≡ 0 → lineOf s k v ≡ answered [] (acceptOf s v)
+  unfolding lineOf
   call-accept e = rw e
 
-  pub call-ack : k ≡ 1 → answerOf s k v ≡ reported (codes "ack held") (ackOf s v)
-  unfolding answerOf
+  pub call-ack : k ≡ 1 → lineOf s k v ≡ answered (codes "ack held") (ackOf s v)
+  unfolding lineOf
   call-ack e = rw e
 
-  pub call-reconnect : k ≡ 2 → answerOf s k v ≡ reported [] (reconnectOf s v)
-  unfolding answerOf
+  pub call-reconnect : k ≡ 2 → lineOf s k v ≡ answered [] (reconnectOf s v)
+  unfolding lineOf
   call-reconnect e = rw e
 
-  pub call-reset : k ≡ 3 → answerOf s k v ≡ reported (codes "reset held") (resetOf s (eqb v 1))
-  unfolding answerOf
+  pub call-reset : k ≡ 3 → lineOf s k v ≡ answered (codes "reset held") (resetOf s (eqb v 1))
+  unfolding lineOf
   call-reset e = rw e
 
-  pub call-held : (k ≡ 0 → ⊥) → (k ≡ 1 → ⊥) → (k ≡ 2 → ⊥) → (k ≡ 3 → ⊥) → answerOf s k v ≡ record { session = s; line = heldLine (heldAt s v) }
-  unfolding answerOf
+  pub call-held : (k ≡ 0 → ⊥) → (k ≡ 1 → ⊥) → (k ≡ 2 → ⊥) → (k ≡ 3 → ⊥) → lineOf s k v ≡ record { session = s; line = heldLine (heldAt s v) }
+  unfolding lineOf
   call-held a b d e = rw (ne-eqb k 0 a, ne-eqb k 1 b, ne-eqb k 2 d, ne-eqb k 3 e)
 
 pub did-call : {s : Session} {k v : ℕ} {w : List ℕ} {o p : Outcome} {before : List ℕ} {at : ℕ} {after : List ℕ} {r : Called}
-    → answerOf s k v ≡ reported w p → o ≡ p → Reported w o before at after r → CallDid s k v before at after r
+    → lineOf s k v ≡ answered w p → o ≡ p → Answered w o before at after r → CallDid s k v before at after r
 did-call {w = w} {before = before} {at = at} a e d =
     record {
-      session = d .session ∙ ap (λ (x : Outcome). x .session) e ∙ sym (ap (λ (x : Answer). x .session) a);
-      printed = d .printed ∙ ap (λ (x : Outcome). print (reported w x .line) (page before at)) e ∙ sym (ap (λ (x : Answer). print (x .line) (page before at)) a);
+      session = d .session ∙ ap (λ (x : Outcome). x .session) e ∙ sym (ap (λ (x : CallLine). x .session) a);
+      printed = d .printed ∙ ap (λ (x : Outcome). print (answered w x .line) (page before at)) e ∙ sym (ap (λ (x : CallLine). print (x .line) (page before at)) a);
     }
 
 pub did-held : {s : Session} {k v : ℕ} {h : Held} {before : List ℕ} {at : ℕ} {after : List ℕ} {r : Called}
-    → answerOf s k v ≡ record { session = s; line = heldLine (heldAt s v) } → h ≡ heldAt s v → r .session ≡ s
+    → lineOf s k v ≡ record { session = s; line = heldLine (heldAt s v) } → h ≡ heldAt s v → r .session ≡ s
     → page after (r .filled) ≡ print (heldLine h) (page before at) → CallDid s k v before at after r
 did-held {before = before} {at = at} a e t d =
     record {
-      session = t ∙ sym (ap (λ (x : Answer). x .session) a);
-      printed = d ∙ ap (λ (x : Held). print (heldLine x) (page before at)) e ∙ sym (ap (λ (x : Answer). print (x .line) (page before at)) a);
+      session = t ∙ sym (ap (λ (x : CallLine). x .session) a);
+      printed = d ∙ ap (λ (x : Held). print (heldLine x) (page before at)) e ∙ sym (ap (λ (x : CallLine). print (x .line) (page before at)) a);
     }
 
 -- ---- the calls of a record
@@ -84,7 +84,7 @@ unfolding callsFrom
 calls-none s σ n i e = rw e
 
 module _ (s : List ℕ) (σ : Session) (n i : ℕ) (h : 0 < n) where
-  pub calls-next : callGood s i ≡ true → lineThen (answerAt s σ i .line) (callsFrom s (answerAt s σ i .session) (n - 1) (i + 9)) ≡ callsFrom s σ n i
+  pub calls-next : callGood s i ≡ true → lineThen (lineAt s σ i .line) (callsFrom s (lineAt s σ i .session) (n - 1) (i + 9)) ≡ callsFrom s σ n i
   unfolding callsFrom
   calls-next e = let k : n ≡ suc (n - 1) = omega arith in rw (k, e) (let j : suc (n - 1) - 1 ≡ n - 1 = omega arith in rw j)
 
@@ -106,7 +106,7 @@ pub calls-on : (s : List ℕ) (σ : Session) (n i k v : ℕ) {all : Record} {p :
     → Left all (callsFrom s σ n i) p (page before at)
     → Left all (callsFrom s (r .session) (n - 1) (i + 9)) p (page after (r .filled))
 calls-on s σ n i k v {r = r} h e ek ev d l =
-    let t : answerOf σ k v ≡ answerAt s σ i = rw (ek, ev) in
+    let t : lineOf σ k v ≡ lineAt s σ i = rw (ek, ev) in
     rw (d .session, t) (left-next (left-is (calls-next s σ n i h e) l) (rw t at (d .printed)))
 
 -- ---- the record

@@ -7,13 +7,13 @@ use lib.Dec.{leb, eqb}
 use lib.ListN.{length, getD, replicate}
 use Rattle.buffer.specs.Le.{numberAt}
 use Rattle.session.specs.declared.Session.{Session}
-use Rattle.session.specs.declared.Report.{Report}
-use Rattle.session.specs.declared.Report.the-variants as report
+use Rattle.session.specs.declared.Answer.{Answer}
+use Rattle.session.specs.declared.Answer.the-variants as answer
 use Rattle.session.specs.declared.Outcome.{Outcome}
 use Rattle.session.specs.declared.Held.{Held}
 use Rattle.session.specs.declared.Held.the-variants as held
 use Rattle.session.specs.Calls.{places, heldOf, acceptOf, ackOf, reconnectOf, resetOf, heldAt}
-use Rattle.session.specs.Laws.{answersOf}
+use Rattle.session.specs.Laws.{heldAnswers}
 use Rattle.text.specs.Line.{Piece, raw, codes, word, number, field, newline}
 use Rattle.text.specs.Page.{page}
 use Rattle.records.specs.Records.{Record, print, refusedPieces, badRecord, lineThen, readAll}
@@ -39,11 +39,11 @@ resentPieces (h ∷ hs) = heldPieces h ++ resentPieces hs
 -- ack held 2, reset held 0: how many are held then
 -- resend 2 5 777 6 888
 -- refused 22 detail 0 0 0
-abbrev pub reportLine : List ℕ → Report → Session → List Piece
-reportLine w (report.Accepted n) s = field "number" n ++ (newline ∷ [])
-reportLine w report.Done s = raw w ∷ number (length (heldOf s)) ∷ newline ∷ []
-reportLine w (report.Resend k) s = field "resend" k ++ resentPieces (answersOf s 0 k) ++ (newline ∷ [])
-reportLine w (report.Refused n) s = refusedPieces n ++ (newline ∷ [])
+abbrev pub answerLine : List ℕ → Answer → Session → List Piece
+answerLine w (answer.Accepted n) s = field "number" n ++ (newline ∷ [])
+answerLine w answer.Done s = raw w ∷ number (length (heldOf s)) ∷ newline ∷ []
+answerLine w (answer.Resend k) s = field "resend" k ++ resentPieces (heldAnswers s 0 k) ++ (newline ∷ [])
+answerLine w (answer.Refused n) s = refusedPieces n ++ (newline ∷ [])
 
 -- held 5 777
 -- held none
@@ -55,31 +55,31 @@ heldLine (held.Refused w) = refusedPieces w ++ (newline ∷ [])
 -- ---- calls
 
 -- the session after a call, and the call's line
-pub record Answer : Type 0 where
+pub record CallLine : Type 0 where
   pub session : Session
   pub line : List Piece
 
-abbrev pub reported : List ℕ → Outcome → Answer
-reported w o = record { session = o .session; line = reportLine w (o .report) (o .session) }
+abbrev pub answered : List ℕ → Outcome → CallLine
+answered w o = record { session = o .session; line = answerLine w (o .answer) (o .session) }
 
 -- call 0 accepts a message with the handle v, 1 is an ack of v, 2 a reconnect_ok with that msg_seq, 3 a reset, full where v is 1,
 -- 4 asks for the held message at place v
-unfoldable pub answerOf : Session → ℕ → ℕ → Answer
-answerOf s k v =
-    cond (eqb k 0) (reported [] (acceptOf s v))
-    (cond (eqb k 1) (reported (codes "ack held") (ackOf s v))
-    (cond (eqb k 2) (reported [] (reconnectOf s v))
-    (cond (eqb k 3) (reported (codes "reset held") (resetOf s (eqb v 1)))
+unfoldable pub lineOf : Session → ℕ → ℕ → CallLine
+lineOf s k v =
+    cond (eqb k 0) (answered [] (acceptOf s v))
+    (cond (eqb k 1) (answered (codes "ack held") (ackOf s v))
+    (cond (eqb k 2) (answered [] (reconnectOf s v))
+    (cond (eqb k 3) (answered (codes "reset held") (resetOf s (eqb v 1)))
     (record { session = s; line = heldLine (heldAt s v) }))))
 
 -- THE PROMISE OF A CALL AND ITS LINE, by what it came to, and by what it is
-pub record Reported (w : List ℕ) (o : Outcome) (before : List ℕ) (at : ℕ) (after : List ℕ) (r : Called) : Type 0 where
+pub record Answered (w : List ℕ) (o : Outcome) (before : List ℕ) (at : ℕ) (after : List ℕ) (r : Called) : Type 0 where
   pub session : r .session ≡ o .session
-  pub printed : page after (r .filled) ≡ print (reported w o .line) (page before at)
+  pub printed : page after (r .filled) ≡ print (answered w o .line) (page before at)
 
 pub record CallDid (s : Session) (k v : ℕ) (before : List ℕ) (at : ℕ) (after : List ℕ) (r : Called) : Type 0 where
-  pub session : r .session ≡ answerOf s k v .session
-  pub printed : page after (r .filled) ≡ print (answerOf s k v .line) (page before at)
+  pub session : r .session ≡ lineOf s k v .session
+  pub printed : page after (r .filled) ≡ print (lineOf s k v .line) (page before at)
 
 -- ---- the record: last u64, number of calls u16, that many times (call u8, value u64)
 
@@ -94,14 +94,14 @@ valueGood k v = cond (eqb k 3) (leb v 1) (leb k 4)
 unfoldable pub callGood : List ℕ → ℕ → Bool
 callGood s i = leb (i + 9) (length s) && valueGood (getD s i 0) (valueAt s i)
 
-abbrev pub answerAt : List ℕ → Session → ℕ → Answer
-answerAt s σ i = answerOf σ (getD s i 0) (valueAt s i)
+abbrev pub lineAt : List ℕ → Session → ℕ → CallLine
+lineAt s σ i = lineOf σ (getD s i 0) (valueAt s i)
 
 -- n calls from place i on
 unfoldable pub callsFrom : List ℕ → Session → ℕ → ℕ → Record
 callsFrom s σ zero i = readAll i
 callsFrom s σ (suc n) i =
-    cond (callGood s i) (lineThen (answerAt s σ i .line) (callsFrom s (answerAt s σ i .session) n (i + 9))) badRecord
+    cond (callGood s i) (lineThen (lineAt s σ i .line) (callsFrom s (lineAt s σ i .session) n (i + 9))) badRecord
 
 unfoldable pub sessionRecord : List ℕ → Record
 sessionRecord s =

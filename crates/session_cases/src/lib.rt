@@ -8,10 +8,10 @@ use records::put_refused;
 use records::room;
 use refusal::Numbers;
 use refusal::both;
+use session::Answer;
 use session::Held;
 use session::Message;
 use session::Outcome;
-use session::Report;
 use session::Session;
 use session::accept;
 use session::ack;
@@ -27,13 +27,13 @@ ghost use mathlib.Core.List.{List};
 ghost use Prim.Native.Nat.{ℕ, _≤_};
 ghost use lib.ListN.{length};
 ghost use Rattle.session.specs.Calls.{heldOf};
-ghost use Rattle.session.specs.Laws.{answersOf};
+ghost use Rattle.session.specs.Laws.{heldAnswers};
 ghost use Rattle.session.specs.declared.Session.{Session};
-ghost use Rattle.session.specs.declared.Report.the-variants as report;
+ghost use Rattle.session.specs.declared.Answer.the-variants as answer;
 ghost use Rattle.session.specs.declared.Held.the-variants as held;
 ghost use Rattle.text.specs.Page.{page, puts};
 ghost use Rattle.records.specs.Records.{Did, print};
-ghost use Rattle.session_cases.specs.Session.{sessionAfter, heldPieces, resentPieces, reportLine, heldLine, Reported, CallDid, valueGood, callGood, callsFrom, sessionRecord};
+ghost use Rattle.session_cases.specs.Session.{sessionAfter, heldPieces, resentPieces, answerLine, heldLine, Answered, CallDid, valueGood, callGood, callsFrom, sessionRecord};
 
 // The most calls of a record.
 const CALLS: usize = 4096;
@@ -77,7 +77,7 @@ fn put_held(text: &mut [u8], at: usize, h: Held) -> usize
 }
 
 fn put_resent(text: &mut [u8], at: usize, s: Session, k: u64) -> usize
-    ensures { λ r. ⌜ page (now (text .exit)) r ≡ puts (resentPieces (answersOf s 0 k)) (page (now (text .entry)) at) ⌝ }
+    ensures { λ r. ⌜ page (now (text .exit)) r ≡ puts (resentPieces (heldAnswers s 0 k)) (page (now (text .entry)) at) ⌝ }
 {
     let mut end = at;
     let mut i: u64 = 0;
@@ -89,7 +89,7 @@ fn put_resent(text: &mut [u8], at: usize, s: Session, k: u64) -> usize
 }
 
 fn print_number(text: &mut [u8], at: usize, n: u64) -> usize
-    ensures { λ r. ⌜ ((w : List ℕ) (s : Session) → page (now (text .exit)) r ≡ print (reportLine w (report.Accepted n) s) (page (now (text .entry)) at)) ⌝ }
+    ensures { λ r. ⌜ ((w : List ℕ) (s : Session) → page (now (text .exit)) r ≡ print (answerLine w (answer.Accepted n) s) (page (now (text .entry)) at)) ⌝ }
 {
     let from = room(text, at);
     let a = put_field(text, from, b"number", n);
@@ -97,7 +97,7 @@ fn print_number(text: &mut [u8], at: usize, n: u64) -> usize
 }
 
 fn print_done(text: &mut [u8], at: usize, letters: &[u8], s: Session) -> usize
-    ensures { λ r. ⌜ page (now (text .exit)) r ≡ print (reportLine (now (letters .entry)) report.Done s) (page (now (text .entry)) at) ⌝ }
+    ensures { λ r. ⌜ page (now (text .exit)) r ≡ print (answerLine (now (letters .entry)) answer.Done s) (page (now (text .entry)) at) ⌝ }
 {
     let from = room(text, at);
     let a = put_field(text, from, letters, held_count(s));
@@ -105,7 +105,7 @@ fn print_done(text: &mut [u8], at: usize, letters: &[u8], s: Session) -> usize
 }
 
 fn print_resend(text: &mut [u8], at: usize, k: u64, s: Session) -> usize
-    ensures { λ r. ⌜ ((w : List ℕ) → page (now (text .exit)) r ≡ print (reportLine w (report.Resend k) s) (page (now (text .entry)) at)) ⌝ }
+    ensures { λ r. ⌜ ((w : List ℕ) → page (now (text .exit)) r ≡ print (answerLine w (answer.Resend k) s) (page (now (text .entry)) at)) ⌝ }
 {
     let from = room(text, at);
     let a = put_field(text, from, b"resend", k);
@@ -121,14 +121,14 @@ fn print_refusal(text: &mut [u8], at: usize, why: Numbers) -> usize
     put_end(text, a)
 }
 
-fn print_report(text: &mut [u8], at: usize, letters: &[u8], r: Report, s: Session) -> usize
-    ensures { λ q. ⌜ page (now (text .exit)) q ≡ print (reportLine (now (letters .entry)) r s) (page (now (text .entry)) at) ⌝ }
+fn print_answer(text: &mut [u8], at: usize, letters: &[u8], r: Answer, s: Session) -> usize
+    ensures { λ q. ⌜ page (now (text .exit)) q ≡ print (answerLine (now (letters .entry)) r s) (page (now (text .entry)) at) ⌝ }
 {
     match r {
-        Report::Accepted(n) => print_number(text, at, n),
-        Report::Done => print_done(text, at, letters, s),
-        Report::Resend(k) => print_resend(text, at, k, s),
-        Report::Refused(why) => print_refusal(text, at, why),
+        Answer::Accepted(n) => print_number(text, at, n),
+        Answer::Done => print_done(text, at, letters, s),
+        Answer::Resend(k) => print_resend(text, at, k, s),
+        Answer::Refused(why) => print_refusal(text, at, why),
     }
 }
 
@@ -160,14 +160,14 @@ fn print_held(text: &mut [u8], at: usize, h: Held) -> usize
 
 // ---- calls
 
-fn report_call(text: &mut [u8], at: usize, letters: &[u8], o: Outcome) -> Called
-    ensures { λ r. ⌜ Reported (now (letters .entry)) o (now (text .entry)) at (now (text .exit)) r ⌝ }
+fn print_outcome(text: &mut [u8], at: usize, letters: &[u8], o: Outcome) -> Called
+    ensures { λ r. ⌜ Answered (now (letters .entry)) o (now (text .entry)) at (now (text .exit)) r ⌝ }
 {
     let next = o.session;
-    let report = o.report;
+    let answer = o.answer;
     Called {
         session: next,
-        filled: print_report(text, at, letters, report, next),
+        filled: print_answer(text, at, letters, answer, next),
     }
 }
 
@@ -175,16 +175,16 @@ fn make_call(s: Session, kind: u8, value: u64, text: &mut [u8], at: usize) -> Ca
     ensures { λ r. ⌜ CallDid s kind value (now (text .entry)) at (now (text .exit)) r ⌝ }
 {
     if kind == 0 {
-        return report_call(text, at, b"", accept(s, value));
+        return print_outcome(text, at, b"", accept(s, value));
     }
     if kind == 1 {
-        return report_call(text, at, b"ack held", ack(s, value));
+        return print_outcome(text, at, b"ack held", ack(s, value));
     }
     if kind == 2 {
-        return report_call(text, at, b"", reconnect(s, value));
+        return print_outcome(text, at, b"", reconnect(s, value));
     }
     if kind == 3 {
-        return report_call(text, at, b"reset held", reset(s, value == 1));
+        return print_outcome(text, at, b"reset held", reset(s, value == 1));
     }
     Called {
         session: s,

@@ -1,8 +1,10 @@
 -- Events by what they can be.
 use Prim.Native.Nat.{ℕ, _+_, _<_}
 use mathlib.Core.Path.{_≡_, refl}
-use mathlib.Core.Bool.{false}
-use mathlib.Core.List.{List}
+use mathlib.Core.Bool.{false, cond}
+use mathlib.Core.List.{List, [], _∷_}
+use denote.Struct.Field.{Field}
+use mir.Val.{hasKey}
 use Rattle.refusal.specs.declared.Numbers.{Numbers}
 use Rattle.refusal.specs.Refusals.{fine}
 use Rattle.banner.specs.declared.Features.{Features}
@@ -11,25 +13,44 @@ use Rattle.preamble.specs.declared.Header.{Header}
 use Rattle.body.specs.Body.{wireLength}
 use Rattle.stream.specs.declared.Event.{Event}
 use Rattle.stream.specs.declared.Event.the-variants.{Banner, First, Frame, Dropped, Refused}
-use Rattle.stream.specs.Events.{isFrame, Role, bannerEnd, firstEnd, frameEnd, streamEnd, judgeEvent}
+use Rattle.stream.specs.Events.{isFrame, isDrop, isRefusal, Role, bannerEnd, firstEnd, frameEnd, streamEnd, endsFrame, judgeEvent}
 use Rattle.stream.specs.Stream.{Entry}
 use Rattle.stream.specs.Adds.{Adds, AddsAt, AddsFirst}
+use Rattle.stream.proofs.Event as declared-event
+
+-- the numbers of an enum's variants, from n, without those given: what the last arm of a match is told
+abbrev pub othersFrom : ℕ → List (List Field) → List ℕ → List ℕ
+othersFrom n [] given = []
+othersFrom n (v ∷ vs) given = cond (hasKey given n) (othersFrom (1 + n) vs given) (n ∷ othersFrom (1 + n) vs given)
+
+-- those of the events
+abbrev pub others : List ℕ → List ℕ
+others = othersFrom 0 declared-event.parts
+
+-- what holds of an event at which neither a frame nor the stream ends
+pub record Between (w : Event) : Type 0 where
+  pub passed : judgeEvent w ≡ fine
+  pub within : endsFrame w ≡ false
+  pub frame : isFrame w ≡ false
+  pub drop : isDrop w ≡ false
+  pub refusal : isRefusal w ≡ false
+
+-- THE EVENTS, the one list of them in proofs: a whole frame, a dropped one, a refusal, or any other
+pub by-kind : (C : Event → Type 0) → ((h : Header) → C (Frame h)) → ((h : Header) → C (Dropped h)) → ((n : Numbers) → C (Refused n)) → ((w : Event) → Between w → C w)
+    → (w : Event) → C w
+by-kind C frame drop refusal other (Banner p r) = other (Banner p r) (record { passed = refl; within = refl; frame = refl; drop = refl; refusal = refl })
+by-kind C frame drop refusal other (First h) = other (First h) (record { passed = refl; within = refl; frame = refl; drop = refl; refusal = refl })
+by-kind C frame drop refusal other (Frame h) = frame h
+by-kind C frame drop refusal other (Dropped h) = drop h
+by-kind C frame drop refusal other (Refused n) = refusal n
 
 -- an event is passed, or is a refusal
 pub by-event : (C : Event → Type 0) → ((w : Event) → judgeEvent w ≡ fine → C w) → ((n : Numbers) → C (Refused n)) → (w : Event) → C w
-by-event C passed refusal (Banner p r) = passed (Banner p r) refl
-by-event C passed refusal (First h) = passed (First h) refl
-by-event C passed refusal (Frame h) = passed (Frame h) refl
-by-event C passed refusal (Dropped h) = passed (Dropped h) refl
-by-event C passed refusal (Refused n) = refusal n
+by-event C passed refusal = by-kind C (λ h. passed (Frame h) refl) (λ h. passed (Dropped h) refl) refusal (λ w b. passed w (b .passed))
 
 -- it is a whole frame, or none
 pub by-frame : (C : Event → Type 0) → ((h : Header) → C (Frame h)) → ((w : Event) → isFrame w ≡ false → C w) → (w : Event) → C w
-by-frame C frame other (Banner p r) = other (Banner p r) refl
-by-frame C frame other (First h) = other (First h) refl
-by-frame C frame other (Frame h) = frame h
-by-frame C frame other (Dropped h) = other (Dropped h) refl
-by-frame C frame other (Refused n) = other (Refused n) refl
+by-frame C frame other = by-kind C frame (λ h. other (Dropped h) refl) (λ n. other (Refused n) refl) (λ w b. other w (b .frame))
 
 -- ---- events that add up, by their role
 

@@ -1,4 +1,4 @@
--- Laws of the definition: frames of no bytes, the end of a frame, a banner with more bytes behind it.
+-- Laws of the definition: frames of no bytes, the end of a frame, a banner with more bytes behind it, a refused start.
 use mathlib.Core.Path.{_≡_, refl, ap, _∙_}
 use mathlib.Core.List.{List, [], _++_}
 use Prim.Native.Nat.{ℕ, zero, suc, _-_, _≤_}
@@ -7,11 +7,14 @@ use lib.ListN.{length, take, drop, length-drop}
 use lib.Seq.{take-append-le, drop-append-le}
 use Rattle.buffer.specs.Splice.{replaceFront}
 use Rattle.buffer.proofs.Numbers.{number-append}
+use Rattle.refusal.specs.declared.Numbers.{Numbers}
+use Rattle.refusal.specs.Refusals.{refused}
+use Rattle.banner.specs.declared.Features.{Features}
 use Rattle.banner.specs.declared.Revision.{Revision}
-use Rattle.banner.specs.Banner.{featuresOf}
+use Rattle.banner.specs.Banner.{featuresOf, judgeOwn}
 use Rattle.preamble.specs.declared.Header.{Header}
 use Rattle.body.specs.End.{Ended, whole, dropped, refusedFor}
-use Rattle.stream.specs.Stream.{Trace, ended, after, zeroed, atEnd, frames, payloadOf, peerOf}
+use Rattle.stream.specs.Stream.{Trace, ended, after, zeroed, atEnd, frames, payloadOf, peerOf, traceOf}
 
 pub none : (f : ℕ) (r : Revision) (P : ℕ) (s : List ℕ) → frames f r P [] s ≡ ended s
 unfolding frames
@@ -32,3 +35,8 @@ pub more-peer : (F X : List ℕ) → 26 ≤ length F → peerOf (F ++ X) ≡ pee
 more-peer F X l =
     let d = length-drop 10 F in
     ap featuresOf (ap (take 16) (drop-append-le 10 F X (omega arith)) ∙ take-append-le 16 (drop 10 F) X (omega arith))
+
+-- where our own features are refused there is no entry
+pub trace-refused : (own : Features) (stream store : List ℕ) (n : Numbers) → judgeOwn (own .supported) (own .required) ≡ refused n → traceOf own stream store ≡ ended store
+unfolding traceOf
+trace-refused own stream store n e = rw e

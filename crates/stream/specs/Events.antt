@@ -3,7 +3,7 @@ use mathlib.Core.Bool.{Bool, true, false}
 use Prim.Native.Nat.{ℕ}
 use lib.Dec.{eqb}
 use Rattle.refusal.specs.declared.Numbers.{Numbers}
-use Rattle.refusal.specs.Refusals.{Judged, fine, refused}
+use Rattle.refusal.specs.Refusals.{Judged, fine, refused, byJudgement}
 use Rattle.banner.specs.declared.Features.{Features}
 use Rattle.banner.specs.declared.Revision.{Revision}
 use Rattle.preamble.specs.declared.Header.{Header}
@@ -30,6 +30,9 @@ isFrame e = eqb (kindOf e) 2
 abbrev pub isDrop : Event → Bool
 isDrop e = eqb (kindOf e) 3
 
+abbrev pub isRefusal : Event → Bool
+isRefusal e = eqb (kindOf e) 4
+
 -- ---- roles: where several events are treated alike, their role is asked for
 
 -- what ends at an event's byte: the banner; segment 1, within its frame (02, K1); a frame, whole or dropped; and with a refusal the stream (01)
@@ -53,8 +56,8 @@ isFrameEnd (frameEnd h) = true
 isFrameEnd (streamEnd n) = false
 
 -- a frame or a drop
-abbrev pub closes : Event → Bool
-closes e = isFrameEnd (roleOf e)
+abbrev pub endsFrame : Event → Bool
+endsFrame e = isFrameEnd (roleOf e)
 
 -- a number of the frame that ends, and 0 where none does
 abbrev pub ofFrameEnd : (Header → ℕ) → Role → ℕ
@@ -72,3 +75,8 @@ judgeRole (streamEnd n) = refused n
 
 abbrev pub judgeEvent : Event → Judged
 judgeEvent e = judgeRole (roleOf e)
+
+-- behind an event that is passed, what the later ones give; behind a refusal, what the refusal gives
+module _ {ℓ} {A : Type ℓ} where
+  abbrev pub passing : Event → A → (Numbers → A) → A
+  passing e a f = byJudgement (judgeEvent e) a f

@@ -1,7 +1,7 @@
 -- Demand 3's list (01, "Demand 3's list, defined"): which entries a whole stream gives, at which byte, and the store then.
 -- It is written from the layouts alone: no receiver, no state and no call is in sight.
 use mathlib.Core.List.{List, [], _∷_}
-use mathlib.Core.Bool.{Bool, not, cond, _&&_}
+use mathlib.Core.Bool.{Bool, true, false, not, cond, _&&_}
 use Prim.Native.Nat.{ℕ, zero, suc, _+_}
 use lib.ListN.{length, take, drop, replicate}
 use lib.Dec.{leb, ltb, eqb}
@@ -19,6 +19,7 @@ use Rattle.preamble.specs.Judge.{headerOf, judgePreamble}
 use Rattle.body.specs.Body.{segmentSum, noFirstSum, firstSumLength, bodyLength, wireLength}
 use Rattle.stream.specs.declared.Event.{Event}
 use Rattle.stream.specs.declared.Event.the-variants.{Banner, First, Frame, Dropped, Refused}
+use Rattle.stream.specs.Events.{passing}
 use Rattle.body.specs.End.{Ended, whole, dropped, refusedFor, segmentBytes, ending}
 
 -- ---- entries
@@ -28,6 +29,11 @@ pub record Entry : Type 0 where
   pub event : Event
   pub at : ℕ
   pub store : List ℕ
+
+-- a refusal is among them
+abbrev pub refusedIn : List Entry → Bool
+refusedIn [] = false
+refusedIn (e ∷ es) = passing (e .event) (refusedIn es) (λ n. true)
 
 -- the entries, and the store at the end
 pub record Trace : Type 0 where

@@ -32,7 +32,7 @@ fn put_column(c: [u8; 4]) {
 }
 
 fn put_block(key: [u8; 16], block: [[u8; 4]; 4]) {
-    let w = aes::expand(key);
+    let w = aes::key_expansion(key);
     let r = aes::encrypt(&w, block);
     put_column(r[0]);
     put_column(r[1]);

@@ -1,5 +1,5 @@
 use mathlib.Core.Path.{sym, ap}
-use Rattle.refusal.specs.declared.Verdict.{Verdict}
+use Rattle.refusal.specs.declared.Judgement.{Judgement}
 use Rattle.refusal.specs.Refusals.{judgedBy}
 use Rattle.body.specs.End.{endedBy}
 use borrow.Author.Needs.{needs}
@@ -7,7 +7,7 @@ use Rattle.body.proofs.ended.Statement.{statement}
 use Rattle.body.proofs.ended.Tie as tie
 
 returns-2 : tie.Need-returns-2
-returns-2 c = sym (ap (λ (v : Verdict). endedBy (judgedBy v)) (c .before .v .given .1))
+returns-2 c = sym (ap (λ (v : Judgement). endedBy (judgedBy v)) (c .before .v .given .1))
 
 pub ended-spec : {M : Type 1} → statement M
 ended-spec = tie.close (tie.spec (λ c. search needs) (λ c. search needs) (λ c. search needs) returns-2)

@@ -63,7 +63,7 @@ returns-2 c = let a = c .before .before .before .before .before .before .before 
     in
     let k = built-line (o .built) (c .before .before .before .before .before .before .before .checksum .result) (o .sending) buf (doneBy (a .builds .sending) s) d (c .before .before .before .before .before .before .before .checksum .ensures) in
     part-whole (buildSize room s) (sealedLine (doneBy (a .builds .sending) s) ∷ []) (buildsAfter (a .builds) s) (a .builds) e (c .before .before .before .before .before .before .before .before .before .before .before .before .before .before .before .before .before .before .before .before .before .before .before .before .before .before .before .before .build-size .ensures)
-    (c .before .before .before .print-built .ensures ∙ ap (λ (x : List Piece). print x (page (a .text .now) (a .at))) k)
+    (c .before .before .before .print-outcome .ensures ∙ ap (λ (x : List Piece). print x (page (a .text .now) (a .at))) k)
     (builds-next (a .builds) s (o .built) buf (c .one-less .ensures) d)
 
 pub build-record-spec : {M : Type 1} → statement M

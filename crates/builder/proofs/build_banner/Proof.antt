@@ -30,7 +30,7 @@ part-put-start c =
 
 returns : tie.Need-returns
 unfolding bannerDone
-returns c = record { promise = rw (sym (c .before .before .before .judge-banner .ensures) ∙ ap judgedBy (c .before .verdict .given .1)) }
+returns c = record { promise = rw (sym (c .before .before .before .judge-banner .ensures) ∙ ap judgedBy (c .before .judgement .given .1)) }
 
 returns-2 : tie.Need-returns-2
 unfolding bannerDone

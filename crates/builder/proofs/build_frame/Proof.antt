@@ -37,7 +37,7 @@ put-frame-requires c κs =
 
 returns : tie.Need-returns
 unfolding frameDone
-returns c = record { promise = rw (sym (c .before .before .before .judge-frame .ensures) ∙ ap judgedBy (c .before .verdict .given .1)) }
+returns c = record { promise = rw (sym (c .before .before .before .judge-frame .ensures) ∙ ap judgedBy (c .before .judgement .given .1)) }
 
 returns-2 : tie.Need-returns-2
 unfolding frameDone

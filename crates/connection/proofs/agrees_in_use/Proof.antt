@@ -11,13 +11,13 @@ returns : tie.Need-returns
 returns c =
     let st = c .before .before .before .args .st in
     let e : isSecure (st .mode) ≡ true = sym (c .before .before .is-secure .ensures) ∙ c .before .if1 .taken in
-    c .agrees-with-itself .ensures ∙ ap (λ (b : Bool). cond b (sealed.agrees (st .secure)) (crc.agrees (st .crc))) (sym e)
+    c .agrees-with-itself .ensures ∙ ap (λ (b : Bool). cond b (sealed.agrees (st .sealed)) (crc.agrees (st .crc))) (sym e)
 
 returns-2 : tie.Need-returns-2
 returns-2 c =
     let st = c .before .before .before .args .st in
     let e : isSecure (st .mode) ≡ false = sym (c .before .before .is-secure .ensures) ∙ c .before .if1 .left in
-    c .agrees-with-itself2 .ensures ∙ ap (λ (b : Bool). cond b (sealed.agrees (st .secure)) (crc.agrees (st .crc))) (sym e)
+    c .agrees-with-itself2 .ensures ∙ ap (λ (b : Bool). cond b (sealed.agrees (st .sealed)) (crc.agrees (st .crc))) (sym e)
 
 pub agrees-in-use-spec : {M : Type 1} → statement M
 agrees-in-use-spec =

@@ -14,7 +14,7 @@ returns c =
     record {
       received =
           crc-gave (z .st) (crc.answer (z .st .crc) (now (z .store)) (now (z .piece))) _ _ (a .received)
-          (c .either .ensures ∙ ap₂ _||_ (c .before .before .closing .ensures) (c .before .both .ensures));
+          (c .either .ensures ∙ ap₂ _||_ (c .before .before .report-ends-frame .ensures) (c .before .both .ensures));
       store = a .store;
     }
 

@@ -10,7 +10,7 @@ returns c =
     let a = c .before .before .before .before .receive .ensures in
     let z = c .before .before .before .before .before .before .before .before .args in
     record {
-      received = secure-gave (z .st) (sealed.answer (z .st .secure) (now (z .store)) (now (z .piece))) _ (a .received);
+      received = secure-gave (z .st) (sealed.answer (z .st .sealed) (now (z .store)) (now (z .piece))) _ (a .received);
       store = a .store;
     }
 

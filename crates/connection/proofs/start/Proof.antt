@@ -14,8 +14,8 @@ unfolding begun
 returns c =
     let a = c .before .before .start .ensures in
     record {
-      state = ap₂ (λ (x : crc-state.State) (y : sealed-state.State). record { mode = mode.Crc; ready = false; crc = x; secure = y }) (a .state) (c .no-secure .ensures);
-      verdict = a .verdict;
+      state = ap₂ (λ (x : crc-state.State) (y : sealed-state.State). record { mode = mode.Crc; ready = false; crc = x; sealed = y }) (a .state) (c .no-secure .ensures);
+      judgement = a .judgement;
     }
 
 pub start-spec : {M : Type 1} → statement M

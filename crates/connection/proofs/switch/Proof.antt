@@ -13,7 +13,7 @@ returns c =
     let z = c .before .before .before .before .before .args in
     let e = sym (c .before .before .before .before .judge-switch .ensures) ∙ ap judgedBy (c .before .before .enum-told .given .1) in
     record {
-      verdict = sym e;
+      judgement = sym e;
       state = c .before .secure-from .ensures ∙ ap (λ (j : Judged). switchedState j (z .state) (z .key) (z .receiving)) (sym e);
       sends = c .fresh-sending .ensures ∙ ap (λ (j : Judged). switchedSending j (z .key) (z .sending)) (sym e);
     }
@@ -21,9 +21,9 @@ returns c =
 returns-2 : tie.Need-returns-2
 returns-2 c =
     let z = c .before .before .before .before .before .args in
-    let e = sym (c .before .before .before .before .judge-switch .ensures) ∙ ap judgedBy (c .before .before .verdict .given .1) in
+    let e = sym (c .before .before .before .before .judge-switch .ensures) ∙ ap judgedBy (c .before .before .judgement .given .1) in
     record {
-      verdict = sym e;
+      judgement = sym e;
       state = ap (λ (j : Judged). switchedState j (z .state) (z .key) (z .receiving)) (sym e);
       sends = c .refused-sending .ensures ∙ ap (λ (j : Judged). switchedSending j (z .key) (z .sending)) (sym e);
     }

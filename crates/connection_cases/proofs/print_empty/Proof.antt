@@ -12,7 +12,7 @@ returns : tie.Need-returns
 returns c =
     let a = c .before .before .before .before .before .before .before .before .before .before .before .before .before .before .before .args in
     let o = c .before .before .before .before .before .before .before .build-sealed .result in
-    c .before .before .print-built .ensures
+    c .before .before .print-outcome .ensures
     ∙ ap (λ (x : List Piece). print x (page (a .text .now) (a .at)))
     (empty-line (a .sending) (o .built) (c .before .before .before .before .checksum .result) (o .sending) (c .before .before .before .before .before .before .before .build-sealed .last .0) (c .before .before .before .before .before .before .before .before .before .before .before .before .count-up .last .0) (c .before .before .before .before .before .before .before .before .before .empty-header .result)
     (c .before .before .before .before .before .before .before .before .before .before .before .before .count-up .ensures)

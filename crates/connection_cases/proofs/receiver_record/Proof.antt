@@ -76,8 +76,8 @@ returns-2 c =
     (c .before .before .before .before .before .before .before .before .before .before .before .before .before .before .before .before .before .before .before .before .before .before .part .ensures ∙ rw (c .before .before .before .before .before .before .before .before .before .before .before .before .before .before .before .before .before .before .before .before .before .before .before .u32-at .ensures, c .before .before .before .before .before .before .before .before .before .before .before .before .before .before .before .before .before .before .before .before .before .before .before .before .stream-at .ensures .0))
     (c .before .before .before .before .before .before .before .before .before .before .before .before .start .ensures .state ∙ ap begun (own-is own s (c .before .before .before .before .before .before .before .before .before .before .before .before .before .before .u64-at .ensures) (c .before .before .before .before .before .before .before .before .before .before .before .before .before .u64-at2 .ensures)))
     (c .before .before .before .before .before .before .before .before .before .before .before .before .before .before .before .before .before .count-up .ensures ∙ ap₂ counted (c .before .before .before .before .before .before .before .before .before .before .before .before .before .before .before .before .before .before .byte-at .ensures) n)
-    (c .before .before .before .before .before .before .before .before .before .before .before .before .start .ensures .verdict ∙ ap₂ judgeOwn (c .before .before .before .before .before .before .before .before .before .before .before .before .before .before .u64-at .ensures) (c .before .before .before .before .before .before .before .before .before .before .before .before .before .u64-at2 .ensures))
-    (c .before .before .before .before .before .before .before .before .print-verdict .ensures)
+    (c .before .before .before .before .before .before .before .before .before .before .before .before .start .ensures .judgement ∙ ap₂ judgeOwn (c .before .before .before .before .before .before .before .before .before .before .before .before .before .before .u64-at .ensures) (c .before .before .before .before .before .before .before .before .before .before .before .before .before .u64-at2 .ensures))
+    (c .before .before .before .before .before .before .before .before .print-judgement .ensures)
     (c .before .before .before .before .make-calls .ensures)))
 
 pub receiver-record-spec : {M : Type 1} → statement M

@@ -17,7 +17,7 @@ returns c =
     (c .before .before .before .before .before .before .before .before .before .before .before .before .before .switch .ensures)
     (c .before .before .before .before .opened-by .ensures)
     refl
-    (c .before .before .before .before .before .before .before .before .print-verdict .ensures)
+    (c .before .before .before .before .before .before .before .before .print-judgement .ensures)
     (c .before .before .print-empty .ensures)
 
 pub try-switch-spec : {M : Type 1} → statement M

@@ -20,12 +20,12 @@ use Rattle.secure.proofs.Opening.{short}
 use Rattle.connection.specs.Switched.{Switch, none, behind, traceWith}
 use Rattle.connection.specs.Calls.{SwitchedDemand3}
 use Rattle.session.specs.declared.Session.{Session}
-use Rattle.session.specs.declared.Report.{Report}
-use Rattle.session.specs.declared.Report.the-variants.{Resend}
+use Rattle.session.specs.declared.Answer.{Answer}
+use Rattle.session.specs.declared.Answer.the-variants.{Resend}
 use Rattle.session.specs.Calls.{heldFrom, heldOf, freshSession, agrees, judgeState, judgeAccept, judgeAck, acceptOf, ackOf, reconnectOf, resetOf, found, heldAt}
 use Rattle.session.specs.Laws as session
-use Rattle.session.specs.Laws.{callOf, answersOf}
-use Rattle.delivery.specs.Asked.{askedByFrame, ConnectedWith}
+use Rattle.session.specs.Laws.{callOf, heldAnswers}
+use Rattle.delivery.specs.Requests.{requestByFrame, ConnectedWith}
 use Rattle.delivery.specs.Calls.{Chained, sessionAfter, Connection, Connects, Cause, sends, hands, receives, callsDue}
 use Rattle.delivery.specs.Worked.{ours, store, ack1, split, acked, Any, faultRows, second, heldRows, resultRows, brokenRows, answerRows, reading, resumed, Resumes, frameRows, tagRows, resetRows, segmentRows, reset0, reset2, twoWhole, twoAborted, tag10, Reasons, Worked}
 use Rattle.connection.proofs.Prefixes.{upTo}
@@ -39,23 +39,23 @@ use Rattle.delivery.proofs.worked_deliveries.Statement.{statement}
 use Rattle.delivery.proofs.worked_deliveries.Tie as tie
 
 fault-rows-hold : Holds faultRows
-unfolding faultRows numberAt crcOf steps step missing lowestBit bitCount judgeFeatures shapeFault limitFault headerOf judgeFields judgePreamble ending frames streamTrace traceOf stepOf layoutIn settled readBody askedByFrame
+unfolding faultRows numberAt crcOf steps step missing lowestBit bitCount judgeFeatures shapeFault limitFault headerOf judgeFields judgePreamble ending frames streamTrace traceOf stepOf layoutIn settled readBody requestByFrame
 fault-rows-hold = refl
 
 frame-rows-hold : Holds frameRows
-unfolding frameRows numberAt crcOf steps step missing lowestBit bitCount judgeFeatures shapeFault limitFault headerOf judgeFields judgePreamble ending frames streamTrace traceOf stepOf layoutIn settled readBody askedByFrame
+unfolding frameRows numberAt crcOf steps step missing lowestBit bitCount judgeFeatures shapeFault limitFault headerOf judgeFields judgePreamble ending frames streamTrace traceOf stepOf layoutIn settled readBody requestByFrame
 frame-rows-hold = refl
 
 tag-rows-hold : Holds tagRows
-unfolding tagRows numberAt stepOf layoutIn settled readBody askedByFrame
+unfolding tagRows numberAt stepOf layoutIn settled readBody requestByFrame
 tag-rows-hold = refl
 
 split-no-requests : NoRequests (traceOf ours split store .entries)
-unfolding numberAt crcOf steps step missing lowestBit bitCount judgeFeatures shapeFault limitFault headerOf judgeFields judgePreamble ending frames streamTrace traceOf askedByFrame
+unfolding numberAt crcOf steps step missing lowestBit bitCount judgeFeatures shapeFault limitFault headerOf judgeFields judgePreamble ending frames streamTrace traceOf requestByFrame
 split-no-requests = (refl, (refl, tt))
 
 split-behind : (key nonce : List ℕ) → NoRequestsBehind (λ at s. sealedTrace key nonce 0 at (drop at split) s) (traceOf ours split store .entries)
-unfolding numberAt crcOf steps step missing lowestBit bitCount judgeFeatures shapeFault limitFault headerOf judgeFields judgePreamble ending frames streamTrace traceOf askedByFrame
+unfolding numberAt crcOf steps step missing lowestBit bitCount judgeFeatures shapeFault limitFault headerOf judgeFields judgePreamble ending frames streamTrace traceOf requestByFrame
 split-behind key nonce = (
   refl,
   (λ e. absurd (true≢false (sym e))),
@@ -68,11 +68,11 @@ split-any (behind n key nonce) x =
     no-requests-spliced n (λ at s. sealedTrace key nonce 0 at (drop at split) s) (traceOf ours split store .entries) (traceOf ours split store .store) (split-behind key nonce)
 
 held-rows-hold : Holds heldRows
-unfolding heldRows numberAt crcOf steps step missing lowestBit bitCount judgeFeatures shapeFault limitFault headerOf judgeFields judgePreamble ending frames streamTrace traceOf stepOf layoutIn settled readBody askedByFrame agrees judgeState judgeAccept judgeAck acceptOf ackOf heldFrom
+unfolding heldRows numberAt crcOf steps step missing lowestBit bitCount judgeFeatures shapeFault limitFault headerOf judgeFields judgePreamble ending frames streamTrace traceOf stepOf layoutIn settled readBody requestByFrame agrees judgeState judgeAccept judgeAck acceptOf ackOf heldFrom
 held-rows-hold = refl
 
 result-rows-hold : Holds resultRows
-unfolding resultRows agrees judgeState judgeAccept judgeAck acceptOf ackOf reconnectOf resetOf heldFrom found heldAt answersOf
+unfolding resultRows agrees judgeState judgeAccept judgeAck acceptOf ackOf reconnectOf resetOf heldFrom found heldAt heldAnswers
 result-rows-hold = refl
 
 broken-rows-hold : Holds brokenRows
@@ -84,29 +84,29 @@ unfolding answerRows agrees judgeState judgeAccept judgeAck acceptOf ackOf heldF
 answer-rows-hold = refl
 
 reset-rows-hold : Holds resetRows
-unfolding resetRows numberAt stepOf layoutIn settled readBody askedByFrame
+unfolding resetRows numberAt stepOf layoutIn settled readBody requestByFrame
 reset-rows-hold = refl
 
 segment-rows-hold : Holds segmentRows
-unfolding segmentRows numberAt stepOf layoutIn settled readBody askedByFrame
+unfolding segmentRows numberAt stepOf layoutIn settled readBody requestByFrame
 segment-rows-hold = refl
 
 -- ---- the whole acknowledgement, and a connection that is resumed
 
 acked-once : callsDue (map receives (upTo (length acked) (traceOf ours acked store .entries))) ≡ session.ack 1 ∷ []
-unfolding numberAt crcOf steps step missing lowestBit bitCount judgeFeatures shapeFault limitFault headerOf judgeFields judgePreamble ending frames streamTrace traceOf stepOf layoutIn settled readBody askedByFrame
+unfolding numberAt crcOf steps step missing lowestBit bitCount judgeFeatures shapeFault limitFault headerOf judgeFields judgePreamble ending frames streamTrace traceOf stepOf layoutIn settled readBody requestByFrame
 acked-once = refl
 
 acked-none : upTo 0 (traceOf ours acked store .entries) ≡ []
-unfolding numberAt crcOf steps step missing lowestBit bitCount judgeFeatures shapeFault limitFault headerOf judgeFields judgePreamble ending frames streamTrace traceOf stepOf layoutIn settled readBody askedByFrame
+unfolding numberAt crcOf steps step missing lowestBit bitCount judgeFeatures shapeFault limitFault headerOf judgeFields judgePreamble ending frames streamTrace traceOf stepOf layoutIn settled readBody requestByFrame
 acked-none = refl
 
 resumed-once : callsDue (map receives (upTo (length resumed) (traceOf ours resumed store .entries))) ≡ session.reconnect 1 ∷ []
-unfolding numberAt crcOf steps step missing lowestBit bitCount judgeFeatures shapeFault limitFault headerOf judgeFields judgePreamble ending frames streamTrace traceOf stepOf layoutIn settled readBody askedByFrame
+unfolding numberAt crcOf steps step missing lowestBit bitCount judgeFeatures shapeFault limitFault headerOf judgeFields judgePreamble ending frames streamTrace traceOf stepOf layoutIn settled readBody requestByFrame
 resumed-once = refl
 
 resumed-none : upTo 0 (traceOf ours resumed store .entries) ≡ []
-unfolding numberAt crcOf steps step missing lowestBit bitCount judgeFeatures shapeFault limitFault headerOf judgeFields judgePreamble ending frames streamTrace traceOf stepOf layoutIn settled readBody askedByFrame
+unfolding numberAt crcOf steps step missing lowestBit bitCount judgeFeatures shapeFault limitFault headerOf judgeFields judgePreamble ending frames streamTrace traceOf stepOf layoutIn settled readBody requestByFrame
 resumed-none = refl
 
 -- two messages were sent
@@ -117,9 +117,9 @@ held-two : heldOf (callOf two (session.reconnect 1) .session) ≡ second ∷ []
 unfolding agrees judgeState judgeAccept judgeAck acceptOf reconnectOf heldFrom
 held-two = refl
 
-reported-two : callOf two (session.reconnect 1) .report ≡ Resend 1
+answer-two : callOf two (session.reconnect 1) .answer ≡ Resend 1
 unfolding agrees judgeState judgeAccept judgeAck acceptOf reconnectOf heldFrom
-reported-two = refl
+answer-two = refl
 
 connected : (s : Session) (k : Connection) (ks : List Connection) → Connects s (k ∷ ks) → ConnectedWith s (k .own) (k .connected)
 connected s k ks c = c .0
@@ -142,7 +142,7 @@ resumes demand k l cs ds c sent switch own all =
     let r =
     all-played demand none resumed (length resumed) (session.reconnect 1) (traceOf ours resumed store .entries) refl resumed-none resumed-once s l ds (connected s b [] later) (chained s b [] later) switch own all in (
       ap heldOf (r .0 ∙ ap (λ (x : Session). callOf x (session.reconnect 1) .session) q) ∙ held-two,
-      r .1 ∙ ap (λ (x : Session). callOf x (session.reconnect 1) .report ∷ []) q ∙ ap (λ (x : Report). x ∷ []) reported-two,
+      r .1 ∙ ap (λ (x : Session). callOf x (session.reconnect 1) .answer ∷ []) q ∙ ap (λ (x : Answer). x ∷ []) answer-two,
     )
 
 -- ---- what is no reason
@@ -151,31 +151,31 @@ abbrev entriesBehind : List ℕ → List Cause
 entriesBehind frames = map receives (traceOf ours (bannerBytes 1 0 ++ frames) store .entries)
 
 acked-holds : Holding 2 (map receives (traceOf ours acked store .entries))
-unfolding numberAt crcOf steps step missing lowestBit bitCount judgeFeatures shapeFault limitFault headerOf judgeFields judgePreamble ending frames streamTrace traceOf stepOf layoutIn settled readBody askedByFrame
+unfolding numberAt crcOf steps step missing lowestBit bitCount judgeFeatures shapeFault limitFault headerOf judgeFields judgePreamble ending frames streamTrace traceOf stepOf layoutIn settled readBody requestByFrame
 acked-holds = (refl, (refl, (refl, tt)))
 
 reset0-holds : (m : ℕ) → Holding m (entriesBehind reset0)
-unfolding numberAt crcOf steps step missing lowestBit bitCount judgeFeatures shapeFault limitFault headerOf judgeFields judgePreamble ending frames streamTrace traceOf stepOf layoutIn settled readBody askedByFrame
+unfolding numberAt crcOf steps step missing lowestBit bitCount judgeFeatures shapeFault limitFault headerOf judgeFields judgePreamble ending frames streamTrace traceOf stepOf layoutIn settled readBody requestByFrame
 reset0-holds m = (refl, (refl, tt))
 
 reset2-holds : (m : ℕ) → Holding m (entriesBehind reset2)
-unfolding numberAt crcOf steps step missing lowestBit bitCount judgeFeatures shapeFault limitFault headerOf judgeFields judgePreamble ending frames streamTrace traceOf stepOf layoutIn settled readBody askedByFrame
+unfolding numberAt crcOf steps step missing lowestBit bitCount judgeFeatures shapeFault limitFault headerOf judgeFields judgePreamble ending frames streamTrace traceOf stepOf layoutIn settled readBody requestByFrame
 reset2-holds m = (refl, (refl, tt))
 
 whole-holds : (m : ℕ) → Holding m (entriesBehind twoWhole)
-unfolding numberAt crcOf steps step missing lowestBit bitCount judgeFeatures shapeFault limitFault headerOf judgeFields judgePreamble ending frames streamTrace traceOf stepOf layoutIn settled readBody askedByFrame
+unfolding numberAt crcOf steps step missing lowestBit bitCount judgeFeatures shapeFault limitFault headerOf judgeFields judgePreamble ending frames streamTrace traceOf stepOf layoutIn settled readBody requestByFrame
 whole-holds m = (refl, (refl, (refl, tt)))
 
 aborted-holds : (m : ℕ) → Holding m (entriesBehind twoAborted)
-unfolding numberAt crcOf steps step missing lowestBit bitCount judgeFeatures shapeFault limitFault headerOf judgeFields judgePreamble ending frames streamTrace traceOf stepOf layoutIn settled readBody askedByFrame
+unfolding numberAt crcOf steps step missing lowestBit bitCount judgeFeatures shapeFault limitFault headerOf judgeFields judgePreamble ending frames streamTrace traceOf stepOf layoutIn settled readBody requestByFrame
 aborted-holds m = (refl, (refl, (refl, tt)))
 
 tag-holds : (m : ℕ) → Holding m (entriesBehind tag10)
-unfolding numberAt crcOf steps step missing lowestBit bitCount judgeFeatures shapeFault limitFault headerOf judgeFields judgePreamble ending frames streamTrace traceOf stepOf layoutIn settled readBody askedByFrame
+unfolding numberAt crcOf steps step missing lowestBit bitCount judgeFeatures shapeFault limitFault headerOf judgeFields judgePreamble ending frames streamTrace traceOf stepOf layoutIn settled readBody requestByFrame
 tag-holds m = (refl, (refl, tt))
 
 damaged-holds : (m : ℕ) → Holding m (entriesBehind (set ack1 32 3))
-unfolding numberAt crcOf steps step missing lowestBit bitCount judgeFeatures shapeFault limitFault headerOf judgeFields judgePreamble ending frames streamTrace traceOf stepOf layoutIn settled readBody askedByFrame
+unfolding numberAt crcOf steps step missing lowestBit bitCount judgeFeatures shapeFault limitFault headerOf judgeFields judgePreamble ending frames streamTrace traceOf stepOf layoutIn settled readBody requestByFrame
 damaged-holds m = (refl, (refl, tt))
 
 reasons : Reasons

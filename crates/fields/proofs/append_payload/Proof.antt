@@ -1,12 +1,12 @@
 use mathlib.Core.Path.{refl}
-use Rattle.fields.proofs.Drafts.{appended-counted, fits-sized}
-use Rattle.fields.specs.Field.{sized}
+use Rattle.fields.proofs.Drafts.{appended-counted, fits-payload}
+use Rattle.fields.specs.Field.{payload}
 use borrow.Author.Needs.{needs}
 use Rattle.fields.proofs.append_payload.Statement.{statement}
 use Rattle.fields.proofs.append_payload.Tie as tie
 
 returns : tie.Need-returns
-returns c = appended-counted (sized _) _ (fits-sized _) (c .before .before .before .before .before .before .before .before .before .count-bytes .ensures) refl refl refl (c .before .before .before .before .before .before .put .ensures) (c .before .before .put2 .ensures)
+returns c = appended-counted (payload _) _ (fits-payload _) (c .before .before .before .before .before .before .before .before .before .count-bytes .ensures) refl refl refl (c .before .before .before .before .before .before .put .ensures) (c .before .before .put2 .ensures)
 
 pub append-payload-spec : {M : Type 1} → statement M
 append-payload-spec =

@@ -1,16 +1,16 @@
 use mathlib.Core.Path.{refl, _∙_}
-use Rattle.fields.specs.Layout.{plain}
-use Rattle.fields.proofs.Skips.{plain-passed}
+use Rattle.fields.specs.Layout as kind
+use Rattle.fields.proofs.Skips.{fixed-passed}
 use Rattle.fields.proofs.Steps.{stopped, went}
 use borrow.Author.Needs.{needs}
 use Rattle.fields.proofs.read_bytes.Statement.{statement}
 use Rattle.fields.proofs.read_bytes.Tie as tie
 
 returns : tie.Need-returns
-returns c = stopped (plain _) _ _ _ (c .before .skip .ensures ∙ plain-passed _ _ _) (c .if1 .taken)
+returns c = stopped (kind.fixed _) _ _ _ (c .before .skip .ensures ∙ fixed-passed _ _ _) (c .if1 .taken)
 
 returns-2 : tie.Need-returns-2
-returns-2 c = went (plain _) _ _ _ _ _ (c .before .skip .ensures ∙ plain-passed _ _ _) (c .if1 .left) refl refl
+returns-2 c = went (kind.fixed _) _ _ _ _ _ (c .before .skip .ensures ∙ fixed-passed _ _ _) (c .if1 .left) refl refl
 
 pub read-bytes-spec : {M : Type 1} → statement M
 read-bytes-spec = tie.close (tie.spec (λ c κs. search needs) returns returns-2)

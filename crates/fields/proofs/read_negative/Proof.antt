@@ -1,5 +1,5 @@
 use mathlib.Core.Path.{refl, ap}
-use Rattle.fields.specs.Layout.{neg}
+use Rattle.fields.specs.Layout as kind
 use Rattle.fields.specs.Field.{negative}
 use Rattle.fields.proofs.Steps.{stopped, went}
 use borrow.Author.Needs.{needs}
@@ -7,10 +7,10 @@ use Rattle.fields.proofs.read_negative.Statement.{statement}
 use Rattle.fields.proofs.read_negative.Tie as tie
 
 returns : tie.Need-returns
-returns c = stopped neg _ _ _ (c .before .skip-negative .ensures) (c .if1 .taken)
+returns c = stopped kind.negative _ _ _ (c .before .skip-negative .ensures) (c .if1 .taken)
 
 returns-2 : tie.Need-returns-2
-returns-2 c = went neg _ _ _ _ _ (c .before .before .skip-negative .ensures) (c .before .if1 .left) (ap negative (c .u32-at .ensures)) refl
+returns-2 c = went kind.negative _ _ _ _ _ (c .before .before .skip-negative .ensures) (c .before .if1 .left) (ap negative (c .u32-at .ensures)) refl
 
 pub read-negative-spec : {M : Type 1} → statement M
 read-negative-spec = tie.close (tie.spec (λ c κs. search needs) returns (λ c κs. search needs) returns-2)

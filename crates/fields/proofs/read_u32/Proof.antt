@@ -1,5 +1,5 @@
 use mathlib.Core.Path.{refl, ap}
-use Rattle.fields.specs.Layout.{num}
+use Rattle.fields.specs.Layout as kind
 use Rattle.fields.specs.Field.{number}
 use Rattle.fields.proofs.Steps.{stopped, went}
 use borrow.Author.Needs.{needs}
@@ -7,10 +7,10 @@ use Rattle.fields.proofs.read_u32.Statement.{statement}
 use Rattle.fields.proofs.read_u32.Tie as tie
 
 returns : tie.Need-returns
-returns c = stopped (num 4) _ _ _ (c .before .skip .ensures) (c .if1 .taken)
+returns c = stopped (kind.number 4) _ _ _ (c .before .skip .ensures) (c .if1 .taken)
 
 returns-2 : tie.Need-returns-2
-returns-2 c = went (num 4) _ _ _ _ _ (c .before .before .skip .ensures) (c .before .if1 .left) (ap (number 4) (c .u32-at .ensures)) refl
+returns-2 c = went (kind.number 4) _ _ _ _ _ (c .before .before .skip .ensures) (c .before .if1 .left) (ap (number 4) (c .u32-at .ensures)) refl
 
 pub read-u32-spec : {M : Type 1} → statement M
 read-u32-spec = tie.close (tie.spec (λ c κs. search needs) returns (λ c κs. search needs) returns-2)

@@ -1,5 +1,5 @@
 use mathlib.Core.Path.{refl, _∙_, ap}
-use Rattle.fields.specs.Layout.{num}
+use Rattle.fields.specs.Layout as kind
 use Rattle.fields.specs.Field.{number}
 use Rattle.fields.proofs.Skips.{byte-there}
 use Rattle.fields.proofs.Steps.{stopped, went}
@@ -8,10 +8,10 @@ use Rattle.fields.proofs.read_u8.Statement.{statement}
 use Rattle.fields.proofs.read_u8.Tie as tie
 
 returns : tie.Need-returns
-returns c = stopped (num 1) _ _ _ (c .before .skip .ensures) (c .if1 .taken)
+returns c = stopped (kind.number 1) _ _ _ (c .before .skip .ensures) (c .if1 .taken)
 
 returns-2 : tie.Need-returns-2
-returns-2 c = went (num 1) _ _ _ _ _ (c .before .before .skip .ensures) (c .before .if1 .left) (ap (number 1) (c .byte-at .ensures ∙ byte-there _ _)) refl
+returns-2 c = went (kind.number 1) _ _ _ _ _ (c .before .before .skip .ensures) (c .before .if1 .left) (ap (number 1) (c .byte-at .ensures ∙ byte-there _ _)) refl
 
 pub read-u8-spec : {M : Type 1} → statement M
 read-u8-spec = tie.close (tie.spec (λ c κs. search needs) returns (λ c κs. search needs) returns-2)

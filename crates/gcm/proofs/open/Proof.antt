@@ -10,7 +10,7 @@ returns : tie.Need-returns
 returns c =
     let x = c .before .before .before .before .before in
     let a = x .before .before .before .args in
-    record { is = c .before .before .open-with .ensures .is ∙ ap (λ (w : List State). openDone w (a .nonce) (a .sealed .now) (a .out .now)) (x .expand .ensures) }
+    record { is = c .before .before .open-with .ensures .is ∙ ap (λ (w : List State). openDone w (a .nonce) (a .sealed .now) (a .out .now)) (x .key-expansion .ensures) }
 
 pub open-spec : {M : Type 1} → statement M
 open-spec = tie.close (tie.spec (λ c κs. search needs) (λ c κs. search needs) (λ c. search needs) returns)

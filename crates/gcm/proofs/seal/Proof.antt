@@ -10,7 +10,7 @@ returns : tie.Need-returns
 returns c =
     let x = c .before .before .before .before .before in
     let a = x .before .before .before .args in
-    record { is = c .before .before .seal-with .ensures .is ∙ ap (λ (w : List State). sealDone w (a .nonce) (a .text .now) (a .out .now)) (x .expand .ensures) }
+    record { is = c .before .before .seal-with .ensures .is ∙ ap (λ (w : List State). sealDone w (a .nonce) (a .text .now) (a .out .now)) (x .key-expansion .ensures) }
 
 pub seal-spec : {M : Type 1} → statement M
 seal-spec = tie.close (tie.spec (λ c κs. search needs) (λ c κs. search needs) (λ c. search needs) returns)

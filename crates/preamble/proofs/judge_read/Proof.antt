@@ -1,27 +1,22 @@
-use mathlib.Core.Path.{ap, ap₂, _∙_}
+use mathlib.Core.Path.{sym, ap, ap₂, _∙_}
+use mathlib.Core.List.{[], _∷_}
 use Prim.Native.Nat.{ℕ}
-use lib.Dec.{eqb}
-use Rattle.crc32c.specs.Crc.{crcOf}
-use Rattle.refusal.specs.declared.Refusal.the-variants.{PreambleChecksum}
-use Rattle.refusal.specs.Refusals.{orElse, unless}
+use Rattle.refusal.specs.Refusals.{Judged, orElse}
+use Rattle.refusal.proofs.Judgements.{or-else-last, first-append}
+use Rattle.preamble.specs.Layout.{total}
+use Rattle.preamble.specs.Judge.{judgeStore, preambleJudgements}
 use borrow.Author.Needs.{needs}
 use Rattle.preamble.proofs.judge_read.Statement.{statement}
 use Rattle.preamble.proofs.judge_read.Tie as tie
 
 returns : tie.Need-returns
 returns c =
-    let s = c .before .before .before .checksum .ensures ∙ ap (crcOf 0) (c .before .before .before .before .part .ensures) in
-    let p = c .before .before .before .before .before .before .args .p in
+    let a = c .before .before .before .before .before .args in
+    let room : Judged = judgeStore (total (a .p .header)) (a .store) in
     c .or-else .ensures
-    ∙ ap₂ orElse (c .before .before .unless .ensures ∙ ap (λ (x : ℕ). unless (eqb x (p .checksum)) PreambleChecksum) s) (c .before .judge-fields .ensures)
+    ∙ ap₂ orElse (c .before .judge-but-store .ensures)
+    (c .before .before .judge-store .ensures ∙ ap (λ (n : ℕ). judgeStore n (a .store)) (c .before .before .before .total-of .ensures) ∙ sym (or-else-last room))
+    ∙ first-append (preambleJudgements (a .p) (a .bytes .now)) (room ∷ [])
 
 pub judge-read-spec : {M : Type 1} → statement M
-judge-read-spec =
-    tie.close
-    (tie.spec
-    (λ c κs. search needs)
-    (λ c κs. search needs)
-    (λ c κs. search needs)
-    (λ c κs. search needs)
-    (λ c κs. search needs)
-    returns)
+judge-read-spec = tie.close (tie.spec (λ c κs. search needs) (λ c κs. search needs) (λ c κs. search needs) (λ c κs. search needs) returns)

@@ -14,13 +14,13 @@ returns : tie.Need-returns
 unfolding step.started
 returns c =
     let e = sym (c .before .before .before .judge-own .ensures) ∙ ap judgedBy (c .before .enum-told .given .1) in
-    record { state = rw e (c .fresh .ensures); verdict = c .before .before .before .judge-own .ensures }
+    record { state = rw e (c .fresh .ensures); judgement = c .before .before .before .judge-own .ensures }
 
 returns-2 : tie.Need-returns-2
 unfolding step.started
 returns-2 c =
     let e = sym (c .before .before .before .before .before .judge-own .ensures) ∙ ap judgedBy (c .before .before .before .v .given .1) in
-    record { state = rw e (c .refused-state .ensures ∙ rw (c .before .numbers-of .ensures)); verdict = sym e }
+    record { state = rw e (c .refused-state .ensures ∙ rw (c .before .numbers-of .ensures)); judgement = sym e }
 
 pub start-spec : {M : Type 1} → statement M
 start-spec =

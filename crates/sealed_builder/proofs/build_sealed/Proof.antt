@@ -48,7 +48,7 @@ sent-more-requires c κs =
 returns : tie.Need-returns
 unfolding sealedDone
 returns c =
-    record { promise = rw (sym (c .before .before .before .judge-sealed .ensures) ∙ ap judgedBy (c .before .verdict .given .1)) }
+    record { promise = rw (sym (c .before .before .before .judge-sealed .ensures) ∙ ap judgedBy (c .before .judgement .given .1)) }
 
 returns-2 : tie.Need-returns-2
 unfolding sealedDone
@@ -57,7 +57,7 @@ returns-2 c =
     let parts : List State → List ℕ = λ w. sealedParts w (frameParts (g .sending .nonce) (g .header) (g .abort) (g .source .now)) in
     let w : List State = keyExpansion (g .sending .key) in
     let bytes : c .before .before .before .before .before .put-sealed .last .0 ≡ replaceFront (parts w) (rest (g .buf .now) (g .queued)) =
-    c .before .before .before .before .before .put-sealed .ensures ∙ ap (λ (x : List State). replaceFront (parts x) (rest (g .buf .now) (g .queued))) (c .before .before .before .before .before .before .before .before .expand .ensures) in
+    c .before .before .before .before .before .put-sealed .ensures ∙ ap (λ (x : List State). replaceFront (parts x) (rest (g .buf .now) (g .queued))) (c .before .before .before .before .before .before .before .before .key-expansion .ensures) in
     record {
       promise =
           rw (sym (c .before .before .before .before .before .before .before .before .before .before .before .before .before .judge-sealed .ensures) ∙ ap judgedBy (c .before .before .before .before .before .before .before .before .before .before .before .enum-told .given .1))

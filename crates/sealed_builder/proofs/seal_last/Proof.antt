@@ -8,7 +8,7 @@ use Rattle.buffer.proofs.Parts.{rest}
 use Rattle.banner.specs.declared.Revision.the-variants.{Msgr21}
 use Rattle.body.specs.Body.{lateByte, restSent}
 use Rattle.body.proofs.Laws.{length-sent}
-use Rattle.secure.specs.Layout.{noLast, lastText, lastPart}
+use Rattle.secure.specs.Layout.{noLastPart, lastText, lastPart}
 use Rattle.secure.proofs.Lengths.{length-last-text}
 use Rattle.gcm.proofs.InPlace.{sealed-laid}
 use Rattle.secure.proofs.Missing.{last-none, last-there}
@@ -19,29 +19,29 @@ use Rattle.sealed_builder.proofs.seal_last.Tie as tie
 
 returns : tie.Need-returns
 returns c =
-    last-none (c .before .before .before .before .args .w .now) (c .before .before .before .before .args .nonce) (c .before .before .before .before .args .h) (lastText (c .before .before .before .before .args .h) (lateByte Msgr21 (c .before .before .before .before .args .abort)) (restSent (c .before .before .before .before .args .abort) (c .before .before .before .before .args .rest .now))) (c .before .before .before .before .args .out .now) (sym (c .before .no-last .ensures) ∙ c .if1 .taken)
+    last-none (c .before .before .before .before .args .w .now) (c .before .before .before .before .args .nonce) (c .before .before .before .before .args .h) (lastText (c .before .before .before .before .args .h) (lateByte Msgr21 (c .before .before .before .before .args .abort)) (restSent (c .before .before .before .before .args .abort) (c .before .before .before .before .args .rest .now))) (c .before .before .before .before .args .out .now) (sym (c .before .no-last-part .ensures) ∙ c .if1 .taken)
 
 sub-n : tie.Need-sub-n
 sub-n c =
-    let there : noLast (c .before .before .before .before .before .args .h) ≡ false = sym (c .before .before .no-last .ensures) ∙ c .before .if1 .left in
+    let there : noLastPart (c .before .before .before .before .before .args .h) ≡ false = sym (c .before .before .no-last-part .ensures) ∙ c .before .if1 .left in
     let n : c .last-part-length .result ≡ lastPart (c .before .before .before .before .before .args .h) = c .last-part-length .ensures .0 ∙ last-size (c .before .before .before .before .before .args .h) there in
     omega arith
 
 put-last-requires : tie.Need-put-last-requires
 put-last-requires c κs =
-    let there : noLast (c .before .before .before .before .before .before .args .h) ≡ false = sym (c .before .before .before .no-last .ensures) ∙ c .before .before .if1 .left in
+    let there : noLastPart (c .before .before .before .before .before .before .args .h) ≡ false = sym (c .before .before .before .no-last-part .ensures) ∙ c .before .before .if1 .left in
     (c .before .before .before .before .before .before .pre .0, omega (arith, last-size (c .before .before .before .before .before .before .args .h) there, c .before .before .before .before .before .before .pre .1))
 
 seal-front-requires : tie.Need-seal-front-requires
 seal-front-requires c κs =
-    let there : noLast (c .before .before .before .before .before .before .before .before .before .before .args .h) ≡ false = sym (c .before .before .before .before .before .before .before .no-last .ensures) ∙ c .before .before .before .before .before .before .if1 .left in
+    let there : noLastPart (c .before .before .before .before .before .before .before .before .before .before .args .h) ≡ false = sym (c .before .before .before .before .before .before .before .no-last-part .ensures) ∙ c .before .before .before .before .before .before .if1 .left in
     let n : c .before .before .before .before .before .last-part-length .result ≡ lastPart (c .before .before .before .before .before .before .before .before .before .before .args .h) = c .before .before .before .before .before .last-part-length .ensures .0 ∙ last-size (c .before .before .before .before .before .before .before .before .before .before .args .h) there in
     (omega (arith, last-size (c .before .before .before .before .before .before .before .before .before .before .args .h) there, c .before .before .before .before .before .before .before .before .before .before .pre .1, c .before .before .before .put-last .kept .0), omega (arith, c .before .before .before .before .before .last-part-length .ensures .1))
 
 returns-2 : tie.Need-returns-2
 returns-2 c =
     let g = c .before .before .before .before .before .before .before .before .before .before .before .before .before .args in
-    let there : noLast (c .before .before .before .before .before .before .before .before .before .before .before .before .before .args .h) ≡ false = sym (c .before .before .before .before .before .before .before .before .before .before .no-last .ensures) ∙ c .before .before .before .before .before .before .before .before .before .if1 .left in
+    let there : noLastPart (c .before .before .before .before .before .before .before .before .before .before .before .before .before .args .h) ≡ false = sym (c .before .before .before .before .before .before .before .before .before .before .no-last-part .ensures) ∙ c .before .before .before .before .before .before .before .before .before .if1 .left in
     let n : c .before .before .before .before .before .before .before .before .last-part-length .result ≡ lastPart (c .before .before .before .before .before .before .before .before .before .before .before .before .before .args .h) = c .before .before .before .before .before .before .before .before .last-part-length .ensures .0 ∙ last-size (c .before .before .before .before .before .before .before .before .before .before .before .before .before .args .h) there in
     let bytes : List ℕ = restSent (g .abort) (g .rest .now) in
     let text : List ℕ = lastText (g .h) (lateByte Msgr21 (g .abort)) bytes in

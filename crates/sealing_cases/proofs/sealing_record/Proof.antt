@@ -9,10 +9,10 @@ use lib.ListN.{length, take, drop}
 use lib.Seq.{length-take-le}
 use Rattle.refusal.specs.Writes.{done, outcomeOf}
 use Rattle.buffer.specs.Le.{numberAt}
-use Rattle.records.proofs.Laws.{did-bad, did-whole}
-use Rattle.records.specs.Records.{isWhole, print, prints, counted}
-use Rattle.sealing_cases.proofs.Laws.{sealing-buffer, sealing-long, sealing-done, outcome-line}
-use Rattle.sealing_cases.specs.Sealing.{doneLine, sealingSize, doneOf, sealingRecord}
+use Rattle.records.proofs.Laws.{done-line, did-bad, did-whole}
+use Rattle.records.specs.Records.{doneLine, isWhole, print, prints, counted}
+use Rattle.sealing_cases.proofs.Laws.{sealing-buffer, sealing-long, sealing-done}
+use Rattle.sealing_cases.specs.Sealing.{sealingSize, doneOf, sealingRecord}
 use Rattle.text.specs.Line.{Piece}
 use Rattle.text.specs.Page.{page}
 use Rattle.sealing_cases.proofs.sealing_record.Statement.{statement}
@@ -55,7 +55,7 @@ returns-2 c = let s = c .before .before .before .before .before .before .before 
     (c .before .before .before .before .before .before .before .before .before .before .before .before .before .before .part .ensures ∙ ap (λ (k : ℕ). take k (drop 38 s)) (c .before .before .before .before .before .before .before .before .before .before .before .before .before .before .before .u32-at2 .ensures))
     (c .before .before .before .before .before .before .before .before .before .before .before .before .before .before .before .before .before .before .count-up .ensures ∙ ap₂ counted (c .before .before .before .before .before .before .before .before .before .before .before .before .before .before .before .before .before .before .before .byte-at .ensures) n)
     in
-    let k = outcome-line (c .before .before .before .before .before .before .before .before .before .before .seal-or-open .result) (c .before .before .before .before .before .before .checksum .result) (c .before .before .before .before .before .before .before .before .before .before .seal-or-open .last .1 .1 .1 .1 .0) (doneOf (c .before .before .before .before .before .before .before .before .before .before .before .before .before .before .before .before .before .before .before .before .before .before .before .before .before .before .before .before .before .args .opens) s) d (c .before .before .before .before .before .before .checksum .ensures) in
+    let k = done-line (c .before .before .before .before .before .before .before .before .before .before .seal-or-open .result) (c .before .before .before .before .before .before .checksum .result) (c .before .before .before .before .before .before .before .before .before .before .seal-or-open .last .1 .1 .1 .1 .0) (doneOf (c .before .before .before .before .before .before .before .before .before .before .before .before .before .before .before .before .before .before .before .before .before .before .before .before .before .before .before .before .before .args .opens) s) d (c .before .before .before .before .before .before .checksum .ensures) in
     did-whole (sealingSize room s) (doneLine (doneOf (c .before .before .before .before .before .before .before .before .before .before .before .before .before .before .before .before .before .before .before .before .before .before .before .before .before .before .before .before .before .args .opens) s) ∷ []) e (c .before .before .before .before .before .before .before .before .before .before .before .before .before .before .before .before .before .before .before .before .before .before .before .before .before .sealing-size .ensures)
     (c .before .before .print-outcome .ensures ∙ ap (λ (x : List Piece). print x (page (c .before .before .before .before .before .before .before .before .before .before .before .before .before .before .before .before .before .before .before .before .before .before .before .before .before .before .before .before .before .args .text .now) (c .before .before .before .before .before .before .before .before .before .before .before .before .before .before .before .before .before .before .before .before .before .before .before .before .before .before .before .before .before .args .at))) k)
 

@@ -11,8 +11,8 @@ returns : tie.Need-returns
 unfolding partCount
 returns c = (
   ap₂ (λ (a b : ℕ). 1 + a + b)
-      (c .before .before .one-unless .ensures .0 ∙ ap (λ (b : Bool). cond b 0 1) (c .before .before .before .no-rest .ensures))
-      (c .one-unless2 .ensures .0 ∙ ap (λ (b : Bool). cond b 0 1) (c .before .no-last .ensures)),
+      (c .before .before .one-unless .ensures .0 ∙ ap (λ (b : Bool). cond b 0 1) (c .before .before .before .no-second-part .ensures))
+      (c .one-unless2 .ensures .0 ∙ ap (λ (b : Bool). cond b 0 1) (c .before .no-last-part .ensures)),
   omega arith,
   omega arith,
 )

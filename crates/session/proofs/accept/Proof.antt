@@ -2,7 +2,7 @@ use mathlib.Core.Path.{sym, ap, _∙_}
 use Prim.Native.Nat.{_+_}
 use native.Mathlib.Omega.{arith}
 use Rattle.session.specs.declared.Session.{Session}
-use Rattle.session.specs.declared.Report.the-variants.{Accepted}
+use Rattle.session.specs.declared.Answer.the-variants.{Accepted}
 use Rattle.session.specs.Calls.{acceptOf, outcome}
 use Rattle.session.proofs.Table.{fine-accept, when-fine, when-refused}
 use Rattle.refusal.specs.Refusals.{judgedBy}

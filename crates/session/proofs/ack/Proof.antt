@@ -1,6 +1,6 @@
 use mathlib.Core.Path.{ap}
 use Rattle.session.specs.declared.Session.{Session}
-use Rattle.session.specs.declared.Report.the-variants.{Done}
+use Rattle.session.specs.declared.Answer.the-variants.{Done}
 use Rattle.session.specs.Calls.{ackOf, outcome}
 use Rattle.session.proofs.Table.{when-fine, when-refused}
 use borrow.Author.Needs.{needs}

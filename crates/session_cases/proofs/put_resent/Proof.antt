@@ -3,7 +3,7 @@ use Prim.Native.Nat.{_≤_, _-_}
 use native.Mathlib.Omega.{arith}
 use borrow.Author.Needs.{needs}
 use lib.ListN.{length}
-use Rattle.session.specs.Laws.{answersOf}
+use Rattle.session.specs.Laws.{heldAnswers}
 use Rattle.session_cases.proofs.Laws.{resent-on, resent-none}
 use Rattle.session_cases.specs.Session.{resentPieces}
 use Rattle.text.specs.Page.{page, puts}
@@ -11,7 +11,7 @@ use Rattle.session_cases.proofs.put_resent.Statement.{statement}
 use Rattle.session_cases.proofs.put_resent.Tie as tie
 
 abbrev Inv-loop : tie.InvT-loop
-Inv-loop text₀ at s k end₀ i₀ text end i = (i ≤ k) × (length text ≡ length text₀) × (puts (resentPieces (answersOf s i (k - i))) (page text end) ≡ puts (resentPieces (answersOf s 0 k)) (page text₀ at))
+Inv-loop text₀ at s k end₀ i₀ text end i = (i ≤ k) × (length text ≡ length text₀) × (puts (resentPieces (heldAnswers s i (k - i))) (page text end) ≡ puts (resentPieces (heldAnswers s 0 k)) (page text₀ at))
 
 abbrev μ-loop : tie.MeasureT-loop
 μ-loop text₀ at s k end₀ i₀ text end i = k - i

@@ -1,12 +1,12 @@
 use mathlib.Core.Path.{refl}
 use borrow.Author.Needs.{needs}
-use Rattle.body_cases.proofs.Requests.{neg-given, end, step, asked}
+use Rattle.body_cases.proofs.Requests.{negative-given, end, step, asked}
 use Rattle.body_cases.proofs.writing.ask_bad_method.Statement.{statement}
 use Rattle.body_cases.proofs.writing.ask_bad_method.Tie as tie
 
 returns : tie.Need-returns
 returns c = asked (c .before .before .before .before .before .before .before .before .start .ensures)
-    (step (c .before .before .before .before .before .before .before .given-u32 .ensures) (step (neg-given (c .before .before .before .before .before .before .given-u322 .ensures)) (step (c .before .before .before .before .before .given-list .ensures .0) (step (c .before .before .before .before .given-list2 .ensures .0) end))))
+    (step (c .before .before .before .before .before .before .before .given-u32 .ensures) (step (negative-given (c .before .before .before .before .before .before .given-u322 .ensures)) (step (c .before .before .before .before .before .given-list .ensures .0) (step (c .before .before .before .before .given-list2 .ensures .0) end))))
     refl refl (c .before .before .before .before .before .given-list .ensures .1) (c .before .before .before .before .given-list2 .ensures .1)
 
 pub ask-bad-method-spec : {M : Type 1} → statement M

@@ -1,13 +1,13 @@
 use mathlib.Core.Path.{refl}
 use native.Mathlib.Omega.{arith}
 use borrow.Author.Needs.{needs}
-use Rattle.body_cases.proofs.Requests.{rest-given, end, step, asked}
+use Rattle.body_cases.proofs.Requests.{opaque-given, end, step, asked}
 use Rattle.body_cases.proofs.writing.ask_hello.Statement.{statement}
 use Rattle.body_cases.proofs.writing.ask_hello.Tie as tie
 
 returns : tie.Need-returns
 returns c = asked (c .before .before .before .before .before .before .start .ensures)
-    (step (c .before .before .before .before .before .given-u8 .ensures) (step (rest-given 0 (c .before .before .before .before .given-bytes .ensures)) end))
+    (step (c .before .before .before .before .before .given-u8 .ensures) (step (opaque-given 0 (c .before .before .before .before .given-bytes .ensures)) end))
     refl refl (omega (arith, c .before .no-list .ensures)) (omega (arith, c .no-list2 .ensures))
 
 pub ask-hello-spec : {M : Type 1} → statement M

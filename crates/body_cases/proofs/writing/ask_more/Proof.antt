@@ -1,13 +1,13 @@
 use mathlib.Core.Path.{refl}
 use native.Mathlib.Omega.{arith}
 use borrow.Author.Needs.{needs}
-use Rattle.body_cases.proofs.Requests.{size-given, end, step, asked}
+use Rattle.body_cases.proofs.Requests.{payload-given, end, step, asked}
 use Rattle.body_cases.proofs.writing.ask_more.Statement.{statement}
 use Rattle.body_cases.proofs.writing.ask_more.Tie as tie
 
 returns : tie.Need-returns
 returns c = asked (c .before .before .before .before .before .start .ensures)
-    (step (size-given (c .before .before .before .before .given-bytes .ensures)) end)
+    (step (payload-given (c .before .before .before .before .given-bytes .ensures)) end)
     refl refl (omega (arith, c .before .no-list .ensures)) (omega (arith, c .no-list2 .ensures))
 
 pub ask-more-spec : {M : Type 1} → statement M

@@ -1,5 +1,5 @@
 use mathlib.Core.Path.{sym, ap, _∙_}
-use Rattle.fields.specs.Field.{number, sized, nowhere}
+use Rattle.fields.specs.Field.{number, payload, nowhere}
 use Rattle.fields.specs.Reading.{inSpan}
 use Rattle.bodies.proofs.Rows.{took-read, took-failed}
 use borrow.Author.Needs.{needs}
@@ -7,10 +7,10 @@ use Rattle.body_cases.proofs.writing.past_payload.Statement.{statement}
 use Rattle.body_cases.proofs.writing.past_payload.Tie as tie
 
 returns : tie.Need-returns
-returns c = took-read (ap (inSpan sized (c .before .before .before .before .before .args .s .now)) (sym (c .before .next .given .1)) ∙ c .before .before .before .read-payload .ensures) .next
+returns c = took-read (ap (inSpan payload (c .before .before .before .before .before .args .s .now)) (sym (c .before .next .given .1)) ∙ c .before .before .before .read-payload .ensures) .next
 
 returns-2 : tie.Need-returns-2
-returns-2 c = took-failed {f = number 0 0} {p = nowhere} (ap (inSpan sized (c .before .before .before .before .before .args .s .now)) (sym (c .before .next2 .given .1)) ∙ c .before .before .before .read-payload .ensures) .next
+returns-2 c = took-failed {f = number 0 0} {p = nowhere} (ap (inSpan payload (c .before .before .before .before .before .args .s .now)) (sym (c .before .next2 .given .1)) ∙ c .before .before .before .read-payload .ensures) .next
 
 pub past-payload-spec : {M : Type 1} → statement M
 past-payload-spec =

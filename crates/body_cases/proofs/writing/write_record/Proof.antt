@@ -8,11 +8,11 @@ use borrow.Author.Tests.{not-true, not-false}
 use lib.ListN.{length, take}
 use lib.Seq.{length-take-le}
 use Rattle.refusal.specs.Writes.{done, outcomeOf}
-use Rattle.body_cases.proofs.Requests.{size-is, write-buffer, write-done, written-line}
-use Rattle.body_cases.specs.Writing.{doneLine, writeSize, writeOf, writeRecord}
+use Rattle.body_cases.proofs.Requests.{size-is, write-buffer, write-done}
+use Rattle.body_cases.specs.Writing.{writeSize, writeOf, writeRecord}
 use Rattle.buffer.specs.Le.{numberAt}
-use Rattle.records.proofs.Laws.{did-bad, did-whole}
-use Rattle.records.specs.Records.{isWhole, print, prints, counted}
+use Rattle.records.proofs.Laws.{done-line, did-bad, did-whole}
+use Rattle.records.specs.Records.{doneLine, isWhole, print, prints, counted}
 use Rattle.text.specs.Line.{Piece}
 use Rattle.text.specs.Page.{page}
 use Rattle.body_cases.proofs.writing.write_record.Statement.{statement}
@@ -53,9 +53,9 @@ returns-2 c = let s = c .before .before .before .before .before .before .before 
     let d : done (outcomeOf (c .before .before .before .before .before .before .before .before .before .before .write-asked .result)) (c .before .before .before .before .before .before .before .before .before .before .write-asked .last .0) ≡ writeOf s =
     write-done s (c .before .before .before .before .before .before .before .before .before .before .before .before .before .before .before .before .before .before .before .before .before .before .before .before .before .before .byte-at .result) (c .before .before .before .before .before .before .before .before .before .before .before .before .before .before .count-up .last .0) (c .before .before .before .before .before .before .before .before .before .before .before .before .before .before .before .before .before .before .before .before .before .before .before .before .before .before .byte-at .ensures) (c .before .before .before .before .before .before .before .before .before .before .before .before .before .before .count-up .ensures ∙ ap₂ counted (c .before .before .before .before .before .before .before .before .before .before .before .before .before .before .before .byte-at2 .ensures) n) (c .before .before .before .before .before .before .before .before .before .before .before .before .before .before .before .before .before .before .before .before .before .before .before .before .ask .ensures) (c .before .before .before .before .before .before .before .before .before .before .write-asked .ensures)
     in
-    let k = written-line (c .before .before .before .before .before .before .before .before .before .before .write-asked .result) (c .before .before .before .before .before .before .checksum .result) (c .before .before .before .before .before .before .before .before .before .before .write-asked .last .0) (writeOf s) d (c .before .before .before .before .before .before .checksum .ensures) in
+    let k = done-line (c .before .before .before .before .before .before .before .before .before .before .write-asked .result) (c .before .before .before .before .before .before .checksum .result) (c .before .before .before .before .before .before .before .before .before .before .write-asked .last .0) (writeOf s) d (c .before .before .before .before .before .before .checksum .ensures) in
     did-whole (writeSize room s) (doneLine (writeOf s) ∷ []) e z
-    (c .before .before .print-written .ensures ∙ ap (λ (x : List Piece). print x (page (c .before .before .before .before .before .before .before .before .before .before .before .before .before .before .before .before .before .before .before .before .before .before .before .before .before .before .before .before .before .before .args .text .now) (c .before .before .before .before .before .before .before .before .before .before .before .before .before .before .before .before .before .before .before .before .before .before .before .before .before .before .before .before .before .before .args .at))) k)
+    (c .before .before .print-outcome .ensures ∙ ap (λ (x : List Piece). print x (page (c .before .before .before .before .before .before .before .before .before .before .before .before .before .before .before .before .before .before .before .before .before .before .before .before .before .before .before .before .before .before .args .text .now) (c .before .before .before .before .before .before .before .before .before .before .before .before .before .before .before .before .before .before .before .before .before .before .before .before .before .before .before .before .before .before .args .at))) k)
 
 pub write-record-spec : {M : Type 1} → statement M
 write-record-spec =

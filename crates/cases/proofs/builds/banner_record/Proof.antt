@@ -10,10 +10,10 @@ use Rattle.refusal.specs.Writes.{done, outcomeOf}
 use Rattle.buffer.specs.Le.{numberAt}
 use Rattle.text.specs.Line.{Piece}
 use Rattle.text.specs.Page.{page}
-use Rattle.records.specs.Records.{isWhole, print, prints, counted}
-use Rattle.cases.specs.Builds.{doneLine, bannerSize, bannerDoneOf, bannerRecord}
-use Rattle.records.proofs.Laws.{did-bad, did-whole}
-use Rattle.cases.proofs.Laws.{banner-buffer, banner-done, built-line}
+use Rattle.records.specs.Records.{doneLine, isWhole, print, prints, counted}
+use Rattle.cases.specs.Builds.{bannerSize, bannerDoneOf, bannerRecord}
+use Rattle.records.proofs.Laws.{done-line, did-bad, did-whole}
+use Rattle.cases.proofs.Laws.{banner-buffer, banner-done}
 use borrow.Author.Needs.{needs}
 use Rattle.cases.proofs.builds.banner_record.Statement.{statement}
 use Rattle.cases.proofs.builds.banner_record.Tie as tie
@@ -48,8 +48,8 @@ returns-2 c =
     let h = banner-buffer s e in
     let n : length (take (c .before .before .before .before .before .before .before .before .before .before .before .before .before .before .before .before .before .before .before .before .before .u32-at .result) (a .space .now)) ≡ numberAt 4 17 s = length-take-le (c .before .before .before .before .before .before .before .before .before .before .before .before .before .before .before .before .before .before .before .before .before .u32-at .result) (a .space .now) (omega (arith, c .before .before .before .before .before .before .before .before .before .before .before .before .before .before .before .before .before .before .before .before .before .u32-at .ensures, c .before .before .before .before .before .before .before .before .before .before .before .before .before .before .before .before .before .before .before .before .before .before .before .before .before .before .before .before .pre)) ∙ c .before .before .before .before .before .before .before .before .before .before .before .before .before .before .before .before .before .before .before .before .before .u32-at .ensures in
     let d : done (outcomeOf (c .before .before .before .before .before .before .before .before .before .before .build-banner .result)) (c .before .before .before .before .before .before .before .before .before .before .build-banner .last .0) ≡ bannerDoneOf s = c .before .before .before .before .before .before .before .before .before .before .build-banner .ensures .promise ∙ banner-done s (c .before .before .before .before .before .before .before .before .before .before .before .before .before .before .before .before .before .count-up .last .0) (c .before .before .before .before .before .before .before .before .before .before .before .before .u64-at2 .result) (c .before .before .before .before .before .before .before .before .before .before .before .u64-at3 .result) (c .before .before .before .before .before .before .before .before .before .before .before .before .before .u64-at .result) (c .before .before .before .before .before .before .before .before .before .before .before .before .u64-at2 .ensures) (c .before .before .before .before .before .before .before .before .before .before .before .u64-at3 .ensures) (c .before .before .before .before .before .before .before .before .before .before .before .before .before .before .before .before .before .count-up .ensures ∙ ap₂ counted (c .before .before .before .before .before .before .before .before .before .before .before .before .before .before .before .before .before .before .byte-at .ensures) n) (c .before .before .before .before .before .before .before .before .before .before .before .before .before .u64-at .ensures) in
-    let k = built-line (c .before .before .before .before .before .before .before .before .before .before .build-banner .result) (c .before .before .before .before .before .before .checksum .result) (c .before .before .before .before .before .before .before .before .before .before .build-banner .last .0) (bannerDoneOf s) d (c .before .before .before .before .before .before .checksum .ensures) in
-    did-whole (bannerSize s) (doneLine (bannerDoneOf s) ∷ []) e (c .before .before .before .before .before .before .before .before .before .before .before .before .before .before .before .before .before .before .before .before .before .before .before .before .banner-size .ensures) (c .before .before .print-built .ensures ∙ ap (λ (x : List Piece). print x (page (a .text .now) (a .at))) k)
+    let k = done-line (c .before .before .before .before .before .before .before .before .before .before .build-banner .result) (c .before .before .before .before .before .before .checksum .result) (c .before .before .before .before .before .before .before .before .before .before .build-banner .last .0) (bannerDoneOf s) d (c .before .before .before .before .before .before .checksum .ensures) in
+    did-whole (bannerSize s) (doneLine (bannerDoneOf s) ∷ []) e (c .before .before .before .before .before .before .before .before .before .before .before .before .before .before .before .before .before .before .before .before .before .before .before .before .banner-size .ensures) (c .before .before .print-outcome .ensures ∙ ap (λ (x : List Piece). print x (page (a .text .now) (a .at))) k)
 
 pub banner-record-spec : {M : Type 1} → statement M
 banner-record-spec =

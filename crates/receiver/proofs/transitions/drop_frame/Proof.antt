@@ -4,7 +4,7 @@ use Rattle.receiver.proofs.transitions.drop_frame.Statement.{statement}
 use Rattle.receiver.proofs.transitions.drop_frame.Tie as tie
 
 returns : tie.Need-returns
-returns c = c .begin-preamble .ensures (c .before .before .before .before .zero-payload .last .0) ∙ rw (c .before .without-header .ensures, c .before .before .before .before .zero-payload .ensures)
+returns c = c .begin-preamble .ensures (c .before .before .before .before .zero-segments .last .0) ∙ rw (c .before .without-header .ensures, c .before .before .before .before .zero-segments .ensures)
 
 pub drop-frame-spec : {M : Type 1} → statement M
 drop-frame-spec =

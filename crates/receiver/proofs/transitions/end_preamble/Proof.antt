@@ -21,7 +21,7 @@ returns c = λ s e.
 returns-2 : tie.Need-returns-2
 unfolding finish judgePreamble
 returns-2 c = λ s e.
-    let j = sym (c .before .before .before .before .before .judge-read .ensures ∙ ap₂ (λ (p : Preamble) (n : ℕ). judgeRead p (c .before .before .before .before .before .before .before .before .args .block .now) n) (c .before .before .before .before .before .before .before .read-block .ensures) (sym e)) ∙ ap judgedBy (c .before .before .before .verdict .given .1) in
+    let j = sym (c .before .before .before .before .before .judge-read .ensures ∙ ap₂ (λ (p : Preamble) (n : ℕ). judgeRead p (c .before .before .before .before .before .before .before .before .args .block .now) n) (c .before .before .before .before .before .before .before .read-block .ensures) (sym e)) ∙ ap judgedBy (c .before .before .before .judgement .given .1) in
     rw j (c .refuse .ensures s ∙ ap (λ (n : Numbers). refuse (c .before .before .before .before .before .before .before .before .args .v) n s) (c .before .numbers-of .ensures))
 
 pub end-preamble-spec : {M : Type 1} → statement M

@@ -12,7 +12,7 @@ returns : tie.Need-returns
 returns c = λ s. rw (c .enum-told .given .1)
 
 returns-2 : tie.Need-returns-2
-returns-2 c = λ s. rw (c .before .before .before .verdict .given .1) (c .refuse .ensures s ∙ ap (λ (n : Numbers). step.refuse (c .before .before .before .before .before .args .v) n s) (c .before .numbers-of .ensures))
+returns-2 c = λ s. rw (c .before .before .before .judgement .given .1) (c .refuse .ensures s ∙ ap (λ (n : Numbers). step.refuse (c .before .before .before .before .before .args .v) n s) (c .before .numbers-of .ensures))
 
 pub unless-refused-spec : {M : Type 1} → statement M
 unless-refused-spec =

@@ -20,7 +20,7 @@ slice-aggregate-part c =
     let block = c .before .before .before .before .before .before .before .before .before .args .block in
     omega (arith, length-append ys (drop 96 block), length-drop 96 block, length-take 96 block, c .before .before .before .before .before .open-part .kept .1 .0, c .before .before .before .before .before .before .before .before .before .good .0 .1 .0 .1)
 
-behind-first-requires : tie.Need-behind-first-requires
+behind-first-requires : tie.Need-after-first-part-requires
 behind-first-requires c κs =
     let ys = c .before .before .before .before .before .before .before .open-part .last .1 .0 in
     let block = c .before .before .before .before .before .before .before .before .before .before .before .args .block in
@@ -32,7 +32,7 @@ returns c =
     let l : length (g .block) ≡ 96 = c .before .before .before .before .before .before .before .before .before .before .before .before .before .before .good .0 .1 .0 .1 in
     let same : take 96 (g .block) ≡ g .block = take-all 96 (g .block) (omega arith) in
     let j : step.judgePart (g .v .receiving) (take 96 (g .block)) ≡ fine = sym (c .before .before .before .before .before .before .before .before .before .before .open-part .ensures .judged) ∙ ap judgedBy (c .before .before .before .before .before .before .before .enum-told .given .1) in
-    (rw (c .before .before .before .before .before .before .with-opened .ensures) at (c .before .before .behind-first .ensures))
+    (rw (c .before .before .before .before .before .before .with-opened .ensures) at (c .before .before .after-first-part .ensures))
     ∙ first-opened (g .v) (g .block) (take 96 (g .block)) (g .store .now) same (c .before .before .before .before .before .before .before .before .before .before .open-part .last .1 .0) (drop 96 (g .block)) (c .before .before .before .before .part .result .now) l j (c .before .before .before .before .before .before .before .before .before .before .open-part .ensures .text j) (c .before .before .before .before .part .ensures)
 
 returns-2 : tie.Need-returns-2

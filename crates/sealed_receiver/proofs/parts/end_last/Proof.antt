@@ -4,7 +4,7 @@ use Prim.Native.Nat.{_+_, _-_}
 use lib.ListN.{take, drop, length-take, length-drop}
 use native.Mathlib.Omega.{arith}
 use Rattle.refusal.specs.Refusals.{fine, judgedBy}
-use Rattle.secure.specs.Layout.{noLast, lastPart, lastPartLength, needed}
+use Rattle.secure.specs.Layout.{noLastPart, lastPart, lastPartLength, needed}
 use Rattle.sealed_receiver.specs.declared.Known.{Known}
 use Rattle.sealed_receiver.specs.Step as step
 use Rattle.sealed_receiver.proofs.LastPart.{last-left, last-refused, last-opened}
@@ -18,7 +18,7 @@ part-open-part-end c =
     let v = c .before .before .before .before .before .args .v in
     let s = c .before .before .before .before .before .args .store .now in
     let place = v .header .s1 .len in
-    let e : noLast (v .header) ≡ false = there (noLast (v .header)) (lastPart (v .header)) (c .before .before .before .before .before .pre .some) in
+    let e : noLastPart (v .header) ≡ false = there (noLastPart (v .header)) (lastPart (v .header)) (c .before .before .before .before .before .pre .some) in
     omega (arith, last-fits (v .header), last-size (v .header) e, c .last-part-length .ensures .0, c .before .before .before .before .before .pre .fits)
 
 open-part-requires : tie.Need-open-part-requires
@@ -26,7 +26,7 @@ open-part-requires c κs =
     let v = c .before .before .before .before .before .before .args .v in
     let s = c .before .before .before .before .before .before .args .store .now in
     let place = v .header .s1 .len in
-    let e : noLast (v .header) ≡ false = there (noLast (v .header)) (lastPart (v .header)) (c .before .before .before .before .before .before .pre .some) in
+    let e : noLastPart (v .header) ≡ false = there (noLastPart (v .header)) (lastPart (v .header)) (c .before .before .before .before .before .before .pre .some) in
     let n = c .before .last-part-length .result in
     let a = last-fits (v .header) in
     let b = last-size (v .header) e in
@@ -37,16 +37,16 @@ open-part-requires c κs =
 enum-told : tie.Need-enum-told
 enum-told c = search needs
 
-behind-last-requires : tie.Need-behind-last-requires
+behind-last-requires : tie.Need-after-last-part-requires
 behind-last-requires c κs =
     let v = c .before .before .before .before .before .before .before .before .before .before .before .before .before .args .v in
     let s = c .before .before .before .before .before .before .before .before .before .before .before .before .before .args .store .now in
     let place = v .header .s1 .len in
-    let e : noLast (v .header) ≡ false = there (noLast (v .header)) (lastPart (v .header)) (c .before .before .before .before .before .before .before .before .before .before .before .before .before .pre .some) in
+    let e : noLastPart (v .header) ≡ false = there (noLastPart (v .header)) (lastPart (v .header)) (c .before .before .before .before .before .before .before .before .before .before .before .before .before .pre .some) in
     let n = c .before .before .before .before .before .before .before .before .last-part-length .result in
     let em : place + n - place ≡ lastPartLength (v .header) = omega (arith, c .before .before .before .before .before .before .before .before .last-part-length .ensures .0) in
     let h : c .before .with-opened .result .header ≡ v .header = ap (λ (k : Known). k .header) (c .before .with-opened .ensures) in
-    (omega (arith, ap needed h, last-left v s (c .before .before .before .before .before .before .open-part .last .1 .0) (place + n - place) em e (c .before .before .before .before .before .before .before .before .before .before .before .before .before .pre .fits) (c .before .before .before .before .before .before .open-part .kept .1 .0)), ap noLast h ∙ e)
+    (omega (arith, ap needed h, last-left v s (c .before .before .before .before .before .before .open-part .last .1 .0) (place + n - place) em e (c .before .before .before .before .before .before .before .before .before .before .before .before .before .pre .fits) (c .before .before .before .before .before .before .open-part .kept .1 .0)), ap noLastPart h ∙ e)
 
 returns : tie.Need-returns
 returns c =
@@ -54,11 +54,11 @@ returns c =
     let v = c .before .before .before .before .before .before .before .before .before .before .before .before .before .before .before .before .args .v in
     let s = c .before .before .before .before .before .before .before .before .before .before .before .before .before .before .before .before .args .store .now in
     let place = v .header .s1 .len in
-    let e : noLast (v .header) ≡ false = there (noLast (v .header)) (lastPart (v .header)) (c .before .before .before .before .before .before .before .before .before .before .before .before .before .before .before .before .pre .some) in
+    let e : noLastPart (v .header) ≡ false = there (noLastPart (v .header)) (lastPart (v .header)) (c .before .before .before .before .before .before .before .before .before .before .before .before .before .before .before .before .pre .some) in
     let n = c .before .before .before .before .before .before .before .before .before .before .before .last-part-length .result in
     let em : place + n - place ≡ lastPartLength (v .header) = omega (arith, c .before .before .before .before .before .before .before .before .before .before .before .last-part-length .ensures .0) in
     let j : step.judgePart (v .receiving) (take (place + n - place) (drop place s)) ≡ fine = sym (c .before .before .before .before .before .before .before .before .before .open-part .ensures .judged) ∙ ap judgedBy (c .before .before .before .before .before .enum-told .given .1) in
-    (rw (c .before .before .before .before .with-opened .ensures) at (c .before .before .behind-last .ensures))
+    (rw (c .before .before .before .before .with-opened .ensures) at (c .before .before .after-last-part .ensures))
     ∙ last-opened v s (c .before .before .before .before .before .before .before .before .before .open-part .last .1 .0) (place + n - place) em e (c .before .before .before .before .before .before .before .before .before .before .before .before .before .before .before .before .pre .fits) (c .before .before .before .before .before .before .before .before .before .open-part .kept .1 .0) b j (c .before .before .before .before .before .before .before .before .before .open-part .ensures .text j)
 
 returns-2 : tie.Need-returns-2
@@ -67,7 +67,7 @@ returns-2 c =
     let v = c .before .before .before .before .before .before .before .before .before .before .before .before .before .before .before .before .args .v in
     let s = c .before .before .before .before .before .before .before .before .before .before .before .before .before .before .before .before .args .store .now in
     let place = v .header .s1 .len in
-    let e : noLast (v .header) ≡ false = there (noLast (v .header)) (lastPart (v .header)) (c .before .before .before .before .before .before .before .before .before .before .before .before .before .before .before .before .pre .some) in
+    let e : noLastPart (v .header) ≡ false = there (noLastPart (v .header)) (lastPart (v .header)) (c .before .before .before .before .before .before .before .before .before .before .before .before .before .before .before .before .pre .some) in
     let n = c .before .before .before .before .before .before .before .before .before .before .before .last-part-length .result in
     let em : place + n - place ≡ lastPartLength (v .header) = omega (arith, c .before .before .before .before .before .before .before .before .before .before .before .last-part-length .ensures .0) in
     c .before .before .refuse-frame .ensures

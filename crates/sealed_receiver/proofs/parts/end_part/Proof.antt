@@ -8,7 +8,7 @@ use Rattle.sealed_receiver.proofs.parts.end_part.Tie as tie
 enum-told : tie.Need-enum-told
 enum-told c = search needs
 
-end-rest-requires : tie.Need-end-rest-requires
+end-rest-requires : tie.Need-end-second-part-requires
 end-rest-requires c κs = subst (λ (k : Stage). step.Ready k (c .before .before .before .before .args .v) (c .before .before .before .before .args .store .now)) (c .before .enum-told2 .given .1) (c .before .before .before .before .pre)
 
 end-last-requires : tie.Need-end-last-requires
@@ -22,7 +22,7 @@ returns c =
 returns-2 : tie.Need-returns-2
 returns-2 c =
     let g = c .before .before .before .before .before .before .before .args in
-    c .before .before .end-rest .ensures (g .block) ∙ ap (λ (k : Stage). step.finish k (g .block) (g .v) (g .store .now)) (sym (c .before .before .before .before .enum-told2 .given .1))
+    c .before .before .end-second-part .ensures (g .block) ∙ ap (λ (k : Stage). step.finish k (g .block) (g .v) (g .store .now)) (sym (c .before .before .before .before .enum-told2 .given .1))
 
 returns-3 : tie.Need-returns-3
 returns-3 c =

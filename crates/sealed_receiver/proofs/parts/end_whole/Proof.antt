@@ -6,7 +6,7 @@ use Rattle.stream.specs.declared.Event.the-variants as event
 use Rattle.receiver.specs.declared.Report.the-variants as report
 use Rattle.sealed_receiver.specs.declared.State.{State}
 use Rattle.sealed_receiver.specs.Step as step
-use Rattle.sealed_receiver.proofs.Regions.{zeros-behind}
+use Rattle.secure.proofs.Stores.{zeros-behind}
 use Rattle.secure.proofs.Bounds.{segments-fit}
 use borrow.Author.Needs.{needs}
 use Rattle.sealed_receiver.proofs.parts.end_whole.Statement.{statement}

@@ -15,8 +15,8 @@ returns-2 c =
     let bytes = c .before .before .before .before .before .before .before .before .before .before .before .args .bytes .now in
     let o = c .before .before .before .open-in-place .result in
     let after = c .before .before .before .open-in-place .last .1 .1 .0 in
-    let opening : Opening (keyExpansion (r .key)) (r .nonce) bytes bytes o after = rw (c .before .before .before .before .before .before .expand .ensures) at (c .before .before .before .open-in-place .ensures) in
-    opened-part r bytes after (c .verdict-of .result) o (c .verdict-of .ensures) (c .before .before .before .before .before .before .before .before .before .if1 .left) (omega (arith, c .before .before .before .before .before .before .before .before .before .before .before .good .0)) (c .before .before .before .before .before .before .before .before .before .before .before .pre .0) (c .before .before .before .before .before .before .before .before .before .before .before .pre .1) opening
+    let opening : Opening (keyExpansion (r .key)) (r .nonce) bytes bytes o after = rw (c .before .before .before .before .before .before .key-expansion .ensures) at (c .before .before .before .open-in-place .ensures) in
+    opened-part r bytes after (c .judgement-of .result) o (c .judgement-of .ensures) (c .before .before .before .before .before .before .before .before .before .if1 .left) (omega (arith, c .before .before .before .before .before .before .before .before .before .before .before .good .0)) (c .before .before .before .before .before .before .before .before .before .before .before .pre .0) (c .before .before .before .before .before .before .before .before .before .before .before .pre .1) opening
 
 pub open-part-spec : {M : Type 1} → statement M
 open-part-spec =

@@ -1,4 +1,4 @@
-use Rattle.sealed_receiver.proofs.Regions.{zeros-over}
+use Rattle.secure.proofs.Stores.{zeros-over}
 use borrow.Author.Needs.{needs}
 use Rattle.sealed_receiver.proofs.parts.zero_needed.Statement.{statement}
 use Rattle.sealed_receiver.proofs.parts.zero_needed.Tie as tie

@@ -4,7 +4,7 @@ use Rattle.sealed_receiver.proofs.states.size_of.Statement.{statement}
 use Rattle.sealed_receiver.proofs.states.size_of.Tie as tie
 
 returns-2 : tie.Need-returns-2
-returns-2 c = (simp (c .rest-part-length .ensures .0, c .before .enum-told2 .given .1), omega arith)
+returns-2 c = (simp (c .second-part-length .ensures .0, c .before .enum-told2 .given .1), omega arith)
 
 returns-3 : tie.Need-returns-3
 returns-3 c = (simp (c .last-part-length .ensures .0, c .before .enum-told3 .given .1), omega arith)

@@ -1,0 +1,19 @@
+use borrow.Author.Needs.{needs}
+use Rattle.connection_cases.proofs.lines.print_judgement_refused.Statement.{statement}
+use Rattle.connection_cases.proofs.lines.print_judgement_refused.Tie as tie
+
+returns : tie.Need-returns
+returns c = cc
+
+pub print-judgement-refused-spec : {M : Type 1} → statement M
+print-judgement-refused-spec =
+    tie.close
+    (tie.spec
+    (λ c κs. search needs)
+    (λ c κs. search needs)
+    (λ c. search needs)
+    (λ c κs. search needs)
+    (λ c κs. search needs)
+    (λ c κs. search needs)
+    (λ c. search needs)
+    returns)

@@ -1,0 +1,44 @@
+use Prim.Native.Nat.{ℕ}
+use lib.ListN.{take}
+use borrow.Author.Tests.{not-false}
+use Rattle.bodies.specs.Read.{readBody}
+use Rattle.delivery.specs.Requests.{byBody}
+use Rattle.delivery.proofs.Requests.{take-min}
+use native.Mathlib.Omega.{arith}
+use lib.ListN.{length-take}
+use mathlib.Core.Path.{sym, ap, _∙_}
+use borrow.Author.Tests.{not-true}
+use Rattle.delivery.specs.Requests.{requestByFrame}
+use borrow.Author.Needs.{needs}
+use Rattle.delivery.proofs.request_by_frame.Statement.{statement}
+use Rattle.delivery.proofs.request_by_frame.Tie as tie
+
+returns : tie.Need-returns
+unfolding requestByFrame
+returns c = rw (sym (c .before .for-session .ensures) ∙ not-true _ (c .if1 .taken))
+
+slice-aggregate-read : tie.Need-slice-aggregate-read
+slice-aggregate-read c = simp length-take (omega (arith, c .before .min .ensures))
+
+returns-2 : tie.Need-returns-2
+unfolding requestByFrame
+returns-2 c =
+    let h = c .before .before .before .before .before .before .before .before .before .args .h in
+    let s = c .before .before .before .before .before .before .before .before .before .args .store .now in
+    let e = sym (c .before .before .before .before .before .before .before .for-session .ensures) ∙ not-false _ (c .before .before .before .before .before .before .if1 .left) in
+    rw e
+    (c .request-by-body .ensures (take (c .before .before .before .min .result) s)
+    ∙ ap (byBody h) (c .before .read .ensures .answer ∙ ap (λ (n : ℕ). readBody (h .tag) (take n s)) (c .before .before .before .min .ensures) ∙ ap (readBody (h .tag)) (take-min (h .s1 .len) s)))
+
+pub request-by-frame-spec : {M : Type 1} → statement M
+request-by-frame-spec =
+    tie.close
+    (tie.spec
+    (λ c κs. search needs)
+    returns
+    (λ c. search needs)
+    (λ c κs. search needs)
+    slice-aggregate-read
+    (λ c κs. search needs)
+    (λ c κs. search needs)
+    returns-2)

@@ -1,9 +1,0 @@
-use borrow.Author.Needs.{needs}
-use Rattle.plain_session.proofs.outcome_words.Statement.{statement}
-use Rattle.plain_session.proofs.outcome_words.Tie as tie
-
-returns : tie.Need-returns
-returns c = rw (c .before .session-numbers .ensures, c .answer-words .ensures)
-
-pub outcome-words-spec : {M : Type 1} → statement M
-outcome-words-spec = tie.close (tie.spec (λ c κs. search needs) (λ c κs. search needs) returns)

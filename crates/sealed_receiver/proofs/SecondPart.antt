@@ -1,0 +1,164 @@
+-- The rest of segment 1, and the frame behind segment 1.
+use mathlib.Core.Path.{_≡_, sym, ap, ap₂, _∙_}
+use mathlib.Core.List.{List, _++_, append-assoc}
+use mathlib.Core.Bool.{Bool, true, false, cond}
+use Prim.Native.Nat.{ℕ, _+_, _-_, _≤_}
+use native.Mathlib.Omega.{arith}
+use lib.ListN.{length, take, drop, replicate, length-append, length-drop, length-replicate, replicate-append-replicate}
+use lib.Seq.{take-take, take-add, drop-drop, length-take-le}
+use Rattle.buffer.specs.Splice.{splice, overwrite}
+use Rattle.buffer.proofs.Parts.{rest, back, length-rest, overwrite-fits, placed, drop-take}
+use Rattle.refusal.specs.declared.Numbers.{Numbers}
+use Rattle.refusal.specs.declared.Refusal.the-variants as refusal
+use Rattle.refusal.specs.Refusals.{fine, refused, numbersOf, unless}
+use Rattle.preamble.specs.declared.Header.{Header}
+use Rattle.preamble.specs.Layout.{total}
+use Rattle.preamble.specs.Judge.{judgeHeader}
+use Rattle.body.specs.End.{whole}
+use Rattle.secure.specs.Layout.{padding, inlineLength, noSecondPart, noLastPart, secondPart, secondPartLength, needed}
+use Rattle.buffer.specs.Zeros.{allZero}
+use Rattle.secure.specs.Reading.{judgePadding, zeroed}
+use Rattle.secure.proofs.Trip.{one-segment}
+use Rattle.sealed_receiver.specs.declared.Stage.the-variants as stage
+use Rattle.sealed_receiver.specs.declared.Receiving.{Receiving}
+use Rattle.sealed_receiver.specs.declared.Known.{Known}
+use Rattle.sealed_receiver.specs.Step.{Stepped, refuse, unlessRefused, silent, at, withOpened, judgePart, partText, endFrame, beginLast, afterSecondPart, finish}
+use Rattle.buffer.proofs.Zeros.{only-zeros}
+use Rattle.secure.proofs.Stores.{zeroed-same}
+use Rattle.sealed_receiver.proofs.Regions.{after, after-length, after-behind, after-again, part-refused, part-opened}
+use Rattle.secure.proofs.Bounds.{rest-beyond, rest-size, rest-fits, pads-fit}
+
+-- a frame of one segment ends behind it
+pub whole-behind : (v : Known) (s : List ℕ) → judgeHeader (v .header) ≡ fine → noLastPart (v .header) ≡ true
+    → endFrame whole v (take (total (v .header)) s) s ≡ beginLast v s
+whole-behind v s j e =
+    let h : Header = v .header in
+    let n : total h ≡ h .s1 .len = omega (arith, one-segment h j e) in
+    ap (λ (k : ℕ). endFrame whole v (take k s) s) n
+    ∙ sym (ap (λ (b : Bool). cond b (endFrame whole v (take (h .s1 .len) s) s) (silent (at stage.Last v) s)) e)
+
+module _ (v : Known) (s : List ℕ) where
+  abbrev h : Header
+  h = v .header
+
+  -- ---- its padding: n bytes are of segment 1, and the text stands in the store from byte 48 on
+
+  module _ (pad : ℕ) (ep : pad ≡ padding (h .s1 .len - inlineLength)) (e : noSecondPart h ≡ false) where
+    abbrev n : ℕ
+    n = h .s1 .len
+
+    abbrev k : ℕ
+    k = h .s1 .len - inlineLength
+
+    abbrev text : List ℕ
+    text = take (secondPart h - 16) (drop inlineLength s)
+
+    inline-and-rest : inlineLength + k ≡ n
+    inline-and-rest = omega (arith, rest-beyond h e)
+
+    rest-from : drop k (drop inlineLength s) ≡ drop n s
+    rest-from = drop-drop k inlineLength s ∙ ap (λ (m : ℕ). drop m s) inline-and-rest
+
+    text-is : text ≡ take (k + pad) (drop inlineLength s)
+    text-is = let m : secondPart h - 16 ≡ k + pad = omega arith in ap (λ (i : ℕ). take i (drop inlineLength s)) m
+
+    padding-is : drop k text ≡ take pad (drop n s)
+    padding-is = ap (drop k) text-is ∙ drop-take k pad (drop inlineLength s) ∙ ap (take pad) rest-from
+
+    pub rest-unpadded : allZero (take pad (drop n s)) ≡ false → refuse (numbersOf refusal.Padding) (zeroed h s) ≡ afterSecondPart v text s
+    unfolding afterSecondPart
+    rest-unpadded z =
+        let next : Stepped = beginLast v (splice s inlineLength (take k text ++ replicate (padding k + 16) 0)) in
+        sym (ap (λ (b : Bool). unlessRefused (unless b refusal.Padding) (zeroed h s) next) (ap allZero padding-is ∙ z))
+
+    module _ (room : needed h ≤ length s) (z : allZero (take pad (drop n s)) ≡ true) where
+      room-for : n + pad + 16 ≤ length s
+      room-for = omega (arith, pads-fit h e pad ep)
+
+      front-is : take (n + pad) s ≡ take inlineLength s ++ (take k (drop inlineLength s) ++ replicate pad 0)
+      front-is =
+          let m : n + pad ≡ inlineLength + (k + pad) = omega (arith, inline-and-rest) in
+          let l : length (take pad (drop n s)) ≡ pad = length-take-le pad (drop n s) (omega (arith, length-drop n s, room-for)) in
+          let zeros : take pad (drop n s) ≡ replicate pad 0 = only-zeros (take pad (drop n s)) z ∙ ap (λ (i : ℕ). replicate i 0) l in
+          ap (λ (i : ℕ). take i s) m
+          ∙ take-add inlineLength (k + pad) s
+          ∙ ap (λ (t : List ℕ). take inlineLength s ++ t)
+          (take-add k pad (drop inlineLength s) ∙ ap (λ (t : List ℕ). take k (drop inlineLength s) ++ t) (ap (take pad) rest-from ∙ zeros))
+
+      filled : splice s (n + pad) (replicate 16 0) ≡ splice s inlineLength (take k (drop inlineLength s) ++ replicate (pad + 16) 0)
+      filled =
+          let x : List ℕ = take k (drop inlineLength s) in
+          let first : List ℕ = take inlineLength s in
+          let lx : length x ≡ k = length-take-le k (drop inlineLength s) (omega (arith, length-drop inlineLength s, room-for, inline-and-rest)) in
+          let size : n + pad + 16 ≡ inlineLength + length (x ++ replicate (pad + 16) 0) =
+          omega (arith, length-append x (replicate (pad + 16) 0), length-replicate {A = ℕ} (pad + 16) 0, inline-and-rest) in
+          let zeros : (x ++ replicate pad 0) ++ replicate 16 0 ≡ x ++ replicate (pad + 16) 0 =
+          append-assoc x (replicate pad 0) (replicate 16 0) ∙ ap (λ (t : List ℕ). x ++ t) (replicate-append-replicate pad 16 0) in
+          let joined : (first ++ (x ++ replicate pad 0)) ++ replicate 16 0 ≡ first ++ (x ++ replicate (pad + 16) 0) =
+          append-assoc first (x ++ replicate pad 0) (replicate 16 0) ∙ ap (λ (t : List ℕ). first ++ t) zeros in
+          ap (λ (t : List ℕ). t ++ replicate 16 0 ++ drop (n + pad + 16) s) front-is
+          ∙ ap₂ (λ (t : List ℕ) (i : ℕ). t ++ drop i s) joined size
+
+      pub rest-padded : (zs : List ℕ) → zs ≡ overwrite (replicate 16 0) (rest s (n + pad))
+          → beginLast v (back s (n + pad) zs) ≡ afterSecondPart v text s
+      unfolding afterSecondPart
+      rest-padded zs ez =
+          let fits : 16 ≤ length (rest s (n + pad)) = omega (arith, length-rest s (n + pad), room-for) in
+          let there : back s (n + pad) zs ≡ splice s (n + pad) (replicate 16 0) =
+          placed s (replicate 16 0) zs (n + pad) (ez ∙ overwrite-fits (replicate 16 0) (rest s (n + pad)) fits) in
+          let front : take k (drop inlineLength s) ≡ take k text =
+          sym (ap (take k) text-is ∙ take-take k (k + pad) (drop inlineLength s) (omega arith)) in
+          let store : List ℕ = splice s inlineLength (take k text ++ replicate (padding k + 16) 0) in
+          let is : back s (n + pad) zs ≡ store =
+          there ∙ filled ∙ ap₂ (λ (t : List ℕ) (i : ℕ). splice s inlineLength (t ++ replicate (i + 16) 0)) front ep in
+          ap (beginLast v) is
+          ∙ sym (ap (λ (b : Bool). unlessRefused (unless b refusal.Padding) (zeroed h s) (beginLast v store)) (ap allZero padding-is ∙ z))
+
+  -- ---- opened where it stands
+
+  module _ (ys : List ℕ) (m : ℕ) (em : m ≡ secondPartLength h) (e : noSecondPart h ≡ false)
+      (room : needed h ≤ length s) (kept : length ys ≡ length (take m (drop inlineLength s))) where
+    abbrev r : Receiving
+    r = v .receiving
+
+    abbrev left : List ℕ
+    left = after s inlineLength m ys
+
+    abbrev next : List ℕ → List ℕ → Stepped
+    next = afterSecondPart (withOpened v)
+
+    size : m ≡ secondPart h - 16 + 16
+    size = em ∙ rest-size h e ∙ omega arith
+
+    inside : inlineLength + m ≤ needed h
+    inside = omega (arith, rest-fits h e, size)
+
+    pub rest-left : needed h ≤ length left
+    rest-left = omega (arith, after-length h s ys inlineLength m inside room kept)
+
+    rest-length : (text : List ℕ) → length text ≡ secondPart h - 16
+        → length (take (h .s1 .len - inlineLength) text ++ replicate (padding (h .s1 .len - inlineLength) + 16) 0) ≡ m
+    rest-length text l =
+        let n : ℕ = h .s1 .len - inlineLength in
+        let front : length (take n text) ≡ n = length-take-le n text (omega arith) in
+        length-append (take n text) (replicate (padding n + 16) 0) ∙ omega (arith, front, length-replicate {A = ℕ} (padding n + 16) 0, size)
+
+    rest-same : (text : List ℕ) → length text ≡ secondPart h - 16 → next text left ≡ next text s
+    unfolding afterSecondPart
+    rest-same text l =
+        let n : ℕ = h .s1 .len - inlineLength in
+        let xs : List ℕ = take n text ++ replicate (padding n + 16) 0 in
+        ap₂ (λ (x y : List ℕ). unlessRefused (judgePadding (drop n text)) x (beginLast (withOpened v) y))
+        (zeroed-same h s left (after-behind h s ys inlineLength m inside room kept))
+        (after-again h s ys inlineLength m inside room kept xs (rest-length text l))
+
+    pub rest-refused : (b : List ℕ) (n : Numbers) → judgePart r (take m (drop inlineLength s)) ≡ refused n
+        → refuse n (zeroed h left) ≡ finish stage.Second b v s
+    unfolding finish
+    rest-refused b n j = part-refused h s ys inlineLength m inside room kept r (secondPartLength h) em next n j
+
+    pub rest-opened : (b : List ℕ) → judgePart r (take m (drop inlineLength s)) ≡ fine
+        → ys ≡ partText r (take m (drop inlineLength s)) ++ drop (length (take m (drop inlineLength s)) - 16) (take m (drop inlineLength s))
+        → next (take (secondPart h - 16) (drop inlineLength left)) left ≡ finish stage.Second b v s
+    unfolding finish
+    rest-opened b j t = part-opened h s ys inlineLength m inside room kept r (secondPartLength h) em next (secondPart h - 16) size rest-same j t

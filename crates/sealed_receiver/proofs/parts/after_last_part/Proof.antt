@@ -1,0 +1,70 @@
+use mathlib.Core.Path.{_≡_, _∙_, ap}
+use Prim.Native.Nat.{ℕ, _-_}
+use native.Mathlib.Omega.{arith}
+use Rattle.body.specs.End.{dropped, refusedFor, endedAs}
+use Rattle.secure.specs.Layout.{lastPart}
+use Rattle.secure.specs.Reading.{lastEnded}
+use Rattle.sealed_receiver.proofs.LastPart.{last-whole, last-ends}
+use Rattle.secure.proofs.Bounds.{last-size}
+use borrow.Author.Needs.{needs}
+use Rattle.sealed_receiver.proofs.parts.after_last_part.Statement.{statement}
+use Rattle.sealed_receiver.proofs.parts.after_last_part.Tie as tie
+
+sub-n : tie.Need-sub-n
+sub-n c = omega (arith, last-size (c .before .before .before .before .args .v .header) (c .before .before .before .before .pre .1), c .last-part-length .ensures .0)
+
+enum-told : tie.Need-enum-told
+enum-told c = search needs
+
+returns : tie.Need-returns
+returns c =
+    let g = c .before .before .before .before .before .before .before .before .before .before .before .before .before .before .before .before .before .args in
+    let s = g .store .now in
+    let e = last-size (g .v .header) (c .before .before .before .before .before .before .before .before .before .before .before .before .before .before .before .before .before .pre .1) in
+    let n = c .before .before .before .before .before .before .before .before .before .before .before .before .before .last-part-length .result in
+    let em : n - 16 ≡ lastPart (g .v .header) - 16 = ap (λ (k : ℕ). k - 16) (c .before .before .before .before .before .before .before .before .before .before .before .before .before .last-part-length .ensures .0 ∙ e) in
+    c .before .before .end-whole .ensures
+    ∙ last-whole (g .v) s (n - 16) em (endedAs (c .before .before .before .before .before .before .before .before .before .before .end-of-last .result)) (c .before .before .before .before .before .before .before .before .before .before .end-of-last .ensures ∙ ap (lastEnded (g .v .header)) (c .before .before .before .before .before .before .before .before .before .before .before .part .ensures)) (c .before .before .before .before .before .before .close-up .last .1 .0) (ap endedAs (c .before .before .before .before .before .before .before .before .enum-told .given .1)) (c .before .before .before .before .before .before .close-up .ensures)
+
+returns-2 : tie.Need-returns-2
+returns-2 c =
+    let g = c .before .before .before .before .before .before .before .before .before .before .before .before .before .args in
+    let s = g .store .now in
+    let e = last-size (g .v .header) (c .before .before .before .before .before .before .before .before .before .before .before .before .before .pre .1) in
+    let n = c .before .before .before .before .before .before .before .before .before .last-part-length .result in
+    let em : n - 16 ≡ lastPart (g .v .header) - 16 = ap (λ (k : ℕ). k - 16) (c .before .before .before .before .before .before .before .before .before .last-part-length .ensures .0 ∙ e) in
+    c .before .before .drop-frame .ensures s
+    ∙ last-ends (g .v) s (n - 16) em (endedAs (c .before .before .before .before .before .before .end-of-last .result)) (c .before .before .before .before .before .before .end-of-last .ensures ∙ ap (lastEnded (g .v .header)) (c .before .before .before .before .before .before .before .part .ensures)) dropped (ap endedAs (c .before .before .before .before .enum-told2 .given .1))
+
+returns-3 : tie.Need-returns-3
+returns-3 c =
+    let g = c .before .before .before .before .before .before .before .before .before .before .before .before .before .before .args in
+    let s = g .store .now in
+    let e = last-size (g .v .header) (c .before .before .before .before .before .before .before .before .before .before .before .before .before .before .pre .1) in
+    let n = c .before .before .before .before .before .before .before .before .before .before .last-part-length .result in
+    let em : n - 16 ≡ lastPart (g .v .header) - 16 = ap (λ (k : ℕ). k - 16) (c .before .before .before .before .before .before .before .before .before .before .last-part-length .ensures .0 ∙ e) in
+    c .before .before .refuse-frame .ensures
+    ∙ last-ends (g .v) s (n - 16) em (endedAs (c .before .before .before .before .before .before .before .end-of-last .result)) (c .before .before .before .before .before .before .before .end-of-last .ensures ∙ ap (lastEnded (g .v .header)) (c .before .before .before .before .before .before .before .before .part .ensures)) (refusedFor _) (ap endedAs (c .before .before .before .before .before .end .given .1))
+
+pub after-last-part-spec : {M : Type 1} → statement M
+after-last-part-spec =
+    tie.close
+    (tie.spec
+    (λ c. search needs)
+    (λ c κs. search needs)
+    sub-n
+    (λ c κs. search needs)
+    (λ c κs. search needs)
+    enum-told
+    (λ c κs. search needs)
+    (λ c κs. search needs)
+    (λ c. search needs)
+    (λ c κs. search needs)
+    (λ c. search needs)
+    (λ c κs. search needs)
+    (λ c. search needs)
+    returns
+    (λ c. search needs)
+    returns-2
+    (λ c. search needs)
+    returns-3)
