@@ -11,8 +11,8 @@ use borrow.Author.Tests.{le-leb, lt-leb, lt-ltb, le-ltb, eq-eqb, ne-eqb, leb-tru
 use lib.ListN.{length, getD, length-append}
 use lib.Seq.{take-at, drop-append-seam, drop-append-add}
 use Rattle.refusal.proofs.Booleans.{wrong}
-use Rattle.buffer.specs.Le.{le, numberAt, words}
-use Rattle.buffer.proofs.Numbers.{leOf-le, length-le}
+use Rattle.buffer.specs.Le.{le, words}
+use Rattle.buffer.proofs.Numbers.{leOf-le, length-le, number-there}
 use Rattle.preamble.specs.Judge.{segmentLimit}
 use Rattle.fields.specs.declared.Cursor.{Cursor}
 use Rattle.fields.specs.Layout.{Kind, good, fault, past, stepOf}
@@ -77,10 +77,6 @@ row-fields end = refl
 row-fields (step {f = f} t r) = rw (← (t .next), ← (t .value)) (ap (λ (l : List Field). f ∷ l) (row-fields r))
 
 -- ---- a field that stands behind pre and before post
-
-number-there : (w n : ℕ) (pre post : List ℕ) → n < 256 ^ w → numberAt w (length pre) (pre ++ (le w n ++ post)) ≡ n
-unfolding numberAt
-number-there w n pre post h = rw (drop-append-seam pre (le w n ++ post), take-at (le w n) post w (length-le w n)) (leOf-le w n h)
 
 words-there : (ns post : List ℕ) → ((i : ℕ) → i < length ns → getD ns i 0 < 4294967296) → wordsOf (length ns) (words ns ++ post) ≡ ns
 unfolding wordsOf

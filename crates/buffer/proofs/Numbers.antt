@@ -9,7 +9,7 @@ use borrow.Author.Tests.{leb-true, leb-false, ltb-true, ltb-false}
 use lib.Dec.{lit<, leb, ltb}
 use lib.Arith.{lt-one}
 use lib.ListN.{length, getD, take, drop, replicate, drop-of-length-le, length-drop, length-take, length-replicate, getD-replicate, List·getD-eq-default}
-use lib.Seq.{take-add, take-take, length-take-le, take-append-le, drop-append-le, drop-drop, getD-take, getD-drop}
+use lib.Seq.{take-add, take-at, take-take, drop-append-seam, length-take-le, take-append-le, drop-append-le, drop-drop, getD-take, getD-drop}
 use Rattle.buffer.specs.Le.{le, leOf, numberAt, Bytes}
 
 pub length-le : (w n : ℕ) → length (le w n) ≡ w
@@ -143,3 +143,16 @@ unfolding numberAt
 number-again w at s h k =
     let e : length (take w (drop at s)) ≡ w = length-take-le w (drop at s) (rw (length-drop at s) k) in
     subst (λ (n : ℕ). le n (leOf (take w (drop at s))) ≡ take w (drop at s)) e (le-leOf (take w (drop at s)) (bytes-take w (bytes-drop at h)))
+
+-- a number that stands behind pre and before post
+pub number-there : (w n : ℕ) (pre post : List ℕ) → n < 256 ^ w → numberAt w (length pre) (pre ++ (le w n ++ post)) ≡ n
+unfolding numberAt
+number-there w n pre post h = rw (drop-append-seam pre (le w n ++ post), take-at (le w n) post w (length-le w n)) (leOf-le w n h)
+
+-- four bytes make no more than 32 bits
+pub number-few : (l : List ℕ) → Bytes l → numberAt 4 0 l ≤ 4294967295
+unfolding numberAt
+number-few l h =
+    let b = bytes-take 4 h in
+    let n : length (take 4 l) ≤ 4 = omega (arith, length-take 4 l) in
+    omega (arith, word-read (take 4 l) n, b .at 0, b .at 1, b .at 2, b .at 3)

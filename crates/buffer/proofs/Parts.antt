@@ -27,6 +27,14 @@ pub overwrite-fits : (xs l : List ℕ) → length xs ≤ length l → overwrite 
 unfolding overwrite
 overwrite-fits xs l h = take-all (length l) (replaceFront xs l) (let e = length-replaceFront xs l h in omega arith)
 
+-- the same, of a buffer and of bytes by another name
+pub overwrite-as : (xs ys l after : List ℕ) → after ≡ overwrite xs l → xs ≡ ys → length ys ≤ length l → after ≡ replaceFront ys l
+overwrite-as xs ys l after e same room = e ∙ ap (λ (x : List ℕ). overwrite x l) same ∙ overwrite-fits ys l room
+
+-- the front of what was laid there is that
+pub overwrite-front : (xs l after : List ℕ) → length xs ≤ length l → after ≡ overwrite xs l → take (length xs) after ≡ xs
+overwrite-front xs l after k e = ap (take (length xs)) (e ∙ overwrite-fits xs l k) ∙ take-at xs (drop (length xs) l) (length xs) refl
+
 -- nothing lies behind a part that goes to the end
 tail-nil : (l : List ℕ) (i : ℕ) → drop (length l - i) (drop i l) ≡ []
 tail-nil l i = drop-of-length-le (drop i l) {i = length l - i} (simp length-drop (le-refl (length l - i)))
@@ -72,6 +80,10 @@ over-longer xs ys l h =
     ∙ drop-append-add xs (drop (length xs) l) (length ys - length xs)
     ∙ drop-drop (length ys - length xs) (length xs) l
     ∙ ap (λ (k : ℕ). drop k l) n)
+
+-- and over what a writer laid there
+pub replace-longer : (xs ys l after : List ℕ) → length xs ≤ length ys → length xs ≤ length l → after ≡ overwrite xs l → replaceFront ys after ≡ replaceFront ys l
+replace-longer xs ys l after h k e = ap (replaceFront ys) (e ∙ overwrite-fits xs l k) ∙ over-longer xs ys l h
 
 -- what stands behind n elements, of the first n + m
 pub drop-take : (n m : ℕ) (l : List ℕ) → drop n (take (n + m) l) ≡ take m (drop n l)

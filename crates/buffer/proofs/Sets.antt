@@ -1,11 +1,15 @@
 -- Elements set one after the other, as a front or a splice that is replaced.
-use Prim.Native.Nat.{ℕ, suc, _+_, _-_, _≤_}
+use Prim.Native.Nat.{ℕ, suc, _+_, _-_, _≤_, _<_, min}
 use mathlib.Core.List.{List, [], _∷_, _++_, append-nil}
-use mathlib.Core.Path.{_≡_, sym, subst, ap, _∙_}
+use mathlib.Core.Path.{_≡_, refl, sym, subst, ap, _∙_}
+use mathlib.Core.Bool.{Bool, true, false}
 use native.Mathlib.Omega.{arith}
+use native.Mathlib.Numerals.{add-one}
+use borrow.Author.Tests.{leb-true, leb-false}
+use lib.Dec.{leb}
 use native.Mathlib.Nat.{zero-add, add-zero, add-suc, suc-add}
-use lib.ListN.{length, take, drop, drop-of-length-le}
-use lib.Seq.{sets, sets-eq, take-at}
+use lib.ListN.{length, take, drop, set, getD, drop-of-length-le, take-append-drop}
+use lib.Seq.{sets, sets-eq, length-sets, set-out, take-at, take-length, take-suc, length-take-le, drop-set-lt}
 use Rattle.buffer.specs.Splice.{replaceFront, splice, overwrite}
 use Rattle.buffer.proofs.Parts.{rest, back, replaceFront-next, length-replaceFront, length-rest, overwrite-fits, placed}
 
@@ -16,6 +20,41 @@ sets-append l i (x ∷ xs) ys = rw (add-suc i (length xs), ← (suc-add i (lengt
   where
     l′ : List ℕ
     l′ = sets l i (x ∷ [])
+
+-- behind the end nothing is set
+pub sets-out : (xs l : List ℕ) (i : ℕ) → length l ≤ i → sets l i xs ≡ l
+sets-out [] l i h = refl
+sets-out (x ∷ xs) l i h = rw (set-out l i x h) (sets-out xs l (suc i) (omega arith))
+
+-- one more
+pub sets-more : (xs l : List ℕ) (i k : ℕ) → k < length xs → set (sets l i (take k xs)) (i + k) (getD xs k 0) ≡ sets l i (take (k + 1) xs)
+sets-more xs l i k h =
+    let n : length (take k xs) ≡ k = length-take-le k xs (omega arith) in
+    let e : set (sets l i (take k xs)) (i + length (take k xs)) (getD xs k 0) ≡ sets l i (take k xs ++ (getD xs k 0 ∷ [])) = sets-append l i (take k xs) (getD xs k 0 ∷ []) in
+    rw (add-one, take-suc xs k 0 h) (rw n at e)
+
+-- as many as there is room for
+pub sets-past : (xs ys l : List ℕ) (i : ℕ) → length l ≤ i + length xs → sets l i (xs ++ ys) ≡ sets l i xs
+sets-past xs ys l i h = sym (sets-append l i xs ys) ∙ sets-out ys (sets l i xs) (i + length xs) (rw length-sets h)
+
+pub sets-room : (xs l : List ℕ) (i n : ℕ) → n ≡ min (length xs) (length l - i) → sets l i (take n xs) ≡ sets l i xs
+sets-room xs l i n e = go (leb (length xs) (length l - i)) refl
+  where
+    go : (b : Bool) → leb (length xs) (length l - i) ≡ b → sets l i (take n xs) ≡ sets l i xs
+    go true t =
+        let h = leb-true (length xs) (length l - i) t in
+        let k : n ≡ length xs = omega arith in
+        rw (k, take-length)
+    go false t =
+        let h = leb-false (length xs) (length l - i) t in
+        let k : length (take n xs) ≡ n = length-take-le n xs (omega arith) in
+        sym (sets-past (take n xs) (drop n xs) l i (omega arith)) ∙ ap (sets l i) (take-append-drop n xs)
+
+-- behind them, the list is as it was
+pub drop-sets : (l : List ℕ) (i : ℕ) (xs : List ℕ) → drop (i + length xs) (sets l i xs) ≡ drop (i + length xs) l
+drop-sets l i [] = refl
+drop-sets l i (x ∷ xs) =
+    rw (add-suc i (length xs), ← (suc-add i (length xs))) (drop-sets (set l i x) (suc i) xs ∙ drop-set-lt (suc i + length xs) l i x (omega arith))
 
 -- at the front
 pub sets-front : (s xs : List ℕ) → length xs ≤ length s → sets s 0 xs ≡ replaceFront xs s

@@ -5,9 +5,9 @@ use mathlib.Core.Bool.{Bool, true, false, _&&_, _||_, and-assoc}
 use Prim.Native.Nat.{ℕ, zero, suc, _+_, _-_, _*_, _^_, _≤_, _<_}
 use native.Mathlib.Nat.{pow-suc}
 use native.Mathlib.Omega.{arith}
-use borrow.Author.Tests.{eqb-true, eq-eqb, ltb-true, lt-ltb}
+use borrow.Author.Tests.{eqb-true, eq-eqb, ne-eqb, ltb-true, lt-ltb}
 use lib.Dec.{leb, ltb, eqb, leb·zero, leb·suc-zero, leb·suc-suc}
-use lib.ListN.{length, take, drop, replicate, length-drop}
+use lib.ListN.{length, take, drop, getD, replicate, length-drop}
 use lib.Seq.{drop-nil, drop-drop, length-take-le, take-all}
 use Rattle.buffer.specs.Le.{leOf, numberAt, Bytes}
 use Rattle.buffer.specs.Zeros.{allZero}
@@ -35,6 +35,44 @@ only-zeros (x ∷ l) e =
 pub zeros-append : (xs ys : List ℕ) → allZero (xs ++ ys) ≡ (allZero xs && allZero ys)
 zeros-append [] ys = refl
 zeros-append (x ∷ xs) ys = ap (λ (b : Bool). eqb x 0 && b) (zeros-append xs ys) ∙ sym (and-assoc (eqb x 0) (allZero xs) (allZero ys))
+
+pub zeros-both : (xs ys : List ℕ) → allZero xs ≡ true → allZero ys ≡ true → allZero (xs ++ ys) ≡ true
+zeros-both xs ys e f = zeros-append xs ys ∙ ap₂ _&&_ e f
+
+pub zeros-are : (n : ℕ) → allZero (replicate n 0) ≡ true
+zeros-are zero = refl
+zeros-are (suc n) = zeros-are n
+
+-- one by one
+pub zeros-each : (l : List ℕ) → allZero l ≡ true → (k : ℕ) → getD l k 0 ≡ 0
+zeros-each [] e k = refl
+zeros-each (x ∷ l) e zero = eqb-true x 0 (left (eqb x 0) (allZero l) e)
+zeros-each (x ∷ l) e (suc k) = zeros-each l (right (eqb x 0) (allZero l) e) k
+
+pub each-zeros : (l : List ℕ) → ((k : ℕ) → k < length l → getD l k 0 ≡ 0) → allZero l ≡ true
+each-zeros [] e = refl
+each-zeros (x ∷ l) e = ap₂ _&&_ (eq-eqb x 0 (e 0 (omega arith))) (each-zeros l (λ k h. e (suc k) (omega arith)))
+
+-- zeros from a place on are zeros from a later one on
+zeros-drop : (l : List ℕ) (k : ℕ) → allZero l ≡ true → allZero (drop k l) ≡ true
+zeros-drop l zero e = e
+zeros-drop [] (suc k) e = refl
+zeros-drop (x ∷ l) (suc k) e = zeros-drop l k (right (eqb x 0) (allZero l) e)
+
+pub zeros-later : (l : List ℕ) (i k : ℕ) → allZero (drop i l) ≡ true → allZero (drop (i + k) l) ≡ true
+zeros-later l i k e = ap allZero (sym (drop-drop k i l)) ∙ zeros-drop (drop i l) k e
+
+-- one byte further on, past a zero
+pub zero-step : (l : List ℕ) (i : ℕ) → i < length l → getD l i 0 ≡ 0 → allZero (drop (suc i) l) ≡ allZero (drop i l)
+zero-step [] i h e = absurd (omega arith)
+zero-step (x ∷ l) zero h e = rw (eq-eqb x 0 e)
+zero-step (x ∷ l) (suc i) h e = zero-step l i (omega arith) e
+
+-- and a byte that is none
+pub zero-stop : (l : List ℕ) (i : ℕ) → i < length l → (getD l i 0 ≡ 0 → ⊥) → allZero (drop i l) ≡ false
+zero-stop [] i h e = absurd (omega arith)
+zero-stop (x ∷ l) zero h e = rw (ne-eqb x 0 e)
+zero-stop (x ∷ l) (suc i) h e = zero-stop l i (omega arith) e
 
 -- all bytes are zero where their number is
 none : (l : List ℕ) → allZero l ≡ ltb (leOf l) 1

@@ -43,7 +43,8 @@ use Rattle.connection.specs.Calls.{Piece, Try, Call, Chained, takenBy, s
 use Rattle.connection.proofs.Machines.{crcByte, secureByte, crcSide, secureSide, CrcRunning, SecureRunning, CrcRefusedFor, before}
 use Rattle.connection.proofs.Scans.{trace, crc-trace, secure-trace, LastEndsFrame, Just, ready-just, ready-ends, revision-chosen}
 use Rattle.connection.proofs.Splices.{spliced-there, AllBy, skipped, ahead-only, takes-some, lent-nothing}
-use Rattle.connection.proofs.SplitAtSwitch.{runs, refuses, crc-agrees, secure-agrees, Fed, takenOf, stateOf, storeOf, reportedOf, EachOf, reportedThen, countedBy, Unmade, Made, SplitAtSwitch, unmade, made, parted}
+use Rattle.receiver.proofs.Machine.{runs, refuses}
+use Rattle.connection.proofs.SplitAtSwitch.{crc-agrees, secure-agrees, Fed, takenOf, stateOf, storeOf, reportedOf, EachOf, reportedThen, countedBy, Unmade, Made, SplitAtSwitch, unmade, made, parted}
 use Rattle.connection.proofs.SwitchTries.{tries-answered}
 
 -- ---- runs of pieces

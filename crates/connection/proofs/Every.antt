@@ -1,6 +1,6 @@
 -- What holds of every single call and of every try to switch.
 use Prim.Native.Nat.{ℕ, _<_}
-use mathlib.Core.List.{List, [], _∷_}
+use mathlib.Core.List.{List, []}
 use mathlib.Core.Path.{_≡_, refl, sym, ap, subst, _∙_}
 use mathlib.Core.Bool.{Bool, true, false, _&&_, and-true}
 use native.Mathlib.Omega.{arith}
@@ -13,14 +13,13 @@ use Rattle.refusal.specs.Refusals.{Judged, fine, refused, numbersOf, unless, co
 use Rattle.refusal.proofs.Booleans.{wrong, both-left, both-right, second-false}
 use Rattle.banner.specs.declared.Features.{Features}
 use Rattle.stream.specs.declared.Event.the-variants as event
-use Rattle.receiver.specs.declared.Report.{Report}
 use Rattle.receiver.specs.declared.Report.the-variants as report
 use Rattle.receiver.specs.declared.State as crc-state
 use Rattle.banner.specs.Banner.{isMsgr21}
 use Rattle.receiver.specs.State.{rank}
 use Rattle.receiver.specs.State as crc-states
 use Rattle.receiver.specs.Step as crc
-use Rattle.receiver.proofs.Machine.{Machine, After, feed, feed-after}
+use Rattle.receiver.proofs.Machine.{Stands, runs, refuses, next-stands, refuses-next, feed-some, feed-none}
 use Rattle.receiver.proofs.Machine as machine
 use Rattle.receiver.proofs.Live as crc-live
 use Rattle.receiver.proofs.Every as crc-every
@@ -39,42 +38,9 @@ use Rattle.connection.specs.Step.{readyRule, agreesInUse, agrees, begun,
 use Rattle.connection.specs.Calls.{Piece, SwitchedDemand3}
 use Rattle.connection.specs.Every.{refusedInUse, neededInUse, shortStore, refusedConnection, Running, Refuses, Sound, SoundSwitch}
 use Rattle.connection.proofs.Machines.{crcSide, secureSide, CrcRunning, CrcRefusedFor, SecureRunning, SecureRefusedFor, before, crc-answer, secure-answer}
-use Rattle.connection.proofs.SplitAtSwitch.{Stands, runs, refuses, next-stands, crc-agrees, secure-agrees, judged-27, unless-number}
+use Rattle.connection.proofs.SplitAtSwitch.{crc-agrees, secure-agrees, judged-27, unless-number}
 use Rattle.connection.proofs.Laws.{by-rule}
 use Rattle.connection.proofs.Chain.{switched-demand3}
-
--- ---- a machine that stands, and one call on it
-
-module _ (m : Machine) (x : m .State) (s piece : List ℕ) (c : m .Call) where
-  fed-after : m .Running x s → m .Answered x s piece c → (let a = m .answer c in After (m .Running) (m .RefusedFor) (a .report) (a .state) (a .store))
-  fed-after r a =
-      subst (λ (y : machine.Answer (m .State)). After (m .Running) (m .RefusedFor) (y .report) (y .state) (y .store)) (sym (m .feeds x s piece c r a))
-      (feed-after (m .Running) (m .RefusedFor) (m .onByte) (m .keeps) x s piece r)
-
-  -- behind a refusal it is refused
-  refuses-next : Stands m x s → m .Answered x s piece c → (n : Numbers) → m .answer c .report ≡ report.Event (event.Refused n) → m .RefusedFor n (m .answer c .state)
-  refuses-next (runs r) a n q = rw q at (fed-after r a)
-  refuses-next (refuses k g) a n q =
-      let e = m .repeats k x s piece c g a in
-      let w : report.Event (event.Refused k) ≡ report.Event (event.Refused n) = sym (ap (λ (y : machine.Answer (m .State)). y .report) e) ∙ q in
-      let i : k ≡ n = cc in
-      subst (m .RefusedFor n) (sym (ap (λ (y : machine.Answer (m .State)). y .state) e)) (subst (λ (j : Numbers). m .RefusedFor j x) i g)
-
--- a piece is begun
-module _ {A : Type 0} (onByte : A → List ℕ → ℕ → machine.Stepped A) where
-  onward-some : (r : Report) (y : machine.Stepped A) (a : machine.Answer A) → 0 < machine.onward r y a .taken
-  onward-some report.More y a = omega arith
-  onward-some (report.Event e) y a = omega arith
-
-  feed-some : (x : A) (s piece : List ℕ) → 0 < length piece → 0 < feed onByte x s piece .taken
-  unfolding feed
-  feed-some x s [] h = absurd (omega arith)
-  feed-some x s (b ∷ bs) h = onward-some (onByte x s b .report) (onByte x s b) (feed onByte (onByte x s b .state) (onByte x s b .store) bs)
-
-  feed-none : (x : A) (s piece : List ℕ) → length piece ≡ 0 → (feed onByte x s piece .taken ≡ 0) × (feed onByte x s piece .report ≡ report.More)
-  unfolding feed
-  feed-none x s [] h = (refl, refl)
-  feed-none x s (b ∷ bs) h = absurd (omega arith)
 
 -- ---- the part in use, by the mode
 

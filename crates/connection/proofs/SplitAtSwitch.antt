@@ -10,12 +10,10 @@ use Rattle.refusal.specs.Refusals.{Judged, fine, refused, numbersOf, judgedBy, 
 use Rattle.refusal.proofs.Booleans.{both-true}
 use Rattle.refusal.proofs.Judgements.{or-else-last}
 use Rattle.stream.specs.Stream.{Entry}
-use Rattle.receiver.specs.declared.Report.{Report}
 use Rattle.receiver.specs.State as crc-states
 use Rattle.banner.specs.Banner.{isMsgr21}
 use Rattle.receiver.specs.Calls.{pieceAt, entered}
-use Rattle.receiver.proofs.Machine.{Machine, After, by-after, feed, feed-after}
-use Rattle.receiver.proofs.Machine as machine
+use Rattle.receiver.proofs.Machine.{Stands, runs, refuses, next-stands}
 use Rattle.receiver.proofs.Lists as lists
 use Rattle.sealed_receiver.specs.State as sealed-states
 use Rattle.sealed_receiver.proofs.Live.{switched-running}
@@ -25,23 +23,6 @@ use Rattle.connection.specs.Switched.{none, behind}
 use Rattle.connection.specs.Step.{isSecure, readyRule, agreesInUse, agrees, mayBeSwitched, judgeSwitch, switchedState, SwitchedWith}
 use Rattle.connection.specs.Calls.{Piece, Try, Call, taking, switching, Chained, takenBy, stateBy, storeBy, reportedBy, counted, madeOr, switchBy, TriesRefused, madeOrRefused, OneMade, Each, Repeats}
 use Rattle.connection.proofs.Machines.{crcSide, secureSide, before}
-
--- ---- a machine stands: it runs, or it is refused
-
-pub data Stands (m : Machine) (x : m .State) (s : List ℕ) : Type 0 where
-  runs : m .Running x s → Stands m x s
-  refuses : (n : Numbers) → m .RefusedFor n x → Stands m x s
-
-after-stands : (m : Machine) (r : Report) (x : m .State) (s : List ℕ) → After (m .Running) (m .RefusedFor) r x s → Stands m x s
-after-stands m r x s = by-after (m .Running) (m .RefusedFor) r x s (λ a. runs a) (λ n a. refuses n a)
-
-pub next-stands : (m : Machine) (x : m .State) (s piece : List ℕ) (c : m .Call) → Stands m x s → m .Answered x s piece c → Stands m (m .answer c .state) (m .answer c .store)
-next-stands m x s piece c (runs r) a =
-    let f = feed (m .onByte) x s piece in
-    subst (λ (y : machine.Answer (m .State)). Stands m (y .state) (y .store)) (sym (m .feeds x s piece c r a))
-    (after-stands m (f .report) (f .state) (f .store) (feed-after (m .Running) (m .RefusedFor) (m .onByte) (m .keeps) x s piece r))
-next-stands m x s piece c (refuses n g) a =
-    subst (λ (y : machine.Answer (m .State)). Stands m (y .state) (y .store)) (sym (m .repeats n x s piece c g a)) (refuses n g)
 
 -- ---- so it agrees with itself, and a try that is refused is refused with 27
 

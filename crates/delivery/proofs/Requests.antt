@@ -1,13 +1,7 @@
 -- What the functions need: bodies that are not one number, a part of the store, and an answer of the session handed on.
 use mathlib.Core.Path.{_≡_, refl, ap, _∙_}
 use mathlib.Core.List.{List, [], _∷_}
-use Prim.Native.Nat.{ℕ, _≤_, _<_, min}
-use native.Mathlib.Omega.{arith}
-use lib.ListN.{length, take}
-use lib.Seq.{take-all}
-use lib.Dec.{leb}
-use borrow.Author.Tests.{leb-true, leb-false}
-use mathlib.Core.Bool.{Bool, true, false}
+use Prim.Native.Nat.{ℕ}
 use types.Run.{OneOf, miss}
 use denote.Enum.Declared.{tagOf}
 use Rattle.preamble.specs.declared.Header.{Header}
@@ -45,19 +39,6 @@ no-number h s (body.Refused r) k = absurd (miss otherBodies 10 tt k)
 -- and events but a frame (2)
 pub no-frame : (s : List ℕ) (e : Event) → OneOf (others (2 ∷ [])) (tagOf declared-event.the-type e) → request.Nothing ≡ requestBy e s
 no-frame s = by-frame (λ w. OneOf (others (2 ∷ [])) (tagOf declared-event.the-type w) → request.Nothing ≡ requestBy w s) (λ h k. absurd (miss (others (2 ∷ [])) 2 tt k)) (λ w o k. rw o)
-
-pub take-min : (n : ℕ) (l : List ℕ) → take (min n (length l)) l ≡ take n l
-take-min n l = go (leb n (length l)) refl
-  where
-    go : (t : Bool) → leb n (length l) ≡ t → take (min n (length l)) l ≡ take n l
-    go true e =
-        let h : n ≤ length l = leb-true n (length l) e in
-        let m : min n (length l) ≡ n = omega arith in
-        rw m
-    go false e =
-        let h : length l < n = leb-false n (length l) e in
-        let m : min n (length l) ≡ length l = omega arith in
-        rw (m, take-all n l (omega arith), take-all (length l) l (omega arith))
 
 -- an answer by its two parts
 pub called : (st : Delivery) (c : Call) (r : SessionCalled) (o : Outcome) → r ≡ sessionCalledBy st o → o ≡ callOf (st .session) c → Called st c r

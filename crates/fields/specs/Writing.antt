@@ -1,10 +1,11 @@
 -- What appending a field to a draft comes to. A draft counts up to one byte above the limit of a segment, and a buffer takes what it has room for.
 use mathlib.Core.Path.{_≡_}
 use mathlib.Core.Bool.{Bool, true, false, cond, _||_, not}
-use mathlib.Core.List.{List, [], _∷_}
-use Prim.Native.Nat.{ℕ, zero, suc, _+_, _≤_, min}
+use mathlib.Core.List.{List}
+use Prim.Native.Nat.{ℕ, _+_, _≤_, min}
 use lib.Dec.{leb, ltb, eqb}
 use lib.ListN.{length}
+use lib.Seq.{sets}
 use Rattle.preamble.specs.Judge.{segmentLimit}
 use Rattle.fields.specs.declared.Draft.{Draft}
 use Rattle.fields.specs.Field.{Field, number, negative, numbers, payload, opaque, fixed, fieldBytes, Fits}
@@ -44,10 +45,7 @@ counted ok into n p =
 
 -- a buffer with xs from a place on, as far as there is room
 unfoldable pub putAt : ℕ → List ℕ → List ℕ → List ℕ
-putAt at xs [] = []
-putAt zero [] (y ∷ l) = y ∷ l
-putAt zero (x ∷ xs) (y ∷ l) = x ∷ putAt zero xs l
-putAt (suc at) xs (y ∷ l) = y ∷ putAt at xs l
+putAt at xs l = sets l at xs
 
 -- bytes appended to the draft p and the buffer l: q and m are those behind
 pub record Put (xs : List ℕ) (ok : Bool) (into : ℕ) (p : Draft) (l : List ℕ) (q : Draft) (m : List ℕ) : Type 0 where

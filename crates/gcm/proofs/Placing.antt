@@ -5,9 +5,9 @@ use Prim.Native.Nat.{ℕ, _+_, _-_, _<_, _≤_, _^_}
 use native.Mathlib.Omega.{arith}
 use lib.ListN.{length, take, drop, length-append}
 use lib.Pow.{high, low}
-use lib.Seq.{take-at, drop-append-add, drop-drop, length-take-le}
+use lib.Seq.{length-take-le}
 use Rattle.buffer.specs.Splice.{replaceFront, overwrite}
-use Rattle.buffer.proofs.Parts.{overwrite-fits}
+use Rattle.buffer.proofs.Parts.{replace-longer, overwrite-front}
 use Rattle.aes.specs.Aes.{State}
 use Rattle.aes.specs.Counter.{gctr}
 use Rattle.aes.proofs.Counters.{gctr-length}
@@ -17,19 +17,6 @@ use Rattle.gcm.specs.Gcm.{be8, blockBytes, tagOf, sealedBy}
 pub bytes-split : (h l : ℕ) → l < 2 ^ 64 → be8 h ++ be8 l ≡ blockBytes (pair h l)
 unfolding blockBytes
 bytes-split h l k = sym (ap₂ (λ (x y : ℕ). be8 x ++ be8 y) (high h 64 k) (low h 64 k))
-
--- n bytes laid at the front, and something longer over them
-pub laid-under : (xs ys buf under : List ℕ) → length xs ≤ length ys → length xs ≤ length buf → under ≡ overwrite xs buf → replaceFront ys under ≡ replaceFront ys buf
-laid-under xs ys buf under h k e =
-    let l : length xs + (length ys - length xs) ≡ length ys = omega arith in
-    ap (replaceFront ys) (e ∙ overwrite-fits xs buf k)
-    ∙ ap (λ (n : ℕ). ys ++ drop n (xs ++ drop (length xs) buf)) (sym l)
-    ∙ ap (λ (t : List ℕ). ys ++ t) (drop-append-add xs (drop (length xs) buf) (length ys - length xs) ∙ drop-drop (length ys - length xs) (length xs) buf)
-    ∙ ap (λ (n : ℕ). ys ++ drop n buf) l
-
--- the front of what was laid is what was laid
-pub laid-front : (xs buf under : List ℕ) → length xs ≤ length buf → under ≡ overwrite xs buf → take (length xs) under ≡ xs
-laid-front xs buf under k e = ap (take (length xs)) (e ∙ overwrite-fits xs buf k) ∙ take-at xs (drop (length xs) buf) (length xs) refl
 
 module _ (w : List State) (nonce : List ℕ) where
   pub tag-length : (c : List ℕ) → length (tagOf w nonce c) ≡ 16
@@ -54,8 +41,8 @@ module _ (w : List State) (nonce : List ℕ) where
   sealed-over text buf under h e =
       let k : length text ≤ length buf = omega arith in
       let l : length text ≤ length (sealedBy w nonce text) = omega (arith, sealed-length text) in
-      ap (λ (t : List ℕ). replaceFront (sealedBy w nonce t) under) (laid-front text buf under k e)
-      ∙ laid-under text (sealedBy w nonce text) buf under l k e
+      ap (λ (t : List ℕ). replaceFront (sealedBy w nonce t) under) (overwrite-front text buf under k e)
+      ∙ replace-longer text (sealedBy w nonce text) buf under l k e
 
   -- masking what was laid
   pub opened-over : (xs buf under : List ℕ) (n : ℕ) → length xs ≡ n → n ≤ length buf → under ≡ overwrite xs buf
@@ -65,6 +52,6 @@ module _ (w : List State) (nonce : List ℕ) where
       let g : length (gctr w nonce xs) ≡ length xs = gctr-length w nonce 0 xs in
       let l : length xs ≤ length (gctr w nonce xs) = omega arith in
       ap (λ (m : ℕ). gctr w nonce (take m under) ++ drop m under) (sym en)
-      ∙ ap (λ (t : List ℕ). gctr w nonce t ++ drop (length xs) under) (laid-front xs buf under k e)
+      ∙ ap (λ (t : List ℕ). gctr w nonce t ++ drop (length xs) under) (overwrite-front xs buf under k e)
       ∙ ap (λ (m : ℕ). gctr w nonce xs ++ drop m under) (sym g)
-      ∙ laid-under xs (gctr w nonce xs) buf under l k e
+      ∙ replace-longer xs (gctr w nonce xs) buf under l k e

@@ -10,7 +10,7 @@ use lib.ListN.{length, take, drop, length-take, length-drop}
 use lib.Seq.{take-take, take-all, drop-drop}
 use borrow.Author.Tests.{lt-ltb, le-ltb, le-leb, ltb-true, ltb-false, leb-true, leb-false, eqb-true, eqb-false}
 use Rattle.buffer.specs.Le.{numberAt, Bytes}
-use Rattle.buffer.proofs.Numbers.{number-take, word-read, bytes-take, bytes-drop}
+use Rattle.buffer.proofs.Numbers.{number-take, number-few, bytes-take, bytes-drop}
 use Rattle.buffer.proofs.CopyLoop.{take-min}
 use Rattle.buffer.proofs.Parts.{drop-take}
 use Rattle.refusal.specs.Refusals.{Judged, fine}
@@ -60,13 +60,6 @@ take-again : (m : ℕ) (l : List ℕ) → take (length (take m l)) l ≡ take m 
 take-again m l = take-min l m (length (take m l)) (length-take m l)
 
 -- lengths of 32 bits
-number-few : (l : List ℕ) → Bytes l → numberAt 4 0 l ≤ 4294967295
-unfolding numberAt
-number-few l h =
-    let b = bytes-take 4 h in
-    let n : length (take 4 l) ≤ 4 = omega (arith, length-take 4 l) in
-    omega (arith, word-read (take 4 l) n, b .at 0, b .at 1, b .at 2, b .at 3)
-
 sum-few : (n : ℕ) (l : List ℕ) → Bytes l → sumOf n l ≤ n * 4294967295
 unfolding sumOf
 sum-few zero l h = omega arith

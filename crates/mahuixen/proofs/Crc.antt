@@ -25,7 +25,7 @@ use Rattle.connection.specs.Step.{isSecure, readyRule, Answer, byCrc, answer}
 use Rattle.connection.specs.Calls.{Piece}
 use Rattle.connection.proofs.Laws.{mode-is}
 use Rattle.connection.proofs.Machines.{before, crcSide}
-use Rattle.connection.proofs.SplitAtSwitch.{Stands, runs, refuses, next-stands}
+use Rattle.receiver.proofs.Machine.{Stands, runs, refuses, next-stands}
 use Rattle.abi_connection.specs.Words.{AbiConnection, AbiOf, AbiReceived, kindIn, takenIn}
 use Rattle.abi_connection.proofs.Calls.{taken-word}
 use Rattle.mahuixen.specs.Calls.{AbiPiece, AbiChained, abiReceived}

@@ -17,7 +17,7 @@ use Rattle.preamble.specs.declared.Segment.{Segment}
 use Rattle.preamble.specs.declared.Header.{Header}
 use Rattle.preamble.specs.Layout.{total, frontList, preambleFront, preambleBytes, segmentFields}
 use Rattle.preamble.specs.Judge.{headerOf, preambleOf, judgeChecksum, shapeFault, limitFault, judgeShape, judgeTag, judgeLimits, judgeStore, judgeHeader, preambleJudgements, judgePreamble}
-use Rattle.preamble.specs.Checked.{CheckedPreamble}
+use Rattle.preamble.specs.Checked.{CheckedPreamble, FineExactly}
 use Rattle.preamble.specs.Reading.{HeaderFits}
 
 pub front-is : (h : Header) → frontList h ≡ preambleFront h
@@ -77,6 +77,10 @@ pub preamble-checked : (bs : List ℕ) (js : List Judged) → CheckedPreamble bs
 preamble-checked bs js c f =
     let sum : judgeChecksum bs ≡ fine = ap (λ (b : Bool). unless b refusal.PreambleChecksum) (eq-eqb (crcOf 0 (take 28 bs)) (numberAt 4 28 bs) (c .checksum)) in
     fine-all (preambleJudgements (preambleOf bs) bs ++ js) (sum, (c .shape, (c .flags, (c .tag, (c .limits, f)))))
+
+pub fine-exactly : FineExactly
+unfolding FineExactly
+fine-exactly bs = (λ e. checked-preamble bs [] e .0, λ c. preamble-checked bs [] c tt)
 
 -- its header is accepted by itself
 pub checked-header : {bs : List ℕ} → CheckedPreamble bs → judgeHeader (headerOf bs) ≡ fine

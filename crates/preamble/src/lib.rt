@@ -15,6 +15,7 @@ ghost use Prim.Native.Nat.{_<_};
 ghost use lib.Dec.{eqb};
 ghost use Rattle.refusal.specs.Refusals.{judgedBy, firstOf, isFine};
 ghost use Rattle.preamble.specs.Layout.{noHeader, isNoSegment, isNoHeader, total, frontList};
+ghost use Rattle.preamble.specs.Checked.{FineExactly};
 ghost use Rattle.preamble.specs.Reading.{ReadsBack};
 ghost use Rattle.preamble.specs.Judge.{first, faultWhen, lengthWrong, alignWrong, segmentFault, shapeFault, judgeShape, judgeFlags, judgeTag, above, limitFault, judgeLimits, judgeStore, judgeHeader, segmentAt, headerOf, preambleOf, fieldJudgements, preambleJudgements, judgeRead};
 
@@ -371,7 +372,12 @@ pub fn preamble_front(h: Header) -> [u8; 28]
     ]
 }
 
-// Reading what was laid out gives it back. The body does nothing: the promise is a theorem about the definitions.
+// None of 5 to 9 is given exactly where a preamble's checks hold. The body does nothing here and below: the promise is a theorem about the definitions.
+pub fn fine_exactly()
+    ensures { λ _. ⌜ FineExactly ⌝ }
+{}
+
+// Reading what was laid out gives it back.
 pub fn reads_back()
     ensures { λ _. ⌜ ReadsBack ⌝ }
 {}

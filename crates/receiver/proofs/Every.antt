@@ -1,24 +1,24 @@
 -- What holds of every single call.
 use Prim.Native.Nat.{ℕ, _<_}
-use mathlib.Core.List.{List, [], _∷_}
+use mathlib.Core.List.{List}
 use mathlib.Core.Path.{_≡_, refl, sym, ap, _∙_}
 use mathlib.Core.Bool.{Bool, true, false}
-use native.Mathlib.Omega.{arith}
 use lib.ListN.{length}
 use lib.Dec.{ltb}
 use borrow.Author.Tests.{ltb-true, ltb-false, lt-ltb, le-ltb}
 use Rattle.refusal.specs.declared.Numbers.{Numbers}
 use Rattle.stream.specs.declared.Event.the-variants as event
 use Rattle.receiver.specs.declared.State.{State}
-use Rattle.receiver.specs.declared.Report.{Report}
 use Rattle.receiver.specs.declared.Report.the-variants as report
 use Rattle.receiver.specs.declared.Received.{Received}
 use Rattle.receiver.specs.State.{isRefused, given, agrees}
 use Rattle.refusal.specs.Refusals.{contradiction}
-use Rattle.receiver.specs.Step.{refusedState, Stepped, onByte, Answer, onward, feed, refuseUnchanged, shortStore, neededBy, answer, Answered, Running}
+use Rattle.receiver.specs.Step.{refusedState, Answer, feed, refuseUnchanged, shortStore, neededBy, answer, Answered, Running}
 use Rattle.receiver.specs.Every.{Refuses, Sound}
 use Rattle.refusal.proofs.Booleans.{wrong}
 use Rattle.receiver.proofs.Live.{RefusedFor, feed-after, after-agrees, refused-for, agree-own}
+use Rattle.receiver.proofs.Machine as machine
+use Rattle.receiver.proofs.Scan.{byteStep, machine-feed}
 
 -- ---- the kinds of answer
 
@@ -84,19 +84,11 @@ well st s piece e = go (isRefused (st .position .stage)) refl (ltb (length s) (n
 
 -- ---- a piece is begun
 
-onward-some : (r : Report) (x : Stepped) (a : Answer) → 0 < onward r 1 x a .received .taken
-onward-some report.More x a = omega arith
-onward-some (report.Event e) x a = omega arith
-
 feed-some : (st : State) (s piece : List ℕ) → 0 < length piece → 0 < feed st s piece .received .taken
-unfolding feed
-feed-some st s [] h = absurd (omega arith)
-feed-some st s (b ∷ bs) h = onward-some (onByte st s b .report) (onByte st s b) (feed (onByte st s b .state) (onByte st s b .store) bs)
+feed-some st s piece h = rw (← (machine-feed st s piece)) at (machine.feed-some byteStep st s piece h)
 
 feed-none : (st : State) (s piece : List ℕ) → length piece ≡ 0 → (feed st s piece .received .taken ≡ 0) × (feed st s piece .received .report ≡ report.More)
-unfolding feed
-feed-none st s [] h = (refl, refl)
-feed-none st s (b ∷ bs) h = absurd (omega arith)
+feed-none st s piece h = rw (← (machine-feed st s piece)) at (machine.feed-none byteStep st s piece h)
 
 pub sound : (st : State) (s piece : List ℕ) (r : Received) (s′ : List ℕ) → Answered st s piece r s′ → Sound st s piece r s′
 sound st s piece r s′ a =

@@ -1,4 +1,3 @@
-pub mod Zeros
 pub mod Entries
 pub mod Appended
 pub mod Machine

@@ -40,7 +40,8 @@ use Rattle.receiver.specs.State.{rank, stageOf, sizeOf, placeOf, isRefus
 use Rattle.receiver.specs.Step.{at, onlyOwn, withPayload, withPeer, withRevision, withHeader, withFirst, nextFrame, refusedState, blockWith, storeWith, absorbed, stored, size, Stepped, silent, refuse, unlessRefused, endBanner, endFrame, beginEpilogue, beginRest, beginBody, reportFirst, behindFirstSum, reached, chunk, finish, onByte, feed, Running}
 use Rattle.refusal.proofs.Booleans.{wrong, both-left, both-right}
 use Rattle.receiver.proofs.Ranks.{stage-at}
-use Rattle.receiver.proofs.Zeros.{zeros-later, drop-sets}
+use Rattle.buffer.proofs.Sets.{drop-sets}
+use Rattle.buffer.proofs.Zeros.{zeros-later}
 use Rattle.refusal.proofs.Allowed.{Allowed, allowed-fine, allowed-cond, allowed-or}
 use Rattle.body.proofs.Allowed.{AllowedEnd, end-whole, end-dropped, end-turned, end-by, end-or}
 use Rattle.body.proofs.Ends.{has-length}

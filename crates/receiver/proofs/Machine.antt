@@ -1,7 +1,7 @@
 -- A machine that takes bytes, of any state and any step: the step run over a list of bytes, and what a piece takes of it.
-use Prim.Native.Nat.{ℕ, suc, _+_, _≤_, zero-le, suc-le-suc}
+use Prim.Native.Nat.{ℕ, suc, _+_, _≤_, _<_, zero-le, suc-le-suc}
 use mathlib.Core.List.{List, [], _∷_, _++_}
-use mathlib.Core.Path.{_≡_, refl, ap, _∙_}
+use mathlib.Core.Path.{_≡_, refl, sym, ap, subst, _∙_}
 use native.Mathlib.Omega.{arith}
 use native.Mathlib.Numerals.{add-one, one-add}
 use native.Mathlib.Nat.{add-zero, add-suc, suc-add}
@@ -186,3 +186,53 @@ pub record Machine : Type 1 where
   -- a call takes its piece byte by byte; behind a refusal it repeats it
   pub feeds : (x : State) (s piece : List ℕ) (c : Call) → Running x s → Answered x s piece c → answer c ≡ feed onByte x s piece
   pub repeats : (n : Numbers) (x : State) (s piece : List ℕ) (c : Call) → RefusedFor n x → Answered x s piece c → answer c ≡ refusedAgain n x s
+
+-- ---- a machine stands: it runs, or it is refused
+
+pub data Stands (m : Machine) (x : m .State) (s : List ℕ) : Type 0 where
+  runs : m .Running x s → Stands m x s
+  refuses : (n : Numbers) → m .RefusedFor n x → Stands m x s
+
+after-stands : (m : Machine) (r : Report) (x : m .State) (s : List ℕ) → After (m .Running) (m .RefusedFor) r x s → Stands m x s
+after-stands m r x s = by-after (m .Running) (m .RefusedFor) r x s (λ a. runs a) (λ n a. refuses n a)
+
+pub next-stands : (m : Machine) (x : m .State) (s piece : List ℕ) (c : m .Call) → Stands m x s → m .Answered x s piece c → Stands m (m .answer c .state) (m .answer c .store)
+next-stands m x s piece c (runs r) a =
+    let f = feed (m .onByte) x s piece in
+    subst (λ (y : Answer (m .State)). Stands m (y .state) (y .store)) (sym (m .feeds x s piece c r a))
+    (after-stands m (f .report) (f .state) (f .store) (feed-after (m .Running) (m .RefusedFor) (m .onByte) (m .keeps) x s piece r))
+next-stands m x s piece c (refuses n g) a =
+    subst (λ (y : Answer (m .State)). Stands m (y .state) (y .store)) (sym (m .repeats n x s piece c g a)) (refuses n g)
+
+-- ---- a machine that stands, and one call on it
+
+module _ (m : Machine) (x : m .State) (s piece : List ℕ) (c : m .Call) where
+  pub fed-after : m .Running x s → m .Answered x s piece c → (let a = m .answer c in After (m .Running) (m .RefusedFor) (a .report) (a .state) (a .store))
+  fed-after r a =
+      subst (λ (y : Answer (m .State)). After (m .Running) (m .RefusedFor) (y .report) (y .state) (y .store)) (sym (m .feeds x s piece c r a))
+      (feed-after (m .Running) (m .RefusedFor) (m .onByte) (m .keeps) x s piece r)
+
+  -- behind a refusal it is refused
+  pub refuses-next : Stands m x s → m .Answered x s piece c → (n : Numbers) → m .answer c .report ≡ report.Event (event.Refused n) → m .RefusedFor n (m .answer c .state)
+  refuses-next (runs r) a n q = rw q at (fed-after r a)
+  refuses-next (refuses k g) a n q =
+      let e = m .repeats k x s piece c g a in
+      let w : report.Event (event.Refused k) ≡ report.Event (event.Refused n) = sym (ap (λ (y : Answer (m .State)). y .report) e) ∙ q in
+      let i : k ≡ n = cc in
+      subst (m .RefusedFor n) (sym (ap (λ (y : Answer (m .State)). y .state) e)) (subst (λ (j : Numbers). m .RefusedFor j x) i g)
+
+-- a piece is begun
+module _ {A : Type 0} (onByte : A → List ℕ → ℕ → Stepped A) where
+  onward-some : (r : Report) (y : Stepped A) (a : Answer A) → 0 < onward r y a .taken
+  onward-some report.More y a = omega arith
+  onward-some (report.Event e) y a = omega arith
+
+  pub feed-some : (x : A) (s piece : List ℕ) → 0 < length piece → 0 < feed onByte x s piece .taken
+  unfolding feed
+  feed-some x s [] h = absurd (omega arith)
+  feed-some x s (b ∷ bs) h = onward-some (onByte x s b .report) (onByte x s b) (feed onByte (onByte x s b .state) (onByte x s b .store) bs)
+
+  pub feed-none : (x : A) (s piece : List ℕ) → length piece ≡ 0 → (feed onByte x s piece .taken ≡ 0) × (feed onByte x s piece .report ≡ report.More)
+  unfolding feed
+  feed-none x s [] h = (refl, refl)
+  feed-none x s (b ∷ bs) h = absurd (omega arith)

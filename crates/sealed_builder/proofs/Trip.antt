@@ -1,13 +1,13 @@
 -- What is built comes back.
 use mathlib.Core.Path.{_≡_, refl, sym, ap, ap₂, _∙_}
 use mathlib.Core.Bool.{Bool, true, false, not}
-use mathlib.Core.List.{List, _++_, append-assoc}
+use mathlib.Core.List.{List, _++_}
 use Prim.Native.Nat.{ℕ, suc, _+_, _≤_, _<_}
 use native.Mathlib.Omega.{arith}
 use borrow.Author.Tests.{eqb-false}
 use lib.Dec.{eqb}
 use lib.ListN.{length, take, drop}
-use lib.Seq.{length-take-le, take-at, drop-at}
+use Rattle.buffer.proofs.Splices.{splice-at}
 use Rattle.buffer.specs.Splice.{splice}
 use Rattle.refusal.specs.declared.Refusal.the-variants as refusal
 use Rattle.refusal.specs.Refusals.{fine}
@@ -31,14 +31,6 @@ use Rattle.sealed_builder.specs.Nonces.{Build, Meets}
 use Rattle.sealed_builder.specs.Trip.{reported, SentBack}
 use Rattle.sealed_builder.proofs.Accepted.{accepted}
 use Rattle.sealed_builder.proofs.NoNonceTwice.{judged, came, when-fine, when-refused}
-
--- what was spliced in
-spliced : (l : List ℕ) (i k : ℕ) (xs : List ℕ) → length xs ≡ k → i ≤ length l → take k (drop i (splice l i xs)) ≡ xs
-spliced l i k xs e h =
-    let rest : List ℕ = drop (i + length xs) l in
-    ap (λ (x : List ℕ). take k (drop i x)) (append-assoc (take i l) xs rest)
-    ∙ ap (take k) (drop-at (take i l) (xs ++ rest) i (length-take-le i l h))
-    ∙ take-at xs rest k e
 
 -- an aborted frame that a builder accepts has more than one segment
 several : (h : Header) → judgeHeader h ≡ fine → judgeAbort Msgr21 (h .count) true ≡ fine → 1 < h .count
@@ -77,7 +69,7 @@ module _ (s : Sending) (b : Build) (n f P : ℕ) (tail store : List ℕ) (m : Me
       let size : length bytes ≡ sealedLength h = length-frame w (s .nonce) h (b .abort) (b .source) (c .whole) in
       let count : k ≡ sealedLength h = same k (sealedLength h) (sym a ∙ v .0) in
       let after : b .after ≡ splice (b .buffer) (b .queued) bytes = ap (λ (d : Done). d .buffer) (came s b m fine e) in
-      let there : take k (drop (b .queued) (b .after)) ≡ bytes = ap (λ (x : List ℕ). take k (drop (b .queued) x)) after ∙ spliced (b .buffer) (b .queued) k bytes (size ∙ sym count) (omega (arith, c .fits)) in
+      let there : take k (drop (b .queued) (b .after)) ≡ bytes = ap (λ (x : List ℕ). take k (drop (b .queued) x)) after ∙ splice-at (b .buffer) (b .queued) bytes (omega (arith, c .fits)) k (size ∙ sym count) in
       let t : Sent n h (b .source) store = record { fits = fits; header = c .header; whole = c .whole; nonces = l; room = r } in
       ap (λ (x : List ℕ). frames (suc f) w (s .nonce) n P (x ++ tail) store) there
       ∙ read-as (b .abort) t (c .header) (c .late)

@@ -6,10 +6,11 @@ use Prim.Native.Nat.{ℕ, zero, suc, _+_, _-_, _≤_, _<_}
 use native.Mathlib.Nat.{add-zero}
 use native.Mathlib.Numerals.{add-one}
 use native.Mathlib.Omega.{arith}
-use borrow.Author.Tests.{lt-ltb, eqb-true, eq-eqb}
-use lib.Dec.{lit<, eqb}
+use borrow.Author.Tests.{lt-ltb}
+use lib.Dec.{lit<}
 use lib.ListN.{length, take, drop, getD, length-drop}
 use lib.Seq.{getD-drop, getD-take, length-take-le}
+use Rattle.buffer.proofs.Zeros.{zeros-each, each-zeros}
 use Rattle.refusal.specs.declared.Refusal.the-variants as refusal
 use Rattle.refusal.specs.Refusals.{Judged, fine, refused, unless}
 use Rattle.refusal.proofs.Booleans.{wrong, both-left, both-right, both-true}
@@ -37,15 +38,6 @@ use Rattle.secure.proofs.Bounds.{least}
 use Rattle.sealed_ends.proofs.Judging.{PartReads, JudgesAt, first-length}
 
 -- ---- zeros
-
-zeros-each : (l : List ℕ) → allZero l ≡ true → (k : ℕ) → getD l k 0 ≡ 0
-zeros-each [] e k = refl
-zeros-each (x ∷ l) e zero = eqb-true x 0 (both-left (eqb x 0) (allZero l) e)
-zeros-each (x ∷ l) e (suc k) = zeros-each l (both-right (eqb x 0) (allZero l) e) k
-
-each-zeros : (l : List ℕ) → ((k : ℕ) → k < length l → getD l k 0 ≡ 0) → allZero l ≡ true
-each-zeros [] e = refl
-each-zeros (x ∷ l) e = both-true (eqb x 0) (allZero l) (eq-eqb x 0 (e 0 (omega arith))) (each-zeros l (λ k h. e (suc k) (omega arith)))
 
 -- of a text from one place on
 module _ (i : ℕ) (l : List ℕ) where

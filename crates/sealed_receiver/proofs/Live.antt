@@ -24,7 +24,8 @@ use Rattle.banner.specs.declared.Revision.the-variants.{Msgr21}
 use Rattle.body.specs.End.{Ended, whole, dropped, refusedFor, lateOf}
 use Rattle.receiver.specs.declared.Report.{Report}
 use Rattle.preamble.specs.Layout.{noHeader}
-use Rattle.receiver.proofs.Zeros.{zeros-later, drop-sets}
+use Rattle.buffer.proofs.Sets.{drop-sets}
+use Rattle.buffer.proofs.Zeros.{zeros-later}
 use Rattle.refusal.proofs.Allowed.{Allowed, allowed-fine, allowed-refused, allowed-cond, allowed-or}
 use Rattle.body.proofs.Allowed.{AllowedEnd, end-whole, end-dropped, end-turned, end-by}
 use Rattle.receiver.proofs.Machine as machine

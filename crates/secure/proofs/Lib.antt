@@ -1,4 +1,3 @@
-pub mod Zeros
 pub mod Bounds
 pub mod Stores
 pub mod LastText

@@ -2,7 +2,7 @@
 use mathlib.Core.Path.{_≡_, refl, sym, ap, ap₂, _∙_}
 use mathlib.Core.Bool.{Bool, true, false, not, cond, _&&_}
 use mathlib.Core.List.{List, [], _∷_, _++_, append-assoc, append-nil}
-use Prim.Native.Nat.{ℕ, zero, suc, _+_, _-_, _%_, _≤_, _<_}
+use Prim.Native.Nat.{ℕ, suc, _+_, _-_, _%_, _≤_, _<_}
 use native.Mathlib.Nat.{mod-lt}
 use native.Mathlib.Numerals.{add-one}
 use native.Mathlib.Omega.{arith}
@@ -15,7 +15,7 @@ use Rattle.buffer.proofs.Parts.{over-longer}
 use Rattle.refusal.specs.declared.Refusal.the-variants as refusal
 use Rattle.refusal.specs.Refusals.{Judged, fine, unless}
 use Rattle.refusal.proofs.Judgements.{all-fine, fine-all}
-use Rattle.refusal.proofs.Booleans.{both-left, both-right, wrong}
+use Rattle.refusal.proofs.Booleans.{wrong}
 use Rattle.preamble.specs.declared.Header.{Header}
 use Rattle.preamble.specs.declared.Preamble.{Preamble}
 use Rattle.preamble.specs.declared.Segment.{Segment}
@@ -38,14 +38,11 @@ use Rattle.gcm.proofs.RoundTrip.{lists}
 use Rattle.secure.specs.Layout.{allNonces, nextNonce, nonceAfter, padding, roundUp, padded, inlined, paddedFrom, firstText, secondText, lastText, lastLengths, noSecondPart, noLastPart, unlessNone, laterTexts, texts, partsFrom, sealedParts, sealedFrame, secondPart, lastPart, sealedLength, partCount, needed}
 use Rattle.secure.proofs.Lengths.{length-segment, length-inlined, length-first-text, length-rest-text, length-last-text}
 use Rattle.buffer.specs.Zeros.{allZero}
+use Rattle.buffer.proofs.Zeros.{zeros-are, zeros-both}
 use Rattle.secure.specs.Reading.{Continuation, judgePadding, judgeFirst, unpadded, paddingOf, lateByteIn, byLateStatus, lastEnded, zeroed, holding, byOpening, partTrace, atEnd, lastTrace, secondTrace, frames}
 use Rattle.secure.specs.Trip.{Sent, ComesBack, SealedTrip}
 
 -- ---- zeros and padding
-
-pub zeros-are : (n : ℕ) → allZero (replicate n 0) ≡ true
-zeros-are zero = refl
-zeros-are (suc n) = zeros-are n
 
 pub no-padding : (bytes : List ℕ) → allZero bytes ≡ true → judgePadding bytes ≡ fine
 no-padding bytes e = ap (λ (b : Bool). unless b refusal.Padding) e
@@ -229,10 +226,6 @@ module _ (n : ℕ) (bytes : List ℕ) (h : n ≤ length bytes) (later : List ℕ
       ∙ ap allZero (drop-at (take n bytes) (replicate (padding (length (take n bytes))) 0) n (length-take-le n bytes h))
       ∙ zeros-are (padding (length (take n bytes)))
 
-both-zero : (xs ys : List ℕ) → allZero xs ≡ true → allZero ys ≡ true → allZero (xs ++ ys) ≡ true
-both-zero [] ys e f = f
-both-zero (x ∷ xs) ys e f = ap₂ _&&_ (both-left (eqb x 0) (allZero xs) e) (both-zero xs ys (both-right (eqb x 0) (allZero xs) e) f)
-
 enough : (n m k : ℕ) → k ≡ n + m → n ≤ k
 enough n m k e = omega arith
 
@@ -256,7 +249,7 @@ zeros-back [] late bytes e = refl
 zeros-back (n ∷ ns) late bytes e =
     let h = enough n (sum ns) (length bytes) e in
     let later : List ℕ = paddedFrom ns late (drop n bytes) in
-    both-zero (drop n (take (roundUp n) (padded (take n bytes) ++ later))) (paddingOf ns (drop (roundUp n) (padded (take n bytes) ++ later)))
+    zeros-both (drop n (take (roundUp n) (padded (take n bytes) ++ later))) (paddingOf ns (drop (roundUp n) (padded (take n bytes) ++ later)))
     (segment-zeros n bytes h later)
     (ap (λ (x : List ℕ). allZero (paddingOf ns x)) (past-segment n bytes h later) ∙ zeros-back ns late (drop n bytes) (less n (sum ns) bytes e))
 

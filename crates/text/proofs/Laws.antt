@@ -1,55 +1,19 @@
--- Bytes stored one behind the other, and the laws of lines.
+-- The laws of lines.
 use mathlib.Core.Path.{_≡_, refl, sym, ap, ap₂, _∙_}
 use mathlib.Core.Bool.{Bool, true, false, cond}
 use mathlib.Core.List.{List, [], _∷_, _++_, append-assoc}
 use Prim.Native.Nat.{ℕ, zero, suc, _+_, _-_, _*_, _/_, _%_, _^_, _≤_, _<_, min}
-use native.Mathlib.Nat.{add-zero, add-suc, suc-add, pow-suc, div-lt-iff-lt-mul, pow-le-pow-right, not-suc-le-zero, le-of-suc-le-suc}
-use native.Mathlib.Numerals.{add-one}
+use native.Mathlib.Nat.{pow-suc, div-lt-iff-lt-mul, pow-le-pow-right, not-suc-le-zero, le-of-suc-le-suc}
 use native.Mathlib.Omega.{arith}
 use borrow.Author.Tests.{lt-ltb, le-ltb, leb-true, leb-false}
 use lib.Dec.{ltb, leb, lit<, lit≤}
-use lib.ListN.{length, take, drop, set, getD, length-append, take-append-drop}
-use lib.Seq.{sets, sets-eq, length-sets, set-out, take-length, take-suc, length-take-le, take-at}
+use lib.ListN.{length, take, drop, length-append}
+use lib.Seq.{sets, sets-eq, length-sets, take-at}
 use Rattle.io.specs.Digits.{digits, glyph, Fewest}
+use Rattle.buffer.proofs.Sets.{sets-append, sets-out, sets-past}
 use Rattle.text.specs.Line.{Piece, raw, decimal, number, hex, decimalBy, bytesOf, textOf, widthOf, width}
 use Rattle.text.specs.Page.{Page, page, write, put, puts}
 use Rattle.text.specs.Law.{EveryLine}
-
--- ---- stores
-
-pub sets-append : (xs ys l : List ℕ) (i : ℕ) → sets (sets l i xs) (i + length xs) ys ≡ sets l i (xs ++ ys)
-sets-append [] ys l i = rw add-zero
-sets-append (x ∷ xs) ys l i =
-    let e : i + suc (length xs) ≡ suc i + length xs = add-suc i (length xs) ∙ sym (suc-add i (length xs)) in
-    rw e (sets-append xs ys (set l i x) (suc i))
-
-sets-out : (xs l : List ℕ) (i : ℕ) → length l ≤ i → sets l i xs ≡ l
-sets-out [] l i h = refl
-sets-out (x ∷ xs) l i h = rw (set-out l i x h) (sets-out xs l (suc i) (omega arith))
-
--- one more byte of a word
-pub sets-more : (xs l : List ℕ) (i k : ℕ) → k < length xs → set (sets l i (take k xs)) (i + k) (getD xs k 0) ≡ sets l i (take (k + 1) xs)
-sets-more xs l i k h =
-    let n : length (take k xs) ≡ k = length-take-le k xs (omega arith) in
-    let e : set (sets l i (take k xs)) (i + length (take k xs)) (getD xs k 0) ≡ sets l i (take k xs ++ (getD xs k 0 ∷ [])) = sets-append (take k xs) (getD xs k 0 ∷ []) l i in
-    rw (add-one, take-suc xs k 0 h) (rw n at e)
-
--- bytes behind the end are not stored
-past : (xs ys l : List ℕ) (i : ℕ) → length l ≤ i + length xs → sets l i (xs ++ ys) ≡ sets l i xs
-past xs ys l i h = sym (sets-append xs ys l i) ∙ sets-out ys (sets l i xs) (i + length xs) (rw length-sets h)
-
-pub sets-room : (xs l : List ℕ) (i n : ℕ) → n ≡ min (length xs) (length l - i) → sets l i (take n xs) ≡ sets l i xs
-sets-room xs l i n e = go (leb (length xs) (length l - i)) refl
-  where
-    go : (b : Bool) → leb (length xs) (length l - i) ≡ b → sets l i (take n xs) ≡ sets l i xs
-    go true t =
-        let h = leb-true (length xs) (length l - i) t in
-        let k : n ≡ length xs = omega arith in
-        rw (k, take-length)
-    go false t =
-        let h = leb-false (length xs) (length l - i) t in
-        let k : length (take n xs) ≡ n = length-take-le n xs (omega arith) in
-        sym (past (take n xs) (drop n xs) l i (omega arith)) ∙ ap (sets l i) (take-append-drop n xs)
 
 -- ---- pages
 
@@ -65,11 +29,11 @@ write-next xs ys p = pages (go (leb (length xs) (length (p .bytes) - p .at)) ref
     go true t =
         let h = leb-true (length xs) (length (p .bytes) - p .at) t in
         let e : min (length xs) (length (p .bytes) - p .at) ≡ length xs = omega arith in
-        rw e (sets-append xs ys (p .bytes) (p .at))
+        rw e (sets-append (p .bytes) (p .at) xs ys)
     go false t =
         let h = leb-false (length xs) (length (p .bytes) - p .at) t in
         sets-out ys (sets (p .bytes) (p .at) xs) (p .at + min (length xs) (length (p .bytes) - p .at)) (rw length-sets (omega arith))
-        ∙ sym (past xs ys (p .bytes) (p .at) (omega arith))
+        ∙ sym (sets-past xs ys (p .bytes) (p .at) (omega arith))
 
     ends : p .at + min (length xs) (length (p .bytes) - p .at) + min (length ys) (length (sets (p .bytes) (p .at) xs) - (p .at + min (length xs) (length (p .bytes) - p .at))) ≡ p .at + min (length (xs ++ ys)) (length (p .bytes) - p .at)
     ends = rw (length-sets, length-append) (omega arith)

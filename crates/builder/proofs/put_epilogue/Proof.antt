@@ -4,7 +4,7 @@ use Prim.Native.Nat.{ℕ}
 use native.Mathlib.Omega.{arith}
 use Rattle.body.specs.Body.{lateByte, epilogue, restSent}
 use Rattle.body.proofs.Laws.{length-epilogue, epilogue-is}
-use Rattle.builder.proofs.Writes.{laid-as}
+use Rattle.buffer.proofs.Parts.{overwrite-as}
 use borrow.Author.Needs.{needs}
 use Rattle.builder.proofs.put_epilogue.Statement.{statement}
 use Rattle.builder.proofs.put_epilogue.Tie as tie
@@ -21,7 +21,7 @@ returns-2 c =
     let q : List ℕ = restSent (g .abort) (g .rest .now) in
     let s = c .before .before .before .before .before .before .before .before .before .rest-fields .result in
     let v = c .before .before .before .before .before .before .before .enum-told .given .1 in
-    laid-as _ (epilogue (g .revision) (g .h) (lateByte (g .revision) (g .abort)) (g .first .now) q) (g .out .now) _ (c .before .before .put .ensures)
+    overwrite-as _ (epilogue (g .revision) (g .h) (lateByte (g .revision) (g .abort)) (g .first .now) q) (g .out .now) _ (c .before .before .put .ensures)
     (c .before .before .before .before .before .epilogue20 .ensures
     ∙ epilogue-is (g .revision) (g .h) (lateByte (g .revision) (g .abort)) (g .first .now) q _ (c .before .before .before .before .before .before .field-of .result ∷ s .s2 ∷ s .s3 ∷ s .s4 ∷ [])
     (sym (c .before .before .before .before .before .before .before .before .before .before .before .before .no-epilogue .ensures) ∙ c .before .before .before .before .before .before .before .before .before .before .before .if1 .left)
@@ -35,7 +35,7 @@ returns-3 c =
     let q : List ℕ = restSent (g .abort) (g .rest .now) in
     let s = c .before .before .before .before .before .before .before .before .rest-fields .result in
     let v = c .before .before .before .before .before .before .enum-told2 .given .1 in
-    laid-as _ (epilogue (g .revision) (g .h) (lateByte (g .revision) (g .abort)) (g .first .now) q) (g .out .now) _ (c .before .before .put2 .ensures)
+    overwrite-as _ (epilogue (g .revision) (g .h) (lateByte (g .revision) (g .abort)) (g .first .now) q) (g .out .now) _ (c .before .before .put2 .ensures)
     (c .before .before .before .before .before .epilogue21 .ensures
     ∙ epilogue-is (g .revision) (g .h) (lateByte (g .revision) (g .abort)) (g .first .now) q _ (s .s2 ∷ s .s3 ∷ s .s4 ∷ [])
     (sym (c .before .before .before .before .before .before .before .before .before .before .before .no-epilogue .ensures) ∙ c .before .before .before .before .before .before .before .before .before .before .if1 .left)

@@ -6,7 +6,7 @@ use native.Mathlib.Omega.{arith}
 use Rattle.buffer.specs.Le.{le}
 use Rattle.body.specs.Body.{segmentSum, firstSum}
 use Rattle.body.proofs.Laws.{length-first-sum}
-use Rattle.builder.proofs.Writes.{laid-as}
+use Rattle.buffer.proofs.Parts.{overwrite-as}
 use borrow.Author.Needs.{needs}
 use Rattle.builder.proofs.put_first_sum.Statement.{statement}
 use Rattle.builder.proofs.put_first_sum.Tie as tie
@@ -19,7 +19,7 @@ returns-2 c =
     let g = c .before .before .before .before .before .before .before .before .before .before .before .args in
     let sum : List ℕ = le 4 (segmentSum (g .first .now)) in
     let there = sym (c .before .before .before .before .before .before .before .before .no-first-sum .ensures) ∙ c .before .before .before .before .before .before .before .if1 .left in
-    laid-as _ (firstSum (g .revision) (g .h) (g .first .now)) (g .out .now) _ (c .before .before .put .ensures)
+    overwrite-as _ (firstSum (g .revision) (g .h) (g .first .now)) (g .out .now) _ (c .before .before .put .ensures)
     (c .before .before .before .before .before .u32-bytes .ensures ∙ ap (le 4) (c .before .before .before .before .before .before .segment-sum .ensures) ∙ sym (ap (λ (x : Bool). cond x [] sum) there))
     (omega (arith, c .before .before .before .before .before .before .before .before .before .before .before .pre, length-first-sum (g .revision) (g .h) (g .first .now)))
 

@@ -1,9 +1,8 @@
-use Prim.Native.Nat.{ℕ}
 use lib.ListN.{take}
 use borrow.Author.Tests.{not-false}
 use Rattle.bodies.specs.Read.{readBody}
 use Rattle.delivery.specs.Requests.{byBody}
-use Rattle.delivery.proofs.Requests.{take-min}
+use Rattle.buffer.proofs.CopyLoop.{take-min}
 use native.Mathlib.Omega.{arith}
 use lib.ListN.{length-take}
 use mathlib.Core.Path.{sym, ap, _∙_}
@@ -28,7 +27,7 @@ returns-2 c =
     let e = sym (c .before .before .before .before .before .before .before .for-session .ensures) ∙ not-false _ (c .before .before .before .before .before .before .if1 .left) in
     rw e
     (c .request-by-body .ensures (take (c .before .before .before .min .result) s)
-    ∙ ap (byBody h) (c .before .read .ensures .answer ∙ ap (λ (n : ℕ). readBody (h .tag) (take n s)) (c .before .before .before .min .ensures) ∙ ap (readBody (h .tag)) (take-min (h .s1 .len) s)))
+    ∙ ap (byBody h) (c .before .read .ensures .answer ∙ ap (readBody (h .tag)) (take-min s (h .s1 .len) (c .before .before .before .min .result) (c .before .before .before .min .ensures))))
 
 pub request-by-frame-spec : {M : Type 1} → statement M
 request-by-frame-spec =

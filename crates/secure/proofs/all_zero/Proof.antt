@@ -4,7 +4,7 @@ use native.Mathlib.Omega.{arith}
 use native.Mathlib.Numerals.{add-one}
 use lib.ListN.{length, drop, drop-of-length-le}
 use Rattle.buffer.specs.Zeros.{allZero}
-use Rattle.secure.proofs.Zeros.{zero-step, zero-stop}
+use Rattle.buffer.proofs.Zeros.{zero-step, zero-stop}
 use Rattle.secure.proofs.all_zero.Statement.{statement}
 use Rattle.secure.proofs.all_zero.Tie as tie
 

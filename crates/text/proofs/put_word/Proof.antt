@@ -5,7 +5,7 @@ use borrow.Author.Needs.{needs}
 use lib.ListN.{length, take, length-set}
 use lib.Seq.{sets}
 use Rattle.text.specs.Page.{page, write, put}
-use Rattle.text.proofs.Laws.{sets-more, sets-room}
+use Rattle.buffer.proofs.Sets.{sets-more, sets-room}
 use Rattle.text.proofs.put_word.Statement.{statement}
 use Rattle.text.proofs.put_word.Tie as tie
 
