@@ -1,6 +1,29 @@
 -- Laws of tests.
 use mathlib.Core.Path.{_≡_, refl, sym}
-use mathlib.Core.Bool.{Bool, true, false, _&&_, _||_, true≢false}
+use mathlib.Core.Bool.{Bool, true, false, cond, _&&_, _||_, true≢false}
+use Prim.Native.Nat.{ℕ, _≤_, _<_}
+use lib.Dec.{ltb}
+use borrow.Author.Tests.{ltb-true, ltb-false}
+
+-- by whether a test holds
+pub by-test : {A : Type 0} (b : Bool) → (b ≡ true → A) → (b ≡ false → A) → A
+by-test true t f = t refl
+by-test false t f = f refl
+
+-- the same of a claim that names the test
+pub at-test : (P : Bool → Type 0) (b : Bool) → (b ≡ true → P true) → (b ≡ false → P false) → P b
+at-test P true t f = t refl
+at-test P false t f = f refl
+
+-- by which of two numbers is less
+pub by-less : {A : Type 0} (a b : ℕ) → (a < b → A) → (b ≤ a → A) → A
+by-less a b l g = by-test (ltb a b) (λ e. l (ltb-true a b e)) (λ e. g (ltb-false a b e))
+
+-- what holds of both answers holds of the one that a test picks
+module _ {ℓ} {A : Type ℓ} where
+  pub at-cond : (P : A → Type 0) (b : Bool) {x y : A} → P x → P y → P (cond b x y)
+  at-cond P true p q = p
+  at-cond P false p q = q
 
 -- a test that cannot hold
 pub wrong : {A : Type 0} → false ≡ true → A

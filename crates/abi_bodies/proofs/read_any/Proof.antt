@@ -4,11 +4,11 @@ use borrow.Author.Needs.{needs}
 use Rattle.abi_bodies.proofs.read_any.Statement.{statement}
 use Rattle.abi_bodies.proofs.read_any.Tie as tie
 
-returns : tie.Need-returns
-returns c = rw (lt-leb _ _ (c .if1 .taken))
-
-returns-2 : tie.Need-returns-2
-returns-2 c = read-words _ _ _ (c .before .if1 .left) (c .read .ensures)
-
 pub read-any-spec : {M : Type 1} → statement M
-read-any-spec = tie.close (tie.spec returns (λ c. search needs) (λ c κs. search needs) returns-2)
+read-any-spec =
+    tie.close
+    (tie.spec
+    (λ c. rw (lt-leb _ _ (c .if1 .taken)))
+    (λ c. search needs)
+    (λ c κs. search needs)
+    (λ c. read-words _ _ _ (c .before .if1 .left) (c .read .ensures)))

@@ -2,9 +2,6 @@ use borrow.Author.Needs.{needs}
 use Rattle.abi_bodies.proofs.request_of.Statement.{statement}
 use Rattle.abi_bodies.proofs.request_of.Tie as tie
 
-returns : tie.Need-returns
-returns c = rw (c .request-with .ensures, c .before .before .ident-at .ensures, c .before .reconnect-at .ensures)
-
 pub request-of-spec : {M : Type 1} → statement M
 request-of-spec =
     tie.close
@@ -15,4 +12,4 @@ request-of-spec =
     (λ c κs. search needs)
     (λ c κs. search needs)
     (λ c κs. search needs)
-    returns)
+    (λ c. rw (c .request-with .ensures, c .before .before .ident-at .ensures, c .before .reconnect-at .ensures)))

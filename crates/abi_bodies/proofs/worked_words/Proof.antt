@@ -10,8 +10,5 @@ table : Worked
 unfolding Worked readings helloBody authRequestBody badMethodBody moreBody authDoneBody identBody reconnectBody oneNumberBody resetBody stampBody tagBody bodyOf numberAt
 table = (refl, (refl, (refl, (refl, (refl, (refl, (refl, (refl, (refl, (refl, (refl, (refl, (refl, (refl, (refl, (refl, tt))))))))))))))))
 
-returns : tie.Need-returns
-returns c = table
-
 pub worked-words-spec : {M : Type 1} → statement M
-worked-words-spec = tie.close (tie.spec returns)
+worked-words-spec = tie.close (tie.spec (λ c. table))

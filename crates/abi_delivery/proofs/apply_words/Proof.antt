@@ -5,9 +5,6 @@ use borrow.Author.Needs.{needs}
 use Rattle.abi_delivery.proofs.apply_words.Statement.{statement}
 use Rattle.abi_delivery.proofs.apply_words.Tie as tie
 
-enum-told : tie.Need-enum-told
-enum-told c = search needs
-
 returns : tie.Need-returns
 returns c =
     let z = c .before .before .before .args in
@@ -23,7 +20,7 @@ pub apply-words-spec : {M : Type 1} → statement M
 apply-words-spec =
     tie.close
     (tie.spec
-    enum-told
+    (λ c. search needs)
     (λ c κs. search needs)
     (λ c κs. search needs)
     (λ c κs. search needs)

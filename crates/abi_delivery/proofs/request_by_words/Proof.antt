@@ -9,9 +9,6 @@ returns c =
     let z = c .before .before .before .before .before .before .before .before .before .before .before .before .before .before .before .args in
     frame-requests (z .q .now) (z .store .now) (c .before .before .before .before .before .before .before .before .before .before .before .before .if1 .taken) (c .before .header-of .ensures) (c .request-by-frame .ensures)
 
-returns-2 : tie.Need-returns-2
-returns-2 c = others-request (c .before .before .before .args .q .now) (c .before .before .before .args .store .now) (ne-eqb _ _ (c .if1 .left))
-
 pub request-by-words-spec : {M : Type 1} → statement M
 request-by-words-spec =
     tie.close
@@ -30,4 +27,4 @@ request-by-words-spec =
     (λ c κs. search needs)
     (λ c κs. search needs)
     returns
-    returns-2)
+    (λ c. others-request (c .before .before .before .args .q .now) (c .before .before .before .args .store .now) (ne-eqb _ _ (c .if1 .left))))

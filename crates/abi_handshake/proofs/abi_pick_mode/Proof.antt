@@ -4,15 +4,13 @@ use borrow.Author.Needs.{needs}
 use Rattle.abi_handshake.proofs.abi_pick_mode.Statement.{statement}
 use Rattle.abi_handshake.proofs.abi_pick_mode.Tie as tie
 
-enum-told : tie.Need-enum-told
-enum-told c = search needs
-
-returns : tie.Need-returns
-returns c = ap modeNumber (sym (c .before .p .given .1) ∙ c .before .before .before .pick-mode .ensures)
-
-returns-2 : tie.Need-returns-2
-returns-2 c = ap modeNumber (sym (c .enum-told .given .1) ∙ c .before .before .pick-mode .ensures)
-
 pub abi-pick-mode-spec : {M : Type 1} → statement M
 abi-pick-mode-spec =
-    tie.close (tie.spec (λ c κs. search needs) (λ c. search needs) (λ c. search needs) enum-told returns returns-2)
+    tie.close
+    (tie.spec
+    (λ c κs. search needs)
+    (λ c. search needs)
+    (λ c. search needs)
+    (λ c. search needs)
+    (λ c. ap modeNumber (sym (c .before .p .given .1) ∙ c .before .before .before .pick-mode .ensures))
+    (λ c. ap modeNumber (sym (c .enum-told .given .1) ∙ c .before .before .pick-mode .ensures)))

@@ -2,9 +2,6 @@ use borrow.Author.Needs.{needs}
 use Rattle.abi_handshake.proofs.verdict_of.Statement.{statement}
 use Rattle.abi_handshake.proofs.verdict_of.Tie as tie
 
-returns : tie.Need-returns
-returns c = rw (c .auth-of .ensures)
-
 pub verdict-of-spec : {M : Type 1} → statement M
 verdict-of-spec =
     tie.close
@@ -14,4 +11,4 @@ verdict-of-spec =
     (λ c. search needs)
     (λ c. search needs)
     (λ c. search needs)
-    returns)
+    (λ c. rw (c .auth-of .ensures)))

@@ -2,8 +2,5 @@ use Rattle.abi_receiver.proofs.Back.{reads-back}
 use Rattle.abi_receiver.proofs.reads_back.Statement.{statement}
 use Rattle.abi_receiver.proofs.reads_back.Tie as tie
 
-returns : tie.Need-returns
-returns c = reads-back
-
 pub reads-back-spec : {M : Type 1} → statement M
-reads-back-spec = tie.close (tie.spec returns)
+reads-back-spec = tie.close (tie.spec (λ c. reads-back))

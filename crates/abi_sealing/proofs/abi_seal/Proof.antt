@@ -3,9 +3,11 @@ use borrow.Author.Needs.{needs}
 use Rattle.abi_sealing.proofs.abi_seal.Statement.{statement}
 use Rattle.abi_sealing.proofs.abi_seal.Tie as tie
 
-returns : tie.Need-returns
-returns c = sealed-words (c .before .before .before .before .seal .ensures) (c .before .written-of .ensures)
-
 pub abi-seal-spec : {M : Type 1} → statement M
 abi-seal-spec =
-    tie.close (tie.spec (λ c κs. search needs) (λ c κs. search needs) (λ c. search needs) returns)
+    tie.close
+    (tie.spec
+    (λ c κs. search needs)
+    (λ c κs. search needs)
+    (λ c. search needs)
+    (λ c. sealed-words (c .before .before .before .before .seal .ensures) (c .before .written-of .ensures)))

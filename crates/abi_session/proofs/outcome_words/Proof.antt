@@ -2,8 +2,10 @@ use borrow.Author.Needs.{needs}
 use Rattle.abi_session.proofs.outcome_words.Statement.{statement}
 use Rattle.abi_session.proofs.outcome_words.Tie as tie
 
-returns : tie.Need-returns
-returns c = rw (c .before .session-numbers .ensures, c .answer-words .ensures)
-
 pub outcome-words-spec : {M : Type 1} → statement M
-outcome-words-spec = tie.close (tie.spec (λ c κs. search needs) (λ c κs. search needs) returns)
+outcome-words-spec =
+    tie.close
+    (tie.spec
+    (λ c κs. search needs)
+    (λ c κs. search needs)
+    (λ c. rw (c .before .session-numbers .ensures, c .answer-words .ensures)))

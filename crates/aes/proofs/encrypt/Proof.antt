@@ -2,9 +2,6 @@ use borrow.Author.Needs.{needs}
 use Rattle.aes.proofs.encrypt.Statement.{statement}
 use Rattle.aes.proofs.encrypt.Tie as tie
 
-returns : tie.Need-returns
-returns c = c .rounds .ensures (c .before .before .before .before .before .args .block) (c .before .add-round-key .ensures)
-
 pub encrypt-spec : {M : Type 1} → statement M
 encrypt-spec =
     tie.close
@@ -13,4 +10,4 @@ encrypt-spec =
     (λ c. search needs)
     (λ c κs. search needs)
     (λ c κs. search needs)
-    returns)
+    (λ c. c .rounds .ensures (c .before .before .before .before .before .args .block) (c .before .add-round-key .ensures)))

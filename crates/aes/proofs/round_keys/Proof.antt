@@ -24,24 +24,6 @@ loop-holds : tie.Need-loop-holds Inv-loop μ-loop
 unfolding roundKey rcon
 loop-holds c = (search needs, refl, λ j h. let q : j ≡ 0 = omega arith in rw q, refl, refl)
 
-next-key-requires : tie.Need-next-key-requires Inv-loop μ-loop
-next-key-requires c κs = search needs
-
-times-two-requires : tie.Need-times-two-requires Inv-loop μ-loop
-times-two-requires c κs = search needs
-
-add-i : tie.Need-add-i Inv-loop μ-loop
-add-i c = search needs
-
-mul-w : tie.Need-mul-w Inv-loop μ-loop
-mul-w c = search needs
-
-array-set-from-w : tie.Need-array-set-from-w Inv-loop μ-loop
-array-set-from-w c = search needs
-
-loop-less : tie.Need-loop-less Inv-loop μ-loop
-loop-less c = search needs
-
 loop-again : tie.Need-loop-again Inv-loop μ-loop
 loop-again c =
     let l = c .before .before .before .loop in
@@ -67,11 +49,11 @@ round-keys-spec =
     Inv-loop
     μ-loop
     loop-holds
-    next-key-requires
-    times-two-requires
-    add-i
-    mul-w
-    array-set-from-w
-    loop-less
+    (λ c κs. search needs)
+    (λ c κs. search needs)
+    (λ c. search needs)
+    (λ c. search needs)
+    (λ c. search needs)
+    (λ c. search needs)
     loop-again
     returns)

@@ -17,47 +17,11 @@ loop-holds : tie.Need-loop-holds Inv-loop μ-loop
 unfolding rounds
 loop-holds c = (search needs, refl)
 
-add-i : tie.Need-add-i Inv-loop μ-loop
-add-i c = search needs
-
-mul-k : tie.Need-mul-k Inv-loop μ-loop
-mul-k c = search needs
-
-element-copy-out-k : tie.Need-element-copy-out-k Inv-loop μ-loop
-element-copy-out-k c = search needs
-
-sub-bytes-requires : tie.Need-sub-bytes-requires Inv-loop μ-loop
-sub-bytes-requires c κs = search needs
-
-shift-rows-requires : tie.Need-shift-rows-requires Inv-loop μ-loop
-shift-rows-requires c κs = search needs
-
-mix-columns-requires : tie.Need-mix-columns-requires Inv-loop μ-loop
-mix-columns-requires c κs = search needs
-
-add-round-key-requires : tie.Need-add-round-key-requires Inv-loop μ-loop
-add-round-key-requires c κs = search needs
-
-loop-less : tie.Need-loop-less Inv-loop μ-loop
-loop-less c = search needs
-
 loop-again : tie.Need-loop-again Inv-loop μ-loop
 loop-again c =
     let l = c .before .before .before .before .before .before .loop in
     let a = c .before .before .before .before .before .before .before .args in
     (search needs, cc (rounds-next (l .i) (a .w .now) (a .keyed), l .inv .1))
-
-element-copy-out-last : tie.Need-element-copy-out-last Inv-loop μ-loop
-element-copy-out-last c = search needs
-
-sub-bytes-requires-2 : tie.Need-sub-bytes-requires-2 Inv-loop μ-loop
-sub-bytes-requires-2 c κs = search needs
-
-shift-rows-requires-2 : tie.Need-shift-rows-requires-2 Inv-loop μ-loop
-shift-rows-requires-2 c κs = search needs
-
-add-round-key-requires-2 : tie.Need-add-round-key-requires-2 Inv-loop μ-loop
-add-round-key-requires-2 c κs = search needs
 
 returns : tie.Need-returns Inv-loop μ-loop
 returns c =
@@ -74,17 +38,17 @@ rounds-spec =
     Inv-loop
     μ-loop
     loop-holds
-    add-i
-    mul-k
-    element-copy-out-k
-    sub-bytes-requires
-    shift-rows-requires
-    mix-columns-requires
-    add-round-key-requires
-    loop-less
+    (λ c. search needs)
+    (λ c. search needs)
+    (λ c. search needs)
+    (λ c κs. search needs)
+    (λ c κs. search needs)
+    (λ c κs. search needs)
+    (λ c κs. search needs)
+    (λ c. search needs)
     loop-again
-    element-copy-out-last
-    sub-bytes-requires-2
-    shift-rows-requires-2
-    add-round-key-requires-2
+    (λ c. search needs)
+    (λ c κs. search needs)
+    (λ c κs. search needs)
+    (λ c κs. search needs)
     returns)

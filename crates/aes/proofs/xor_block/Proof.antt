@@ -22,30 +22,6 @@ Inv-loop s buf₀ i n k₀ buf k =
 abbrev μ-loop : tie.MeasureT-loop
 μ-loop s buf₀ i n k₀ buf k = n - k
 
-loop-holds : tie.Need-loop-holds Inv-loop μ-loop
-loop-holds c = (search needs, refl, λ w nonce d es e. e ∙ ap (λ (m : ℕ). take m (gctr w nonce d) ++ drop m d) (sym (add-zero (c .before .args .i))))
-
-add-buf : tie.Need-add-buf Inv-loop μ-loop
-add-buf c = search needs
-
-slice-read-buf : tie.Need-slice-read-buf Inv-loop μ-loop
-slice-read-buf c = search needs
-
-byte-of-requires : tie.Need-byte-of-requires Inv-loop μ-loop
-byte-of-requires c κs = search needs
-
-add-buf-2 : tie.Need-add-buf-2 Inv-loop μ-loop
-add-buf-2 c = search needs
-
-slice-write-buf : tie.Need-slice-write-buf Inv-loop μ-loop
-slice-write-buf c = search needs
-
-add-k : tie.Need-add-k Inv-loop μ-loop
-add-k c = search needs
-
-loop-less : tie.Need-loop-less Inv-loop μ-loop
-loop-less c = search needs
-
 loop-again : tie.Need-loop-again Inv-loop μ-loop
 loop-again c =
     let l = c .before .before .before .loop in
@@ -57,9 +33,6 @@ loop-again c =
           let n : length (l .buf) ≡ length d = front-length w nonce d (l .buf) (a .i + l .k) before in
           xor-more w nonce d (l .buf) (a .s) (a .i) (l .k) (c .byte-of .result) (search needs) (omega arith) (omega arith) es (c .byte-of .ensures) before,
     )
-
-same-length : tie.Need-same-length Inv-loop μ-loop
-same-length c = c .before .loop .inv .1
 
 returns : tie.Need-returns Inv-loop μ-loop
 returns c =
@@ -74,14 +47,14 @@ xor-block-spec =
     (tie.spec
     Inv-loop
     μ-loop
-    loop-holds
-    add-buf
-    slice-read-buf
-    byte-of-requires
-    add-buf-2
-    slice-write-buf
-    add-k
-    loop-less
+    (λ c. (search needs, refl, λ w nonce d es e. e ∙ ap (λ (m : ℕ). take m (gctr w nonce d) ++ drop m d) (sym (add-zero (c .before .args .i)))))
+    (λ c. search needs)
+    (λ c. search needs)
+    (λ c κs. search needs)
+    (λ c. search needs)
+    (λ c. search needs)
+    (λ c. search needs)
+    (λ c. search needs)
     loop-again
-    same-length
+    (λ c. c .before .loop .inv .1)
     returns)

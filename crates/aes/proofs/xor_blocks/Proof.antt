@@ -15,27 +15,6 @@ Inv-loop t w nonce buf₀ n i₀ buf i =
 abbrev μ-loop : tie.MeasureT-loop
 μ-loop t w nonce buf₀ n i₀ buf i = n - i
 
-loop-holds : tie.Need-loop-holds Inv-loop μ-loop
-loop-holds c = (search needs, refl, refl, refl)
-
-sub-loop : tie.Need-sub-loop Inv-loop μ-loop
-sub-loop c = search needs
-
-add-keystream : tie.Need-add-keystream Inv-loop μ-loop
-add-keystream c = search needs
-
-keystream-requires : tie.Need-keystream-requires Inv-loop μ-loop
-keystream-requires c κs = search needs
-
-xor-block-requires : tie.Need-xor-block-requires Inv-loop μ-loop
-xor-block-requires c κs = search needs
-
-add-i : tie.Need-add-i Inv-loop μ-loop
-add-i c = search needs
-
-loop-less : tie.Need-loop-less Inv-loop μ-loop
-loop-less c = search needs
-
 loop-again : tie.Need-loop-again Inv-loop μ-loop
 loop-again c =
     let at = c .before .before .before .before .before .before in
@@ -44,25 +23,19 @@ loop-again c =
     let e = c .before .before .xor-block .ensures (a .w .now) (a .nonce) (a .buf .now) (c .before .before .before .before .keystream .ensures) (l .inv .3) in
     (search needs, search needs, front-length (a .w .now) (a .nonce) (a .buf .now) _ (l .i + 16) e, e)
 
-same-length : tie.Need-same-length Inv-loop μ-loop
-same-length c = c .before .loop .inv .2
-
-returns : tie.Need-returns Inv-loop μ-loop
-returns c = (search needs, search needs, search needs, c .before .loop .inv .3)
-
 pub xor-blocks-spec : {M : Type 1} → statement M
 xor-blocks-spec =
     tie.close
     (tie.spec
     Inv-loop
     μ-loop
-    loop-holds
-    sub-loop
-    add-keystream
-    keystream-requires
-    xor-block-requires
-    add-i
-    loop-less
+    (λ c. (search needs, refl, refl, refl))
+    (λ c. search needs)
+    (λ c. search needs)
+    (λ c κs. search needs)
+    (λ c κs. search needs)
+    (λ c. search needs)
+    (λ c. search needs)
     loop-again
-    same-length
-    returns)
+    (λ c. c .before .loop .inv .2)
+    (λ c. (search needs, search needs, search needs, c .before .loop .inv .3)))

@@ -2,8 +2,5 @@ use Rattle.banner.proofs.Bits.{ones-count}
 use Rattle.banner.proofs.count_of.Statement.{statement}
 use Rattle.banner.proofs.count_of.Tie as tie
 
-returns : tie.Need-returns
-returns c = ones-count 64 (c .args .bits) (c .fits .bits .fits)
-
 pub count-of-spec : {M : Type 1} → statement M
-count-of-spec = tie.close (tie.spec returns)
+count-of-spec = tie.close (tie.spec (λ c. ones-count 64 (c .args .bits) (c .fits .bits .fits)))

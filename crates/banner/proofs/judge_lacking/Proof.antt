@@ -2,8 +2,5 @@ use borrow.Author.Needs.{needs}
 use Rattle.banner.proofs.judge_lacking.Statement.{statement}
 use Rattle.banner.proofs.judge_lacking.Tie as tie
 
-returns : tie.Need-returns
-returns c = cc
-
 pub judge-lacking-spec : {M : Type 1} → statement M
-judge-lacking-spec = tie.close (tie.spec (λ c κs. search needs) (λ c κs. search needs) returns)
+judge-lacking-spec = tie.close (tie.spec (λ c κs. search needs) (λ c κs. search needs) (λ c. cc))

@@ -2,8 +2,5 @@ use borrow.Author.Needs.{needs}
 use Rattle.banner.proofs.judge_length.Statement.{statement}
 use Rattle.banner.proofs.judge_length.Tie as tie
 
-returns : tie.Need-returns
-returns c = cc
-
 pub judge-length-spec : {M : Type 1} → statement M
-judge-length-spec = tie.close (tie.spec (λ c κs. search needs) (λ c κs. search needs) returns)
+judge-length-spec = tie.close (tie.spec (λ c κs. search needs) (λ c κs. search needs) (λ c. cc))

@@ -5,9 +5,6 @@ use borrow.Author.Needs.{needs}
 use Rattle.banner.proofs.judge_magic.Statement.{statement}
 use Rattle.banner.proofs.judge_magic.Tie as tie
 
-returns : tie.Need-returns
-returns c = cc (and-true (eqb (getD (c .before .before .before .before .before .before .before .before .before .before .before .before .before .before .before .before .before .args .b .now) 7 0) 10))
-
 pub judge-magic-spec : {M : Type 1} → statement M
 judge-magic-spec =
     tie.close
@@ -28,4 +25,4 @@ judge-magic-spec =
     (λ c κs. search needs)
     (λ c κs. search needs)
     (λ c κs. search needs)
-    returns)
+    (λ c. cc (and-true (eqb (getD (c .before .before .before .before .before .before .before .before .before .before .before .before .before .before .before .before .before .args .b .now) 7 0) 10))))

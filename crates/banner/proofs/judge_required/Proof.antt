@@ -2,8 +2,5 @@ use borrow.Author.Needs.{needs}
 use Rattle.banner.proofs.judge_required.Statement.{statement}
 use Rattle.banner.proofs.judge_required.Tie as tie
 
-returns : tie.Need-returns
-returns c = cc
-
 pub judge-required-spec : {M : Type 1} → statement M
-judge-required-spec = tie.close (tie.spec (λ c κs. search needs) (λ c κs. search needs) returns)
+judge-required-spec = tie.close (tie.spec (λ c κs. search needs) (λ c κs. search needs) (λ c. cc))

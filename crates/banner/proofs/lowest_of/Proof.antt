@@ -2,8 +2,5 @@ use Rattle.banner.proofs.Bits.{zeros-lowest}
 use Rattle.banner.proofs.lowest_of.Statement.{statement}
 use Rattle.banner.proofs.lowest_of.Tie as tie
 
-returns : tie.Need-returns
-returns c = zeros-lowest 64 (c .args .bits)
-
 pub lowest-of-spec : {M : Type 1} → statement M
-lowest-of-spec = tie.close (tie.spec returns)
+lowest-of-spec = tie.close (tie.spec (λ c. zeros-lowest 64 (c .args .bits)))

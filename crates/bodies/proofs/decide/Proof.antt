@@ -3,11 +3,10 @@ use borrow.Author.Needs.{needs}
 use Rattle.bodies.proofs.decide.Statement.{statement}
 use Rattle.bodies.proofs.decide.Tie as tie
 
-returns : tie.Need-returns
-returns c = is-served _ _ (c .before .if1 .taken) (c .judge-draft .ensures)
-
-returns-2 : tie.Need-returns-2
-returns-2 c = not-served _ _ (c .if1 .left)
-
 pub decide-spec : {M : Type 1} → statement M
-decide-spec = tie.close (tie.spec (λ c κs. search needs) returns returns-2)
+decide-spec =
+    tie.close
+    (tie.spec
+    (λ c κs. search needs)
+    (λ c. is-served _ _ (c .before .if1 .taken) (c .judge-draft .ensures))
+    (λ c. not-served _ _ (c .if1 .left)))

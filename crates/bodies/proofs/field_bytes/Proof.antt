@@ -6,11 +6,12 @@ use borrow.Author.Needs.{needs}
 use Rattle.bodies.proofs.field_bytes.Statement.{statement}
 use Rattle.bodies.proofs.field_bytes.Tie as tie
 
-returns : tie.Need-returns
-returns c = took-read (ap (inSpan (fixed (c .before .before .before .before .before .args .w)) (c .before .before .before .before .before .args .s .now)) (sym (c .before .value .given .1)) ∙ c .before .before .before .read-bytes .ensures)
-
-returns-2 : tie.Need-returns-2
-returns-2 c = took-failed (ap (inSpan (fixed (c .before .before .before .before .before .args .w)) (c .before .before .before .before .before .args .s .now)) (sym (c .before .next .given .1)) ∙ c .before .before .before .read-bytes .ensures)
-
 pub field-bytes-spec : {M : Type 1} → statement M
-field-bytes-spec = tie.close (tie.spec (λ c κs. search needs) (λ c. search needs) (λ c. search needs) returns returns-2)
+field-bytes-spec =
+    tie.close
+    (tie.spec
+    (λ c κs. search needs)
+    (λ c. search needs)
+    (λ c. search needs)
+    (λ c. took-read (ap (inSpan (fixed (c .before .before .before .before .before .args .w)) (c .before .before .before .before .before .args .s .now)) (sym (c .before .value .given .1)) ∙ c .before .before .before .read-bytes .ensures))
+    (λ c. took-failed (ap (inSpan (fixed (c .before .before .before .before .before .args .w)) (c .before .before .before .before .before .args .s .now)) (sym (c .before .next .given .1)) ∙ c .before .before .before .read-bytes .ensures)))

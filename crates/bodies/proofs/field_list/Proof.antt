@@ -5,11 +5,12 @@ use borrow.Author.Needs.{needs}
 use Rattle.bodies.proofs.field_list.Statement.{statement}
 use Rattle.bodies.proofs.field_list.Tie as tie
 
-returns : tie.Need-returns
-returns c = took-read (ap (inList (c .before .before .before .before .before .args .s .now)) (sym (c .before .value .given .1)) ∙ c .before .before .before .read-list .ensures)
-
-returns-2 : tie.Need-returns-2
-returns-2 c = took-failed (ap (inList (c .before .before .before .before .before .args .s .now)) (sym (c .before .next .given .1)) ∙ c .before .before .before .read-list .ensures)
-
 pub field-list-spec : {M : Type 1} → statement M
-field-list-spec = tie.close (tie.spec (λ c κs. search needs) (λ c. search needs) (λ c. search needs) returns returns-2)
+field-list-spec =
+    tie.close
+    (tie.spec
+    (λ c κs. search needs)
+    (λ c. search needs)
+    (λ c. search needs)
+    (λ c. took-read (ap (inList (c .before .before .before .before .before .args .s .now)) (sym (c .before .value .given .1)) ∙ c .before .before .before .read-list .ensures))
+    (λ c. took-failed (ap (inList (c .before .before .before .before .before .args .s .now)) (sym (c .before .next .given .1)) ∙ c .before .before .before .read-list .ensures)))

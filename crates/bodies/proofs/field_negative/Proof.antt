@@ -6,11 +6,12 @@ use borrow.Author.Needs.{needs}
 use Rattle.bodies.proofs.field_negative.Statement.{statement}
 use Rattle.bodies.proofs.field_negative.Tie as tie
 
-returns : tie.Need-returns
-returns c = took-read (ap (inU32 negative) (sym (c .before .value .given .1)) ∙ c .before .before .before .read-negative .ensures)
-
-returns-2 : tie.Need-returns-2
-returns-2 c = took-failed (ap (inU32 negative) (sym (c .before .next .given .1)) ∙ c .before .before .before .read-negative .ensures)
-
 pub field-negative-spec : {M : Type 1} → statement M
-field-negative-spec = tie.close (tie.spec (λ c κs. search needs) (λ c. search needs) (λ c. search needs) returns returns-2)
+field-negative-spec =
+    tie.close
+    (tie.spec
+    (λ c κs. search needs)
+    (λ c. search needs)
+    (λ c. search needs)
+    (λ c. took-read (ap (inU32 negative) (sym (c .before .value .given .1)) ∙ c .before .before .before .read-negative .ensures))
+    (λ c. took-failed (ap (inU32 negative) (sym (c .before .next .given .1)) ∙ c .before .before .before .read-negative .ensures)))

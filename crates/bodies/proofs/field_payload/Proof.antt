@@ -6,11 +6,12 @@ use borrow.Author.Needs.{needs}
 use Rattle.bodies.proofs.field_payload.Statement.{statement}
 use Rattle.bodies.proofs.field_payload.Tie as tie
 
-returns : tie.Need-returns
-returns c = took-read (ap (inSpan payload (c .before .before .before .before .before .args .s .now)) (sym (c .before .value .given .1)) ∙ c .before .before .before .read-payload .ensures)
-
-returns-2 : tie.Need-returns-2
-returns-2 c = took-failed (ap (inSpan payload (c .before .before .before .before .before .args .s .now)) (sym (c .before .next .given .1)) ∙ c .before .before .before .read-payload .ensures)
-
 pub field-payload-spec : {M : Type 1} → statement M
-field-payload-spec = tie.close (tie.spec (λ c κs. search needs) (λ c. search needs) (λ c. search needs) returns returns-2)
+field-payload-spec =
+    tie.close
+    (tie.spec
+    (λ c κs. search needs)
+    (λ c. search needs)
+    (λ c. search needs)
+    (λ c. took-read (ap (inSpan payload (c .before .before .before .before .before .args .s .now)) (sym (c .before .value .given .1)) ∙ c .before .before .before .read-payload .ensures))
+    (λ c. took-failed (ap (inSpan payload (c .before .before .before .before .before .args .s .now)) (sym (c .before .next .given .1)) ∙ c .before .before .before .read-payload .ensures)))

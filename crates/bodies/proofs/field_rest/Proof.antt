@@ -6,11 +6,12 @@ use borrow.Author.Needs.{needs}
 use Rattle.bodies.proofs.field_rest.Statement.{statement}
 use Rattle.bodies.proofs.field_rest.Tie as tie
 
-returns : tie.Need-returns
-returns c = took-read (ap (inSpan (opaque (c .before .before .before .before .before .args .closing)) (c .before .before .before .before .before .args .s .now)) (sym (c .before .value .given .1)) ∙ c .before .before .before .read-rest .ensures)
-
-returns-2 : tie.Need-returns-2
-returns-2 c = took-failed (ap (inSpan (opaque (c .before .before .before .before .before .args .closing)) (c .before .before .before .before .before .args .s .now)) (sym (c .before .next .given .1)) ∙ c .before .before .before .read-rest .ensures)
-
 pub field-rest-spec : {M : Type 1} → statement M
-field-rest-spec = tie.close (tie.spec (λ c κs. search needs) (λ c. search needs) (λ c. search needs) returns returns-2)
+field-rest-spec =
+    tie.close
+    (tie.spec
+    (λ c κs. search needs)
+    (λ c. search needs)
+    (λ c. search needs)
+    (λ c. took-read (ap (inSpan (opaque (c .before .before .before .before .before .args .closing)) (c .before .before .before .before .before .args .s .now)) (sym (c .before .value .given .1)) ∙ c .before .before .before .read-rest .ensures))
+    (λ c. took-failed (ap (inSpan (opaque (c .before .before .before .before .before .args .closing)) (c .before .before .before .before .before .args .s .now)) (sym (c .before .next .given .1)) ∙ c .before .before .before .read-rest .ensures)))

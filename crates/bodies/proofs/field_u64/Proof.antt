@@ -5,11 +5,12 @@ use borrow.Author.Needs.{needs}
 use Rattle.bodies.proofs.field_u64.Statement.{statement}
 use Rattle.bodies.proofs.field_u64.Tie as tie
 
-returns : tie.Need-returns
-returns c = took-read (ap inU64 (sym (c .before .value .given .1)) ∙ c .before .before .before .read-u64 .ensures)
-
-returns-2 : tie.Need-returns-2
-returns-2 c = took-failed (ap inU64 (sym (c .before .next .given .1)) ∙ c .before .before .before .read-u64 .ensures)
-
 pub field-u64-spec : {M : Type 1} → statement M
-field-u64-spec = tie.close (tie.spec (λ c κs. search needs) (λ c. search needs) (λ c. search needs) returns returns-2)
+field-u64-spec =
+    tie.close
+    (tie.spec
+    (λ c κs. search needs)
+    (λ c. search needs)
+    (λ c. search needs)
+    (λ c. took-read (ap inU64 (sym (c .before .value .given .1)) ∙ c .before .before .before .read-u64 .ensures))
+    (λ c. took-failed (ap inU64 (sym (c .before .next .given .1)) ∙ c .before .before .before .read-u64 .ensures)))

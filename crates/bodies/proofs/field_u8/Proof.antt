@@ -5,11 +5,12 @@ use borrow.Author.Needs.{needs}
 use Rattle.bodies.proofs.field_u8.Statement.{statement}
 use Rattle.bodies.proofs.field_u8.Tie as tie
 
-returns : tie.Need-returns
-returns c = took-read (ap inU8 (sym (c .before .value .given .1)) ∙ c .before .before .before .read-u8 .ensures)
-
-returns-2 : tie.Need-returns-2
-returns-2 c = took-failed (ap inU8 (sym (c .before .next .given .1)) ∙ c .before .before .before .read-u8 .ensures)
-
 pub field-u8-spec : {M : Type 1} → statement M
-field-u8-spec = tie.close (tie.spec (λ c κs. search needs) (λ c. search needs) (λ c. search needs) returns returns-2)
+field-u8-spec =
+    tie.close
+    (tie.spec
+    (λ c κs. search needs)
+    (λ c. search needs)
+    (λ c. search needs)
+    (λ c. took-read (ap inU8 (sym (c .before .value .given .1)) ∙ c .before .before .before .read-u8 .ensures))
+    (λ c. took-failed (ap inU8 (sym (c .before .next .given .1)) ∙ c .before .before .before .read-u8 .ensures)))

@@ -3,22 +3,13 @@ use borrow.Author.Needs.{needs}
 use Rattle.bodies.proofs.read.Statement.{statement}
 use Rattle.bodies.proofs.read.Tie as tie
 
-returns : tie.Need-returns
-returns c = above-limit _ _ (rw (c .before .limit .ensures) at (c .if1 .taken))
-
-returns-2 : tie.Need-returns-2
-returns-2 c = within-limit _ _ (rw (c .before .before .before .limit .ensures) at (c .before .before .if1 .left)) (c .read-auth .ensures (c .before .if2 .taken))
-
-returns-3 : tie.Need-returns-3
-returns-3 c = within-limit _ _ (rw (c .before .before .before .limit .ensures) at (c .before .before .if1 .left)) (c .read-session .ensures (c .before .if2 .left))
-
 pub read-spec : {M : Type 1} → statement M
 read-spec =
     tie.close
     (tie.spec
     (λ c κs. search needs)
-    returns
+    (λ c. above-limit _ _ (rw (c .before .limit .ensures) at (c .if1 .taken)))
     (λ c κs. search needs)
-    returns-2
+    (λ c. within-limit _ _ (rw (c .before .before .before .limit .ensures) at (c .before .before .if1 .left)) (c .read-auth .ensures (c .before .if2 .taken)))
     (λ c κs. search needs)
-    returns-3)
+    (λ c. within-limit _ _ (rw (c .before .before .before .limit .ensures) at (c .before .before .if1 .left)) (c .read-session .ensures (c .before .if2 .left))))

@@ -29,9 +29,6 @@ returns-6 : tie.Need-returns-6
 unfolding tagBody
 returns-6 c = λ h. by-tag _ 6 (c .before .if6 .taken) (c .read-auth-done .ensures)
 
-returns-7 : tie.Need-returns-7
-returns-7 c = λ h. unlisted-tag _ _ (c .before .before .before .before .before .if1 .left) (c .before .before .before .before .if2 .left) (c .before .before .before .if3 .left) (c .before .before .if4 .left) (c .before .if5 .left) (c .if6 .left) (λ e. omega (arith, h, e)) (λ e. omega (arith, h, e)) (λ e. omega (arith, h, e)) (λ e. omega (arith, h, e)) (λ e. omega (arith, h, e)) (λ e. omega (arith, h, e)) (λ e. omega (arith, h, e)) (λ e. omega (arith, h, e)) (λ e. omega (arith, h, e))
-
 pub read-auth-spec : {M : Type 1} → statement M
 read-auth-spec =
     tie.close
@@ -48,4 +45,4 @@ read-auth-spec =
     returns-5
     (λ c κs. search needs)
     returns-6
-    returns-7)
+    (λ c. λ h. unlisted-tag _ _ (c .before .before .before .before .before .if1 .left) (c .before .before .before .before .if2 .left) (c .before .before .before .if3 .left) (c .before .before .if4 .left) (c .before .if5 .left) (c .if6 .left) (λ e. omega (arith, h, e)) (λ e. omega (arith, h, e)) (λ e. omega (arith, h, e)) (λ e. omega (arith, h, e)) (λ e. omega (arith, h, e)) (λ e. omega (arith, h, e)) (λ e. omega (arith, h, e)) (λ e. omega (arith, h, e)) (λ e. omega (arith, h, e))))

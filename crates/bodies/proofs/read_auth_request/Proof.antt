@@ -4,9 +4,6 @@ use borrow.Author.Needs.{needs}
 use Rattle.bodies.proofs.read_auth_request.Statement.{statement}
 use Rattle.bodies.proofs.read_auth_request.Tie as tie
 
-returns : tie.Need-returns
-returns c = row-read (auth-request-is _) (c .before .before .before .before .before .before .start .ensures) (step _ (c .before .before .before .before .before .field-u32 .ensures) (step _ (c .before .before .before .before .field-list .ensures) (step _ (c .before .before .before .field-rest .ensures) end))) (c .settle .ensures)
-
 pub read-auth-request-spec : {M : Type 1} → statement M
 read-auth-request-spec =
     tie.close
@@ -16,4 +13,4 @@ read-auth-request-spec =
     (λ c κs. search needs)
     (λ c κs. search needs)
     (λ c κs. search needs)
-    returns)
+    (λ c. row-read (auth-request-is _) (c .before .before .before .before .before .before .start .ensures) (step _ (c .before .before .before .before .before .field-u32 .ensures) (step _ (c .before .before .before .before .field-list .ensures) (step _ (c .before .before .before .field-rest .ensures) end))) (c .settle .ensures)))

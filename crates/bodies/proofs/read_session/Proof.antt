@@ -41,9 +41,6 @@ returns-9 : tie.Need-returns-9
 unfolding tagBody
 returns-9 c = λ h. by-tag _ 20 (c .before .if9 .taken) (c .read-one-number3 .ensures)
 
-returns-10 : tie.Need-returns-10
-returns-10 c = λ h. unlisted-tag _ _ (λ e. omega (arith, h, e)) (λ e. omega (arith, h, e)) (λ e. omega (arith, h, e)) (λ e. omega (arith, h, e)) (λ e. omega (arith, h, e)) (λ e. omega (arith, h, e)) (c .before .before .before .before .before .before .before .before .if1 .left) (c .before .before .before .before .before .before .before .if2 .left) (c .before .before .before .before .before .before .if3 .left) (c .before .before .before .before .before .if4 .left) (c .before .before .before .before .if5 .left) (c .before .before .before .if6 .left) (c .before .before .if7 .left) (c .before .if8 .left) (c .if9 .left)
-
 pub read-session-spec : {M : Type 1} → statement M
 read-session-spec =
     tie.close
@@ -66,4 +63,4 @@ read-session-spec =
     returns-8
     (λ c κs. search needs)
     returns-9
-    returns-10)
+    (λ c. λ h. unlisted-tag _ _ (λ e. omega (arith, h, e)) (λ e. omega (arith, h, e)) (λ e. omega (arith, h, e)) (λ e. omega (arith, h, e)) (λ e. omega (arith, h, e)) (λ e. omega (arith, h, e)) (c .before .before .before .before .before .before .before .before .if1 .left) (c .before .before .before .before .before .before .before .if2 .left) (c .before .before .before .before .before .before .if3 .left) (c .before .before .before .before .before .if4 .left) (c .before .before .before .before .if5 .left) (c .before .before .before .if6 .left) (c .before .before .if7 .left) (c .before .if8 .left) (c .if9 .left)))

@@ -3,9 +3,6 @@ use borrow.Author.Needs.{needs}
 use Rattle.bodies.proofs.row.Statement.{statement}
 use Rattle.bodies.proofs.row.Tie as tie
 
-enum-told : tie.Need-enum-told
-enum-told c = search needs
-
 returns : tie.Need-returns
 returns c =
     let g = c .before .before .before .before .before .before .before .before .before .before .before .args in
@@ -66,7 +63,7 @@ row-spec =
     (λ c κs. search needs)
     (λ c. search needs)
     (λ c κs. search needs)
-    enum-told
+    (λ c. search needs)
     (λ c κs. search needs)
     (λ c. search needs)
     (λ c κs. search needs)

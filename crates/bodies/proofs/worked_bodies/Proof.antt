@@ -21,8 +21,5 @@ table = (
   at-limit,
 )
 
-returns : tie.Need-returns
-returns c = table
-
 pub worked-bodies-spec : {M : Type 1} → statement M
-worked-bodies-spec = tie.close (tie.spec returns)
+worked-bodies-spec = tie.close (tie.spec (λ c. table))

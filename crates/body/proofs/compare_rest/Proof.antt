@@ -3,9 +3,6 @@ use borrow.Author.Needs.{needs}
 use Rattle.body.proofs.compare_rest.Statement.{statement}
 use Rattle.body.proofs.compare_rest.Tie as tie
 
-returns : tie.Need-returns
-returns c = simp (c .or-else2 .ensures, c .before .or-else .ensures, c .before .before .compare3 .ensures, c .before .before .before .before .compare2 .ensures, c .before .before .before .before .before .before .compare .ensures, c .before .before .before .part3 .ensures, c .before .before .before .before .before .part2 .ensures, c .before .before .before .before .before .before .before .part .ensures, c .before .before .before .before .before .before .before .before .behind2 .ensures, c .before .before .before .before .before .before .before .before .before .behind .ensures, or-else-last)
-
 pub compare-rest-spec : {M : Type 1} → statement M
 compare-rest-spec =
     tie.close
@@ -25,4 +22,4 @@ compare-rest-spec =
     (λ c κs. search needs)
     (λ c κs. search needs)
     (λ c κs. search needs)
-    returns)
+    (λ c. simp (c .or-else2 .ensures, c .before .or-else .ensures, c .before .before .compare3 .ensures, c .before .before .before .before .compare2 .ensures, c .before .before .before .before .before .before .compare .ensures, c .before .before .before .part3 .ensures, c .before .before .before .before .before .part2 .ensures, c .before .before .before .before .before .before .before .part .ensures, c .before .before .before .before .before .before .before .before .behind2 .ensures, c .before .before .before .before .before .before .before .before .before .behind .ensures, or-else-last)))

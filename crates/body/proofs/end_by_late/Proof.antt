@@ -4,9 +4,6 @@ use borrow.Author.Needs.{needs}
 use Rattle.body.proofs.end_by_late.Statement.{statement}
 use Rattle.body.proofs.end_by_late.Tie as tie
 
-enum-told : tie.Need-enum-told
-enum-told c = search needs
-
 returns : tie.Need-returns
 returns c =
     let b = c .before .before .before .byte-at .ensures in
@@ -29,7 +26,7 @@ end-by-late-spec =
     (tie.spec
     (λ c κs. search needs)
     (λ c κs. search needs)
-    enum-told
+    (λ c. search needs)
     (λ c. search needs)
     (λ c. search needs)
     (λ c κs. search needs)

@@ -9,9 +9,6 @@ returns : tie.Need-returns
 unfolding ending
 returns c = rw (sym (c .before .no-epilogue .ensures) ∙ c .if1 .taken)
 
-enum-told : tie.Need-enum-told
-enum-told c = search needs
-
 returns-2 : tie.Need-returns-2
 unfolding ending
 returns-2 c = rw (sym (c .before .before .before .before .before .no-epilogue .ensures) ∙ c .before .before .before .before .if1 .left, sym (c .before .before .before .judge-spelling .ensures) ∙ ap judgedBy (c .before .spelling .given .1))
@@ -28,7 +25,7 @@ end-of-spec =
     returns
     (λ c κs. search needs)
     (λ c. search needs)
-    enum-told
+    (λ c. search needs)
     (λ c κs. search needs)
     returns-2
     returns-3)

@@ -6,8 +6,11 @@ use borrow.Author.Needs.{needs}
 use Rattle.body.proofs.ended.Statement.{statement}
 use Rattle.body.proofs.ended.Tie as tie
 
-returns-2 : tie.Need-returns-2
-returns-2 c = sym (ap (λ (v : Judgement). endedBy (judgedBy v)) (c .before .v .given .1))
-
 pub ended-spec : {M : Type 1} → statement M
-ended-spec = tie.close (tie.spec (λ c. search needs) (λ c. search needs) (λ c. search needs) returns-2)
+ended-spec =
+    tie.close
+    (tie.spec
+    (λ c. search needs)
+    (λ c. search needs)
+    (λ c. search needs)
+    (λ c. sym (ap (λ (v : Judgement). endedBy (judgedBy v)) (c .before .v .given .1))))

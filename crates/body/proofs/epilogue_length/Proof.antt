@@ -14,9 +14,6 @@ returns c =
     let a = c .before .before .args in
     (sym (no-length (a .revision) (a .h) (sym (c .before .no-epilogue .ensures) ∙ c .if1 .taken)), omega arith)
 
-returns-2 : tie.Need-returns-2
-returns-2 c = (rw (c .enum-told .given .1), omega arith)
-
 returns-3 : tie.Need-returns-3
 returns-3 c =
     let h = c .before .before .before .before .args .h in
@@ -24,4 +21,12 @@ returns-3 c =
     (rw (c .enum-told2 .given .1, q), omega arith)
 
 pub epilogue-length-spec : {M : Type 1} → statement M
-epilogue-length-spec = tie.close (tie.spec (λ c κs. search needs) returns (λ c. search needs) (λ c. search needs) returns-2 returns-3)
+epilogue-length-spec =
+    tie.close
+    (tie.spec
+    (λ c κs. search needs)
+    returns
+    (λ c. search needs)
+    (λ c. search needs)
+    (λ c. (rw (c .enum-told .given .1), omega arith))
+    returns-3)

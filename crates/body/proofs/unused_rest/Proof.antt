@@ -3,9 +3,6 @@ use borrow.Author.Needs.{needs}
 use Rattle.body.proofs.unused_rest.Statement.{statement}
 use Rattle.body.proofs.unused_rest.Tie as tie
 
-returns : tie.Need-returns
-returns c = simp (c .or-else2 .ensures, c .before .or-else .ensures, c .before .before .unused3 .ensures, c .before .before .before .unused2 .ensures, c .before .before .before .before .unused .ensures, or-else-last)
-
 pub unused-rest-spec : {M : Type 1} → statement M
 unused-rest-spec =
     tie.close
@@ -17,4 +14,4 @@ unused-rest-spec =
     (λ c κs. search needs)
     (λ c κs. search needs)
     (λ c κs. search needs)
-    returns)
+    (λ c. simp (c .or-else2 .ensures, c .before .or-else .ensures, c .before .before .unused3 .ensures, c .before .before .before .unused2 .ensures, c .before .before .before .before .unused .ensures, or-else-last)))

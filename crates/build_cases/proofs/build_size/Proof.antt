@@ -2,9 +2,6 @@ use borrow.Author.Needs.{needs}
 use Rattle.build_cases.proofs.build_size.Statement.{statement}
 use Rattle.build_cases.proofs.build_size.Tie as tie
 
-returns : tie.Need-returns
-returns c = cc
-
 pub build-size-spec : {M : Type 1} → statement M
 build-size-spec =
     tie.close
@@ -18,4 +15,4 @@ build-size-spec =
     (λ c κs. search needs)
     (λ c. search needs)
     (λ c κs. search needs)
-    returns)
+    (λ c. cc))

@@ -2,8 +2,6 @@ use borrow.Author.Needs.{needs}
 use Rattle.build_cases.proofs.sending_after.Statement.{statement}
 use Rattle.build_cases.proofs.sending_after.Tie as tie
 
-returns : tie.Need-returns
-returns c = rw (c .nonce-further .ensures)
-
 pub sending-after-spec : {M : Type 1} → statement M
-sending-after-spec = tie.close (tie.spec (λ c κs. search needs) returns)
+sending-after-spec =
+    tie.close (tie.spec (λ c κs. search needs) (λ c. rw (c .nonce-further .ensures)))

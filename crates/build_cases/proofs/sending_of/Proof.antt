@@ -5,21 +5,15 @@ use borrow.Author.Needs.{needs}
 use Rattle.build_cases.proofs.sending_of.Statement.{statement}
 use Rattle.build_cases.proofs.sending_of.Tie as tie
 
-returns : tie.Need-returns
-returns c = c .refused-sending .ensures ∙ sending-refused _ (c .before .before .byte-at .ensures) (c .before .if1 .taken)
-
-returns-2 : tie.Need-returns-2
-returns-2 c = c .sending-after .ensures ∙ sending-made _ (c .before .before .before .before .before .byte-at .ensures) (c .before .before .before .before .if1 .left) (c .before .before .before .key-at .ensures (omega arith)) (c .before .before .nonce-at .ensures (omega arith)) (c .before .u64-at .ensures)
-
 pub sending-of-spec : {M : Type 1} → statement M
 sending-of-spec =
     tie.close
     (tie.spec
     (λ c κs. search needs)
     (λ c κs. search needs)
-    returns
+    (λ c. c .refused-sending .ensures ∙ sending-refused _ (c .before .before .byte-at .ensures) (c .before .if1 .taken))
     (λ c κs. search needs)
     (λ c κs. search needs)
     (λ c κs. search needs)
     (λ c κs. search needs)
-    returns-2)
+    (λ c. c .sending-after .ensures ∙ sending-made _ (c .before .before .before .before .before .byte-at .ensures) (c .before .before .before .before .if1 .left) (c .before .before .before .key-at .ensures (omega arith)) (c .before .before .nonce-at .ensures (omega arith)) (c .before .u64-at .ensures)))

@@ -13,9 +13,6 @@ use borrow.Author.Needs.{needs}
 use Rattle.builder.proofs.build_banner.Statement.{statement}
 use Rattle.builder.proofs.build_banner.Tie as tie
 
-enum-told : tie.Need-enum-told
-enum-told c = search needs
-
 sub-put : tie.Need-sub-put
 sub-put c =
     let g = c .before .before .before .before .before .args in
@@ -51,7 +48,7 @@ build-banner-spec =
     (tie.spec
     (λ c κs. search needs)
     (λ c. search needs)
-    enum-told
+    (λ c. search needs)
     (λ c κs. search needs)
     sub-put
     part-put-start

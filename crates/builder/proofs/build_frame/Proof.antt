@@ -13,9 +13,6 @@ use borrow.Author.Needs.{needs}
 use Rattle.builder.proofs.build_frame.Statement.{statement}
 use Rattle.builder.proofs.build_frame.Tie as tie
 
-enum-told : tie.Need-enum-told
-enum-told c = search needs
-
 sub-put-frame : tie.Need-sub-put-frame
 sub-put-frame c =
     let g = c .before .before .before .before .before .args in
@@ -56,7 +53,7 @@ build-frame-spec =
     (tie.spec
     (λ c κs. search needs)
     (λ c. search needs)
-    enum-told
+    (λ c. search needs)
     sub-put-frame
     part-put-frame-start
     (λ c. search needs)

@@ -9,12 +9,6 @@ use borrow.Author.Needs.{needs}
 use Rattle.builder.proofs.put_epilogue.Statement.{statement}
 use Rattle.builder.proofs.put_epilogue.Tie as tie
 
-returns : tie.Need-returns
-returns c = simp (sym (c .before .no-epilogue .ensures) ∙ c .if1 .taken)
-
-enum-told : tie.Need-enum-told
-enum-told c = search needs
-
 returns-2 : tie.Need-returns-2
 returns-2 c =
     let g = c .before .before .before .before .before .before .before .before .before .before .before .before .before .before .before .before .args in
@@ -48,10 +42,10 @@ put-epilogue-spec =
     tie.close
     (tie.spec
     (λ c κs. search needs)
-    returns
+    (λ c. simp (sym (c .before .no-epilogue .ensures) ∙ c .if1 .taken))
     (λ c κs. search needs)
     (λ c κs. search needs)
-    enum-told
+    (λ c. search needs)
     (λ c κs. search needs)
     (λ c κs. search needs)
     (λ c. search needs)

@@ -11,9 +11,6 @@ use borrow.Author.Needs.{needs}
 use Rattle.builder.proofs.put_first_sum.Statement.{statement}
 use Rattle.builder.proofs.put_first_sum.Tie as tie
 
-returns : tie.Need-returns
-returns c = simp (sym (c .before .no-first-sum .ensures) ∙ c .if1 .taken)
-
 returns-2 : tie.Need-returns-2
 returns-2 c =
     let g = c .before .before .before .before .before .before .before .before .before .before .before .args in
@@ -28,7 +25,7 @@ put-first-sum-spec =
     tie.close
     (tie.spec
     (λ c κs. search needs)
-    returns
+    (λ c. simp (sym (c .before .no-first-sum .ensures) ∙ c .if1 .taken))
     (λ c κs. search needs)
     (λ c κs. search needs)
     (λ c. search needs)

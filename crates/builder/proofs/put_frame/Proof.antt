@@ -14,15 +14,6 @@ use borrow.Author.Needs.{needs}
 use Rattle.builder.proofs.put_frame.Statement.{statement}
 use Rattle.builder.proofs.put_frame.Tie as tie
 
-put-preamble-requires : tie.Need-put-preamble-requires
-put-preamble-requires c κs = omega (arith, c .before .before .before .pre .1)
-
-sub-put-body : tie.Need-sub-put-body
-sub-put-body c = omega (arith, c .before .before .before .before .before .before .before .before .before .pre .1, c .before .before .before .before .before .put-preamble .kept .0)
-
-part-put-body-start : tie.Need-part-put-body-start
-part-put-body-start c = omega (arith, c .before .before .before .before .before .before .before .before .before .pre .1, c .before .before .before .before .before .put-preamble .kept .0)
-
 put-body-requires : tie.Need-put-body-requires
 put-body-requires c κs =
     let g = c .before .before .before .before .before .before .before .before .before .before .args in
@@ -54,12 +45,12 @@ pub put-frame-spec : {M : Type 1} → statement M
 put-frame-spec =
     tie.close
     (tie.spec
-    put-preamble-requires
+    (λ c κs. omega (arith, c .before .before .before .pre .1))
     (λ c. search needs)
     (λ c κs. search needs)
     (λ c κs. search needs)
-    sub-put-body
-    part-put-body-start
+    (λ c. omega (arith, c .before .before .before .before .before .before .before .before .before .pre .1, c .before .before .before .before .before .put-preamble .kept .0))
+    (λ c. omega (arith, c .before .before .before .before .before .before .before .before .before .pre .1, c .before .before .before .before .before .put-preamble .kept .0))
     (λ c. search needs)
     put-body-requires
     (λ c. search needs)

@@ -13,32 +13,11 @@ Inv-loop held₀ at n i₀ held i = (i ≤ n) × (held ≡ take i (drop at held�
 abbrev μ-loop : tie.MeasureT-loop
 μ-loop held₀ at n i₀ held i = n - i
 
-loop-holds : tie.Need-loop-holds Inv-loop μ-loop
-loop-holds c = (omega arith, refl, refl)
-
-add-held : tie.Need-add-held Inv-loop μ-loop
-add-held c = omega arith
-
-slice-read-held : tie.Need-slice-read-held Inv-loop μ-loop
-slice-read-held c = omega arith
-
-slice-write-held : tie.Need-slice-write-held Inv-loop μ-loop
-slice-write-held c = omega arith
-
-add-i : tie.Need-add-i Inv-loop μ-loop
-add-i c = omega arith
-
-loop-less : tie.Need-loop-less Inv-loop μ-loop
-loop-less c = omega arith
-
 loop-again : tie.Need-loop-again Inv-loop μ-loop
 loop-again c =
     let l = c .before .before .loop in
     let a = c .before .before .before .args in
     (omega arith, rw (l .inv .1) (moved-more (a .held .now) (a .at) (l .i) (omega arith)), length-set (l .held) (l .i) _ ∙ l .inv .2)
-
-same-length : tie.Need-same-length Inv-loop μ-loop
-same-length c = c .before .loop .inv .2
 
 returns : tie.Need-returns Inv-loop μ-loop
 returns c =
@@ -51,12 +30,12 @@ move-front-spec =
     (tie.spec
     Inv-loop
     μ-loop
-    loop-holds
-    add-held
-    slice-read-held
-    slice-write-held
-    add-i
-    loop-less
+    (λ c. (omega arith, refl, refl))
+    (λ c. omega arith)
+    (λ c. omega arith)
+    (λ c. omega arith)
+    (λ c. omega arith)
+    (λ c. omega arith)
     loop-again
-    same-length
+    (λ c. c .before .loop .inv .2)
     returns)

@@ -13,9 +13,6 @@ use Rattle.cases.proofs.refill.Tie as tie
 ended : (b : Bool) (n : ℕ) → b ≡ false → b ≡ true → 164253 ≤ n
 ended b n f t = let z : _≡_ {A = ℕ} 0 1 = cc in omega arith
 
-returns-2 : tie.Need-returns-2
-returns-2 c = (search needs, record { more = search needs; same = refl; whole = ended (c .before .before .before .before .before .args .input .open) _ (not-true _ (c .if2 .taken)) })
-
 returns-3 : tie.Need-returns-3
 returns-3 c =
     let a = c .before .before .before .before .before .before .before .before .before .before .before .before .before .args in
@@ -28,7 +25,7 @@ refill-spec =
     (tie.spec
     (λ c. search needs)
     (λ c. search needs)
-    returns-2
+    (λ c. (search needs, record { more = search needs; same = refl; whole = ended (c .before .before .before .before .before .args .input .open) _ (not-true _ (c .if2 .taken)) }))
     (λ c κs. search needs)
     (λ c. search needs)
     (λ c. search needs)

@@ -6,9 +6,6 @@ use Rattle.cases.specs.Kinds.{nextOf}
 use Rattle.cases.proofs.run_next.Statement.{statement}
 use Rattle.cases.proofs.run_next.Tie as tie
 
-slice-aggregate-build-record : tie.Need-slice-aggregate-build-record
-slice-aggregate-build-record c = sym (space-lent (c .before .before .before .before .before .before .args .space .now) (c .before .before .before .before .before .before .pre))
-
 returns : tie.Need-returns
 unfolding nextOf
 returns c = let l = space-lent (c .before .before .before .before .before .before .before .before .before .before .before .before .args .space .now) (c .before .before .before .before .before .before .before .before .before .before .before .before .pre) in
@@ -27,7 +24,7 @@ run-next-spec =
     tie.close
     (tie.spec
     (λ c. search needs)
-    slice-aggregate-build-record
+    (λ c. sym (space-lent (c .before .before .before .before .before .before .args .space .now) (c .before .before .before .before .before .before .pre)))
     (λ c κs. search needs)
     (λ c. search needs)
     (λ c. search needs)

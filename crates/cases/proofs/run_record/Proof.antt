@@ -20,12 +20,6 @@ unfolding recordOf
 returns-3 c = let k = c .before .before .before .before .before .before .before .before .before .before .byte-at .ensures in
     rw (kind-isnt k (c .before .before .before .before .before .before .before .before .before .if1 .left), kind-isnt k (c .before .before .before .before .before .before .before .before .if2 .left), kind-is k (c .before .before .before .before .before .before .before .if3 .taken)) (c .before .before .before .before .frame-record .ensures)
 
-slice-aggregate-run-other : tie.Need-slice-aggregate-run-other
-slice-aggregate-run-other c = sym (space-lent (c .before .before .before .before .before .before .before .before .args .space .now) (c .before .before .before .before .before .before .before .before .pre))
-
-run-other-requires : tie.Need-run-other-requires
-run-other-requires c κs = space-lent (c .before .before .before .before .before .before .before .before .before .args .space .now) (c .before .before .before .before .before .before .before .before .before .pre)
-
 returns-4 : tie.Need-returns-4
 unfolding recordOf
 returns-4 c = let k = c .before .before .before .before .before .before .before .before .before .before .byte-at .ensures in
@@ -48,8 +42,8 @@ run-record-spec =
     (λ c. search needs)
     returns-3
     (λ c. search needs)
-    slice-aggregate-run-other
-    run-other-requires
+    (λ c. sym (space-lent (c .before .before .before .before .before .before .before .before .args .space .now) (c .before .before .before .before .before .before .before .before .pre)))
+    (λ c κs. space-lent (c .before .before .before .before .before .before .before .before .before .args .space .now) (c .before .before .before .before .before .before .before .before .before .pre))
     (λ c. search needs)
     (λ c. search needs)
     returns-4)

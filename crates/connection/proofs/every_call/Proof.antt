@@ -2,8 +2,5 @@ use Rattle.connection.proofs.Adds.{every-call}
 use Rattle.connection.proofs.every_call.Statement.{statement}
 use Rattle.connection.proofs.every_call.Tie as tie
 
-returns : tie.Need-returns
-returns c = every-call
-
 pub every-call-spec : {M : Type 1} → statement M
-every-call-spec = tie.close (tie.spec returns)
+every-call-spec = tie.close (tie.spec (λ c. every-call))

@@ -5,9 +5,6 @@ use borrow.Author.Needs.{needs}
 use Rattle.connection.proofs.switch.Statement.{statement}
 use Rattle.connection.proofs.switch.Tie as tie
 
-enum-told : tie.Need-enum-told
-enum-told c = search needs
-
 returns : tie.Need-returns
 returns c =
     let z = c .before .before .before .before .before .args in
@@ -33,7 +30,7 @@ switch-spec =
     tie.close
     (tie.spec
     (λ c κs. search needs)
-    enum-told
+    (λ c. search needs)
     (λ c κs. search needs)
     (λ c κs. search needs)
     (λ c. search needs)

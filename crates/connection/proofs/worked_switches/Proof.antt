@@ -38,8 +38,8 @@ sends-hold : Holds sendingRows
 unfolding sendingRows freshSending refusedSending
 sends-hold = refl
 
-returns : tie.Need-returns
-returns c = record { splices = splices-hold; behind = behind-hold; ready = ready-hold; switches = switches-hold; states = states-hold; sends = sends-hold }
-
 pub worked-switches-spec : {M : Type 1} → statement M
-worked-switches-spec = tie.close (tie.spec returns)
+worked-switches-spec =
+    tie.close
+    (tie.spec
+    (λ c. record { splices = splices-hold; behind = behind-hold; ready = ready-hold; switches = switches-hold; states = states-hold; sends = sends-hold }))

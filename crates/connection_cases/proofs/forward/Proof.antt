@@ -6,14 +6,12 @@ use borrow.Author.Needs.{needs}
 use Rattle.connection_cases.proofs.forward.Statement.{statement}
 use Rattle.connection_cases.proofs.forward.Tie as tie
 
-returns : tie.Need-returns
-returns c = drop-end (c .before .args .s .now) (c .before .args .at) (c .before .args .n) (omega arith)
-
-returns-2 : tie.Need-returns-2
-returns-2 c = sym (drop-drop (c .before .before .args .n) (c .before .before .args .at) (c .before .before .args .s .now))
-
-returns-3 : tie.Need-returns-3
-returns-3 c = drop-end (c .before .before .args .s .now) (c .before .before .args .at) (c .before .before .args .n) (omega arith)
-
 pub forward-spec : {M : Type 1} → statement M
-forward-spec = tie.close (tie.spec returns (λ c. search needs) (λ c. search needs) returns-2 returns-3)
+forward-spec =
+    tie.close
+    (tie.spec
+    (λ c. drop-end (c .before .args .s .now) (c .before .args .at) (c .before .args .n) (omega arith))
+    (λ c. search needs)
+    (λ c. search needs)
+    (λ c. sym (drop-drop (c .before .before .args .n) (c .before .before .args .at) (c .before .before .args .s .now)))
+    (λ c. drop-end (c .before .before .args .s .now) (c .before .before .args .at) (c .before .before .args .n) (omega arith)))

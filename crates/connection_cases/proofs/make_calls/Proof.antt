@@ -25,33 +25,6 @@ Inv-loop l s n from stream store₀ text₀ at width state₀ taken₀ end₀ pl
 abbrev μ-loop : tie.MeasureT-loop
 μ-loop l s n from stream store₀ text₀ at width state₀ taken₀ end₀ place₀ left₀ store text state taken end place left = left
 
-call-width-requires : tie.Need-call-width-requires Inv-loop μ-loop
-call-width-requires c κs = search needs
-
-loop-holds : tie.Need-loop-holds Inv-loop μ-loop
-loop-holds c = (omega (arith, c .before .before .before .before .before .pre .0), omega (arith, c .call-width .ensures .1), c .call-width .ensures .0, refl, refl, refl)
-
-call-at-requires : tie.Need-call-at-requires Inv-loop μ-loop
-call-at-requires c κs = omega (arith, c .before .loop .inv .0)
-
-behind-requires : tie.Need-behind-requires Inv-loop μ-loop
-behind-requires c κs = search needs
-
-make-either-requires : tie.Need-make-either-requires Inv-loop μ-loop
-make-either-requires c κs = c .before .before .before .before .before .before .before .before .before .before .before .pre .1
-
-forward-requires : tie.Need-forward-requires Inv-loop μ-loop
-forward-requires c κs = search needs
-
-add-place : tie.Need-add-place Inv-loop μ-loop
-add-place c = omega (arith, c .before .before .before .before .before .before .before .before .before .before .before .before .loop .inv .0, c .before .before .before .before .before .before .before .before .before .before .before .before .loop .inv .1)
-
-sub-left : tie.Need-sub-left Inv-loop μ-loop
-sub-left c = omega (arith, c .before .before .before .before .before .before .before .before .before .before .before .loop-test .taken)
-
-loop-less : tie.Need-loop-less Inv-loop μ-loop
-loop-less c = omega (arith, c .before .before .before .before .before .before .before .before .before .before .before .loop-test .taken)
-
 loop-again : tie.Need-loop-again Inv-loop μ-loop
 loop-again c =
     let l = c .before .before .before .before .before .before .before .before .before .before .before .before .loop in (
@@ -62,12 +35,6 @@ loop-again c =
       c .before .before .before .before .before .before .make-either .kept .1 .1 .1 .1 .1 .0 ∙ l .inv .4,
       c .before .before .before .before .before .before .make-either .kept .1 .1 .1 .1 .1 .1 .0 ∙ l .inv .5,
     )
-
-same-length : tie.Need-same-length Inv-loop μ-loop
-same-length c = c .before .loop .inv .4
-
-same-length-2 : tie.Need-same-length-2 Inv-loop μ-loop
-same-length-2 c = c .before .loop .inv .5
 
 returns : tie.Need-returns Inv-loop μ-loop
 unfolding callLines prints
@@ -81,16 +48,16 @@ make-calls-spec =
     (tie.spec
     Inv-loop
     μ-loop
-    call-width-requires
-    loop-holds
-    call-at-requires
-    behind-requires
-    make-either-requires
-    forward-requires
-    add-place
-    sub-left
-    loop-less
+    (λ c κs. search needs)
+    (λ c. (omega (arith, c .before .before .before .before .before .pre .0), omega (arith, c .call-width .ensures .1), c .call-width .ensures .0, refl, refl, refl))
+    (λ c κs. omega (arith, c .before .loop .inv .0))
+    (λ c κs. search needs)
+    (λ c κs. c .before .before .before .before .before .before .before .before .before .before .before .pre .1)
+    (λ c κs. search needs)
+    (λ c. omega (arith, c .before .before .before .before .before .before .before .before .before .before .before .before .loop .inv .0, c .before .before .before .before .before .before .before .before .before .before .before .before .loop .inv .1))
+    (λ c. omega (arith, c .before .before .before .before .before .before .before .before .before .before .before .loop-test .taken))
+    (λ c. omega (arith, c .before .before .before .before .before .before .before .before .before .before .before .loop-test .taken))
     loop-again
-    same-length
-    same-length-2
+    (λ c. c .before .loop .inv .4)
+    (λ c. c .before .loop .inv .5)
     returns)

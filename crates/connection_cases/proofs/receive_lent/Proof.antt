@@ -11,9 +11,6 @@ use borrow.Author.Needs.{needs}
 use Rattle.connection_cases.proofs.receive_lent.Statement.{statement}
 use Rattle.connection_cases.proofs.receive_lent.Tie as tie
 
-slice-aggregate-receive : tie.Need-slice-aggregate-receive
-slice-aggregate-receive c = sym (length-take-le (c .before .before .before .before .args .lent) (c .before .before .before .before .args .store .now) (omega arith))
-
 returns : tie.Need-returns
 unfolding lentAnswer
 returns c = record { received = c .before .before .receive .ensures .received; store = ap (λ (l : List ℕ). l ++ drop (c .before .before .before .before .before .before .before .args .lent) (c .before .before .before .before .before .before .before .args .store .now)) (c .before .before .receive .ensures .store) }
@@ -28,7 +25,7 @@ receive-lent-spec =
     tie.close
     (tie.spec
     (λ c. search needs)
-    slice-aggregate-receive
+    (λ c. sym (length-take-le (c .before .before .before .before .args .lent) (c .before .before .before .before .args .store .now) (omega arith)))
     (λ c κs. search needs)
     (λ c. search needs)
     returns

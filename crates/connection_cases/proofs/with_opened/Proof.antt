@@ -2,8 +2,5 @@ use borrow.Author.Needs.{needs}
 use Rattle.connection_cases.proofs.with_opened.Statement.{statement}
 use Rattle.connection_cases.proofs.with_opened.Tie as tie
 
-returns : tie.Need-returns
-returns c = rw (c .nonce-further .ensures)
-
 pub with-opened-spec : {M : Type 1} → statement M
-with-opened-spec = tie.close (tie.spec (λ c κs. search needs) returns)
+with-opened-spec = tie.close (tie.spec (λ c κs. search needs) (λ c. rw (c .nonce-further .ensures)))

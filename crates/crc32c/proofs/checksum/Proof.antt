@@ -5,12 +5,6 @@ use Rattle.crc32c.proofs.Words.{ends, rest-length}
 use Rattle.crc32c.proofs.checksum.Statement.{statement}
 use Rattle.crc32c.proofs.checksum.Tie as tie
 
-over-pairs-requires : tie.Need-over-pairs-requires
-over-pairs-requires c κs = c .over-fours .ensures .within
-
-over-words-requires : tie.Need-over-words-requires
-over-words-requires c κs = c .over-pairs .ensures .0
-
 last-requires : tie.Need-last-requires
 last-requires c κs =
     let w = c .before in
@@ -29,8 +23,8 @@ checksum-spec =
     tie.close
     (tie.spec
     (λ c κs. search needs)
-    over-pairs-requires
-    over-words-requires
+    (λ c κs. c .over-fours .ensures .within)
+    (λ c κs. c .over-pairs .ensures .0)
     (λ c. search needs)
     (λ c. search needs)
     (λ c. search needs)

@@ -13,33 +13,6 @@ Inv-loop bytes a₀ b₀ c₀ d₀ i₀ k₀ a b c d i k = (k ≤ 4) × (i ≡ i
 abbrev μ-loop : tie.MeasureT-loop
 μ-loop bytes a₀ b₀ c₀ d₀ i₀ k₀ a b c d i k = 4 - k
 
-loop-holds : tie.Need-loop-holds Inv-loop μ-loop
-loop-holds c = (omega arith, omega arith, λ s h. h)
-
-add-e : tie.Need-add-e Inv-loop μ-loop
-add-e c = search needs
-
-sub-mixed : tie.Need-sub-mixed Inv-loop μ-loop
-sub-mixed c = search needs
-
-part-mixed-start : tie.Need-part-mixed-start Inv-loop μ-loop
-part-mixed-start c = search needs
-
-part-mixed-end : tie.Need-part-mixed-end Inv-loop μ-loop
-part-mixed-end c = search needs
-
-mixed-requires : tie.Need-mixed-requires Inv-loop μ-loop
-mixed-requires c κs = omega (arith, word-length (c .before .before .loop .i) (c .before .before .before .before .args .bytes .now) (omega arith))
-
-steps-128-requires : tie.Need-steps-128-requires Inv-loop μ-loop
-steps-128-requires c κs = search needs
-
-add-k : tie.Need-add-k Inv-loop μ-loop
-add-k c = search needs
-
-loop-less : tie.Need-loop-less Inv-loop μ-loop
-loop-less c = search needs
-
 loop-again : tie.Need-loop-again Inv-loop μ-loop
 loop-again c =
     let p = c .before in
@@ -47,23 +20,20 @@ loop-again c =
     let bs = p .before .before .before .before .before .args .bytes .now in
     (omega arith, omega arith, λ s h. far s bs (l .a) (l .b) (l .c) (l .d) (l .i) (p .mixed .result) (l .inv .2 s h) (omega arith) (p .mixed .ensures) (c .steps-128 .result) (c .steps-128 .ensures) (omega arith))
 
-returns : tie.Need-returns Inv-loop μ-loop
-returns c = (omega arith, c .before .loop .inv .2)
-
 pub four-words-spec : {M : Type 1} → statement M
 four-words-spec =
     tie.close
     (tie.spec
     Inv-loop
     μ-loop
-    loop-holds
-    add-e
-    sub-mixed
-    part-mixed-start
-    part-mixed-end
-    mixed-requires
-    steps-128-requires
-    add-k
-    loop-less
+    (λ c. (omega arith, omega arith, λ s h. h))
+    (λ c. search needs)
+    (λ c. search needs)
+    (λ c. search needs)
+    (λ c. search needs)
+    (λ c κs. omega (arith, word-length (c .before .before .loop .i) (c .before .before .before .before .args .bytes .now) (omega arith)))
+    (λ c κs. search needs)
+    (λ c. search needs)
+    (λ c. search needs)
     loop-again
-    returns)
+    (λ c. (omega arith, c .before .loop .inv .2)))

@@ -5,19 +5,13 @@ use borrow.Author.Needs.{needs}
 use Rattle.crc32c.proofs.last.Statement.{statement}
 use Rattle.crc32c.proofs.last.Tie as tie
 
-returns : tie.Need-returns
-returns c = crc-none (c .before .before .args .c) (c .before .before .args .rest .now) (omega arith)
-
-returns-2 : tie.Need-returns-2
-returns-2 c = c .fewer-steps .ensures ∙ c .before .mixed .ensures
-
 pub last-spec : {M : Type 1} → statement M
 last-spec =
     tie.close
     (tie.spec
     (λ c. search needs)
-    returns
+    (λ c. crc-none (c .before .before .args .c) (c .before .before .args .rest .now) (omega arith))
     (λ c. search needs)
     (λ c κs. search needs)
     (λ c κs. search needs)
-    returns-2)
+    (λ c. c .fewer-steps .ensures ∙ c .before .mixed .ensures))

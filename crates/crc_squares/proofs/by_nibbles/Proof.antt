@@ -21,27 +21,6 @@ loop-holds c =
     let a = c .args in
     (omega arith, ap (λ (p : ℕ). nibbles rootOrSquareAt p 8 (a .x)) (add-zero (a .first)))
 
-add-place : tie.Need-add-place Inv-loop μ-loop
-add-place c = search needs
-
-mul-place : tie.Need-mul-place Inv-loop μ-loop
-mul-place c = search needs
-
-add-place-2 : tie.Need-add-place-2 Inv-loop μ-loop
-add-place-2 c = omega (arith, mask-lt (c .before .loop .rest) 4)
-
-place-requires : tie.Need-place-requires Inv-loop μ-loop
-place-requires c κs = search needs
-
-entry-requires : tie.Need-entry-requires Inv-loop μ-loop
-entry-requires c κs = search needs
-
-add-j : tie.Need-add-j Inv-loop μ-loop
-add-j c = search needs
-
-loop-less : tie.Need-loop-less Inv-loop μ-loop
-loop-less c = search needs
-
 loop-again : tie.Need-loop-again Inv-loop μ-loop
 loop-again c =
     let p = c .before in
@@ -64,12 +43,12 @@ by-nibbles-spec =
     Inv-loop
     μ-loop
     loop-holds
-    add-place
-    mul-place
-    add-place-2
-    place-requires
-    entry-requires
-    add-j
-    loop-less
+    (λ c. search needs)
+    (λ c. search needs)
+    (λ c. omega (arith, mask-lt (c .before .loop .rest) 4))
+    (λ c κs. search needs)
+    (λ c κs. search needs)
+    (λ c. search needs)
+    (λ c. search needs)
     loop-again
     returns)

@@ -3,8 +3,11 @@ use Rattle.crc_squares.proofs.Rules.{read-at}
 use Rattle.crc_squares.proofs.read.Statement.{statement}
 use Rattle.crc_squares.proofs.read.Tie as tie
 
-returns : tie.Need-returns
-returns c = read-at (c .before .args .t .now) (c .before .pre) (c .before .args .k)
-
 pub read-spec : {M : Type 1} → statement M
-read-spec = tie.close (tie.spec (λ c. search needs) (λ c. search needs) (λ c. search needs) returns)
+read-spec =
+    tie.close
+    (tie.spec
+    (λ c. search needs)
+    (λ c. search needs)
+    (λ c. search needs)
+    (λ c. read-at (c .before .args .t .now) (c .before .pre) (c .before .args .k)))

@@ -14,24 +14,6 @@ Inv-loop t n k c₀ left₀ c left = steps (8 * left) c ≡ steps (8 * n) (k % 2
 abbrev μ-loop : tie.MeasureT-loop
 μ-loop t n k c₀ left₀ c left = left
 
-loop-holds : tie.Need-loop-holds Inv-loop μ-loop
-loop-holds c = refl
-
-cast-low : tie.Need-cast-low Inv-loop μ-loop
-cast-low c = search needs
-
-mul-c : tie.Need-mul-c Inv-loop μ-loop
-mul-c c = search needs
-
-element-copy-out-c : tie.Need-element-copy-out-c Inv-loop μ-loop
-element-copy-out-c c = search needs
-
-sub-left : tie.Need-sub-left Inv-loop μ-loop
-sub-left c = search needs
-
-loop-less : tie.Need-loop-less Inv-loop μ-loop
-loop-less c = search needs
-
 loop-again : tie.Need-loop-again Inv-loop μ-loop
 loop-again c =
     let l = c .before .before .loop in
@@ -52,11 +34,11 @@ walk-spec =
     (tie.spec
     Inv-loop
     μ-loop
-    loop-holds
-    cast-low
-    mul-c
-    element-copy-out-c
-    sub-left
-    loop-less
+    (λ c. refl)
+    (λ c. search needs)
+    (λ c. search needs)
+    (λ c. search needs)
+    (λ c. search needs)
+    (λ c. search needs)
     loop-again
     returns)

@@ -3,8 +3,10 @@ use borrow.Author.Needs.{needs}
 use Rattle.delivery.proofs.every_call.Statement.{statement}
 use Rattle.delivery.proofs.every_call.Tie as tie
 
-returns : tie.Need-returns
-returns c = every-call (c .before .every-call .ensures) (c .every-call2 .ensures)
-
 pub every-call-spec : {M : Type 1} → statement M
-every-call-spec = tie.close (tie.spec (λ c κs. search needs) (λ c κs. search needs) returns)
+every-call-spec =
+    tie.close
+    (tie.spec
+    (λ c κs. search needs)
+    (λ c κs. search needs)
+    (λ c. every-call (c .before .every-call .ensures) (c .every-call2 .ensures)))

@@ -2,8 +2,5 @@ use borrow.Author.Needs.{needs}
 use Rattle.delivery.proofs.for_session.Statement.{statement}
 use Rattle.delivery.proofs.for_session.Tie as tie
 
-returns : tie.Need-returns
-returns c = cc
-
 pub for-session-spec : {M : Type 1} → statement M
-for-session-spec = tie.close (tie.spec (λ c κs. search needs) (λ c κs. search needs) returns)
+for-session-spec = tie.close (tie.spec (λ c κs. search needs) (λ c κs. search needs) (λ c. cc))

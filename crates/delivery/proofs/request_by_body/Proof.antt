@@ -5,18 +5,6 @@ use borrow.Author.Needs.{needs}
 use Rattle.delivery.proofs.request_by_body.Statement.{statement}
 use Rattle.delivery.proofs.request_by_body.Tie as tie
 
-returns : tie.Need-returns
-returns c = λ s. rw (c .before .before .body .given .1) (c .request-by-number .ensures)
-
-returns-2 : tie.Need-returns-2
-returns-2 c = λ s. rw (c .before .before .body2 .given .1) (c .request-by-number2 .ensures)
-
-returns-3 : tie.Need-returns-3
-returns-3 c = λ s. rw (c .before .before .body3 .given .1) (ap request.Malformed (c .numbers-of .ensures))
-
-returns-4 : tie.Need-returns-4
-returns-4 c = λ s. no-number (c .before .args .h) s (c .before .args .body) (c .match .keys4)
-
 pub request-by-body-spec : {M : Type 1} → statement M
 request-by-body-spec =
     tie.close
@@ -28,7 +16,7 @@ request-by-body-spec =
     (λ c κs. search needs)
     (λ c. search needs)
     (λ c κs. search needs)
-    returns
-    returns-2
-    returns-3
-    returns-4)
+    (λ c. λ s. rw (c .before .before .body .given .1) (c .request-by-number .ensures))
+    (λ c. λ s. rw (c .before .before .body2 .given .1) (c .request-by-number2 .ensures))
+    (λ c. λ s. rw (c .before .before .body3 .given .1) (ap request.Malformed (c .numbers-of .ensures)))
+    (λ c. λ s. no-number (c .before .args .h) s (c .before .args .body) (c .match .keys4)))

@@ -16,9 +16,6 @@ returns : tie.Need-returns
 unfolding requestByFrame
 returns c = rw (sym (c .before .for-session .ensures) ∙ not-true _ (c .if1 .taken))
 
-slice-aggregate-read : tie.Need-slice-aggregate-read
-slice-aggregate-read c = simp length-take (omega (arith, c .before .min .ensures))
-
 returns-2 : tie.Need-returns-2
 unfolding requestByFrame
 returns-2 c =
@@ -37,7 +34,7 @@ request-by-frame-spec =
     returns
     (λ c. search needs)
     (λ c κs. search needs)
-    slice-aggregate-read
+    (λ c. simp length-take (omega (arith, c .before .min .ensures)))
     (λ c κs. search needs)
     (λ c κs. search needs)
     returns-2)

@@ -211,8 +211,6 @@ table demand = (
   (λ key nonce. sealed-ack key nonce demand),
 )
 
-returns : tie.Need-returns
-returns c = table (c .every-cutting .ensures)
-
 pub worked-deliveries-spec : {M : Type 1} → statement M
-worked-deliveries-spec = tie.close (tie.spec (λ c κs. search needs) returns)
+worked-deliveries-spec =
+    tie.close (tie.spec (λ c κs. search needs) (λ c. table (c .every-cutting .ensures)))

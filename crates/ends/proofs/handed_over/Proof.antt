@@ -2,8 +2,5 @@ use Rattle.ends.proofs.Handover.{handed-over}
 use Rattle.ends.proofs.handed_over.Statement.{statement}
 use Rattle.ends.proofs.handed_over.Tie as tie
 
-returns : tie.Need-returns
-returns c = handed-over
-
 pub handed-over-spec : {M : Type 1} → statement M
-handed-over-spec = tie.close (tie.spec returns)
+handed-over-spec = tie.close (tie.spec (λ c. handed-over))

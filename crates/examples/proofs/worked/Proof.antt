@@ -54,8 +54,5 @@ table : Worked
 unfolding Worked
 table = (numbers-hold, revisions-hold, banners-hold, preambles-hold, headers-hold, builds-hold, ends-hold, bytes-hold, buffers-hold)
 
-returns : tie.Need-returns
-returns c = table
-
 pub worked-spec : {M : Type 1} → statement M
-worked-spec = tie.close (tie.spec returns)
+worked-spec = tie.close (tie.spec (λ c. table))

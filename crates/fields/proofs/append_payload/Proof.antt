@@ -5,9 +5,6 @@ use borrow.Author.Needs.{needs}
 use Rattle.fields.proofs.append_payload.Statement.{statement}
 use Rattle.fields.proofs.append_payload.Tie as tie
 
-returns : tie.Need-returns
-returns c = appended-counted (payload _) _ (fits-payload _) (c .before .before .before .before .before .before .before .before .before .count-bytes .ensures) refl refl refl (c .before .before .before .before .before .before .put .ensures) (c .before .before .put2 .ensures)
-
 pub append-payload-spec : {M : Type 1} → statement M
 append-payload-spec =
     tie.close
@@ -17,4 +14,4 @@ append-payload-spec =
     (λ c κs. search needs)
     (λ c κs. search needs)
     (λ c. search needs)
-    returns)
+    (λ c. appended-counted (payload _) _ (fits-payload _) (c .before .before .before .before .before .before .before .before .before .count-bytes .ensures) refl refl refl (c .before .before .before .before .before .before .put .ensures) (c .before .before .put2 .ensures)))

@@ -5,8 +5,10 @@ use borrow.Author.Needs.{needs}
 use Rattle.fields.proofs.append_rest.Statement.{statement}
 use Rattle.fields.proofs.append_rest.Tie as tie
 
-returns : tie.Need-returns
-returns c = appended (opaque _ _) (fits-opaque _ _) refl (c .before .before .put .ensures)
-
 pub append-rest-spec : {M : Type 1} → statement M
-append-rest-spec = tie.close (tie.spec (λ c κs. search needs) (λ c. search needs) returns)
+append-rest-spec =
+    tie.close
+    (tie.spec
+    (λ c κs. search needs)
+    (λ c. search needs)
+    (λ c. appended (opaque _ _) (fits-opaque _ _) refl (c .before .before .put .ensures)))

@@ -16,34 +16,10 @@ Inv-loop out₀ ns next₀ i₀ out next i = (i ≤ length ns) × ((p : Draft) �
 abbrev μ-loop : tie.MeasureT-loop
 μ-loop out₀ ns next₀ i₀ out next i = length ns - i
 
-count-requires : tie.Need-count-requires Inv-loop μ-loop
-count-requires c κs = search needs
-
-loop-holds : tie.Need-loop-holds Inv-loop μ-loop
-loop-holds c = (zero-le, (λ p e. none-yet _ _ e), refl)
-
-mul-append-u32 : tie.Need-mul-append-u32 Inv-loop μ-loop
-mul-append-u32 c = search needs
-
-shared-slice-read-append-u32 : tie.Need-shared-slice-read-append-u32 Inv-loop μ-loop
-shared-slice-read-append-u32 c = search needs
-
-append-u32-requires : tie.Need-append-u32-requires Inv-loop μ-loop
-append-u32-requires c κs = search needs
-
-add-i : tie.Need-add-i Inv-loop μ-loop
-add-i c = search needs
-
-loop-less : tie.Need-loop-less Inv-loop μ-loop
-loop-less c = search needs
-
 loop-again : tie.Need-loop-again Inv-loop μ-loop
 loop-again c = let l = c .before .before .before .before .before .before .loop in
     let g = c .before .before .before .before .before .before .before .before .before .before .args in
     (omega arith, (λ p e. one-more (l .i) (g .ns .now) (omega arith) (l .inv .1 p e) (c .before .before .append-u32 .ensures)), c .before .out .given ∙ l .inv .2)
-
-same-length : tie.Need-same-length Inv-loop μ-loop
-same-length c = c .before .loop .inv .2
 
 returns : tie.Need-returns Inv-loop μ-loop
 returns c = let l = c .before .loop in
@@ -56,13 +32,13 @@ append-words-spec =
     (tie.spec
     Inv-loop
     μ-loop
-    count-requires
-    loop-holds
-    mul-append-u32
-    shared-slice-read-append-u32
-    append-u32-requires
-    add-i
-    loop-less
+    (λ c κs. search needs)
+    (λ c. (zero-le, (λ p e. none-yet _ _ e), refl))
+    (λ c. search needs)
+    (λ c. search needs)
+    (λ c κs. search needs)
+    (λ c. search needs)
+    (λ c. search needs)
     loop-again
-    same-length
+    (λ c. c .before .loop .inv .2)
     returns)

@@ -3,8 +3,6 @@ use borrow.Author.Needs.{needs}
 use Rattle.fields.proofs.behind_count.Statement.{statement}
 use Rattle.fields.proofs.behind_count.Tie as tie
 
-returns : tie.Need-returns
-returns c = λ h. omega (arith, h, c .min .ensures)
-
 pub behind-count-spec : {M : Type 1} → statement M
-behind-count-spec = tie.close (tie.spec (λ c κs. search needs) (λ c. search needs) returns)
+behind-count-spec =
+    tie.close (tie.spec (λ c κs. search needs) (λ c. search needs) (λ c. λ h. omega (arith, h, c .min .ensures)))

@@ -3,9 +3,6 @@ use Rattle.fields.proofs.Signs.{below, below-read, not-below}
 use Rattle.fields.proofs.bits_of.Statement.{statement}
 use Rattle.fields.proofs.bits_of.Tie as tie
 
-sub-result : tie.Need-sub-result
-sub-result c = below (c .before .args .error) (c .before .fits .error) (c .if1 .taken) .fits
-
 cast-result : tie.Need-cast-result
 cast-result c =
     let b = below-read (c .before .args .error) (c .before .fits .error) (c .if1 .taken) in
@@ -21,12 +18,13 @@ cast-result-2 c =
     let b = not-below (c .before .args .error) (c .before .fits .error) (c .if1 .left) in
     (b .above, record { fits = omega arith })
 
-returns : tie.Need-returns
-returns c = below-read (c .before .args .error) (c .before .fits .error) (c .if1 .taken) .bits
-
-returns-2 : tie.Need-returns-2
-returns-2 c = not-below (c .before .args .error) (c .before .fits .error) (c .if1 .left) .bits
-
 pub bits-of-spec : {M : Type 1} → statement M
 bits-of-spec =
-    tie.close (tie.spec sub-result cast-result sub-result-2 cast-result-2 returns returns-2)
+    tie.close
+    (tie.spec
+    (λ c. below (c .before .args .error) (c .before .fits .error) (c .if1 .taken) .fits)
+    cast-result
+    sub-result-2
+    cast-result-2
+    (λ c. below-read (c .before .args .error) (c .before .fits .error) (c .if1 .taken) .bits)
+    (λ c. not-below (c .before .args .error) (c .before .fits .error) (c .if1 .left) .bits))

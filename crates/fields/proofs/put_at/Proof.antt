@@ -14,41 +14,11 @@ Inv-loop out₀ at src room n i₀ out i = (i ≤ n) × (out ≡ putAt at (take 
 abbrev μ-loop : tie.MeasureT-loop
 μ-loop out₀ at src room n i₀ out i = n - i
 
-min-requires : tie.Need-min-requires Inv-loop μ-loop
-min-requires c κs = search needs
-
-sub-room : tie.Need-sub-room Inv-loop μ-loop
-sub-room c = omega arith
-
-min-requires-2 : tie.Need-min-requires-2 Inv-loop μ-loop
-min-requires-2 c κs = search needs
-
-loop-holds : tie.Need-loop-holds Inv-loop μ-loop
-loop-holds c = (zero-le, sym (put-none _ _), refl)
-
-shared-slice-read-out : tie.Need-shared-slice-read-out Inv-loop μ-loop
-shared-slice-read-out c = omega arith
-
-add-out : tie.Need-add-out Inv-loop μ-loop
-add-out c = omega arith
-
-slice-write-out : tie.Need-slice-write-out Inv-loop μ-loop
-slice-write-out c = omega arith
-
-add-i : tie.Need-add-i Inv-loop μ-loop
-add-i c = omega arith
-
-loop-less : tie.Need-loop-less Inv-loop μ-loop
-loop-less c = omega arith
-
 loop-again : tie.Need-loop-again Inv-loop μ-loop
 loop-again c =
     let l = c .before .before .loop in
     let g = c .before .before .before .before .before .before .before .args in
     (omega arith, rw (l .inv .1) (put-one (g .at) (l .i) (g .src .now) (g .out .now) (omega arith)), length-set (l .out) (g .at + l .i) _ ∙ l .inv .2)
-
-same-length : tie.Need-same-length Inv-loop μ-loop
-same-length c = c .before .loop .inv .2
 
 returns : tie.Need-returns Inv-loop μ-loop
 returns c =
@@ -63,15 +33,15 @@ put-at-spec =
     (tie.spec
     Inv-loop
     μ-loop
-    min-requires
-    sub-room
-    min-requires-2
-    loop-holds
-    shared-slice-read-out
-    add-out
-    slice-write-out
-    add-i
-    loop-less
+    (λ c κs. search needs)
+    (λ c. omega arith)
+    (λ c κs. search needs)
+    (λ c. (zero-le, sym (put-none _ _), refl))
+    (λ c. omega arith)
+    (λ c. omega arith)
+    (λ c. omega arith)
+    (λ c. omega arith)
+    (λ c. omega arith)
     loop-again
-    same-length
+    (λ c. c .before .loop .inv .2)
     returns)

@@ -6,11 +6,10 @@ use borrow.Author.Needs.{needs}
 use Rattle.fields.proofs.read_bytes.Statement.{statement}
 use Rattle.fields.proofs.read_bytes.Tie as tie
 
-returns : tie.Need-returns
-returns c = stopped (kind.fixed _) _ _ _ (c .before .skip .ensures ∙ fixed-passed _ _ _) (c .if1 .taken)
-
-returns-2 : tie.Need-returns-2
-returns-2 c = went (kind.fixed _) _ _ _ _ _ (c .before .skip .ensures ∙ fixed-passed _ _ _) (c .if1 .left) refl refl
-
 pub read-bytes-spec : {M : Type 1} → statement M
-read-bytes-spec = tie.close (tie.spec (λ c κs. search needs) returns returns-2)
+read-bytes-spec =
+    tie.close
+    (tie.spec
+    (λ c κs. search needs)
+    (λ c. stopped (kind.fixed _) _ _ _ (c .before .skip .ensures ∙ fixed-passed _ _ _) (c .if1 .taken))
+    (λ c. went (kind.fixed _) _ _ _ _ _ (c .before .skip .ensures ∙ fixed-passed _ _ _) (c .if1 .left) refl refl))

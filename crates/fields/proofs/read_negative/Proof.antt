@@ -6,11 +6,11 @@ use borrow.Author.Needs.{needs}
 use Rattle.fields.proofs.read_negative.Statement.{statement}
 use Rattle.fields.proofs.read_negative.Tie as tie
 
-returns : tie.Need-returns
-returns c = stopped kind.negative _ _ _ (c .before .skip-negative .ensures) (c .if1 .taken)
-
-returns-2 : tie.Need-returns-2
-returns-2 c = went kind.negative _ _ _ _ _ (c .before .before .skip-negative .ensures) (c .before .if1 .left) (ap negative (c .u32-at .ensures)) refl
-
 pub read-negative-spec : {M : Type 1} → statement M
-read-negative-spec = tie.close (tie.spec (λ c κs. search needs) returns (λ c κs. search needs) returns-2)
+read-negative-spec =
+    tie.close
+    (tie.spec
+    (λ c κs. search needs)
+    (λ c. stopped kind.negative _ _ _ (c .before .skip-negative .ensures) (c .if1 .taken))
+    (λ c κs. search needs)
+    (λ c. went kind.negative _ _ _ _ _ (c .before .before .skip-negative .ensures) (c .before .if1 .left) (ap negative (c .u32-at .ensures)) refl))

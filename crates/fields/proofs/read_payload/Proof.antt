@@ -5,9 +5,6 @@ use borrow.Author.Needs.{needs}
 use Rattle.fields.proofs.read_payload.Statement.{statement}
 use Rattle.fields.proofs.read_payload.Tie as tie
 
-returns : tie.Need-returns
-returns c = stopped kind.payload _ _ _ (c .before .skip-payload .ensures) (c .if1 .taken)
-
 returns-2 : tie.Need-returns-2
 returns-2 c =
     let next = c .before .before .before .skip-payload .ensures in
@@ -16,4 +13,12 @@ returns-2 c =
     went kind.payload _ _ _ _ _ next fine (rw (e, c .before .u32-at .ensures)) (rw (e, c .before .u32-at .ensures))
 
 pub read-payload-spec : {M : Type 1} → statement M
-read-payload-spec = tie.close (tie.spec (λ c κs. search needs) returns (λ c κs. search needs) (λ c. search needs) (λ c κs. search needs) returns-2)
+read-payload-spec =
+    tie.close
+    (tie.spec
+    (λ c κs. search needs)
+    (λ c. stopped kind.payload _ _ _ (c .before .skip-payload .ensures) (c .if1 .taken))
+    (λ c κs. search needs)
+    (λ c. search needs)
+    (λ c κs. search needs)
+    returns-2)

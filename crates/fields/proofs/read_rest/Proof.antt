@@ -5,9 +5,6 @@ use borrow.Author.Needs.{needs}
 use Rattle.fields.proofs.read_rest.Statement.{statement}
 use Rattle.fields.proofs.read_rest.Tie as tie
 
-returns : tie.Need-returns
-returns c = stopped (kind.opaque _) _ _ _ (c .before .skip-rest .ensures) (c .if1 .taken)
-
 returns-2 : tie.Need-returns-2
 returns-2 c =
     let g = c .before .before .before .before .before .args in
@@ -15,4 +12,13 @@ returns-2 c =
     went (kind.opaque (g .closing)) _ _ _ _ _ (c .before .before .before .skip-rest .ensures) (c .before .before .if1 .left) (rw e) (rw e)
 
 pub read-rest-spec : {M : Type 1} → statement M
-read-rest-spec = tie.close (tie.spec (λ c κs. search needs) returns (λ c κs. search needs) (λ c. search needs) (λ c κs. search needs) (λ c. search needs) returns-2)
+read-rest-spec =
+    tie.close
+    (tie.spec
+    (λ c κs. search needs)
+    (λ c. stopped (kind.opaque _) _ _ _ (c .before .skip-rest .ensures) (c .if1 .taken))
+    (λ c κs. search needs)
+    (λ c. search needs)
+    (λ c κs. search needs)
+    (λ c. search needs)
+    returns-2)

@@ -6,11 +6,11 @@ use borrow.Author.Needs.{needs}
 use Rattle.fields.proofs.read_u32.Statement.{statement}
 use Rattle.fields.proofs.read_u32.Tie as tie
 
-returns : tie.Need-returns
-returns c = stopped (kind.number 4) _ _ _ (c .before .skip .ensures) (c .if1 .taken)
-
-returns-2 : tie.Need-returns-2
-returns-2 c = went (kind.number 4) _ _ _ _ _ (c .before .before .skip .ensures) (c .before .if1 .left) (ap (number 4) (c .u32-at .ensures)) refl
-
 pub read-u32-spec : {M : Type 1} → statement M
-read-u32-spec = tie.close (tie.spec (λ c κs. search needs) returns (λ c κs. search needs) returns-2)
+read-u32-spec =
+    tie.close
+    (tie.spec
+    (λ c κs. search needs)
+    (λ c. stopped (kind.number 4) _ _ _ (c .before .skip .ensures) (c .if1 .taken))
+    (λ c κs. search needs)
+    (λ c. went (kind.number 4) _ _ _ _ _ (c .before .before .skip .ensures) (c .before .if1 .left) (ap (number 4) (c .u32-at .ensures)) refl))

@@ -6,11 +6,11 @@ use borrow.Author.Needs.{needs}
 use Rattle.fields.proofs.read_u64.Statement.{statement}
 use Rattle.fields.proofs.read_u64.Tie as tie
 
-returns : tie.Need-returns
-returns c = stopped (kind.number 8) _ _ _ (c .before .skip .ensures) (c .if1 .taken)
-
-returns-2 : tie.Need-returns-2
-returns-2 c = went (kind.number 8) _ _ _ _ _ (c .before .before .skip .ensures) (c .before .if1 .left) (ap (number 8) (c .u64-at .ensures)) refl
-
 pub read-u64-spec : {M : Type 1} → statement M
-read-u64-spec = tie.close (tie.spec (λ c κs. search needs) returns (λ c κs. search needs) returns-2)
+read-u64-spec =
+    tie.close
+    (tie.spec
+    (λ c κs. search needs)
+    (λ c. stopped (kind.number 8) _ _ _ (c .before .skip .ensures) (c .if1 .taken))
+    (λ c κs. search needs)
+    (λ c. went (kind.number 8) _ _ _ _ _ (c .before .before .skip .ensures) (c .before .if1 .left) (ap (number 8) (c .u64-at .ensures)) refl))

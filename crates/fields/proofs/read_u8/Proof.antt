@@ -7,11 +7,11 @@ use borrow.Author.Needs.{needs}
 use Rattle.fields.proofs.read_u8.Statement.{statement}
 use Rattle.fields.proofs.read_u8.Tie as tie
 
-returns : tie.Need-returns
-returns c = stopped (kind.number 1) _ _ _ (c .before .skip .ensures) (c .if1 .taken)
-
-returns-2 : tie.Need-returns-2
-returns-2 c = went (kind.number 1) _ _ _ _ _ (c .before .before .skip .ensures) (c .before .if1 .left) (ap (number 1) (c .byte-at .ensures ∙ byte-there _ _)) refl
-
 pub read-u8-spec : {M : Type 1} → statement M
-read-u8-spec = tie.close (tie.spec (λ c κs. search needs) returns (λ c κs. search needs) returns-2)
+read-u8-spec =
+    tie.close
+    (tie.spec
+    (λ c κs. search needs)
+    (λ c. stopped (kind.number 1) _ _ _ (c .before .skip .ensures) (c .if1 .taken))
+    (λ c κs. search needs)
+    (λ c. went (kind.number 1) _ _ _ _ _ (c .before .before .skip .ensures) (c .before .if1 .left) (ap (number 1) (c .byte-at .ensures ∙ byte-there _ _)) refl))

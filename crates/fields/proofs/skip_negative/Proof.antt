@@ -5,15 +5,12 @@ use borrow.Author.Needs.{needs}
 use Rattle.fields.proofs.skip_negative.Statement.{statement}
 use Rattle.fields.proofs.skip_negative.Tie as tie
 
-returns : tie.Need-returns
-returns c = stays _ _ _ (c .if1 .taken)
-
-returns-2 : tie.Need-returns-2
-returns-2 c = not-negative _ _ (c .before .before .if1 .left) (omega arith)
-
-returns-3 : tie.Need-returns-3
-returns-3 c = c .skip .ensures ∙ is-negative _ _ (c .before .before .before .if1 .left) (omega arith)
-
 pub skip-negative-spec : {M : Type 1} → statement M
 skip-negative-spec =
-    tie.close (tie.spec returns (λ c κs. search needs) (λ c κs. search needs) returns-2 returns-3)
+    tie.close
+    (tie.spec
+    (λ c. stays _ _ _ (c .if1 .taken))
+    (λ c κs. search needs)
+    (λ c κs. search needs)
+    (λ c. not-negative _ _ (c .before .before .if1 .left) (omega arith))
+    (λ c. c .skip .ensures ∙ is-negative _ _ (c .before .before .before .if1 .left) (omega arith)))

@@ -4,8 +4,12 @@ use borrow.Author.Needs.{needs}
 use Rattle.fields.proofs.skip_payload.Statement.{statement}
 use Rattle.fields.proofs.skip_payload.Tie as tie
 
-returns : tie.Need-returns
-returns c = c .skip .ensures ∙ rw (c .before .u32-at .ensures) (payload-passed _ _)
-
 pub skip-payload-spec : {M : Type 1} → statement M
-skip-payload-spec = tie.close (tie.spec (λ c κs. search needs) (λ c. search needs) (λ c. search needs) (λ c κs. search needs) returns)
+skip-payload-spec =
+    tie.close
+    (tie.spec
+    (λ c κs. search needs)
+    (λ c. search needs)
+    (λ c. search needs)
+    (λ c κs. search needs)
+    (λ c. c .skip .ensures ∙ rw (c .before .u32-at .ensures) (payload-passed _ _)))

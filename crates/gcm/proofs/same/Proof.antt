@@ -16,21 +16,6 @@ Inv-loop a b d₀ i₀ d i = (i ≤ length a) × (sameAs a b ≡ (eqb d 0 && sam
 abbrev μ-loop : tie.MeasureT-loop
 μ-loop a b d₀ i₀ d i = length a - i
 
-loop-holds : tie.Need-loop-holds Inv-loop μ-loop
-loop-holds c = (search needs, refl)
-
-shared-slice-read-d : tie.Need-shared-slice-read-d Inv-loop μ-loop
-shared-slice-read-d c = search needs
-
-shared-slice-read-d-2 : tie.Need-shared-slice-read-d-2 Inv-loop μ-loop
-shared-slice-read-d-2 c = search needs
-
-add-i : tie.Need-add-i Inv-loop μ-loop
-add-i c = search needs
-
-loop-less : tie.Need-loop-less Inv-loop μ-loop
-loop-less c = search needs
-
 loop-again : tie.Need-loop-again Inv-loop μ-loop
 loop-again c =
     let l = c .before .before .before .loop in
@@ -49,10 +34,10 @@ same-spec =
     (tie.spec
     Inv-loop
     μ-loop
-    loop-holds
-    shared-slice-read-d
-    shared-slice-read-d-2
-    add-i
-    loop-less
+    (λ c. (search needs, refl))
+    (λ c. search needs)
+    (λ c. search needs)
+    (λ c. search needs)
+    (λ c. search needs)
     loop-again
     returns)

@@ -4,11 +4,12 @@ use borrow.Author.Needs.{needs}
 use Rattle.ghash.proofs.fallen.Statement.{statement}
 use Rattle.ghash.proofs.fallen.Tie as tie
 
-mul-result-4 : tie.Need-mul-result-4
-mul-result-4 c = record { fits = omega (arith, spread-fits (c .args .x) (c .pre)) }
-
-returns : tie.Need-returns
-returns c = half-fallen (c .args .x) (c .pre)
-
 pub fallen-spec : {M : Type 1} → statement M
-fallen-spec = tie.close (tie.spec (λ c. search needs) (λ c. search needs) (λ c. search needs) mul-result-4 returns)
+fallen-spec =
+    tie.close
+    (tie.spec
+    (λ c. search needs)
+    (λ c. search needs)
+    (λ c. search needs)
+    (λ c. record { fits = omega (arith, spread-fits (c .args .x) (c .pre)) })
+    (λ c. half-fallen (c .args .x) (c .pre)))

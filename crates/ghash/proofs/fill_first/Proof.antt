@@ -16,39 +16,6 @@ Inv-loop m₀ h i₀ m i = (i ≤ 16) × (length m ≡ length m₀) × Filled (p
 abbrev μ-loop : tie.MeasureT-loop
 μ-loop m₀ h i₀ m i = 16 - i
 
-loop-holds : tie.Need-loop-holds Inv-loop μ-loop
-loop-holds c = (search needs, refl, record { at = λ j h. absurd (not-suc-le-zero h) })
-
-four-requires : tie.Need-four-requires Inv-loop μ-loop
-four-requires c κs = search needs
-
-mul-m : tie.Need-mul-m Inv-loop μ-loop
-mul-m c = search needs
-
-mul-m-2 : tie.Need-mul-m-2 Inv-loop μ-loop
-mul-m-2 c = search needs
-
-slice-write-m : tie.Need-slice-write-m Inv-loop μ-loop
-slice-write-m c = search needs
-
-mul-m-3 : tie.Need-mul-m-3 Inv-loop μ-loop
-mul-m-3 c = search needs
-
-add-m : tie.Need-add-m Inv-loop μ-loop
-add-m c = search needs
-
-mul-m-4 : tie.Need-mul-m-4 Inv-loop μ-loop
-mul-m-4 c = search needs
-
-slice-write-m-2 : tie.Need-slice-write-m-2 Inv-loop μ-loop
-slice-write-m-2 c = simp length-set (omega arith)
-
-add-i : tie.Need-add-i Inv-loop μ-loop
-add-i c = search needs
-
-loop-less : tie.Need-loop-less Inv-loop μ-loop
-loop-less c = search needs
-
 loop-again : tie.Need-loop-again Inv-loop μ-loop
 loop-again c =
     let l = c .before .before .loop in
@@ -62,29 +29,23 @@ loop-again c =
       filled-more v (p .hi) (p .lo) (l .i) (l .m) room (c .four .ensures ∙ first-entry v (l .i) k) (l .inv .2),
     )
 
-same-length : tie.Need-same-length Inv-loop μ-loop
-same-length c = c .before .loop .inv .1
-
-returns : tie.Need-returns Inv-loop μ-loop
-returns c = record { at = λ j h. c .before .loop .inv .2 .at j (omega arith) }
-
 pub fill-first-spec : {M : Type 1} → statement M
 fill-first-spec =
     tie.close
     (tie.spec
     Inv-loop
     μ-loop
-    loop-holds
-    four-requires
-    mul-m
-    mul-m-2
-    slice-write-m
-    mul-m-3
-    add-m
-    mul-m-4
-    slice-write-m-2
-    add-i
-    loop-less
+    (λ c. (search needs, refl, record { at = λ j h. absurd (not-suc-le-zero h) }))
+    (λ c κs. search needs)
+    (λ c. search needs)
+    (λ c. search needs)
+    (λ c. search needs)
+    (λ c. search needs)
+    (λ c. search needs)
+    (λ c. search needs)
+    (λ c. simp length-set (omega arith))
+    (λ c. search needs)
+    (λ c. search needs)
     loop-again
-    same-length
-    returns)
+    (λ c. c .before .loop .inv .1)
+    (λ c. record { at = λ j h. c .before .loop .inv .2 .at j (omega arith) }))

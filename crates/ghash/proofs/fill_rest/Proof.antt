@@ -15,63 +15,6 @@ Inv-loop t m₀ n i₀ m i = (16 ≤ i) × (i ≤ length m₀ / 2) × (length m 
 abbrev μ-loop : tie.MeasureT-loop
 μ-loop t m₀ n i₀ m i = length m₀ / 2 - i
 
-loop-holds : tie.Need-loop-holds Inv-loop μ-loop
-loop-holds c = (search needs, search needs, refl, λ v f. f)
-
-mul-hi : tie.Need-mul-hi Inv-loop μ-loop
-mul-hi c = search needs
-
-sub-hi : tie.Need-sub-hi Inv-loop μ-loop
-sub-hi c = search needs
-
-mul-hi-2 : tie.Need-mul-hi-2 Inv-loop μ-loop
-mul-hi-2 c = search needs
-
-slice-read-hi : tie.Need-slice-read-hi Inv-loop μ-loop
-slice-read-hi c = search needs
-
-mul-lo : tie.Need-mul-lo Inv-loop μ-loop
-mul-lo c = search needs
-
-sub-lo : tie.Need-sub-lo Inv-loop μ-loop
-sub-lo c = search needs
-
-mul-lo-2 : tie.Need-mul-lo-2 Inv-loop μ-loop
-mul-lo-2 c = search needs
-
-slice-read-lo : tie.Need-slice-read-lo Inv-loop μ-loop
-slice-read-lo c = search needs
-
-four-steps-requires : tie.Need-four-steps-requires Inv-loop μ-loop
-four-steps-requires c κs = search needs
-
-mul-m : tie.Need-mul-m Inv-loop μ-loop
-mul-m c = search needs
-
-mul-m-2 : tie.Need-mul-m-2 Inv-loop μ-loop
-mul-m-2 c = search needs
-
-slice-write-m : tie.Need-slice-write-m Inv-loop μ-loop
-slice-write-m c = search needs
-
-mul-m-3 : tie.Need-mul-m-3 Inv-loop μ-loop
-mul-m-3 c = search needs
-
-add-m : tie.Need-add-m Inv-loop μ-loop
-add-m c = search needs
-
-mul-m-4 : tie.Need-mul-m-4 Inv-loop μ-loop
-mul-m-4 c = search needs
-
-slice-write-m-2 : tie.Need-slice-write-m-2 Inv-loop μ-loop
-slice-write-m-2 c = simp length-set (omega arith)
-
-add-i : tie.Need-add-i Inv-loop μ-loop
-add-i c = search needs
-
-loop-less : tie.Need-loop-less Inv-loop μ-loop
-loop-less c = search needs
-
 loop-again : tie.Need-loop-again Inv-loop μ-loop
 loop-again c =
     let l = c .before .before .before .before .loop in
@@ -93,9 +36,6 @@ loop-again c =
           filled-more v (p .hi) (p .lo) (l .i) (l .m) room e g,
     )
 
-same-length : tie.Need-same-length Inv-loop μ-loop
-same-length c = c .before .loop .inv .2
-
 returns : tie.Need-returns Inv-loop μ-loop
 returns c =
     let l = c .before .loop in
@@ -107,25 +47,25 @@ fill-rest-spec =
     (tie.spec
     Inv-loop
     μ-loop
-    loop-holds
-    mul-hi
-    sub-hi
-    mul-hi-2
-    slice-read-hi
-    mul-lo
-    sub-lo
-    mul-lo-2
-    slice-read-lo
-    four-steps-requires
-    mul-m
-    mul-m-2
-    slice-write-m
-    mul-m-3
-    add-m
-    mul-m-4
-    slice-write-m-2
-    add-i
-    loop-less
+    (λ c. (search needs, search needs, refl, λ v f. f))
+    (λ c. search needs)
+    (λ c. search needs)
+    (λ c. search needs)
+    (λ c. search needs)
+    (λ c. search needs)
+    (λ c. search needs)
+    (λ c. search needs)
+    (λ c. search needs)
+    (λ c κs. search needs)
+    (λ c. search needs)
+    (λ c. search needs)
+    (λ c. search needs)
+    (λ c. search needs)
+    (λ c. search needs)
+    (λ c. search needs)
+    (λ c. simp length-set (omega arith))
+    (λ c. search needs)
+    (λ c. search needs)
     loop-again
-    same-length
+    (λ c. c .before .loop .inv .2)
     returns)

@@ -24,21 +24,6 @@ loop-holds c =
     let e : a .end / 16 ≡ (a .end - 0) / 16 = omega arith in
     (search needs, refl, λ v n f. ap (λ (k : ℕ). ghashFrom v (a .s .now) (k + n) 0 0) e)
 
-block-at-requires : tie.Need-block-at-requires Inv-loop μ-loop
-block-at-requires c κs = search needs
-
-added-requires : tie.Need-added-requires Inv-loop μ-loop
-added-requires c κs = search needs
-
-times-by-requires : tie.Need-times-by-requires Inv-loop μ-loop
-times-by-requires c κs = search needs
-
-add-i : tie.Need-add-i Inv-loop μ-loop
-add-i c = search needs
-
-loop-less : tie.Need-loop-less Inv-loop μ-loop
-loop-less c = search needs
-
 loop-again : tie.Need-loop-again Inv-loop μ-loop
 loop-again c =
     let at = c .before .before .before .before in
@@ -75,10 +60,10 @@ hash-blocks-spec =
     Inv-loop
     μ-loop
     loop-holds
-    block-at-requires
-    added-requires
-    times-by-requires
-    add-i
-    loop-less
+    (λ c κs. search needs)
+    (λ c κs. search needs)
+    (λ c κs. search needs)
+    (λ c. search needs)
+    (λ c. search needs)
     loop-again
     returns)

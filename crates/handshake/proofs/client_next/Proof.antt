@@ -5,9 +5,6 @@ use borrow.Author.Needs.{needs}
 use Rattle.handshake.proofs.client_next.Statement.{statement}
 use Rattle.handshake.proofs.client_next.Tie as tie
 
-enum-told : tie.Need-enum-told
-enum-told c = search needs
-
 returns : tie.Need-returns
 unfolding find
 returns c =
@@ -66,7 +63,7 @@ pub client-next-spec : {M : Type 1} → statement M
 client-next-spec =
     tie.close
     (tie.spec
-    enum-told
+    (λ c. search needs)
     (λ c κs. search needs)
     (λ c. search needs)
     (λ c κs. search needs)

@@ -3,8 +3,10 @@ use borrow.Author.Needs.{needs}
 use Rattle.handshake.proofs.client_step.Statement.{statement}
 use Rattle.handshake.proofs.client_step.Tie as tie
 
-returns : tie.Need-returns
-returns c = stepped _ _ _ _ (c .advance .ensures) (c .before .client-next .ensures)
-
 pub client-step-spec : {M : Type 1} → statement M
-client-step-spec = tie.close (tie.spec (λ c κs. search needs) (λ c κs. search needs) returns)
+client-step-spec =
+    tie.close
+    (tie.spec
+    (λ c κs. search needs)
+    (λ c κs. search needs)
+    (λ c. stepped _ _ _ _ (c .advance .ensures) (c .before .client-next .ensures)))

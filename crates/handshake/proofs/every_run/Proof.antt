@@ -2,8 +2,5 @@ use Rattle.handshake.proofs.Walks.{every-run}
 use Rattle.handshake.proofs.every_run.Statement.{statement}
 use Rattle.handshake.proofs.every_run.Tie as tie
 
-returns : tie.Need-returns
-returns c = every-run
-
 pub every-run-spec : {M : Type 1} → statement M
-every-run-spec = tie.close (tie.spec returns)
+every-run-spec = tie.close (tie.spec (λ c. every-run))

@@ -21,49 +21,16 @@ Inv-modes preferred allowed found₀ i₀ found i = (i ≤ length preferred) × 
 abbrev μ-modes : tie.MeasureT-modes
 μ-modes preferred allowed found₀ i₀ found i = length preferred - i
 
-modes-holds : tie.Need-modes-holds Inv-loop μ-loop Inv-modes μ-modes
-modes-holds c = (search needs, refl, refl)
-
-mul-mode : tie.Need-mul-mode Inv-loop μ-loop Inv-modes μ-modes
-mul-mode c = search needs
-
-shared-slice-read-mode : tie.Need-shared-slice-read-mode Inv-loop μ-loop Inv-modes μ-modes
-shared-slice-read-mode c = search needs
-
-loop-holds : tie.Need-loop-holds Inv-loop μ-loop Inv-modes μ-modes
-loop-holds c = (search needs, refl, refl)
-
-mul-if1 : tie.Need-mul-if1 Inv-loop μ-loop Inv-modes μ-modes
-mul-if1 c = search needs
-
-shared-slice-read-if1 : tie.Need-shared-slice-read-if1 Inv-loop μ-loop Inv-modes μ-modes
-shared-slice-read-if1 c = search needs
-
-add-j : tie.Need-add-j Inv-loop μ-loop Inv-modes μ-modes
-add-j c = search needs
-
-loop-less : tie.Need-loop-less Inv-loop μ-loop Inv-modes μ-modes
-loop-less c = search needs
-
 loop-again : tie.Need-loop-again Inv-loop μ-loop Inv-modes μ-modes
 loop-again c =
     let a = c .before .before .before in
     (search needs, sym (on-next _ _ _ (c .before .before .loop-test .taken) (c .if1 .left)) ∙ a .loop .inv .1, a .loop .inv .2)
-
-add-i : tie.Need-add-i Inv-loop μ-loop Inv-modes μ-modes
-add-i c = search needs
-
-modes-less : tie.Need-modes-less Inv-loop μ-loop Inv-modes μ-modes
-modes-less c = search needs
 
 modes-again : tie.Need-modes-again Inv-loop μ-loop Inv-modes μ-modes
 modes-again c =
     let a = c .before in
     let o = a .before .before .before in
     (search needs, sym (passed _ _ _ (a .before .before .modes-test .taken) (sym (a .loop .inv .1) ∙ on-none _ _ _ (c .loop-test .left))) ∙ o .modes .inv .1, a .loop .inv .2 ∙ o .modes .inv .2)
-
-returns : tie.Need-returns Inv-loop μ-loop Inv-modes μ-modes
-returns c = c .before .modes .inv .2 ∙ sym (spent _ _ _ (c .modes-test .left)) ∙ c .before .modes .inv .1
 
 returns-2 : tie.Need-returns-2 Inv-loop μ-loop Inv-modes μ-modes
 returns-2 c =
@@ -79,17 +46,17 @@ pick-mode-spec =
     μ-loop
     Inv-modes
     μ-modes
-    modes-holds
-    mul-mode
-    shared-slice-read-mode
-    loop-holds
-    mul-if1
-    shared-slice-read-if1
-    add-j
-    loop-less
+    (λ c. (search needs, refl, refl))
+    (λ c. search needs)
+    (λ c. search needs)
+    (λ c. (search needs, refl, refl))
+    (λ c. search needs)
+    (λ c. search needs)
+    (λ c. search needs)
+    (λ c. search needs)
     loop-again
-    add-i
-    modes-less
+    (λ c. search needs)
+    (λ c. search needs)
     modes-again
-    returns
+    (λ c. c .before .modes .inv .2 ∙ sym (spent _ _ _ (c .modes-test .left)) ∙ c .before .modes .inv .1)
     returns-2)

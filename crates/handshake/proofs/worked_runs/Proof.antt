@@ -19,8 +19,5 @@ table = (
   (refl, (refl, (refl, (refl, (refl, (refl, (refl, (refl, tt)))))))),
 )
 
-returns : tie.Need-returns
-returns c = table
-
 pub worked-runs-spec : {M : Type 1} → statement M
-worked-runs-spec = tie.close (tie.spec returns)
+worked-runs-spec = tie.close (tie.spec (λ c. table))

@@ -2,17 +2,11 @@ use borrow.Author.Tests.{eq-eqb, ne-eqb}
 use Rattle.handshake_cases.proofs.auth_of.Statement.{statement}
 use Rattle.handshake_cases.proofs.auth_of.Tie as tie
 
-returns : tie.Need-returns
-returns c = rw (eq-eqb (c .before .args .n) 0 (c .if1 .taken))
-
-returns-2 : tie.Need-returns-2
-returns-2 c = rw (ne-eqb (c .before .before .args .n) 0 (c .before .if1 .left), eq-eqb (c .before .before .args .n) 1 (c .if2 .taken))
-
-returns-3 : tie.Need-returns-3
-returns-3 c = rw (ne-eqb (c .before .before .before .args .n) 0 (c .before .before .if1 .left), ne-eqb (c .before .before .before .args .n) 1 (c .before .if2 .left), eq-eqb (c .before .before .before .args .n) 2 (c .if3 .taken))
-
-returns-4 : tie.Need-returns-4
-returns-4 c = rw (ne-eqb (c .before .before .before .args .n) 0 (c .before .before .if1 .left), ne-eqb (c .before .before .before .args .n) 1 (c .before .if2 .left), ne-eqb (c .before .before .before .args .n) 2 (c .if3 .left))
-
 pub auth-of-spec : {M : Type 1} → statement M
-auth-of-spec = tie.close (tie.spec returns returns-2 returns-3 returns-4)
+auth-of-spec =
+    tie.close
+    (tie.spec
+    (λ c. rw (eq-eqb (c .before .args .n) 0 (c .if1 .taken)))
+    (λ c. rw (ne-eqb (c .before .before .args .n) 0 (c .before .if1 .left), eq-eqb (c .before .before .args .n) 1 (c .if2 .taken)))
+    (λ c. rw (ne-eqb (c .before .before .before .args .n) 0 (c .before .before .if1 .left), ne-eqb (c .before .before .before .args .n) 1 (c .before .if2 .left), eq-eqb (c .before .before .before .args .n) 2 (c .if3 .taken)))
+    (λ c. rw (ne-eqb (c .before .before .before .args .n) 0 (c .before .before .if1 .left), ne-eqb (c .before .before .before .args .n) 1 (c .before .if2 .left), ne-eqb (c .before .before .before .args .n) 2 (c .if3 .left))))

@@ -19,48 +19,18 @@ Inv-loop s n side text₀ at state₀ place₀ end₀ left₀ text state place e
 abbrev μ-loop : tie.MeasureT-loop
 μ-loop s n side text₀ at state₀ place₀ end₀ left₀ text state place end left = left
 
-loop-holds : tie.Need-loop-holds Inv-loop μ-loop
-loop-holds c = (omega arith, refl, left-all)
-
-step-good-requires : tie.Need-step-good-requires Inv-loop μ-loop
-step-good-requires c κs = omega arith
-
-bad-record-requires : tie.Need-bad-record-requires Inv-loop μ-loop
-bad-record-requires c κs = search needs
-
-same-length : tie.Need-same-length Inv-loop μ-loop
-same-length c = c .before .before .bad-record .kept .0 ∙ c .before .before .before .before .before .before .before .loop .inv .1
-
 returns : tie.Need-returns Inv-loop μ-loop
 returns c = let l = c .before .before .before .before .before .before .before .loop in
     let e : stepGood (c .before .before .before .before .before .before .before .before .before .before .args .s .now) (l .place) ≡ false = sym (c .before .before .before .before .before .step-good .ensures) ∙ not-true (c .before .before .before .before .before .step-good .result) (c .before .before .before .before .if1 .taken) in
     did-broken (left-is (steps-broken (c .before .before .before .before .before .before .before .before .before .before .args .s .now) (sideOf (c .before .before .before .before .before .before .before .before .before .before .args .side)) (l .state) (l .left) (l .place) (c .before .before .before .before .before .before .loop-test .taken) e) (l .inv .2)) (c .before .before .bad-record .ensures .0) (c .before .before .bad-record .ensures .1)
 
-byte-at-requires : tie.Need-byte-at-requires Inv-loop μ-loop
-byte-at-requires c κs = search needs
-
 add-byte-at : tie.Need-add-byte-at Inv-loop μ-loop
 add-byte-at c = let e : stepGood (c .before .before .before .before .before .before .before .args .s .now) (c .before .before .before .before .loop .place) ≡ true = sym (c .before .before .step-good .ensures) ∙ not-false (c .before .before .step-good .result) (c .before .if1 .left) in
     let h = good-within (c .before .before .before .before .before .before .before .args .s .now) (c .before .before .before .before .loop .place) e in omega arith
 
-byte-at-requires-2 : tie.Need-byte-at-requires-2 Inv-loop μ-loop
-byte-at-requires-2 c κs = search needs
-
-make-step-requires : tie.Need-make-step-requires Inv-loop μ-loop
-make-step-requires c κs = search needs
-
-print-step-requires : tie.Need-print-step-requires Inv-loop μ-loop
-print-step-requires c κs = search needs
-
 add-place : tie.Need-add-place Inv-loop μ-loop
 add-place c = let e : stepGood (c .before .before .before .before .before .before .before .before .before .before .before .before .before .args .s .now) (c .before .before .before .before .before .before .before .before .before .before .loop .place) ≡ true = sym (c .before .before .before .before .before .before .before .before .step-good .ensures) ∙ not-false (c .before .before .before .before .before .before .before .before .step-good .result) (c .before .before .before .before .before .before .before .if1 .left) in
     let h = good-within (c .before .before .before .before .before .before .before .before .before .before .before .before .before .args .s .now) (c .before .before .before .before .before .before .before .before .before .before .loop .place) e in omega arith
-
-sub-left : tie.Need-sub-left Inv-loop μ-loop
-sub-left c = omega arith
-
-loop-less : tie.Need-loop-less Inv-loop μ-loop
-loop-less c = omega arith
 
 loop-again : tie.Need-loop-again Inv-loop μ-loop
 loop-again c = let l = c .before .before .before .before .before .before .before .before .before .before .loop in
@@ -68,9 +38,6 @@ loop-again c = let l = c .before .before .before .before .before .before .before
     let e : stepGood s (l .place) ≡ true = sym (c .before .before .before .before .before .before .before .before .step-good .ensures) ∙ not-false (c .before .before .before .before .before .before .before .before .step-good .result) (c .before .before .before .before .before .before .before .if1 .left) in
     let h = good-within s (l .place) e in
     (omega arith, c .before .before .print-step .kept .0 ∙ l .inv .1, steps-on s (sideOf (c .before .before .before .before .before .before .before .before .before .before .before .before .before .args .side)) (l .state) (l .left) (l .place) (c .before .before .before .before .before .before .byte-at .result) (c .before .before .before .before .before .byte-at2 .result) (c .before .before .before .before .before .before .before .before .before .loop-test .taken) e (c .before .before .before .before .before .before .byte-at .ensures) (c .before .before .before .before .before .byte-at2 .ensures) (c .before .before .before .before .make-step .ensures) (c .before .before .print-step .ensures) (l .inv .2))
-
-same-length-2 : tie.Need-same-length-2 Inv-loop μ-loop
-same-length-2 c = c .before .loop .inv .1
 
 returns-2 : tie.Need-returns-2 Inv-loop μ-loop
 returns-2 c = let l = c .before .loop in
@@ -82,19 +49,19 @@ make-steps-spec =
     (tie.spec
     Inv-loop
     μ-loop
-    loop-holds
-    step-good-requires
-    bad-record-requires
-    same-length
+    (λ c. (omega arith, refl, left-all))
+    (λ c κs. omega arith)
+    (λ c κs. search needs)
+    (λ c. c .before .before .bad-record .kept .0 ∙ c .before .before .before .before .before .before .before .loop .inv .1)
     returns
-    byte-at-requires
+    (λ c κs. search needs)
     add-byte-at
-    byte-at-requires-2
-    make-step-requires
-    print-step-requires
+    (λ c κs. search needs)
+    (λ c κs. search needs)
+    (λ c κs. search needs)
     add-place
-    sub-left
-    loop-less
+    (λ c. omega arith)
+    (λ c. omega arith)
     loop-again
-    same-length-2
+    (λ c. c .before .loop .inv .1)
     returns-2)

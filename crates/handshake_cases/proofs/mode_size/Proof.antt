@@ -2,9 +2,6 @@ use borrow.Author.Needs.{needs}
 use Rattle.handshake_cases.proofs.mode_size.Statement.{statement}
 use Rattle.handshake_cases.proofs.mode_size.Tie as tie
 
-returns : tie.Need-returns
-returns c = cc
-
 pub mode-size-spec : {M : Type 1} → statement M
 mode-size-spec =
     tie.close
@@ -18,4 +15,4 @@ mode-size-spec =
     (λ c. search needs)
     (λ c. search needs)
     (λ c κs. search needs)
-    returns)
+    (λ c. cc))

@@ -2,9 +2,6 @@ use borrow.Author.Needs.{needs}
 use Rattle.handshake_cases.proofs.print_picked.Statement.{statement}
 use Rattle.handshake_cases.proofs.print_picked.Tie as tie
 
-returns : tie.Need-returns
-returns c = cc
-
 pub print-picked-spec : {M : Type 1} → statement M
 print-picked-spec =
     tie.close
@@ -14,4 +11,4 @@ print-picked-spec =
     (λ c κs. search needs)
     (λ c κs. search needs)
     (λ c. search needs)
-    returns)
+    (λ c. cc))

@@ -2,43 +2,10 @@ use borrow.Author.Needs.{needs}
 use Rattle.handshake_cases.proofs.put_state.Statement.{statement}
 use Rattle.handshake_cases.proofs.put_state.Tie as tie
 
-enum-told : tie.Need-enum-told
-enum-told c = search needs
-
-returns : tie.Need-returns
-returns c = rw (c .before .before .before .before .before .enum-told .given .1) (c .before .before .put-word .ensures)
-
-returns-2 : tie.Need-returns-2
-returns-2 c = rw (c .before .before .before .before .before .enum-told2 .given .1) (c .before .before .put-word2 .ensures)
-
-returns-3 : tie.Need-returns-3
-returns-3 c = rw (c .before .before .before .before .before .enum-told3 .given .1) (c .before .before .put-word3 .ensures)
-
-returns-4 : tie.Need-returns-4
-returns-4 c = rw (c .before .before .before .before .before .enum-told4 .given .1) (c .before .before .put-word4 .ensures)
-
-returns-5 : tie.Need-returns-5
-returns-5 c = rw (c .before .before .before .before .before .enum-told5 .given .1) (c .before .before .put-word5 .ensures)
-
-returns-6 : tie.Need-returns-6
-returns-6 c = rw (c .before .before .before .before .before .enum-told6 .given .1) (c .before .before .put-word6 .ensures)
-
-returns-7 : tie.Need-returns-7
-returns-7 c = rw (c .before .before .before .before .before .enum-told7 .given .1) (c .before .before .put-word7 .ensures)
-
-returns-8 : tie.Need-returns-8
-returns-8 c = rw (c .before .before .before .before .before .enum-told8 .given .1) (c .before .before .put-word8 .ensures)
-
-returns-9 : tie.Need-returns-9
-returns-9 c = rw (c .before .before .before .before .before .enum-told9 .given .1) (c .before .before .put-word9 .ensures)
-
 pub put-state-spec : {M : Type 1} → statement M
 put-state-spec =
     tie.close
     (tie.spec
-    enum-told
-    (λ c. search needs)
-    (λ c κs. search needs)
     (λ c. search needs)
     (λ c. search needs)
     (λ c κs. search needs)
@@ -64,20 +31,23 @@ put-state-spec =
     (λ c. search needs)
     (λ c κs. search needs)
     (λ c. search needs)
-    returns
     (λ c. search needs)
-    returns-2
+    (λ c κs. search needs)
     (λ c. search needs)
-    returns-3
+    (λ c. rw (c .before .before .before .before .before .enum-told .given .1) (c .before .before .put-word .ensures))
     (λ c. search needs)
-    returns-4
+    (λ c. rw (c .before .before .before .before .before .enum-told2 .given .1) (c .before .before .put-word2 .ensures))
     (λ c. search needs)
-    returns-5
+    (λ c. rw (c .before .before .before .before .before .enum-told3 .given .1) (c .before .before .put-word3 .ensures))
     (λ c. search needs)
-    returns-6
+    (λ c. rw (c .before .before .before .before .before .enum-told4 .given .1) (c .before .before .put-word4 .ensures))
     (λ c. search needs)
-    returns-7
+    (λ c. rw (c .before .before .before .before .before .enum-told5 .given .1) (c .before .before .put-word5 .ensures))
     (λ c. search needs)
-    returns-8
+    (λ c. rw (c .before .before .before .before .before .enum-told6 .given .1) (c .before .before .put-word6 .ensures))
     (λ c. search needs)
-    returns-9)
+    (λ c. rw (c .before .before .before .before .before .enum-told7 .given .1) (c .before .before .put-word7 .ensures))
+    (λ c. search needs)
+    (λ c. rw (c .before .before .before .before .before .enum-told8 .given .1) (c .before .before .put-word8 .ensures))
+    (λ c. search needs)
+    (λ c. rw (c .before .before .before .before .before .enum-told9 .given .1) (c .before .before .put-word9 .ensures)))

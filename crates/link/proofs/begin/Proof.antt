@@ -2,9 +2,9 @@ use borrow.Author.Needs.{needs}
 use Rattle.link.proofs.begin.Statement.{statement}
 use Rattle.link.proofs.begin.Tie as tie
 
--- src/lib.rt:67:1
-returns : tie.Need-returns
-returns c = rw (c .before .start .ensures .state)
-
 pub begin-spec : {M : Type 1} → statement M
-begin-spec = tie.close (tie.spec (λ c κs. search needs) returns)
+begin-spec =
+    tie.close
+    (tie.spec
+    (λ c κs. search needs)
+    (λ c. rw (c .before .start .ensures .state)))

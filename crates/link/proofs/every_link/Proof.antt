@@ -3,9 +3,10 @@ use borrow.Author.Needs.{needs}
 use Rattle.link.proofs.every_link.Statement.{statement}
 use Rattle.link.proofs.every_link.Tie as tie
 
--- src/lib.rt:255:1
-returns : tie.Need-returns
-returns c = every-link (c .before .every-line .ensures) (c .every-cutting .ensures)
-
 pub every-link-spec : {M : Type 1} → statement M
-every-link-spec = tie.close (tie.spec (λ c κs. search needs) (λ c κs. search needs) returns)
+every-link-spec =
+    tie.close
+    (tie.spec
+    (λ c κs. search needs)
+    (λ c κs. search needs)
+    (λ c. every-link (c .before .every-line .ensures) (c .every-cutting .ensures)))

@@ -2,9 +2,10 @@ use borrow.Author.Needs.{needs}
 use Rattle.link.proofs.is_ready.Statement.{statement}
 use Rattle.link.proofs.is_ready.Tie as tie
 
--- src/lib.rt:194:1
-returns : tie.Need-returns
-returns c = cc
-
 pub is-ready-spec : {M : Type 1} → statement M
-is-ready-spec = tie.close (tie.spec (λ c κs. search needs) (λ c κs. search needs) returns)
+is-ready-spec =
+    tie.close
+    (tie.spec
+    (λ c κs. search needs)
+    (λ c κs. search needs)
+    (λ c. cc))

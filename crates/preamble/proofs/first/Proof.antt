@@ -3,8 +3,6 @@ use borrow.Author.Needs.{needs}
 use Rattle.preamble.proofs.first.Statement.{statement}
 use Rattle.preamble.proofs.first.Tie as tie
 
-returns-2 : tie.Need-returns-2
-returns-2 c = first-is (c .before .args .a) (c .before .args .b) (c .if1 .left)
-
 pub first-spec : {M : Type 1} → statement M
-first-spec = tie.close (tie.spec (λ c. search needs) returns-2)
+first-spec =
+    tie.close (tie.spec (λ c. search needs) (λ c. first-is (c .before .args .a) (c .before .args .b) (c .if1 .left)))

@@ -3,9 +3,6 @@ use borrow.Author.Needs.{needs}
 use Rattle.preamble.proofs.header_is_fine.Statement.{statement}
 use Rattle.preamble.proofs.header_is_fine.Tie as tie
 
-returns : tie.Need-returns
-returns c = cc (header-fine (c .before .before .before .before .before .before .before .args .h))
-
 pub header-is-fine-spec : {M : Type 1} → statement M
 header-is-fine-spec =
     tie.close
@@ -15,4 +12,4 @@ header-is-fine-spec =
     (λ c κs. search needs)
     (λ c κs. search needs)
     (λ c κs. search needs)
-    returns)
+    (λ c. cc (header-fine (c .before .before .before .before .before .before .before .args .h))))

@@ -2,9 +2,6 @@ use borrow.Author.Needs.{needs}
 use Rattle.preamble.proofs.is_no_header.Statement.{statement}
 use Rattle.preamble.proofs.is_no_header.Tie as tie
 
-returns : tie.Need-returns
-returns c = cc
-
 pub is-no-header-spec : {M : Type 1} → statement M
 is-no-header-spec =
     tie.close
@@ -18,4 +15,4 @@ is-no-header-spec =
     (λ c κs. search needs)
     (λ c κs. search needs)
     (λ c κs. search needs)
-    returns)
+    (λ c. cc))

@@ -4,9 +4,6 @@ use borrow.Author.Needs.{needs}
 use Rattle.preamble.proofs.judge_fields.Statement.{statement}
 use Rattle.preamble.proofs.judge_fields.Tie as tie
 
-returns : tie.Need-returns
-returns c = cc (or-else-last (judgedBy (c .before .before .before .before .before .judge-limits .result)))
-
 pub judge-fields-spec : {M : Type 1} → statement M
 judge-fields-spec =
     tie.close
@@ -18,4 +15,4 @@ judge-fields-spec =
     (λ c κs. search needs)
     (λ c κs. search needs)
     (λ c κs. search needs)
-    returns)
+    (λ c. cc (or-else-last (judgedBy (c .before .before .before .before .before .judge-limits .result)))))

@@ -2,8 +2,5 @@ use borrow.Author.Needs.{needs}
 use Rattle.preamble.proofs.judge_tag.Statement.{statement}
 use Rattle.preamble.proofs.judge_tag.Tie as tie
 
-returns : tie.Need-returns
-returns c = cc
-
 pub judge-tag-spec : {M : Type 1} → statement M
-judge-tag-spec = tie.close (tie.spec (λ c κs. search needs) (λ c κs. search needs) returns)
+judge-tag-spec = tie.close (tie.spec (λ c κs. search needs) (λ c κs. search needs) (λ c. cc))

@@ -3,11 +3,11 @@ use borrow.Author.Needs.{needs}
 use Rattle.preamble.proofs.length_wrong.Statement.{statement}
 use Rattle.preamble.proofs.length_wrong.Tie as tie
 
-returns : tie.Need-returns
-returns c = simp (lt-ltb _ _ (c .if1 .taken))
-
-returns-2 : tie.Need-returns-2
-returns-2 c = simp (le-ltb _ _ (c .before .before .if1 .left), c .both2 .ensures, c .before .both .ensures)
-
 pub length-wrong-spec : {M : Type 1} → statement M
-length-wrong-spec = tie.close (tie.spec (λ c κs. search needs) (λ c κs. search needs) returns returns-2)
+length-wrong-spec =
+    tie.close
+    (tie.spec
+    (λ c κs. search needs)
+    (λ c κs. search needs)
+    (λ c. simp (lt-ltb _ _ (c .if1 .taken)))
+    (λ c. simp (le-ltb _ _ (c .before .before .if1 .left), c .both2 .ensures, c .before .both .ensures)))

@@ -3,9 +3,6 @@ use borrow.Author.Needs.{needs}
 use Rattle.preamble.proofs.limits_are_kept.Statement.{statement}
 use Rattle.preamble.proofs.limits_are_kept.Tie as tie
 
-returns : tie.Need-returns
-returns c = cc (limits-none (c .before .before .before .before .before .before .before .before .before .before .before .args .h))
-
 pub limits-are-kept-spec : {M : Type 1} → statement M
 limits-are-kept-spec =
     tie.close
@@ -27,4 +24,4 @@ limits-are-kept-spec =
     (λ c κs. search needs)
     (λ c κs. search needs)
     (λ c κs. search needs)
-    returns)
+    (λ c. cc (limits-none (c .before .before .before .before .before .before .before .before .before .before .before .args .h))))

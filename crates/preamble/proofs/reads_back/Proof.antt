@@ -2,8 +2,5 @@ use Rattle.preamble.proofs.Back as back
 use Rattle.preamble.proofs.reads_back.Statement.{statement}
 use Rattle.preamble.proofs.reads_back.Tie as tie
 
-returns : tie.Need-returns
-returns c = back.reads-back
-
 pub reads-back-spec : {M : Type 1} → statement M
-reads-back-spec = tie.close (tie.spec returns)
+reads-back-spec = tie.close (tie.spec (λ c. back.reads-back))

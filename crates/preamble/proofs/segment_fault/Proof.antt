@@ -2,9 +2,6 @@ use borrow.Author.Needs.{needs}
 use Rattle.preamble.proofs.segment_fault.Statement.{statement}
 use Rattle.preamble.proofs.segment_fault.Tie as tie
 
-returns : tie.Need-returns
-returns c = cc
-
 pub segment-fault-spec : {M : Type 1} → statement M
 segment-fault-spec =
     tie.close
@@ -15,4 +12,4 @@ segment-fault-spec =
     (λ c. search needs)
     (λ c κs. search needs)
     (λ c κs. search needs)
-    returns)
+    (λ c. cc))

@@ -3,9 +3,6 @@ use borrow.Author.Needs.{needs}
 use Rattle.preamble.proofs.shape_is_fine.Statement.{statement}
 use Rattle.preamble.proofs.shape_is_fine.Tie as tie
 
-returns : tie.Need-returns
-returns c = cc (shape-none (c .before .before .before .before .before .before .before .before .before .args .h))
-
 pub shape-is-fine-spec : {M : Type 1} → statement M
 shape-is-fine-spec =
     tie.close
@@ -19,4 +16,4 @@ shape-is-fine-spec =
     (λ c κs. search needs)
     (λ c κs. search needs)
     (λ c κs. search needs)
-    returns)
+    (λ c. cc (shape-none (c .before .before .before .before .before .before .before .before .before .args .h))))

@@ -4,8 +4,11 @@ use borrow.Author.Needs.{needs}
 use Rattle.reader.proofs.take_payload.Statement.{statement}
 use Rattle.reader.proofs.take_payload.Tie as tie
 
-returns : tie.Need-returns
-returns c = taken _ _ _ (c .before .before .at-place .ensures) (c .before .read-payload .ensures) (c .span-taken .ensures _ _ (λ bs. refl))
-
 pub take-payload-spec : {M : Type 1} → statement M
-take-payload-spec = tie.close (tie.spec (λ c κs. search needs) (λ c κs. search needs) (λ c κs. search needs) returns)
+take-payload-spec =
+    tie.close
+    (tie.spec
+    (λ c κs. search needs)
+    (λ c κs. search needs)
+    (λ c κs. search needs)
+    (λ c. taken _ _ _ (c .before .before .at-place .ensures) (c .before .read-payload .ensures) (c .span-taken .ensures _ _ (λ bs. refl))))

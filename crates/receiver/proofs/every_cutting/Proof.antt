@@ -2,8 +2,5 @@ use Rattle.receiver.proofs.Chain.{demand3}
 use Rattle.receiver.proofs.every_cutting.Statement.{statement}
 use Rattle.receiver.proofs.every_cutting.Tie as tie
 
-returns : tie.Need-returns
-returns c = demand3
-
 pub every-cutting-spec : {M : Type 1} → statement M
-every-cutting-spec = tie.close (tie.spec returns)
+every-cutting-spec = tie.close (tie.spec (λ c. demand3))

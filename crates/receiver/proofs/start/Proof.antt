@@ -7,9 +7,6 @@ use borrow.Author.Needs.{needs}
 use Rattle.receiver.proofs.start.Statement.{statement}
 use Rattle.receiver.proofs.start.Tie as tie
 
-enum-told : tie.Need-enum-told
-enum-told c = search needs
-
 returns : tie.Need-returns
 unfolding step.started
 returns c =
@@ -27,7 +24,7 @@ start-spec =
     tie.close
     (tie.spec
     (λ c κs. search needs)
-    enum-told
+    (λ c. search needs)
     (λ c κs. search needs)
     (λ c. search needs)
     (λ c κs. search needs)

@@ -32,8 +32,5 @@ table : WorkedStates
 unfolding WorkedStates
 table = (ownRows-hold, bannerRows-hold, frameRows-hold, countRows-hold, refusalRows-hold)
 
-returns : tie.Need-returns
-returns c = table
-
 pub worked-states-spec : {M : Type 1} → statement M
-worked-states-spec = tie.close (tie.spec returns)
+worked-states-spec = tie.close (tie.spec (λ c. table))

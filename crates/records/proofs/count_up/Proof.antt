@@ -19,28 +19,10 @@ loop-holds : tie.Need-loop-holds Inv-loop μ-loop
 unfolding counted
 loop-holds c = (omega arith, refl, refl)
 
-add-buf : tie.Need-add-buf Inv-loop μ-loop
-add-buf c = omega arith
-
-cast-buf : tie.Need-cast-buf Inv-loop μ-loop
-cast-buf c = omega arith
-
-slice-write-buf : tie.Need-slice-write-buf Inv-loop μ-loop
-slice-write-buf c = omega arith
-
-add-i : tie.Need-add-i Inv-loop μ-loop
-add-i c = omega arith
-
-loop-less : tie.Need-loop-less Inv-loop μ-loop
-loop-less c = omega arith
-
 loop-again : tie.Need-loop-again Inv-loop μ-loop
 loop-again c =
     let l = c .before .loop in
     (omega arith, length-set (l .buf) (l .i) _ ∙ l .inv .1, rw (l .inv .2) (counted-more (c .before .before .args .buf .now) (c .before .before .args .first) (l .i) (omega arith)))
-
-same-length : tie.Need-same-length Inv-loop μ-loop
-same-length c = c .before .loop .inv .1
 
 returns : tie.Need-returns Inv-loop μ-loop
 returns c =
@@ -54,11 +36,11 @@ count-up-spec =
     Inv-loop
     μ-loop
     loop-holds
-    add-buf
-    cast-buf
-    slice-write-buf
-    add-i
-    loop-less
+    (λ c. omega arith)
+    (λ c. omega arith)
+    (λ c. omega arith)
+    (λ c. omega arith)
+    (λ c. omega arith)
     loop-again
-    same-length
+    (λ c. c .before .loop .inv .1)
     returns)

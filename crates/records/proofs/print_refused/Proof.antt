@@ -2,9 +2,12 @@ use borrow.Author.Needs.{needs}
 use Rattle.records.proofs.print_refused.Statement.{statement}
 use Rattle.records.proofs.print_refused.Tie as tie
 
-returns : tie.Need-returns
-returns c = cc
-
 pub print-refused-spec : {M : Type 1} → statement M
 print-refused-spec =
-    tie.close (tie.spec (λ c κs. search needs) (λ c κs. search needs) (λ c κs. search needs) (λ c. search needs) returns)
+    tie.close
+    (tie.spec
+    (λ c κs. search needs)
+    (λ c κs. search needs)
+    (λ c κs. search needs)
+    (λ c. search needs)
+    (λ c. cc))

@@ -2,9 +2,6 @@ use borrow.Author.Needs.{needs}
 use Rattle.records.proofs.print_wrote.Statement.{statement}
 use Rattle.records.proofs.print_wrote.Tie as tie
 
-returns : tie.Need-returns
-returns c = cc
-
 pub print-wrote-spec : {M : Type 1} → statement M
 print-wrote-spec =
     tie.close
@@ -14,4 +11,4 @@ print-wrote-spec =
     (λ c κs. search needs)
     (λ c κs. search needs)
     (λ c. search needs)
-    returns)
+    (λ c. cc))

@@ -2,9 +2,6 @@ use borrow.Author.Needs.{needs}
 use Rattle.records.proofs.put_sum.Statement.{statement}
 use Rattle.records.proofs.put_sum.Tie as tie
 
-returns : tie.Need-returns
-returns c = cc
-
 pub put-sum-spec : {M : Type 1} → statement M
 put-sum-spec =
     tie.close
@@ -14,4 +11,4 @@ put-sum-spec =
     (λ c κs. search needs)
     (λ c κs. search needs)
     (λ c. search needs)
-    returns)
+    (λ c. cc))

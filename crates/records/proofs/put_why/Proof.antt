@@ -2,9 +2,6 @@ use borrow.Author.Needs.{needs}
 use Rattle.records.proofs.put_why.Statement.{statement}
 use Rattle.records.proofs.put_why.Tie as tie
 
-returns : tie.Need-returns
-returns c = cc
-
 pub put-why-spec : {M : Type 1} → statement M
 put-why-spec =
     tie.close
@@ -16,4 +13,4 @@ put-why-spec =
     (λ c κs. search needs)
     (λ c κs. search needs)
     (λ c. search needs)
-    returns)
+    (λ c. cc))

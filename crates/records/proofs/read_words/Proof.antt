@@ -16,27 +16,6 @@ Inv-loop s at all out₀ i₀ out i = (i ≤ 64) × (length out ≡ 64) × (take
 abbrev μ-loop : tie.MeasureT-loop
 μ-loop s at all out₀ i₀ out i = 64 - i
 
-loop-holds : tie.Need-loop-holds Inv-loop μ-loop
-loop-holds c = (omega arith, refl, refl)
-
-number-in-requires : tie.Need-number-in-requires Inv-loop μ-loop
-number-in-requires c κs = search needs
-
-cast-out : tie.Need-cast-out Inv-loop μ-loop
-cast-out c = omega arith
-
-mul-out : tie.Need-mul-out Inv-loop μ-loop
-mul-out c = omega arith
-
-array-write-out : tie.Need-array-write-out Inv-loop μ-loop
-array-write-out c = omega arith
-
-add-i : tie.Need-add-i Inv-loop μ-loop
-add-i c = omega arith
-
-loop-less : tie.Need-loop-less Inv-loop μ-loop
-loop-less c = omega arith
-
 loop-again : tie.Need-loop-again Inv-loop μ-loop
 loop-again c = let n = length-words 64 (drop (c .before .before .before .before .args .at) (c .before .before .before .before .args .s .now)) in
     let l = c .before .before .loop in
@@ -53,12 +32,12 @@ read-words-spec =
     (tie.spec
     Inv-loop
     μ-loop
-    loop-holds
-    number-in-requires
-    cast-out
-    mul-out
-    array-write-out
-    add-i
-    loop-less
+    (λ c. (omega arith, refl, refl))
+    (λ c κs. search needs)
+    (λ c. omega arith)
+    (λ c. omega arith)
+    (λ c. omega arith)
+    (λ c. omega arith)
+    (λ c. omega arith)
     loop-again
     returns)

@@ -5,8 +5,11 @@ use borrow.Author.Needs.{needs}
 use Rattle.refusal.proofs.or_else.Statement.{statement}
 use Rattle.refusal.proofs.or_else.Tie as tie
 
-returns-2 : tie.Need-returns-2
-returns-2 c = sym (ap (λ (v : Judgement). orElse (judgedBy v) (judgedBy (c .before .before .before .args .b))) (c .before .a .given .1))
-
 pub or-else-spec : {M : Type 1} → statement M
-or-else-spec = tie.close (tie.spec (λ c. search needs) (λ c. search needs) (λ c. search needs) returns-2)
+or-else-spec =
+    tie.close
+    (tie.spec
+    (λ c. search needs)
+    (λ c. search needs)
+    (λ c. search needs)
+    (λ c. sym (ap (λ (v : Judgement). orElse (judgedBy v) (judgedBy (c .before .before .before .args .b))) (c .before .a .given .1))))

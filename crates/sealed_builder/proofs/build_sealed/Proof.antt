@@ -16,9 +16,6 @@ use borrow.Author.Needs.{needs}
 use Rattle.sealed_builder.proofs.build_sealed.Statement.{statement}
 use Rattle.sealed_builder.proofs.build_sealed.Tie as tie
 
-enum-told : tie.Need-enum-told
-enum-told c = search needs
-
 sub-put-sealed : tie.Need-sub-put-sealed
 sub-put-sealed c =
     let g = c .before .before .before .before .before .before .before .before .args in
@@ -71,7 +68,7 @@ build-sealed-spec =
     (tie.spec
     (λ c κs. search needs)
     (λ c. search needs)
-    enum-told
+    (λ c. search needs)
     (λ c κs. search needs)
     sub-put-sealed
     part-put-sealed-start

@@ -2,8 +2,5 @@ use Rattle.sealed_ends.proofs.Directions.{two-directions}
 use Rattle.sealed_ends.proofs.two_directions.Statement.{statement}
 use Rattle.sealed_ends.proofs.two_directions.Tie as tie
 
-returns : tie.Need-returns
-returns c = two-directions
-
 pub two-directions-spec : {M : Type 1} → statement M
-two-directions-spec = tie.close (tie.spec returns)
+two-directions-spec = tie.close (tie.spec (λ c. two-directions))

@@ -2,8 +2,5 @@ use Rattle.sealed_ends.proofs.Trips.{two-ends}
 use Rattle.sealed_ends.proofs.two_ends.Statement.{statement}
 use Rattle.sealed_ends.proofs.two_ends.Tie as tie
 
-returns : tie.Need-returns
-returns c = two-ends
-
 pub two-ends-spec : {M : Type 1} → statement M
-two-ends-spec = tie.close (tie.spec returns)
+two-ends-spec = tie.close (tie.spec (λ c. two-ends))

@@ -69,9 +69,6 @@ returns-3 c =
       store = ap (λ (x : step.Answer). x .store) e;
     }
 
-take-piece-requires : tie.Need-take-piece-requires
-take-piece-requires c κs = running (c .before)
-
 returns-4 : tie.Need-returns-4
 returns-4 c =
     let z = c .before .before .before .before .before .before .before .before .before .before .before .before .before .before in
@@ -97,6 +94,6 @@ receive-spec =
     (λ c κs. search needs)
     (λ c κs. search needs)
     returns-3
-    take-piece-requires
+    (λ c κs. running (c .before))
     (λ c. search needs)
     returns-4)

@@ -22,8 +22,5 @@ table : WorkedStates
 unfolding WorkedStates
 table = (partRows-hold, knownRows-hold, refusalRows-hold)
 
-returns : tie.Need-returns
-returns c = table
-
 pub worked-states-spec : {M : Type 1} → statement M
-worked-states-spec = tie.close (tie.spec returns)
+worked-states-spec = tie.close (tie.spec (λ c. table))

@@ -2,9 +2,6 @@ use borrow.Author.Needs.{needs}
 use Rattle.sealing_cases.proofs.sealing_size.Statement.{statement}
 use Rattle.sealing_cases.proofs.sealing_size.Tie as tie
 
-returns : tie.Need-returns
-returns c = cc
-
 pub sealing-size-spec : {M : Type 1} → statement M
 sealing-size-spec =
     tie.close
@@ -16,4 +13,4 @@ sealing-size-spec =
     (λ c κs. search needs)
     (λ c. search needs)
     (λ c κs. search needs)
-    returns)
+    (λ c. cc))

@@ -14,37 +14,16 @@ Inv-loop bytes i₀ i = allZero (drop i bytes) ≡ allZero bytes
 abbrev μ-loop : tie.MeasureT-loop
 μ-loop bytes i₀ i = length bytes - i
 
-loop-holds : tie.Need-loop-holds Inv-loop μ-loop
-loop-holds c = refl
-
-shared-slice-read-if1 : tie.Need-shared-slice-read-if1 Inv-loop μ-loop
-shared-slice-read-if1 c = omega arith
-
-returns : tie.Need-returns Inv-loop μ-loop
-returns c = sym (zero-stop (c .before .before .before .before .args .bytes .now) (c .before .before .before .loop .i) (omega arith) (λ e. c .if1 .taken e)) ∙ c .before .before .before .loop .inv
-
-add-i : tie.Need-add-i Inv-loop μ-loop
-add-i c = omega arith
-
-loop-less : tie.Need-loop-less Inv-loop μ-loop
-loop-less c = omega arith
-
-loop-again : tie.Need-loop-again Inv-loop μ-loop
-loop-again c = rw (add-one (c .before .before .before .loop .i)) (zero-step (c .before .before .before .before .args .bytes .now) (c .before .before .before .loop .i) (omega arith) (c .if1 .left) ∙ c .before .before .before .loop .inv)
-
-returns-2 : tie.Need-returns-2 Inv-loop μ-loop
-returns-2 c = sym (ap allZero (drop-of-length-le (c .before .before .args .bytes .now) {i = c .before .loop .i} (c .loop-test .left))) ∙ c .before .loop .inv
-
 pub all-zero-spec : {M : Type 1} → statement M
 all-zero-spec =
     tie.close
     (tie.spec
     Inv-loop
     μ-loop
-    loop-holds
-    shared-slice-read-if1
-    returns
-    add-i
-    loop-less
-    loop-again
-    returns-2)
+    (λ c. refl)
+    (λ c. omega arith)
+    (λ c. sym (zero-stop (c .before .before .before .before .args .bytes .now) (c .before .before .before .loop .i) (omega arith) (λ e. c .if1 .taken e)) ∙ c .before .before .before .loop .inv)
+    (λ c. omega arith)
+    (λ c. omega arith)
+    (λ c. rw (add-one (c .before .before .before .loop .i)) (zero-step (c .before .before .before .before .args .bytes .now) (c .before .before .before .loop .i) (omega arith) (c .if1 .left) ∙ c .before .before .before .loop .inv))
+    (λ c. sym (ap allZero (drop-of-length-le (c .before .before .args .bytes .now) {i = c .before .loop .i} (c .loop-test .left))) ∙ c .before .loop .inv))

@@ -6,9 +6,6 @@ use borrow.Author.Needs.{needs}
 use Rattle.secure.proofs.last_part_length.Statement.{statement}
 use Rattle.secure.proofs.last_part_length.Tie as tie
 
-returns : tie.Need-returns
-returns c = (simp (sym (c .before .no-last-part .ensures) ∙ c .if1 .taken), omega arith)
-
 returns-2 : tie.Need-returns-2
 returns-2 c =
     let e : lastPart (c .before .before .before .before .before .args .h) ≡ lastPartLength (c .before .before .before .before .before .args .h) =
@@ -20,7 +17,7 @@ last-part-length-spec =
     tie.close
     (tie.spec
     (λ c κs. search needs)
-    returns
+    (λ c. (simp (sym (c .before .no-last-part .ensures) ∙ c .if1 .taken), omega arith))
     (λ c κs. search needs)
     (λ c κs. search needs)
     (λ c κs. search needs)

@@ -2,8 +2,5 @@ use Rattle.secure.proofs.Trip.{trip}
 use Rattle.secure.proofs.round_trip.Statement.{statement}
 use Rattle.secure.proofs.round_trip.Tie as tie
 
-returns : tie.Need-returns
-returns c = trip
-
 pub round-trip-spec : {M : Type 1} → statement M
-round-trip-spec = tie.close (tie.spec returns)
+round-trip-spec = tie.close (tie.spec (λ c. trip))

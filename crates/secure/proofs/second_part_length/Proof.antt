@@ -6,9 +6,6 @@ use borrow.Author.Needs.{needs}
 use Rattle.secure.proofs.second_part_length.Statement.{statement}
 use Rattle.secure.proofs.second_part_length.Tie as tie
 
-returns : tie.Need-returns
-returns c = (simp (sym (c .before .no-second-part .ensures) ∙ c .if1 .taken), omega arith)
-
 sub-rounded : tie.Need-sub-rounded
 sub-rounded c =
     let n = c .before .before .args .h .s1 .len in
@@ -20,4 +17,11 @@ returns-2 c =
 
 pub second-part-length-spec : {M : Type 1} → statement M
 second-part-length-spec =
-    tie.close (tie.spec (λ c κs. search needs) returns sub-rounded (λ c κs. search needs) (λ c. search needs) returns-2)
+    tie.close
+    (tie.spec
+    (λ c κs. search needs)
+    (λ c. (simp (sym (c .before .no-second-part .ensures) ∙ c .if1 .taken), omega arith))
+    sub-rounded
+    (λ c κs. search needs)
+    (λ c. search needs)
+    returns-2)

@@ -10,12 +10,6 @@ use borrow.Author.Needs.{needs}
 use Rattle.session.proofs.accept.Statement.{statement}
 use Rattle.session.proofs.accept.Tie as tie
 
-enum-told : tie.Need-enum-told
-enum-told c = search needs
-
-add-number : tie.Need-add-number
-add-number c = omega (arith, fine-accept (c .before .before .before .before .args .s) (sym (c .before .before .before .judge-accept .ensures) ∙ ap judgedBy (c .before .enum-told .given .1)))
-
 returns : tie.Need-returns
 unfolding acceptOf
 returns c = when-fine _ _ _ _ _ (c .before .before .before .before .judge-accept .ensures) (c .before .before .enum-told .given .1) (ap (λ (t : Session). outcome t (Accepted (c .before .before .before .before .before .args .s .last + 1))) (c .add .ensures))
@@ -29,8 +23,8 @@ accept-spec =
     tie.close
     (tie.spec
     (λ c κs. search needs)
-    enum-told
-    add-number
+    (λ c. search needs)
+    (λ c. omega (arith, fine-accept (c .before .before .before .before .args .s) (sym (c .before .before .before .judge-accept .ensures) ∙ ap judgedBy (c .before .enum-told .given .1))))
     (λ c κs. search needs)
     (λ c. search needs)
     (λ c κs. search needs)

@@ -2,8 +2,5 @@ use Rattle.session.proofs.Histories.{every-history}
 use Rattle.session.proofs.every_history.Statement.{statement}
 use Rattle.session.proofs.every_history.Tie as tie
 
-returns : tie.Need-returns
-returns c = every-history
-
 pub every-history-spec : {M : Type 1} → statement M
-every-history-spec = tie.close (tie.spec returns)
+every-history-spec = tie.close (tie.spec (λ c. every-history))

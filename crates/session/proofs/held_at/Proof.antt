@@ -7,9 +7,6 @@ use borrow.Author.Needs.{needs}
 use Rattle.session.proofs.held_at.Statement.{statement}
 use Rattle.session.proofs.held_at.Tie as tie
 
-enum-told : tie.Need-enum-told
-enum-told c = search needs
-
 returns : tie.Need-returns
 unfolding heldAt
 returns c =
@@ -33,7 +30,7 @@ held-at-spec =
     tie.close
     (tie.spec
     (λ c κs. search needs)
-    enum-told
+    (λ c. search needs)
     (λ c κs. search needs)
     returns
     (λ c. search needs)

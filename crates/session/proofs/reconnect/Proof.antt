@@ -4,9 +4,6 @@ use borrow.Author.Needs.{needs}
 use Rattle.session.proofs.reconnect.Statement.{statement}
 use Rattle.session.proofs.reconnect.Tie as tie
 
-enum-told : tie.Need-enum-told
-enum-told c = search needs
-
 returns : tie.Need-returns
 unfolding reconnectOf
 returns c = when-fine _ _ _ _ _ (c .before .before .before .before .judge-ack .ensures) (c .before .before .enum-told .given .1) (resend-held _ _ _ (c .before .acked .ensures) (c .held-count .ensures))
@@ -20,7 +17,7 @@ reconnect-spec =
     tie.close
     (tie.spec
     (λ c κs. search needs)
-    enum-told
+    (λ c. search needs)
     (λ c κs. search needs)
     (λ c κs. search needs)
     (λ c. search needs)

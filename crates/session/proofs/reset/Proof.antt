@@ -7,9 +7,6 @@ use borrow.Author.Needs.{needs}
 use Rattle.session.proofs.reset.Statement.{statement}
 use Rattle.session.proofs.reset.Tie as tie
 
-enum-told : tie.Need-enum-told
-enum-told c = search needs
-
 returns : tie.Need-returns
 unfolding resetOf
 returns c = when-fine _ _ _ _ _ (c .before .before .before .judge-state .ensures) (c .before .enum-told .given .1) (ap (λ (t : Session). outcome t Done) (c .cleared .ensures))
@@ -23,7 +20,7 @@ reset-spec =
     tie.close
     (tie.spec
     (λ c κs. search needs)
-    enum-told
+    (λ c. search needs)
     (λ c κs. search needs)
     (λ c. search needs)
     (λ c κs. search needs)

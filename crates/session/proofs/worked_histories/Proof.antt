@@ -9,8 +9,5 @@ table : Worked
 unfolding Worked examples heldFrom agrees judgeState judgeAccept judgeAck acceptOf ackOf reconnectOf resetOf found heldAt
 table = ((refl, (refl, (refl, (refl, (refl, (refl, (refl, (refl, (refl, (refl, (refl, (refl, (refl, (refl, (refl, (refl, (refl, (refl, (refl, (refl, tt)))))))))))))))))))), (refl, refl, refl, refl, refl), (refl, refl, refl, refl, refl), (refl, refl, refl, refl, refl))
 
-returns : tie.Need-returns
-returns c = table
-
 pub worked-histories-spec : {M : Type 1} → statement M
-worked-histories-spec = tie.close (tie.spec returns)
+worked-histories-spec = tie.close (tie.spec (λ c. table))

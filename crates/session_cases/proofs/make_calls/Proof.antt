@@ -18,45 +18,18 @@ Inv-loop s n text₀ at session₀ place₀ end₀ left₀ text session place en
 abbrev μ-loop : tie.MeasureT-loop
 μ-loop s n text₀ at session₀ place₀ end₀ left₀ text session place end left = left
 
-loop-holds : tie.Need-loop-holds Inv-loop μ-loop
-loop-holds c = (omega arith, refl, left-all)
-
-call-good-requires : tie.Need-call-good-requires Inv-loop μ-loop
-call-good-requires c κs = omega arith
-
-bad-record-requires : tie.Need-bad-record-requires Inv-loop μ-loop
-bad-record-requires c κs = search needs
-
-same-length : tie.Need-same-length Inv-loop μ-loop
-same-length c = c .before .before .bad-record .kept .0 ∙ c .before .before .before .before .before .before .before .loop .inv .1
-
 returns : tie.Need-returns Inv-loop μ-loop
 returns c = let l = c .before .before .before .before .before .before .before .loop in
     let e : callGood (c .before .before .before .before .before .before .before .before .before .before .args .s .now) (l .place) ≡ false = sym (c .before .before .before .before .before .call-good .ensures) ∙ not-true (c .before .before .before .before .before .call-good .result) (c .before .before .before .before .if1 .taken) in
     did-broken (left-is (calls-broken (c .before .before .before .before .before .before .before .before .before .before .args .s .now) (l .session) (l .left) (l .place) (c .before .before .before .before .before .before .loop-test .taken) e) (l .inv .2)) (c .before .before .bad-record .ensures .0) (c .before .before .bad-record .ensures .1)
 
-byte-at-requires : tie.Need-byte-at-requires Inv-loop μ-loop
-byte-at-requires c κs = search needs
-
 add-u64-at : tie.Need-add-u64-at Inv-loop μ-loop
 add-u64-at c = let e : callGood (c .before .before .before .before .before .before .before .args .s .now) (c .before .before .before .before .loop .place) ≡ true = sym (c .before .before .call-good .ensures) ∙ not-false (c .before .before .call-good .result) (c .before .if1 .left) in
     let h = good-within (c .before .before .before .before .before .before .before .args .s .now) (c .before .before .before .before .loop .place) e in omega arith
 
-u64-at-requires : tie.Need-u64-at-requires Inv-loop μ-loop
-u64-at-requires c κs = search needs
-
-make-call-requires : tie.Need-make-call-requires Inv-loop μ-loop
-make-call-requires c κs = search needs
-
 add-place : tie.Need-add-place Inv-loop μ-loop
 add-place c = let e : callGood (c .before .before .before .before .before .before .before .before .before .before .before .before .before .args .s .now) (c .before .before .before .before .before .before .before .before .before .before .loop .place) ≡ true = sym (c .before .before .before .before .before .before .before .before .call-good .ensures) ∙ not-false (c .before .before .before .before .before .before .before .before .call-good .result) (c .before .before .before .before .before .before .before .if1 .left) in
     let h = good-within (c .before .before .before .before .before .before .before .before .before .before .before .before .before .args .s .now) (c .before .before .before .before .before .before .before .before .before .before .loop .place) e in omega arith
-
-sub-left : tie.Need-sub-left Inv-loop μ-loop
-sub-left c = omega arith
-
-loop-less : tie.Need-loop-less Inv-loop μ-loop
-loop-less c = omega arith
 
 loop-again : tie.Need-loop-again Inv-loop μ-loop
 loop-again c = let l = c .before .before .before .before .before .before .before .before .before .before .loop in
@@ -64,9 +37,6 @@ loop-again c = let l = c .before .before .before .before .before .before .before
     let e : callGood s (l .place) ≡ true = sym (c .before .before .before .before .before .before .before .before .call-good .ensures) ∙ not-false (c .before .before .before .before .before .before .before .before .call-good .result) (c .before .before .before .before .before .before .before .if1 .left) in
     let h = good-within s (l .place) e in
     (omega arith, c .before .before .before .make-call .kept .1 .1 .1 .0 ∙ l .inv .1, calls-on s (l .session) (l .left) (l .place) (c .before .before .before .before .before .before .byte-at .result) (c .before .before .before .before .before .u64-at .result) (c .before .before .before .before .before .before .before .before .before .loop-test .taken) e (c .before .before .before .before .before .before .byte-at .ensures) (c .before .before .before .before .before .u64-at .ensures) (c .before .before .before .make-call .ensures) (l .inv .2))
-
-same-length-2 : tie.Need-same-length-2 Inv-loop μ-loop
-same-length-2 c = c .before .loop .inv .1
 
 returns-2 : tie.Need-returns-2 Inv-loop μ-loop
 returns-2 c = let l = c .before .loop in
@@ -78,18 +48,18 @@ make-calls-spec =
     (tie.spec
     Inv-loop
     μ-loop
-    loop-holds
-    call-good-requires
-    bad-record-requires
-    same-length
+    (λ c. (omega arith, refl, left-all))
+    (λ c κs. omega arith)
+    (λ c κs. search needs)
+    (λ c. c .before .before .bad-record .kept .0 ∙ c .before .before .before .before .before .before .before .loop .inv .1)
     returns
-    byte-at-requires
+    (λ c κs. search needs)
     add-u64-at
-    u64-at-requires
-    make-call-requires
+    (λ c κs. search needs)
+    (λ c κs. search needs)
     add-place
-    sub-left
-    loop-less
+    (λ c. omega arith)
+    (λ c. omega arith)
     loop-again
-    same-length-2
+    (λ c. c .before .loop .inv .1)
     returns-2)

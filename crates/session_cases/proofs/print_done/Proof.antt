@@ -2,9 +2,6 @@ use borrow.Author.Needs.{needs}
 use Rattle.session_cases.proofs.print_done.Statement.{statement}
 use Rattle.session_cases.proofs.print_done.Tie as tie
 
-returns : tie.Need-returns
-returns c = cc
-
 pub print-done-spec : {M : Type 1} → statement M
 print-done-spec =
     tie.close
@@ -14,4 +11,4 @@ print-done-spec =
     (λ c κs. search needs)
     (λ c κs. search needs)
     (λ c. search needs)
-    returns)
+    (λ c. cc))

@@ -2,9 +2,6 @@ use borrow.Author.Needs.{needs}
 use Rattle.session_cases.proofs.print_message.Statement.{statement}
 use Rattle.session_cases.proofs.print_message.Tie as tie
 
-returns : tie.Need-returns
-returns c = cc
-
 pub print-message-spec : {M : Type 1} → statement M
 print-message-spec =
     tie.close
@@ -15,4 +12,4 @@ print-message-spec =
     (λ c κs. search needs)
     (λ c κs. search needs)
     (λ c. search needs)
-    returns)
+    (λ c. cc))

@@ -2,9 +2,6 @@ use borrow.Author.Needs.{needs}
 use Rattle.session_cases.proofs.print_number.Statement.{statement}
 use Rattle.session_cases.proofs.print_number.Tie as tie
 
-returns : tie.Need-returns
-returns c = λ w s. cc
-
 pub print-number-spec : {M : Type 1} → statement M
 print-number-spec =
     tie.close
@@ -14,4 +11,4 @@ print-number-spec =
     (λ c κs. search needs)
     (λ c κs. search needs)
     (λ c. search needs)
-    returns)
+    (λ c. λ w s. cc))

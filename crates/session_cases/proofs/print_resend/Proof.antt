@@ -3,9 +3,6 @@ use Rattle.text.proofs.Laws.{puts-append}
 use Rattle.session_cases.proofs.print_resend.Statement.{statement}
 use Rattle.session_cases.proofs.print_resend.Tie as tie
 
-returns : tie.Need-returns
-returns c = λ w. rw puts-append (cc)
-
 pub print-resend-spec : {M : Type 1} → statement M
 print-resend-spec =
     tie.close
@@ -16,4 +13,4 @@ print-resend-spec =
     (λ c κs. search needs)
     (λ c κs. search needs)
     (λ c. search needs)
-    returns)
+    (λ c. λ w. rw puts-append (cc)))

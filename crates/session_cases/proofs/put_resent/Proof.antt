@@ -20,27 +20,12 @@ loop-holds : tie.Need-loop-holds Inv-loop μ-loop
 loop-holds c = let e : c .before .args .k - 0 ≡ c .before .args .k = omega arith in
     (omega arith, refl, rw e)
 
-held-at-requires : tie.Need-held-at-requires Inv-loop μ-loop
-held-at-requires c κs = search needs
-
-put-held-requires : tie.Need-put-held-requires Inv-loop μ-loop
-put-held-requires c κs = search needs
-
-add-i : tie.Need-add-i Inv-loop μ-loop
-add-i c = omega arith
-
-loop-less : tie.Need-loop-less Inv-loop μ-loop
-loop-less c = omega arith
-
 loop-again : tie.Need-loop-again Inv-loop μ-loop
 loop-again c = (
   omega arith,
   c .before .before .put-held .kept .0 ∙ c .before .before .before .before .before .before .loop .inv .1,
   resent-on (c .before .before .before .before .before .before .before .before .args .s) (c .before .before .before .before .before .before .loop .i) (c .before .before .before .before .before .before .before .before .args .k) (page (c .before .before .before .before .before .before .loop .text) (c .before .before .before .before .before .before .loop .end)) (c .before .before .before .before .before .loop-test .taken) (cc) ∙ c .before .before .before .before .before .before .loop .inv .2,
 )
-
-same-length : tie.Need-same-length Inv-loop μ-loop
-same-length c = c .before .loop .inv .1
 
 returns : tie.Need-returns Inv-loop μ-loop
 returns c = let e : c .before .loop .i ≡ c .before .before .before .args .k = omega arith in
@@ -53,10 +38,10 @@ put-resent-spec =
     Inv-loop
     μ-loop
     loop-holds
-    held-at-requires
-    put-held-requires
-    add-i
-    loop-less
+    (λ c κs. search needs)
+    (λ c κs. search needs)
+    (λ c. omega arith)
+    (λ c. omega arith)
     loop-again
-    same-length
+    (λ c. c .before .loop .inv .1)
     returns)

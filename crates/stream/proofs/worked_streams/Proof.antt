@@ -40,8 +40,5 @@ table : Worked
 unfolding Worked
 table = (frameRows-hold, bannerRows-hold, preambleRows-hold, endRows-hold, spellingRows-hold, cutRows-hold)
 
-returns : tie.Need-returns
-returns c = table
-
 pub worked-streams-spec : {M : Type 1} → statement M
-worked-streams-spec = tie.close (tie.spec returns)
+worked-streams-spec = tie.close (tie.spec (λ c. table))

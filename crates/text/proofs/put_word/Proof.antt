@@ -15,38 +15,11 @@ Inv-loop text₀ at letters n i₀ text i = (i ≤ n) × (text ≡ sets text₀ 
 abbrev μ-loop : tie.MeasureT-loop
 μ-loop text₀ at letters n i₀ text i = n - i
 
-room-for-requires : tie.Need-room-for-requires Inv-loop μ-loop
-room-for-requires c κs = search needs
-
-loop-holds : tie.Need-loop-holds Inv-loop μ-loop
-loop-holds c = (zero-le, refl, refl)
-
-shared-slice-read-text : tie.Need-shared-slice-read-text Inv-loop μ-loop
-shared-slice-read-text c = omega (arith, c .before .before .before .room-for .ensures)
-
-add-text : tie.Need-add-text Inv-loop μ-loop
-add-text c = omega (arith, c .before .before .before .room-for .ensures)
-
-slice-write-text : tie.Need-slice-write-text Inv-loop μ-loop
-slice-write-text c = omega (arith, c .before .before .before .room-for .ensures)
-
-add-i : tie.Need-add-i Inv-loop μ-loop
-add-i c = omega arith
-
-loop-less : tie.Need-loop-less Inv-loop μ-loop
-loop-less c = omega arith
-
 loop-again : tie.Need-loop-again Inv-loop μ-loop
 loop-again c =
     let l = c .before .before .loop in
     let a = c .before .before .before .before .before .before .before .args in
     (omega arith, rw (l .inv .1) (sets-more (a .letters .now) (a .text .now) (a .at) (l .i) (omega (arith, c .before .before .before .room-for .ensures))), length-set (l .text) _ _ ∙ l .inv .2)
-
-add-result : tie.Need-add-result Inv-loop μ-loop
-add-result c = omega (arith, c .before .before .room-for .ensures)
-
-same-length : tie.Need-same-length Inv-loop μ-loop
-same-length c = c .before .loop .inv .2
 
 returns : tie.Need-returns Inv-loop μ-loop
 unfolding put write page
@@ -62,14 +35,14 @@ put-word-spec =
     (tie.spec
     Inv-loop
     μ-loop
-    room-for-requires
-    loop-holds
-    shared-slice-read-text
-    add-text
-    slice-write-text
-    add-i
-    loop-less
+    (λ c κs. search needs)
+    (λ c. (zero-le, refl, refl))
+    (λ c. omega (arith, c .before .before .before .room-for .ensures))
+    (λ c. omega (arith, c .before .before .before .room-for .ensures))
+    (λ c. omega (arith, c .before .before .before .room-for .ensures))
+    (λ c. omega arith)
+    (λ c. omega arith)
     loop-again
-    add-result
-    same-length
+    (λ c. omega (arith, c .before .before .room-for .ensures))
+    (λ c. c .before .loop .inv .2)
     returns)

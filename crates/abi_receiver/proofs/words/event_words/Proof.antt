@@ -3,21 +3,6 @@ use borrow.Author.Needs.{needs}
 use Rattle.abi_receiver.proofs.words.event_words.Statement.{statement}
 use Rattle.abi_receiver.proofs.words.event_words.Tie as tie
 
-returns : tie.Need-returns
-returns c = rw (c .before .before .before .before .before .event .given .1) (c .reporting .ensures ∙ rw (c .before .before .before .revision-number .ensures, c .before .before .no-header .ensures, c .before .no-refusal .ensures), tt)
-
-returns-2 : tie.Need-returns-2
-returns-2 c = rw (c .before .before .event2 .given .1) (c .framed .ensures)
-
-returns-3 : tie.Need-returns-3
-returns-3 c = rw (c .before .before .event3 .given .1) (c .framed2 .ensures)
-
-returns-4 : tie.Need-returns-4
-returns-4 c = rw (c .before .before .event4 .given .1) (c .framed3 .ensures)
-
-returns-5 : tie.Need-returns-5
-returns-5 c = rw (c .before .before .event5 .given .1) (c .refused .ensures)
-
 pub event-words-spec : {M : Type 1} → statement M
 event-words-spec =
     tie.close
@@ -35,8 +20,8 @@ event-words-spec =
     (λ c κs. search needs)
     (λ c. search needs)
     (λ c κs. search needs)
-    returns
-    returns-2
-    returns-3
-    returns-4
-    returns-5)
+    (λ c. rw (c .before .before .before .before .before .event .given .1) (c .reporting .ensures ∙ rw (c .before .before .before .revision-number .ensures, c .before .before .no-header .ensures, c .before .no-refusal .ensures), tt))
+    (λ c. rw (c .before .before .event2 .given .1) (c .framed .ensures))
+    (λ c. rw (c .before .before .event3 .given .1) (c .framed2 .ensures))
+    (λ c. rw (c .before .before .event4 .given .1) (c .framed3 .ensures))
+    (λ c. rw (c .before .before .event5 .given .1) (c .refused .ensures)))

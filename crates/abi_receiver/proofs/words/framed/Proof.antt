@@ -3,9 +3,6 @@ use borrow.Author.Needs.{needs}
 use Rattle.abi_receiver.proofs.words.framed.Statement.{statement}
 use Rattle.abi_receiver.proofs.words.framed.Tie as tie
 
-returns : tie.Need-returns
-returns c = (c .reporting .ensures ∙ rw (c .before .before .no-features .ensures, c .before .no-refusal .ensures), c .before .before .before .typed-header .ensures)
-
 pub framed-spec : {M : Type 1} → statement M
 framed-spec =
     tie.close
@@ -14,4 +11,4 @@ framed-spec =
     (λ c κs. search needs)
     (λ c κs. search needs)
     (λ c κs. search needs)
-    returns)
+    (λ c. (c .reporting .ensures ∙ rw (c .before .before .no-features .ensures, c .before .no-refusal .ensures), c .before .before .before .typed-header .ensures)))

@@ -4,25 +4,16 @@ use borrow.Author.Needs.{needs}
 use Rattle.abi_receiver.proofs.words.report_words.Statement.{statement}
 use Rattle.abi_receiver.proofs.words.report_words.Tie as tie
 
-enum-told : tie.Need-enum-told
-enum-told c = search needs
-
-returns : tie.Need-returns
-returns c = rw (c .before .before .before .before .enum-told .given .1) (report-of _ _ _ tt (c .reporting .ensures ∙ rw (c .before .before .before .no-features .ensures, c .before .before .no-header .ensures, c .before .no-refusal .ensures)))
-
-returns-2 : tie.Need-returns-2
-returns-2 c = rw (c .before .before .report .given .1) (report-of _ _ _ (c .event-words .ensures .1) (c .event-words .ensures .0))
-
 pub report-words-spec : {M : Type 1} → statement M
 report-words-spec =
     tie.close
     (tie.spec
-    enum-told
+    (λ c. search needs)
     (λ c κs. search needs)
     (λ c κs. search needs)
     (λ c κs. search needs)
     (λ c κs. search needs)
     (λ c. search needs)
     (λ c κs. search needs)
-    returns
-    returns-2)
+    (λ c. rw (c .before .before .before .before .enum-told .given .1) (report-of _ _ _ tt (c .reporting .ensures ∙ rw (c .before .before .before .no-features .ensures, c .before .before .no-header .ensures, c .before .no-refusal .ensures))))
+    (λ c. rw (c .before .before .report .given .1) (report-of _ _ _ (c .event-words .ensures .1) (c .event-words .ensures .0))))

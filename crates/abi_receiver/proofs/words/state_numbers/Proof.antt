@@ -2,8 +2,9 @@ use borrow.Author.Needs.{needs}
 use Rattle.abi_receiver.proofs.words.state_numbers.Statement.{statement}
 use Rattle.abi_receiver.proofs.words.state_numbers.Tie as tie
 
-returns : tie.Need-returns
-returns c = c .numbers-of .ensures (c .before .before .before .args .st .position .block)
-
 pub state-numbers-spec : {M : Type 1} → statement M
-state-numbers-spec = tie.close (tie.spec (λ c κs. search needs) returns)
+state-numbers-spec =
+    tie.close
+    (tie.spec
+    (λ c κs. search needs)
+    (λ c. c .numbers-of .ensures (c .before .before .before .args .st .position .block)))

@@ -3,11 +3,11 @@ use borrow.Author.Tests.{lt-ltb, le-ltb}
 use Rattle.body_cases.proofs.reading.glyph_of.Statement.{statement}
 use Rattle.body_cases.proofs.reading.glyph_of.Tie as tie
 
-returns : tie.Need-returns
-returns c = rw (lt-ltb (c .before .args .d) 10 (c .if1 .taken))
-
-returns-2 : tie.Need-returns-2
-returns-2 c = rw (le-ltb (c .before .args .d) 10 (c .if1 .left))
-
 pub glyph-of-spec : {M : Type 1} → statement M
-glyph-of-spec = tie.close (tie.spec (λ c. search needs) (λ c. search needs) returns returns-2)
+glyph-of-spec =
+    tie.close
+    (tie.spec
+    (λ c. search needs)
+    (λ c. search needs)
+    (λ c. rw (lt-ltb (c .before .args .d) 10 (c .if1 .taken)))
+    (λ c. rw (le-ltb (c .before .args .d) 10 (c .if1 .left))))

@@ -9,9 +9,6 @@ use Rattle.text.specs.Line.{word, newline}
 use Rattle.body_cases.proofs.reading.print_bad_method.Statement.{statement}
 use Rattle.body_cases.proofs.reading.print_bad_method.Tie as tie
 
-returns : tie.Need-returns
-returns c = rw (c .before .before .put-end .ensures, c .before .before .before .before .before .before .put-list2 .ensures, c .before .before .before .before .before .before .before .before .before .before .before .put-list .ensures, c .before .before .before .before .before .before .before .before .before .before .before .before .before .before .before .before .put-error .ensures, c .before .before .before .before .before .before .before .before .before .before .before .before .before .before .before .before .before .before .before .before .put-field .ensures, c .before .before .before .before .before .before .before .before .before .before .before .before .before .before .before .before .before .before .before .before .before .before .before .before .before .put-tag .ensures) (two-lists (eachNumber (numbersIn (c .before .before .before .before .before .before .before .before .before .before .before .before .before .before .before .before .before .before .before .before .before .before .before .before .before .before .before .before .before .args .s .now) (c .before .before .before .before .before .before .before .before .before .before .before .before .before .before .before .before .before .before .before .before .before .before .before .before .before .before .before .before .before .args .methods))) (word " modes") (line.number (length (numbersIn (c .before .before .before .before .before .before .before .before .before .before .before .before .before .before .before .before .before .before .before .before .before .before .before .before .before .before .before .before .before .args .s .now) (c .before .before .before .before .before .before .before .before .before .before .before .before .before .before .before .before .before .before .before .before .before .before .before .before .before .before .before .before .before .args .modes)))) (eachNumber (numbersIn (c .before .before .before .before .before .before .before .before .before .before .before .before .before .before .before .before .before .before .before .before .before .before .before .before .before .before .before .before .before .args .s .now) (c .before .before .before .before .before .before .before .before .before .before .before .before .before .before .before .before .before .before .before .before .before .before .before .before .before .before .before .before .before .args .modes))) (newline ∷ []) _)
-
 pub print-bad-method-spec : {M : Type 1} → statement M
 print-bad-method-spec =
     tie.close
@@ -26,4 +23,4 @@ print-bad-method-spec =
     (λ c κs. search needs)
     (λ c κs. search needs)
     (λ c. search needs)
-    returns)
+    (λ c. rw (c .before .before .put-end .ensures, c .before .before .before .before .before .before .put-list2 .ensures, c .before .before .before .before .before .before .before .before .before .before .before .put-list .ensures, c .before .before .before .before .before .before .before .before .before .before .before .before .before .before .before .before .put-error .ensures, c .before .before .before .before .before .before .before .before .before .before .before .before .before .before .before .before .before .before .before .before .put-field .ensures, c .before .before .before .before .before .before .before .before .before .before .before .before .before .before .before .before .before .before .before .before .before .before .before .before .before .put-tag .ensures) (two-lists (eachNumber (numbersIn (c .before .before .before .before .before .before .before .before .before .before .before .before .before .before .before .before .before .before .before .before .before .before .before .before .before .before .before .before .before .args .s .now) (c .before .before .before .before .before .before .before .before .before .before .before .before .before .before .before .before .before .before .before .before .before .before .before .before .before .before .before .before .before .args .methods))) (word " modes") (line.number (length (numbersIn (c .before .before .before .before .before .before .before .before .before .before .before .before .before .before .before .before .before .before .before .before .before .before .before .before .before .before .before .before .before .args .s .now) (c .before .before .before .before .before .before .before .before .before .before .before .before .before .before .before .before .before .before .before .before .before .before .before .before .before .before .before .before .before .args .modes)))) (eachNumber (numbersIn (c .before .before .before .before .before .before .before .before .before .before .before .before .before .before .before .before .before .before .before .before .before .before .before .before .before .before .before .before .before .args .s .now) (c .before .before .before .before .before .before .before .before .before .before .before .before .before .before .before .before .before .before .before .before .before .before .before .before .before .before .before .before .before .args .modes))) (newline ∷ []) _)))

@@ -2,9 +2,6 @@ use borrow.Author.Needs.{needs}
 use Rattle.body_cases.proofs.reading.print_hello.Statement.{statement}
 use Rattle.body_cases.proofs.reading.print_hello.Tie as tie
 
-returns : tie.Need-returns
-returns c = rw (c .before .before .put-end .ensures, c .before .before .before .before .before .before .put-span .ensures, c .before .before .before .before .before .before .before .before .before .before .before .put-field .ensures, c .before .before .before .before .before .before .before .before .before .before .before .before .before .before .before .before .put-tag .ensures)
-
 pub print-hello-spec : {M : Type 1} → statement M
 print-hello-spec =
     tie.close
@@ -16,4 +13,4 @@ print-hello-spec =
     (λ c κs. search needs)
     (λ c κs. search needs)
     (λ c. search needs)
-    returns)
+    (λ c. rw (c .before .before .put-end .ensures, c .before .before .before .before .before .before .put-span .ensures, c .before .before .before .before .before .before .before .before .before .before .before .put-field .ensures, c .before .before .before .before .before .before .before .before .before .before .before .before .before .before .before .before .put-tag .ensures)))

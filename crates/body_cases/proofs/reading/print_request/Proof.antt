@@ -7,9 +7,6 @@ use Rattle.text.specs.Line.{codes, newline}
 use Rattle.body_cases.proofs.reading.print_request.Statement.{statement}
 use Rattle.body_cases.proofs.reading.print_request.Tie as tie
 
-returns : tie.Need-returns
-returns c = rw (c .before .before .put-end .ensures, c .before .before .before .before .before .before .put-span .ensures, c .before .before .before .before .before .before .before .before .before .before .before .put-list .ensures, c .before .before .before .before .before .before .before .before .before .before .before .before .before .before .before .before .put-field .ensures, c .before .before .before .before .before .before .before .before .before .before .before .before .before .before .before .before .before .before .before .before .before .put-tag .ensures) (two-parts (eachNumber (numbersIn (c .before .before .before .before .before .before .before .before .before .before .before .before .before .before .before .before .before .before .before .before .before .before .before .before .before .args .s .now) (c .before .before .before .before .before .before .before .before .before .before .before .before .before .before .before .before .before .before .before .before .before .before .before .before .before .args .modes))) (bytesPieces (codes " payload") (spanIn (c .before .before .before .before .before .before .before .before .before .before .before .before .before .before .before .before .before .before .before .before .before .before .before .before .before .args .s .now) (c .before .before .before .before .before .before .before .before .before .before .before .before .before .before .before .before .before .before .before .before .before .before .before .before .before .args .payload))) (newline ∷ []) _)
-
 pub print-request-spec : {M : Type 1} → statement M
 print-request-spec =
     tie.close
@@ -23,4 +20,4 @@ print-request-spec =
     (λ c κs. search needs)
     (λ c κs. search needs)
     (λ c. search needs)
-    returns)
+    (λ c. rw (c .before .before .put-end .ensures, c .before .before .before .before .before .before .put-span .ensures, c .before .before .before .before .before .before .before .before .before .before .before .put-list .ensures, c .before .before .before .before .before .before .before .before .before .before .before .before .before .before .before .before .put-field .ensures, c .before .before .before .before .before .before .before .before .before .before .before .before .before .before .before .before .before .before .before .before .before .put-tag .ensures) (two-parts (eachNumber (numbersIn (c .before .before .before .before .before .before .before .before .before .before .before .before .before .before .before .before .before .before .before .before .before .before .before .before .before .args .s .now) (c .before .before .before .before .before .before .before .before .before .before .before .before .before .before .before .before .before .before .before .before .before .before .before .before .before .args .modes))) (bytesPieces (codes " payload") (spanIn (c .before .before .before .before .before .before .before .before .before .before .before .before .before .before .before .before .before .before .before .before .before .before .before .before .before .args .s .now) (c .before .before .before .before .before .before .before .before .before .before .before .before .before .before .before .before .before .before .before .before .before .before .before .before .before .args .payload))) (newline ∷ []) _)))

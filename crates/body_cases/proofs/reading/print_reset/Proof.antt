@@ -2,9 +2,6 @@ use borrow.Author.Needs.{needs}
 use Rattle.body_cases.proofs.reading.print_reset.Statement.{statement}
 use Rattle.body_cases.proofs.reading.print_reset.Tie as tie
 
-returns : tie.Need-returns
-returns c = cc
-
 pub print-reset-spec : {M : Type 1} → statement M
 print-reset-spec =
     tie.close
@@ -14,4 +11,4 @@ print-reset-spec =
     (λ c κs. search needs)
     (λ c κs. search needs)
     (λ c. search needs)
-    returns)
+    (λ c. cc))

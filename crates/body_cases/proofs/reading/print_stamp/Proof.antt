@@ -7,9 +7,6 @@ use Rattle.text.specs.Line.{newline}
 use Rattle.body_cases.proofs.reading.print_stamp.Statement.{statement}
 use Rattle.body_cases.proofs.reading.print_stamp.Tie as tie
 
-returns : tie.Need-returns
-returns c = rw (c .before .before .put-end .ensures, c .before .before .before .before .before .before .put-stamp .ensures, c .before .before .before .before .before .before .before .part .ensures, c .before .before .before .before .before .before .before .before .before .before .before .put-word2 .ensures, c .before .before .before .before .before .before .before .before .before .before .before .before .before .before .before .before .put-word .ensures, c .before .before .before .before .before .before .before .before .before .before .before .before .before .before .before .before .before .before .before .before .before .put-tag .ensures) (two-parts (eachByte (spanIn (c .before .before .before .before .before .before .before .before .before .before .before .before .before .before .before .before .before .before .before .before .before .before .before .before .before .args .s .now) (c .before .before .before .before .before .before .before .before .before .before .before .before .before .before .before .before .before .before .before .before .before .before .before .before .before .args .stamp))) [] (newline ∷ []) _)
-
 pub print-stamp-spec : {M : Type 1} → statement M
 print-stamp-spec =
     tie.close
@@ -23,4 +20,4 @@ print-stamp-spec =
     (λ c κs. search needs)
     (λ c κs. search needs)
     (λ c. search needs)
-    returns)
+    (λ c. rw (c .before .before .put-end .ensures, c .before .before .before .before .before .before .put-stamp .ensures, c .before .before .before .before .before .before .before .part .ensures, c .before .before .before .before .before .before .before .before .before .before .before .put-word2 .ensures, c .before .before .before .before .before .before .before .before .before .before .before .before .before .before .before .before .put-word .ensures, c .before .before .before .before .before .before .before .before .before .before .before .before .before .before .before .before .before .before .before .before .before .put-tag .ensures) (two-parts (eachByte (spanIn (c .before .before .before .before .before .before .before .before .before .before .before .before .before .before .before .before .before .before .before .before .before .before .before .before .before .args .s .now) (c .before .before .before .before .before .before .before .before .before .before .before .before .before .before .before .before .before .before .before .before .before .before .before .before .before .args .stamp))) [] (newline ∷ []) _)))

@@ -2,9 +2,6 @@ use borrow.Author.Needs.{needs}
 use Rattle.body_cases.proofs.reading.put_block.Statement.{statement}
 use Rattle.body_cases.proofs.reading.put_block.Tie as tie
 
-returns : tie.Need-returns
-returns c = rw (c .before .before .put-span .ensures, c .before .before .before .before .before .before .before .put-field .ensures, c .before .before .before .before .before .before .before .before .before .before .before .before .put-tag .ensures)
-
 pub put-block-spec : {M : Type 1} → statement M
 put-block-spec =
     tie.close
@@ -15,4 +12,4 @@ put-block-spec =
     (λ c. search needs)
     (λ c κs. search needs)
     (λ c. search needs)
-    returns)
+    (λ c. rw (c .before .before .put-span .ensures, c .before .before .before .before .before .before .before .put-field .ensures, c .before .before .before .before .before .before .before .before .before .before .before .before .put-tag .ensures)))

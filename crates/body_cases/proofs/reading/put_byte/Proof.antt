@@ -2,9 +2,6 @@ use borrow.Author.Needs.{needs}
 use Rattle.body_cases.proofs.reading.put_byte.Statement.{statement}
 use Rattle.body_cases.proofs.reading.put_byte.Tie as tie
 
-returns : tie.Need-returns
-returns c = rw (c .before .before .put-word .ensures, c .before .before .before .before .before .before .glyph-of .ensures, c .before .before .before .before .before .glyph-of2 .ensures)
-
 pub put-byte-spec : {M : Type 1} → statement M
 put-byte-spec =
     tie.close
@@ -14,4 +11,4 @@ put-byte-spec =
     (λ c. search needs)
     (λ c κs. search needs)
     (λ c. search needs)
-    returns)
+    (λ c. rw (c .before .before .put-word .ensures, c .before .before .before .before .before .before .glyph-of .ensures, c .before .before .before .before .before .glyph-of2 .ensures)))

@@ -2,9 +2,6 @@ use borrow.Author.Needs.{needs}
 use Rattle.body_cases.proofs.reading.put_bytes.Statement.{statement}
 use Rattle.body_cases.proofs.reading.put_bytes.Tie as tie
 
-returns : tie.Need-returns
-returns c = cc
-
 pub put-bytes-spec : {M : Type 1} → statement M
 put-bytes-spec =
     tie.close
@@ -15,4 +12,4 @@ put-bytes-spec =
     (λ c κs. search needs)
     (λ c κs. search needs)
     (λ c. search needs)
-    returns)
+    (λ c. cc))

@@ -17,31 +17,10 @@ Inv-loop text₀ at s l end₀ i₀ text end i = (i ≤ l .count) × (length tex
 abbrev μ-loop : tie.MeasureT-loop
 μ-loop text₀ at s l end₀ i₀ text end i = l .count - i
 
-loop-holds : tie.Need-loop-holds Inv-loop μ-loop
-loop-holds c = (omega arith, refl, refl)
-
-number-in-requires : tie.Need-number-in-requires Inv-loop μ-loop
-number-in-requires c κs = search needs
-
-cast-put-number : tie.Need-cast-put-number Inv-loop μ-loop
-cast-put-number c = search needs
-
-put-number-requires : tie.Need-put-number-requires Inv-loop μ-loop
-put-number-requires c κs = search needs
-
-add-i : tie.Need-add-i Inv-loop μ-loop
-add-i c = omega arith
-
-loop-less : tie.Need-loop-less Inv-loop μ-loop
-loop-less c = omega arith
-
 loop-again : tie.Need-loop-again Inv-loop μ-loop
 loop-again c = let l = c .before .before .before .before .before .before .before .loop in
     let n : length (numbersIn (c .before .before .before .before .before .before .before .before .before .before .args .s .now) (c .before .before .before .before .before .before .before .before .before .before .args .l)) ≡ c .before .before .before .before .before .before .before .before .before .before .args .l .count = length-words (c .before .before .before .before .before .before .before .before .before .before .args .l .count) (drop (c .before .before .before .before .before .before .before .before .before .before .args .l .at) (c .before .before .before .before .before .before .before .before .before .before .args .s .now)) in
     (omega arith, c .before .before .put-number .kept .0 ∙ l .inv .1, each-more (numbersIn (c .before .before .before .before .before .before .before .before .before .before .args .s .now) (c .before .before .before .before .before .before .before .before .before .before .args .l)) (l .i) (c .before .before .before .number-in .result) (page (l .text) (l .end)) (omega arith) (c .before .before .before .number-in .ensures) (c .before .before .put-number .ensures) ∙ l .inv .2)
-
-same-length : tie.Need-same-length Inv-loop μ-loop
-same-length c = c .before .before .loop .inv .1
 
 returns : tie.Need-returns Inv-loop μ-loop
 returns c = let l = c .before .before .loop in
@@ -54,12 +33,12 @@ put-each-spec =
     (tie.spec
     Inv-loop
     μ-loop
-    loop-holds
-    number-in-requires
-    cast-put-number
-    put-number-requires
-    add-i
-    loop-less
+    (λ c. (omega arith, refl, refl))
+    (λ c κs. search needs)
+    (λ c. search needs)
+    (λ c κs. search needs)
+    (λ c. omega arith)
+    (λ c. omega arith)
     loop-again
-    same-length
+    (λ c. c .before .before .loop .inv .1)
     returns)

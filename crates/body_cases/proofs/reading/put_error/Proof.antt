@@ -2,9 +2,6 @@ use borrow.Author.Needs.{needs}
 use Rattle.body_cases.proofs.reading.put_error.Statement.{statement}
 use Rattle.body_cases.proofs.reading.put_error.Tie as tie
 
-returns : tie.Need-returns
-returns c = cc
-
 pub put-error-spec : {M : Type 1} → statement M
 put-error-spec =
     tie.close
@@ -16,4 +13,4 @@ put-error-spec =
     (λ c. search needs)
     (λ c κs. search needs)
     (λ c. search needs)
-    returns)
+    (λ c. cc))

@@ -4,9 +4,12 @@ use Rattle.fields.proofs.Skips.{length-words}
 use Rattle.body_cases.proofs.reading.put_list.Statement.{statement}
 use Rattle.body_cases.proofs.reading.put_list.Tie as tie
 
-returns : tie.Need-returns
-returns c = rw (c .before .before .put-each .ensures, c .before .before .before .before .before .before .put-field .ensures, length-words (c .before .before .before .before .before .before .before .before .before .before .before .before .args .l .count) (drop (c .before .before .before .before .before .before .before .before .before .before .before .before .args .l .at) (c .before .before .before .before .before .before .before .before .before .before .before .before .args .s .now)))
-
 pub put-list-spec : {M : Type 1} → statement M
 put-list-spec =
-    tie.close (tie.spec (λ c. search needs) (λ c κs. search needs) (λ c κs. search needs) (λ c. search needs) returns)
+    tie.close
+    (tie.spec
+    (λ c. search needs)
+    (λ c κs. search needs)
+    (λ c κs. search needs)
+    (λ c. search needs)
+    (λ c. rw (c .before .before .put-each .ensures, c .before .before .before .before .before .before .put-field .ensures, length-words (c .before .before .before .before .before .before .before .before .before .before .before .before .args .l .count) (drop (c .before .before .before .before .before .before .before .before .before .before .before .before .args .l .at) (c .before .before .before .before .before .before .before .before .before .before .before .before .args .s .now)))))

@@ -2,9 +2,6 @@ use borrow.Author.Needs.{needs}
 use Rattle.body_cases.proofs.reading.put_reconnect.Statement.{statement}
 use Rattle.body_cases.proofs.reading.put_reconnect.Tie as tie
 
-returns : tie.Need-returns
-returns c = rw (c .before .before .put-field5 .ensures, c .before .before .before .before .before .before .before .put-field4 .ensures, c .before .before .before .before .before .before .before .before .before .before .before .before .put-field3 .ensures, c .before .before .before .before .before .before .before .before .before .before .before .before .before .before .before .before .before .put-field2 .ensures, c .before .before .before .before .before .before .before .before .before .before .before .before .before .before .before .before .before .before .before .before .before .before .put-field .ensures)
-
 pub put-reconnect-spec : {M : Type 1} → statement M
 put-reconnect-spec =
     tie.close
@@ -20,4 +17,4 @@ put-reconnect-spec =
     (λ c. search needs)
     (λ c κs. search needs)
     (λ c. search needs)
-    returns)
+    (λ c. rw (c .before .before .put-field5 .ensures, c .before .before .before .before .before .before .before .put-field4 .ensures, c .before .before .before .before .before .before .before .before .before .before .before .before .put-field3 .ensures, c .before .before .before .before .before .before .before .before .before .before .before .before .before .before .before .before .before .put-field2 .ensures, c .before .before .before .before .before .before .before .before .before .before .before .before .before .before .before .before .before .before .before .before .before .before .put-field .ensures)))

@@ -2,8 +2,6 @@ use borrow.Author.Needs.{needs}
 use Rattle.body_cases.proofs.reading.put_span.Statement.{statement}
 use Rattle.body_cases.proofs.reading.put_span.Tie as tie
 
-returns : tie.Need-returns
-returns c = cc
-
 pub put-span-spec : {M : Type 1} → statement M
-put-span-spec = tie.close (tie.spec (λ c κs. search needs) (λ c κs. search needs) (λ c. search needs) returns)
+put-span-spec =
+    tie.close (tie.spec (λ c κs. search needs) (λ c κs. search needs) (λ c. search needs) (λ c. cc))

@@ -2,8 +2,6 @@ use borrow.Author.Needs.{needs}
 use Rattle.body_cases.proofs.reading.read_size.Statement.{statement}
 use Rattle.body_cases.proofs.reading.read_size.Tie as tie
 
-returns : tie.Need-returns
-returns c = cc
-
 pub read-size-spec : {M : Type 1} → statement M
-read-size-spec = tie.close (tie.spec (λ c κs. search needs) (λ c. search needs) (λ c. search needs) (λ c κs. search needs) returns)
+read-size-spec =
+    tie.close (tie.spec (λ c κs. search needs) (λ c. search needs) (λ c. search needs) (λ c κs. search needs) (λ c. cc))

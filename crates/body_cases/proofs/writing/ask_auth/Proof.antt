@@ -30,9 +30,6 @@ returns-6 : tie.Need-returns-6
 unfolding layoutIn
 returns-6 c = λ h. asks-for (c .before .before .before .before .before .before .before .before .args .tag) 6 (c .before .if6 .taken) refl (c .ask-auth-done .ensures)
 
-returns-7 : tie.Need-returns-7
-returns-7 c = λ h. asks-none (c .before .before .before .before .before .before .before .before .args .tag) (not-listed (c .before .before .before .before .before .before .before .before .args .tag) (c .before .before .before .before .before .before .if1 .left) (c .before .before .before .before .before .if2 .left) (c .before .before .before .before .if3 .left) (c .before .before .before .if4 .left) (c .before .before .if5 .left) (c .before .if6 .left) (λ e. omega arith) (λ e. omega arith) (λ e. omega arith) (λ e. omega arith) (λ e. omega arith) (λ e. omega arith) (λ e. omega arith) (λ e. omega arith) (λ e. omega arith)) (c .ask-none .ensures .0) (c .ask-none .ensures .1) (c .ask-none .ensures .2)
-
 pub ask-auth-spec : {M : Type 1} → statement M
 ask-auth-spec =
     tie.close
@@ -50,4 +47,4 @@ ask-auth-spec =
     (λ c κs. search needs)
     returns-6
     (λ c κs. search needs)
-    returns-7)
+    (λ c. λ h. asks-none (c .before .before .before .before .before .before .before .before .args .tag) (not-listed (c .before .before .before .before .before .before .before .before .args .tag) (c .before .before .before .before .before .before .if1 .left) (c .before .before .before .before .before .if2 .left) (c .before .before .before .before .if3 .left) (c .before .before .before .if4 .left) (c .before .before .if5 .left) (c .before .if6 .left) (λ e. omega arith) (λ e. omega arith) (λ e. omega arith) (λ e. omega arith) (λ e. omega arith) (λ e. omega arith) (λ e. omega arith) (λ e. omega arith) (λ e. omega arith)) (c .ask-none .ensures .0) (c .ask-none .ensures .1) (c .ask-none .ensures .2)))

@@ -42,9 +42,6 @@ returns-9 : tie.Need-returns-9
 unfolding layoutIn
 returns-9 c = λ h. asks-for (c .before .before .before .before .before .before .before .before .before .before .before .args .tag) 20 (c .before .if9 .taken) refl (c .ask-number3 .ensures)
 
-returns-10 : tie.Need-returns-10
-returns-10 c = λ h. asks-none (c .before .before .before .before .before .before .before .before .before .before .before .args .tag) (not-listed (c .before .before .before .before .before .before .before .before .before .before .before .args .tag) (λ e. omega arith) (λ e. omega arith) (λ e. omega arith) (λ e. omega arith) (λ e. omega arith) (λ e. omega arith) (c .before .before .before .before .before .before .before .before .before .if1 .left) (c .before .before .before .before .before .before .before .before .if2 .left) (c .before .before .before .before .before .before .before .if3 .left) (c .before .before .before .before .before .before .if4 .left) (c .before .before .before .before .before .if5 .left) (c .before .before .before .before .if6 .left) (c .before .before .before .if7 .left) (c .before .before .if8 .left) (c .before .if9 .left)) (c .ask-none .ensures .0) (c .ask-none .ensures .1) (c .ask-none .ensures .2)
-
 pub ask-session-spec : {M : Type 1} → statement M
 ask-session-spec =
     tie.close
@@ -68,4 +65,4 @@ ask-session-spec =
     (λ c κs. search needs)
     returns-9
     (λ c κs. search needs)
-    returns-10)
+    (λ c. λ h. asks-none (c .before .before .before .before .before .before .before .before .before .before .before .args .tag) (not-listed (c .before .before .before .before .before .before .before .before .before .before .before .args .tag) (λ e. omega arith) (λ e. omega arith) (λ e. omega arith) (λ e. omega arith) (λ e. omega arith) (λ e. omega arith) (c .before .before .before .before .before .before .before .before .before .if1 .left) (c .before .before .before .before .before .before .before .before .if2 .left) (c .before .before .before .before .before .before .before .if3 .left) (c .before .before .before .before .before .before .if4 .left) (c .before .before .before .before .before .if5 .left) (c .before .before .before .before .if6 .left) (c .before .before .before .if7 .left) (c .before .before .if8 .left) (c .before .if9 .left)) (c .ask-none .ensures .0) (c .ask-none .ensures .1) (c .ask-none .ensures .2)))

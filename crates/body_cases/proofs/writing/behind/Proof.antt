@@ -3,8 +3,10 @@ use borrow.Author.Needs.{needs}
 use Rattle.body_cases.proofs.writing.behind.Statement.{statement}
 use Rattle.body_cases.proofs.writing.behind.Tie as tie
 
-returns : tie.Need-returns
-returns c = end-behind (c .before .before .args .s .now) (c .before .before .args .at) (c .min .result) (c .before .before .args .k) (c .min .ensures)
-
 pub behind-spec : {M : Type 1} → statement M
-behind-spec = tie.close (tie.spec (λ c κs. search needs) (λ c. search needs) returns)
+behind-spec =
+    tie.close
+    (tie.spec
+    (λ c κs. search needs)
+    (λ c. search needs)
+    (λ c. end-behind (c .before .before .args .s .now) (c .before .before .args .at) (c .min .result) (c .before .before .args .k) (c .min .ensures)))

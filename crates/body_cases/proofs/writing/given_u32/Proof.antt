@@ -3,8 +3,10 @@ use borrow.Author.Needs.{needs}
 use Rattle.body_cases.proofs.writing.given_u32.Statement.{statement}
 use Rattle.body_cases.proofs.writing.given_u32.Tie as tie
 
-returns : tie.Need-returns
-returns c = number-given 4 _ (c .before .u32-at .ensures) (c .past .ensures)
-
 pub given-u32-spec : {M : Type 1} → statement M
-given-u32-spec = tie.close (tie.spec (λ c κs. search needs) (λ c κs. search needs) returns)
+given-u32-spec =
+    tie.close
+    (tie.spec
+    (λ c κs. search needs)
+    (λ c κs. search needs)
+    (λ c. number-given 4 _ (c .before .u32-at .ensures) (c .past .ensures)))

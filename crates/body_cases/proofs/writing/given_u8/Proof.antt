@@ -5,8 +5,10 @@ use borrow.Author.Needs.{needs}
 use Rattle.body_cases.proofs.writing.given_u8.Statement.{statement}
 use Rattle.body_cases.proofs.writing.given_u8.Tie as tie
 
-returns : tie.Need-returns
-returns c = number-given 1 _ (c .before .byte-at .ensures ∙ byte-there _ _) (c .past .ensures)
-
 pub given-u8-spec : {M : Type 1} → statement M
-given-u8-spec = tie.close (tie.spec (λ c κs. search needs) (λ c κs. search needs) returns)
+given-u8-spec =
+    tie.close
+    (tie.spec
+    (λ c κs. search needs)
+    (λ c κs. search needs)
+    (λ c. number-given 1 _ (c .before .byte-at .ensures ∙ byte-there _ _) (c .past .ensures)))

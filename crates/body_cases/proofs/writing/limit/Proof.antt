@@ -2,8 +2,5 @@ use borrow.Author.Needs.{needs}
 use Rattle.body_cases.proofs.writing.limit.Statement.{statement}
 use Rattle.body_cases.proofs.writing.limit.Tie as tie
 
-returns : tie.Need-returns
-returns c = cc
-
 pub limit-spec : {M : Type 1} → statement M
-limit-spec = tie.close (tie.spec (λ c κs. search needs) returns)
+limit-spec = tie.close (tie.spec (λ c κs. search needs) (λ c. cc))

@@ -6,12 +6,12 @@ use borrow.Author.Needs.{needs}
 use Rattle.body_cases.proofs.writing.past.Statement.{statement}
 use Rattle.body_cases.proofs.writing.past.Tie as tie
 
-returns : tie.Need-returns
-returns c = took-read (ap (inSpan (fixed (c .before .before .before .before .before .args .w)) (c .before .before .before .before .before .args .s .now)) (sym (c .before .next .given .1)) ∙ c .before .before .before .read-bytes .ensures) .next
-
-returns-2 : tie.Need-returns-2
-returns-2 c = took-failed {f = number 0 0} {p = nowhere} (ap (inSpan (fixed (c .before .before .before .before .before .args .w)) (c .before .before .before .before .before .args .s .now)) (sym (c .before .next2 .given .1)) ∙ c .before .before .before .read-bytes .ensures) .next
-
 pub past-spec : {M : Type 1} → statement M
 past-spec =
-    tie.close (tie.spec (λ c κs. search needs) (λ c. search needs) (λ c. search needs) returns returns-2)
+    tie.close
+    (tie.spec
+    (λ c κs. search needs)
+    (λ c. search needs)
+    (λ c. search needs)
+    (λ c. took-read (ap (inSpan (fixed (c .before .before .before .before .before .args .w)) (c .before .before .before .before .before .args .s .now)) (sym (c .before .next .given .1)) ∙ c .before .before .before .read-bytes .ensures) .next)
+    (λ c. took-failed {f = number 0 0} {p = nowhere} (ap (inSpan (fixed (c .before .before .before .before .before .args .w)) (c .before .before .before .before .before .args .s .now)) (sym (c .before .next2 .given .1)) ∙ c .before .before .before .read-bytes .ensures) .next))

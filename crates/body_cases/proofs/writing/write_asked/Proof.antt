@@ -19,9 +19,6 @@ slice-aggregate-write-2 : tie.Need-slice-aggregate-write-2
 slice-aggregate-write-2 c = let w : length (c .before .before .before .before .read-words2 .result) ≡ 64 = ap length (c .before .before .before .before .read-words2 .ensures) ∙ length-words 64 (drop (c .before .before .before .before .before .before .before .before .before .before .args .a .second .at) (c .before .before .before .before .before .before .before .before .before .before .args .s .now)) in
     sym (length-take-le (c .before .before .before .before .before .before .before .before .before .before .args .a .second .count) (c .before .before .before .before .read-words2 .result) (omega (arith, c .before .before .before .before .before .before .before .before .before .before .pre)))
 
-returns : tie.Need-returns
-returns c = c .before .before .write .ensures .outcome ∙ ap (λ (fs : List Field). writeBody (c .before .before .before .before .before .before .before .before .before .before .before .before .before .args .tag) fs (c .before .before .before .before .before .before .before .before .before .before .before .before .before .args .out .now)) (fields-same (c .before .before .before .before .before .before .before .before .before .before .before .before .before .args .s .now) (c .before .before .before .before .before .before .before .before .before .before .before .before .before .args .a) (c .before .before .before .before .before .before .before .before .read-words .result) (c .before .before .before .before .before .before .before .read-words2 .result) (c .before .before .before .before .before .before .part .result .now) (c .before .before .before .before .before .before .before .before .before .before .before .before .before .pre .0) (c .before .before .before .before .before .before .before .before .before .before .before .before .before .pre .1) (c .before .before .before .before .before .before .before .before .read-words .ensures) (c .before .before .before .before .before .before .before .read-words2 .ensures) (c .before .before .before .before .before .before .part .ensures))
-
 pub write-asked-spec : {M : Type 1} → statement M
 write-asked-spec =
     tie.close
@@ -37,4 +34,4 @@ write-asked-spec =
     slice-aggregate-write-2
     (λ c κs. search needs)
     (λ c. search needs)
-    returns)
+    (λ c. c .before .before .write .ensures .outcome ∙ ap (λ (fs : List Field). writeBody (c .before .before .before .before .before .before .before .before .before .before .before .before .before .args .tag) fs (c .before .before .before .before .before .before .before .before .before .before .before .before .before .args .out .now)) (fields-same (c .before .before .before .before .before .before .before .before .before .before .before .before .before .args .s .now) (c .before .before .before .before .before .before .before .before .before .before .before .before .before .args .a) (c .before .before .before .before .before .before .before .before .read-words .result) (c .before .before .before .before .before .before .before .read-words2 .result) (c .before .before .before .before .before .before .part .result .now) (c .before .before .before .before .before .before .before .before .before .before .before .before .before .pre .0) (c .before .before .before .before .before .before .before .before .before .before .before .before .before .pre .1) (c .before .before .before .before .before .before .before .before .read-words .ensures) (c .before .before .before .before .before .before .before .read-words2 .ensures) (c .before .before .before .before .before .before .part .ensures))))

@@ -2,8 +2,6 @@ use borrow.Author.Needs.{needs}
 use Rattle.cases.proofs.builds.banner_size.Statement.{statement}
 use Rattle.cases.proofs.builds.banner_size.Tie as tie
 
-returns : tie.Need-returns
-returns c = cc
-
 pub banner-size-spec : {M : Type 1} → statement M
-banner-size-spec = tie.close (tie.spec (λ c κs. search needs) (λ c. search needs) (λ c κs. search needs) returns)
+banner-size-spec =
+    tie.close (tie.spec (λ c κs. search needs) (λ c. search needs) (λ c κs. search needs) (λ c. cc))

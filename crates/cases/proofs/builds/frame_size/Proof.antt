@@ -2,9 +2,6 @@ use borrow.Author.Needs.{needs}
 use Rattle.cases.proofs.builds.frame_size.Statement.{statement}
 use Rattle.cases.proofs.builds.frame_size.Tie as tie
 
-returns : tie.Need-returns
-returns c = cc
-
 pub frame-size-spec : {M : Type 1} → statement M
 frame-size-spec =
     tie.close
@@ -20,4 +17,4 @@ frame-size-spec =
     (λ c κs. search needs)
     (λ c. search needs)
     (λ c κs. search needs)
-    returns)
+    (λ c. cc))

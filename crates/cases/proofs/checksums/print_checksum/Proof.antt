@@ -2,9 +2,6 @@ use borrow.Author.Needs.{needs}
 use Rattle.cases.proofs.checksums.print_checksum.Statement.{statement}
 use Rattle.cases.proofs.checksums.print_checksum.Tie as tie
 
-returns : tie.Need-returns
-returns c = cc
-
 pub print-checksum-spec : {M : Type 1} → statement M
 print-checksum-spec =
     tie.close
@@ -15,4 +12,4 @@ print-checksum-spec =
     (λ c κs. search needs)
     (λ c κs. search needs)
     (λ c. search needs)
-    returns)
+    (λ c. cc))

@@ -2,8 +2,14 @@ use borrow.Author.Needs.{needs}
 use Rattle.connection_cases.proofs.lines.print_banner.Statement.{statement}
 use Rattle.connection_cases.proofs.lines.print_banner.Tie as tie
 
-returns : tie.Need-returns
-returns c = cc
-
 pub print-banner-spec : {M : Type 1} → statement M
-print-banner-spec = tie.close (tie.spec (λ c κs. search needs) (λ c. search needs) (λ c κs. search needs) (λ c κs. search needs) (λ c κs. search needs) (λ c. search needs) returns)
+print-banner-spec =
+    tie.close
+    (tie.spec
+    (λ c κs. search needs)
+    (λ c. search needs)
+    (λ c κs. search needs)
+    (λ c κs. search needs)
+    (λ c κs. search needs)
+    (λ c. search needs)
+    (λ c. cc))

@@ -2,9 +2,6 @@ use borrow.Author.Needs.{needs}
 use Rattle.connection_cases.proofs.lines.print_call_refused.Statement.{statement}
 use Rattle.connection_cases.proofs.lines.print_call_refused.Tie as tie
 
-returns : tie.Need-returns
-returns c = cc
-
 pub print-call-refused-spec : {M : Type 1} → statement M
 print-call-refused-spec =
     tie.close
@@ -17,4 +14,4 @@ print-call-refused-spec =
     (λ c κs. search needs)
     (λ c κs. search needs)
     (λ c. search needs)
-    returns)
+    (λ c. cc))

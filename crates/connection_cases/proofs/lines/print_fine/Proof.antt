@@ -2,8 +2,13 @@ use borrow.Author.Needs.{needs}
 use Rattle.connection_cases.proofs.lines.print_fine.Statement.{statement}
 use Rattle.connection_cases.proofs.lines.print_fine.Tie as tie
 
-returns : tie.Need-returns
-returns c = cc
-
 pub print-fine-spec : {M : Type 1} → statement M
-print-fine-spec = tie.close (tie.spec (λ c κs. search needs) (λ c κs. search needs) (λ c. search needs) (λ c κs. search needs) (λ c. search needs) returns)
+print-fine-spec =
+    tie.close
+    (tie.spec
+    (λ c κs. search needs)
+    (λ c κs. search needs)
+    (λ c. search needs)
+    (λ c κs. search needs)
+    (λ c. search needs)
+    (λ c. cc))

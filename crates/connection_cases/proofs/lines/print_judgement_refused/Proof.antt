@@ -2,9 +2,6 @@ use borrow.Author.Needs.{needs}
 use Rattle.connection_cases.proofs.lines.print_judgement_refused.Statement.{statement}
 use Rattle.connection_cases.proofs.lines.print_judgement_refused.Tie as tie
 
-returns : tie.Need-returns
-returns c = cc
-
 pub print-judgement-refused-spec : {M : Type 1} → statement M
 print-judgement-refused-spec =
     tie.close
@@ -16,4 +13,4 @@ print-judgement-refused-spec =
     (λ c κs. search needs)
     (λ c κs. search needs)
     (λ c. search needs)
-    returns)
+    (λ c. cc))

@@ -2,9 +2,6 @@ use borrow.Author.Needs.{needs}
 use Rattle.connection_cases.proofs.lines.print_more.Statement.{statement}
 use Rattle.connection_cases.proofs.lines.print_more.Tie as tie
 
-returns : tie.Need-returns
-returns c = cc
-
 pub print-more-spec : {M : Type 1} → statement M
 print-more-spec =
     tie.close
@@ -14,4 +11,4 @@ print-more-spec =
     (λ c κs. search needs)
     (λ c κs. search needs)
     (λ c. search needs)
-    returns)
+    (λ c. cc))

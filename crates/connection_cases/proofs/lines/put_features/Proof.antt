@@ -2,8 +2,13 @@ use borrow.Author.Needs.{needs}
 use Rattle.connection_cases.proofs.lines.put_features.Statement.{statement}
 use Rattle.connection_cases.proofs.lines.put_features.Tie as tie
 
-returns : tie.Need-returns
-returns c = cc
-
 pub put-features-spec : {M : Type 1} → statement M
-put-features-spec = tie.close (tie.spec (λ c. search needs) (λ c κs. search needs) (λ c. search needs) (λ c κs. search needs) (λ c. search needs) returns)
+put-features-spec =
+    tie.close
+    (tie.spec
+    (λ c. search needs)
+    (λ c κs. search needs)
+    (λ c. search needs)
+    (λ c κs. search needs)
+    (λ c. search needs)
+    (λ c. cc))

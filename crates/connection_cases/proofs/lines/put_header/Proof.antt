@@ -2,8 +2,12 @@ use borrow.Author.Needs.{needs}
 use Rattle.connection_cases.proofs.lines.put_header.Statement.{statement}
 use Rattle.connection_cases.proofs.lines.put_header.Tie as tie
 
-returns : tie.Need-returns
-returns c = cc
-
 pub put-header-spec : {M : Type 1} → statement M
-put-header-spec = tie.close (tie.spec (λ c κs. search needs) (λ c κs. search needs) (λ c κs. search needs) (λ c. search needs) returns)
+put-header-spec =
+    tie.close
+    (tie.spec
+    (λ c κs. search needs)
+    (λ c κs. search needs)
+    (λ c κs. search needs)
+    (λ c. search needs)
+    (λ c. cc))

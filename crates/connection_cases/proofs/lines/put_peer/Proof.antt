@@ -2,9 +2,6 @@ use borrow.Author.Needs.{needs}
 use Rattle.connection_cases.proofs.lines.put_peer.Statement.{statement}
 use Rattle.connection_cases.proofs.lines.put_peer.Tie as tie
 
-returns : tie.Need-returns
-returns c = cc
-
 pub put-peer-spec : {M : Type 1} → statement M
 put-peer-spec =
     tie.close
@@ -14,4 +11,4 @@ put-peer-spec =
     (λ c κs. search needs)
     (λ c κs. search needs)
     (λ c. search needs)
-    returns)
+    (λ c. cc))

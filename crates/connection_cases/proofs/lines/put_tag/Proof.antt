@@ -2,9 +2,6 @@ use borrow.Author.Needs.{needs}
 use Rattle.connection_cases.proofs.lines.put_tag.Statement.{statement}
 use Rattle.connection_cases.proofs.lines.put_tag.Tie as tie
 
-returns : tie.Need-returns
-returns c = cc
-
 pub put-tag-spec : {M : Type 1} → statement M
 put-tag-spec =
     tie.close
@@ -16,4 +13,4 @@ put-tag-spec =
     (λ c. search needs)
     (λ c κs. search needs)
     (λ c. search needs)
-    returns)
+    (λ c. cc))

@@ -3,8 +3,11 @@ use borrow.Author.Needs.{needs}
 use Rattle.connection_cases.proofs.places.call_good.Statement.{statement}
 use Rattle.connection_cases.proofs.places.call_good.Tie as tie
 
-returns : tie.Need-returns
-returns c = c .both .ensures ∙ rw (c .before .before .either .ensures, c .before .before .before .is-try .ensures)
-
 pub call-good-spec : {M : Type 1} → statement M
-call-good-spec = tie.close (tie.spec (λ c κs. search needs) (λ c κs. search needs) (λ c κs. search needs) returns)
+call-good-spec =
+    tie.close
+    (tie.spec
+    (λ c κs. search needs)
+    (λ c κs. search needs)
+    (λ c κs. search needs)
+    (λ c. c .both .ensures ∙ rw (c .before .before .either .ensures, c .before .before .before .is-try .ensures)))

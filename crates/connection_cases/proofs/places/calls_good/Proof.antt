@@ -14,31 +14,10 @@ Inv-loop l s n from width place₀ left₀ place left = (place + 8 * left ≤ 60
 abbrev μ-loop : tie.MeasureT-loop
 μ-loop l s n from width place₀ left₀ place left = left
 
-call-width-requires : tie.Need-call-width-requires Inv-loop μ-loop
-call-width-requires c κs = search needs
-
-loop-holds : tie.Need-loop-holds Inv-loop μ-loop
-loop-holds c = (omega (arith, c .before .before .pre), omega (arith, c .call-width .ensures .1), c .call-width .ensures .0, refl)
-
-call-at-requires : tie.Need-call-at-requires Inv-loop μ-loop
-call-at-requires c κs = omega arith
-
-call-good-requires : tie.Need-call-good-requires Inv-loop μ-loop
-call-good-requires c κs = search needs
-
 returns : tie.Need-returns Inv-loop μ-loop
 returns c =
     let l = c .before .before .before .before .loop in
     sym (good-stop (c .before .before .before .before .before .before .before .args .l) (c .before .before .before .before .before .before .before .args .s .now) (l .left) (l .place) (omega arith) (sym (ap (callGood (c .before .before .before .before .before .before .before .args .l)) (c .before .before .call-at .ensures)) ∙ sym (c .before .call-good .ensures) ∙ not-true _ (c .if1 .taken))) ∙ l .inv .3
-
-add-place : tie.Need-add-place Inv-loop μ-loop
-add-place c = omega arith
-
-sub-left : tie.Need-sub-left Inv-loop μ-loop
-sub-left c = omega arith
-
-loop-less : tie.Need-loop-less Inv-loop μ-loop
-loop-less c = omega arith
 
 loop-again : tie.Need-loop-again Inv-loop μ-loop
 loop-again c =
@@ -57,13 +36,13 @@ calls-good-spec =
     (tie.spec
     Inv-loop
     μ-loop
-    call-width-requires
-    loop-holds
-    call-at-requires
-    call-good-requires
+    (λ c κs. search needs)
+    (λ c. (omega (arith, c .before .before .pre), omega (arith, c .call-width .ensures .1), c .call-width .ensures .0, refl))
+    (λ c κs. omega arith)
+    (λ c κs. search needs)
     returns
-    add-place
-    sub-left
-    loop-less
+    (λ c. omega arith)
+    (λ c. omega arith)
+    (λ c. omega arith)
     loop-again
     returns-2)

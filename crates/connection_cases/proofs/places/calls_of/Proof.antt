@@ -3,8 +3,11 @@ use borrow.Author.Needs.{needs}
 use Rattle.connection_cases.proofs.places.calls_of.Statement.{statement}
 use Rattle.connection_cases.proofs.places.calls_of.Tie as tie
 
-returns : tie.Need-returns
-returns c = (rw (c .before .count-at .ensures .0) at (c .u16-at .ensures), omega arith)
-
 pub calls-of-spec : {M : Type 1} → statement M
-calls-of-spec = tie.close (tie.spec (λ c κs. search needs) (λ c κs. search needs) (λ c. search needs) returns)
+calls-of-spec =
+    tie.close
+    (tie.spec
+    (λ c κs. search needs)
+    (λ c κs. search needs)
+    (λ c. search needs)
+    (λ c. (rw (c .before .count-at .ensures .0) at (c .u16-at .ensures), omega arith)))

@@ -2,11 +2,10 @@ use borrow.Author.Needs.{needs}
 use Rattle.connection_cases.proofs.places.layout_of.Statement.{statement}
 use Rattle.connection_cases.proofs.places.layout_of.Tie as tie
 
-returns : tie.Need-returns
-returns c = rw (c .before .if1 .taken, c .byte-at .ensures)
-
-returns-2 : tie.Need-returns-2
-returns-2 c = rw (c .if1 .left)
-
 pub layout-of-spec : {M : Type 1} → statement M
-layout-of-spec = tie.close (tie.spec (λ c κs. search needs) returns returns-2)
+layout-of-spec =
+    tie.close
+    (tie.spec
+    (λ c κs. search needs)
+    (λ c. rw (c .before .if1 .taken, c .byte-at .ensures))
+    (λ c. rw (c .if1 .left)))

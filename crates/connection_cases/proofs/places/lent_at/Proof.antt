@@ -2,8 +2,12 @@ use borrow.Author.Needs.{needs}
 use Rattle.connection_cases.proofs.places.lent_at.Statement.{statement}
 use Rattle.connection_cases.proofs.places.lent_at.Tie as tie
 
-returns : tie.Need-returns
-returns c = rw (c .before .if1 .taken) (c .u32-at .ensures)
-
 pub lent-at-spec : {M : Type 1} → statement M
-lent-at-spec = tie.close (tie.spec (λ c. search needs) (λ c κs. search needs) (λ c. search needs) returns (λ c. search needs))
+lent-at-spec =
+    tie.close
+    (tie.spec
+    (λ c. search needs)
+    (λ c κs. search needs)
+    (λ c. search needs)
+    (λ c. rw (c .before .if1 .taken) (c .u32-at .ensures))
+    (λ c. search needs))

@@ -3,12 +3,6 @@ use borrow.Author.Needs.{needs}
 use Rattle.connection_cases.proofs.places.stream_at.Statement.{statement}
 use Rattle.connection_cases.proofs.places.stream_at.Tie as tie
 
-returns : tie.Need-returns
-returns c = (rw (c .if1 .taken, c .before .calls-at .ensures .0, c .before .before .calls-of .ensures .0), omega (arith, c .before .calls-at .ensures .1, c .before .before .calls-of .ensures .1))
-
-returns-2 : tie.Need-returns-2
-returns-2 c = (rw (c .if1 .left, c .before .calls-at .ensures .0, c .before .before .calls-of .ensures .0), omega (arith, c .before .calls-at .ensures .1, c .before .before .calls-of .ensures .1))
-
 pub stream-at-spec : {M : Type 1} → statement M
 stream-at-spec =
     tie.close
@@ -17,7 +11,7 @@ stream-at-spec =
     (λ c κs. search needs)
     (λ c. search needs)
     (λ c. search needs)
-    returns
+    (λ c. (rw (c .if1 .taken, c .before .calls-at .ensures .0, c .before .before .calls-of .ensures .0), omega (arith, c .before .calls-at .ensures .1, c .before .before .calls-of .ensures .1)))
     (λ c. search needs)
     (λ c. search needs)
-    returns-2)
+    (λ c. (rw (c .if1 .left, c .before .calls-at .ensures .0, c .before .before .calls-of .ensures .0), omega (arith, c .before .calls-at .ensures .1, c .before .before .calls-of .ensures .1))))

@@ -2,10 +2,6 @@ use borrow.Author.Needs.{needs}
 use Rattle.link.proofs.lines.put_banner.Statement.{statement}
 use Rattle.link.proofs.lines.put_banner.Tie as tie
 
--- src/lines.rt:25:1
-returns : tie.Need-returns
-returns c = cc
-
 pub put-banner-spec : {M : Type 1} → statement M
 put-banner-spec =
     tie.close
@@ -19,4 +15,4 @@ put-banner-spec =
     (λ c κs. search needs)
     (λ c κs. search needs)
     (λ c. search needs)
-    returns)
+    (λ c. cc))

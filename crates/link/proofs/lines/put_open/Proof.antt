@@ -4,14 +4,6 @@ use borrow.Author.Needs.{needs}
 use Rattle.link.proofs.lines.put_open.Statement.{statement}
 use Rattle.link.proofs.lines.put_open.Tie as tie
 
--- src/lines.rt:64:9
-returns : tie.Need-returns
-returns c = rw (end-ok (c .before .before .before .before .before .before .before .before .before .before .before .args .taken) (c .before .before .before .before .before .before .before .before .before .before .before .args .entry-end) (c .before .before .before .before .before .before .before .before .before .if1 .taken)) cc
-
--- src/lines.rt:59:1
-returns-2 : tie.Need-returns-2
-returns-2 c = rw (end-cut (c .before .before .before .before .before .before .before .before .before .before .before .args .taken) (c .before .before .before .before .before .before .before .before .before .before .before .args .entry-end) (omega arith)) cc
-
 pub put-open-spec : {M : Type 1} → statement M
 put-open-spec =
     tie.close
@@ -20,10 +12,10 @@ put-open-spec =
     (λ c κs. search needs)
     (λ c κs. search needs)
     (λ c. search needs)
-    returns
+    (λ c. rw (end-ok (c .before .before .before .before .before .before .before .before .before .before .before .args .taken) (c .before .before .before .before .before .before .before .before .before .before .before .args .entry-end) (c .before .before .before .before .before .before .before .before .before .if1 .taken)) cc)
     (λ c. search needs)
     (λ c. search needs)
     (λ c κs. search needs)
     (λ c κs. search needs)
     (λ c. search needs)
-    returns-2)
+    (λ c. rw (end-cut (c .before .before .before .before .before .before .before .before .before .before .before .args .taken) (c .before .before .before .before .before .before .before .before .before .before .before .args .entry-end) (omega arith)) cc))

@@ -2,10 +2,6 @@ use borrow.Author.Needs.{needs}
 use Rattle.link.proofs.lines.put_refused.Statement.{statement}
 use Rattle.link.proofs.lines.put_refused.Tie as tie
 
--- src/lines.rt:45:1
-returns : tie.Need-returns
-returns c = cc
-
 pub put-refused-spec : {M : Type 1} → statement M
 put-refused-spec =
     tie.close
@@ -16,4 +12,4 @@ put-refused-spec =
     (λ c κs. search needs)
     (λ c κs. search needs)
     (λ c. search needs)
-    returns)
+    (λ c. cc))

@@ -5,33 +5,17 @@ use borrow.Author.Needs.{needs}
 use Rattle.link.proofs.steps.advance.Statement.{statement}
 use Rattle.link.proofs.steps.advance.Tie as tie
 
--- src/steps.rt:73:18
-add-next : tie.Need-add-next
-add-next c = omega (arith, c .before .before .before .before .before .before .before .before .before .pre .taken, moves (c .before .before .before .before .before .before .before .before .before .args .w .receiver) (c .before .before .before .before .before .before .before .before .before .args .store .now) (c .before .before .before .before .before .before .before .before .before .args .piece .now) (c .before .before .before .before .receive .result) _ (c .before .before .before .before .receive .ensures) .within)
-
--- src/steps.rt:75:25
-enum-told : tie.Need-enum-told
-enum-told c = search needs
-
--- src/steps.rt:64:1
-returns : tie.Need-returns
-returns c = advance-more (c .before .before .before .before .before .before .before .before .before .before .before .args .w) _ _ _ (c .before .before .before .before .before .before .receive .result) _ (c .before .before .before .before .before .before .receive .ensures) (c .before .before .before .before .before .before .before .before .before .before .before .pre .live) (c .enum-told .given .1)
-
--- src/steps.rt:64:1
-returns-2 : tie.Need-returns-2
-returns-2 c = advance-event (c .before .before .before .before .before .before .before .before .before .before .before .before .before .before .before .before .args .w) _ _ _ (c .before .before .before .before .before .before .before .before .before .before .before .receive .result) _ (c .before .before .before .before .before .before .before .before .before .before .before .receive .ensures) _ _ _ (c .before .before .before .before .before .report .given .1) (c .before .before .note .ensures)
-
 pub advance-spec : {M : Type 1} → statement M
 advance-spec =
     tie.close
     (tie.spec
     (λ c κs. search needs)
-    add-next
-    enum-told
+    (λ c. omega (arith, c .before .before .before .before .before .before .before .before .before .pre .taken, moves (c .before .before .before .before .before .before .before .before .before .args .w .receiver) (c .before .before .before .before .before .before .before .before .before .args .store .now) (c .before .before .before .before .before .before .before .before .before .args .piece .now) (c .before .before .before .before .receive .result) _ (c .before .before .before .before .receive .ensures) .within))
+    (λ c. search needs)
     (λ c. search needs)
     (λ c κs. search needs)
     (λ c. search needs)
-    returns
+    (λ c. advance-more (c .before .before .before .before .before .before .before .before .before .before .before .args .w) _ _ _ (c .before .before .before .before .before .before .receive .result) _ (c .before .before .before .before .before .before .receive .ensures) (c .before .before .before .before .before .before .before .before .before .before .before .pre .live) (c .enum-told .given .1))
     (λ c. search needs)
     (λ c. search needs)
-    returns-2)
+    (λ c. advance-event (c .before .before .before .before .before .before .before .before .before .before .before .before .before .before .before .before .args .w) _ _ _ (c .before .before .before .before .before .before .before .before .before .before .before .receive .result) _ (c .before .before .before .before .before .before .before .before .before .before .before .receive .ensures) _ _ _ (c .before .before .before .before .before .report .given .1) (c .before .before .note .ensures)))

@@ -3,7 +3,6 @@ use borrow.Author.Needs.{needs}
 use Rattle.link.proofs.steps.walk_bytes.Statement.{statement}
 use Rattle.link.proofs.steps.walk_bytes.Tie as tie
 
--- src/steps.rt:254:5
 segment-step-requires : tie.Need-segment-step-requires
 segment-step-requires c κs = (omega arith, c .before .before .at-most-four .ensures, record { live = c .before .before .before .before .before .before .pre .live; taken = omega arith; frames = omega arith })
 

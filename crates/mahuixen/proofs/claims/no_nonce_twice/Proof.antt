@@ -3,8 +3,6 @@ use borrow.Author.Needs.{needs}
 use Rattle.mahuixen.proofs.claims.no_nonce_twice.Statement.{statement}
 use Rattle.mahuixen.proofs.claims.no_nonce_twice.Tie as tie
 
-returns : tie.Need-returns
-returns c = nonces-in-c (c .no-nonce-twice .ensures)
-
 pub no-nonce-twice-spec : {M : Type 1} → statement M
-no-nonce-twice-spec = tie.close (tie.spec (λ c κs. search needs) returns)
+no-nonce-twice-spec =
+    tie.close (tie.spec (λ c κs. search needs) (λ c. nonces-in-c (c .no-nonce-twice .ensures)))

@@ -5,21 +5,6 @@ use borrow.Author.Needs.{needs}
 use Rattle.receiver.proofs.pieces.fill.Statement.{statement}
 use Rattle.receiver.proofs.pieces.fill.Tie as tie
 
-enum-told : tie.Need-enum-told
-enum-told c = search needs
-
-sub-put : tie.Need-sub-put
-sub-put c = omega (arith, c .before .before .before .before .before .pre .0 (c .enum-told .given .1))
-
-part-put-start : tie.Need-part-put-start
-part-put-start c = omega (arith, c .before .before .before .before .before .pre .0 (c .enum-told .given .1))
-
-sub-put-2 : tie.Need-sub-put-2
-sub-put-2 c = omega (arith, c .before .before .before .before .before .pre .1 (c .enum-told2 .given .1))
-
-part-put-start-2 : tie.Need-part-put-start-2
-part-put-start-2 c = omega (arith, c .before .before .before .before .before .pre .1 (c .enum-told2 .given .1))
-
 returns : tie.Need-returns
 returns c =
     let g = c .before .before .before .before .before .before .before .before .before .args in
@@ -34,14 +19,14 @@ pub fill-spec : {M : Type 1} → statement M
 fill-spec =
     tie.close
     (tie.spec
-    enum-told
-    sub-put
-    part-put-start
+    (λ c. search needs)
+    (λ c. omega (arith, c .before .before .before .before .before .pre .0 (c .enum-told .given .1)))
+    (λ c. omega (arith, c .before .before .before .before .before .pre .0 (c .enum-told .given .1)))
     (λ c. search needs)
     (λ c κs. search needs)
     (λ c. search needs)
-    sub-put-2
-    part-put-start-2
+    (λ c. omega (arith, c .before .before .before .before .before .pre .1 (c .enum-told2 .given .1)))
+    (λ c. omega (arith, c .before .before .before .before .before .pre .1 (c .enum-told2 .given .1)))
     (λ c. search needs)
     (λ c κs. search needs)
     (λ c. search needs)

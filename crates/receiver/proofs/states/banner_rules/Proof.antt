@@ -2,9 +2,6 @@ use borrow.Author.Needs.{needs}
 use Rattle.receiver.proofs.states.banner_rules.Statement.{statement}
 use Rattle.receiver.proofs.states.banner_rules.Tie as tie
 
-returns : tie.Need-returns
-returns c = cc
-
 pub banner-rules-spec : {M : Type 1} → statement M
 banner-rules-spec =
     tie.close
@@ -16,4 +13,4 @@ banner-rules-spec =
     (λ c κs. search needs)
     (λ c κs. search needs)
     (λ c κs. search needs)
-    returns)
+    (λ c. cc))

@@ -2,9 +2,6 @@ use borrow.Author.Needs.{needs}
 use Rattle.receiver.proofs.states.first_rules.Statement.{statement}
 use Rattle.receiver.proofs.states.first_rules.Tie as tie
 
-returns : tie.Need-returns
-returns c = cc
-
 pub first-rules-spec : {M : Type 1} → statement M
 first-rules-spec =
     tie.close
@@ -17,4 +14,4 @@ first-rules-spec =
     (λ c κs. search needs)
     (λ c κs. search needs)
     (λ c κs. search needs)
-    returns)
+    (λ c. cc))

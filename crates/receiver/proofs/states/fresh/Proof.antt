@@ -2,9 +2,10 @@ use borrow.Author.Needs.{needs}
 use Rattle.receiver.proofs.states.fresh.Statement.{statement}
 use Rattle.receiver.proofs.states.fresh.Tie as tie
 
--- src/states.rt:73:1
-returns : tie.Need-returns
-returns c = cc
-
 pub fresh-spec : {M : Type 1} → statement M
-fresh-spec = tie.close (tie.spec (λ c κs. search needs) (λ c κs. search needs) returns)
+fresh-spec =
+    tie.close
+    (tie.spec
+    (λ c κs. search needs)
+    (λ c κs. search needs)
+    (λ c. cc))

@@ -2,9 +2,10 @@ use borrow.Author.Needs.{needs}
 use Rattle.receiver.proofs.states.in_body.Statement.{statement}
 use Rattle.receiver.proofs.states.in_body.Tie as tie
 
--- src/states.rt:230:1
-returns : tie.Need-returns
-returns c = cc
-
 pub in-body-spec : {M : Type 1} → statement M
-in-body-spec = tie.close (tie.spec (λ c κs. search needs) (λ c κs. search needs) returns)
+in-body-spec =
+    tie.close
+    (tie.spec
+    (λ c κs. search needs)
+    (λ c κs. search needs)
+    (λ c. cc))

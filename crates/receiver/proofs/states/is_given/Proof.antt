@@ -2,10 +2,6 @@ use borrow.Author.Needs.{needs}
 use Rattle.receiver.proofs.states.is_given.Statement.{statement}
 use Rattle.receiver.proofs.states.is_given.Tie as tie
 
--- src/states.rt:314:1
-returns : tie.Need-returns
-returns c = cc
-
 pub is-given-spec : {M : Type 1} → statement M
 is-given-spec =
     tie.close
@@ -17,4 +13,4 @@ is-given-spec =
     (λ c κs. search needs)
     (λ c κs. search needs)
     (λ c κs. search needs)
-    returns)
+    (λ c. cc))

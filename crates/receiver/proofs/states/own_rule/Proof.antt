@@ -6,19 +6,13 @@ use borrow.Author.Needs.{needs}
 use Rattle.receiver.proofs.states.own_rule.Statement.{statement}
 use Rattle.receiver.proofs.states.own_rule.Tie as tie
 
-returns : tie.Need-returns
-returns c = (let t : (isRefused (c .before .before .before .before .args .stage) && eqb (c .before .before .before .before .args .v .refusal .number) 16) ≡ true = cc in rw t)
-
-returns-2 : tie.Need-returns-2
-returns-2 c = (let t : (isRefused (c .before .before .before .before .before .before .args .stage) && eqb (c .before .before .before .before .before .before .args .v .refusal .number) 16) ≡ false = cc in rw t cc)
-
 pub own-rule-spec : {M : Type 1} → statement M
 own-rule-spec =
     tie.close
     (tie.spec
     (λ c κs. search needs)
     (λ c κs. search needs)
-    returns
+    (λ c. (let t : (isRefused (c .before .before .before .before .args .stage) && eqb (c .before .before .before .before .args .v .refusal .number) 16) ≡ true = cc in rw t))
     (λ c κs. search needs)
     (λ c κs. search needs)
-    returns-2)
+    (λ c. (let t : (isRefused (c .before .before .before .before .before .before .args .stage) && eqb (c .before .before .before .before .before .before .args .v .refusal .number) 16) ≡ false = cc in rw t cc)))

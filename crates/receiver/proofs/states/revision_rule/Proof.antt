@@ -3,12 +3,6 @@ use borrow.Author.Needs.{needs}
 use Rattle.receiver.proofs.states.revision_rule.Statement.{statement}
 use Rattle.receiver.proofs.states.revision_rule.Tie as tie
 
-returns : tie.Need-returns
-returns c = rw (sym (c .before .before .before .before .before .before .live-from .ensures) ∙ c .before .before .before .before .before .if1 .taken) (cc)
-
-returns-2 : tie.Need-returns-2
-returns-2 c = rw (sym (c .before .before .live-from .ensures) ∙ c .before .if1 .left) (cc)
-
 pub revision-rule-spec : {M : Type 1} → statement M
 revision-rule-spec =
     tie.close
@@ -19,6 +13,6 @@ revision-rule-spec =
     (λ c κs. search needs)
     (λ c κs. search needs)
     (λ c κs. search needs)
-    returns
+    (λ c. rw (sym (c .before .before .before .before .before .before .live-from .ensures) ∙ c .before .before .before .before .before .if1 .taken) (cc))
     (λ c κs. search needs)
-    returns-2)
+    (λ c. rw (sym (c .before .before .live-from .ensures) ∙ c .before .if1 .left) (cc)))

@@ -2,9 +2,6 @@ use borrow.Author.Needs.{needs}
 use Rattle.receiver.proofs.states.rules_hold.Statement.{statement}
 use Rattle.receiver.proofs.states.rules_hold.Tie as tie
 
-returns : tie.Need-returns
-returns c = cc
-
 pub rules-hold-spec : {M : Type 1} → statement M
 rules-hold-spec =
     tie.close
@@ -16,4 +13,4 @@ rules-hold-spec =
     (λ c κs. search needs)
     (λ c κs. search needs)
     (λ c κs. search needs)
-    returns)
+    (λ c. cc))

@@ -3,9 +3,6 @@ use borrow.Author.Needs.{needs}
 use Rattle.receiver.proofs.transitions.drop_frame.Statement.{statement}
 use Rattle.receiver.proofs.transitions.drop_frame.Tie as tie
 
-returns : tie.Need-returns
-returns c = c .begin-preamble .ensures (c .before .before .before .before .zero-segments .last .0) ∙ rw (c .before .without-header .ensures, c .before .before .before .before .zero-segments .ensures)
-
 pub drop-frame-spec : {M : Type 1} → statement M
 drop-frame-spec =
     tie.close
@@ -14,4 +11,4 @@ drop-frame-spec =
     (λ c κs. search needs)
     (λ c κs. search needs)
     (λ c. search needs)
-    returns)
+    (λ c. c .begin-preamble .ensures (c .before .before .before .before .zero-segments .last .0) ∙ rw (c .before .without-header .ensures, c .before .before .before .before .zero-segments .ensures)))

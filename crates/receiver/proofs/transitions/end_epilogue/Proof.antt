@@ -10,9 +10,6 @@ use borrow.Author.Needs.{needs}
 use Rattle.receiver.proofs.transitions.end_epilogue.Statement.{statement}
 use Rattle.receiver.proofs.transitions.end_epilogue.Tie as tie
 
-enum-told : tie.Need-enum-told
-enum-told c = search needs
-
 returns : tie.Need-returns
 unfolding step.finish
 returns c =
@@ -47,7 +44,7 @@ end-epilogue-spec =
     (λ c κs. search needs)
     (λ c κs. search needs)
     (λ c κs. search needs)
-    enum-told
+    (λ c. search needs)
     (λ c κs. search needs)
     (λ c. search needs)
     (λ c κs. search needs)

@@ -12,9 +12,6 @@ use borrow.Author.Needs.{needs}
 use Rattle.receiver.proofs.transitions.end_first_sum.Statement.{statement}
 use Rattle.receiver.proofs.transitions.end_first_sum.Tie as tie
 
-behind-first-sum-requires : tie.Need-behind-first-sum-requires
-behind-first-sum-requires c κs = refl
-
 returns : tie.Need-returns
 unfolding step.finish
 returns c =
@@ -43,7 +40,7 @@ end-first-sum-spec =
     (λ c κs. search needs)
     (λ c κs. search needs)
     (λ c κs. search needs)
-    behind-first-sum-requires
+    (λ c κs. refl)
     (λ c. search needs)
     returns
     (λ c κs. search needs)

@@ -9,9 +9,6 @@ use borrow.Author.Needs.{needs}
 use Rattle.receiver.proofs.transitions.end_preamble.Statement.{statement}
 use Rattle.receiver.proofs.transitions.end_preamble.Tie as tie
 
-enum-told : tie.Need-enum-told
-enum-told c = search needs
-
 returns : tie.Need-returns
 unfolding finish judgePreamble
 returns c = λ s e.
@@ -30,7 +27,7 @@ end-preamble-spec =
     (tie.spec
     (λ c κs. search needs)
     (λ c κs. search needs)
-    enum-told
+    (λ c. search needs)
     (λ c κs. search needs)
     (λ c κs. search needs)
     (λ c. search needs)

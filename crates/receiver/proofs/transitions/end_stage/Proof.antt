@@ -6,9 +6,6 @@ use borrow.Author.Needs.{needs}
 use Rattle.receiver.proofs.transitions.end_stage.Statement.{statement}
 use Rattle.receiver.proofs.transitions.end_stage.Tie as tie
 
-enum-told : tie.Need-enum-told
-enum-told c = search needs
-
 end-first-sum-requires : tie.Need-end-first-sum-requires
 end-first-sum-requires c κs =
     let n = ap (λ (k : Stage). needed k (c .before .before .before .before .before .args .v)) (c .before .before .enum-told7 .given .1) in
@@ -93,7 +90,7 @@ pub end-stage-spec : {M : Type 1} → statement M
 end-stage-spec =
     tie.close
     (tie.spec
-    enum-told
+    (λ c. search needs)
     (λ c κs. search needs)
     (λ c. search needs)
     (λ c κs. search needs)

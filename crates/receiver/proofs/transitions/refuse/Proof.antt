@@ -3,8 +3,10 @@ use borrow.Author.Needs.{needs}
 use Rattle.receiver.proofs.transitions.refuse.Statement.{statement}
 use Rattle.receiver.proofs.transitions.refuse.Tie as tie
 
-returns : tie.Need-returns
-returns c = λ s. c .at-stage .ensures s ∙ rw (c .before .only-own .ensures)
-
 pub refuse-spec : {M : Type 1} → statement M
-refuse-spec = tie.close (tie.spec (λ c κs. search needs) (λ c κs. search needs) returns)
+refuse-spec =
+    tie.close
+    (tie.spec
+    (λ c κs. search needs)
+    (λ c κs. search needs)
+    (λ c. λ s. c .at-stage .ensures s ∙ rw (c .before .only-own .ensures)))

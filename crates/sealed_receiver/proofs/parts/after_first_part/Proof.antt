@@ -14,9 +14,6 @@ use borrow.Author.Needs.{needs}
 use Rattle.sealed_receiver.proofs.parts.after_first_part.Statement.{statement}
 use Rattle.sealed_receiver.proofs.parts.after_first_part.Tie as tie
 
-enum-told : tie.Need-enum-told
-enum-told c = search needs
-
 begin-rest-requires : tie.Need-begin-second-part-requires
 begin-rest-requires c κs =
     let text = c .before .before .before .before .before .before .before .before .before .before .before .before .before .before .args .text .now in
@@ -43,7 +40,7 @@ after-first-part-spec =
     tie.close
     (tie.spec
     (λ c κs. search needs)
-    enum-told
+    (λ c. search needs)
     (λ c κs. search needs)
     (λ c. search needs)
     (λ c κs. search needs)

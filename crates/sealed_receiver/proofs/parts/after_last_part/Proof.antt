@@ -10,12 +10,6 @@ use borrow.Author.Needs.{needs}
 use Rattle.sealed_receiver.proofs.parts.after_last_part.Statement.{statement}
 use Rattle.sealed_receiver.proofs.parts.after_last_part.Tie as tie
 
-sub-n : tie.Need-sub-n
-sub-n c = omega (arith, last-size (c .before .before .before .before .args .v .header) (c .before .before .before .before .pre .1), c .last-part-length .ensures .0)
-
-enum-told : tie.Need-enum-told
-enum-told c = search needs
-
 returns : tie.Need-returns
 returns c =
     let g = c .before .before .before .before .before .before .before .before .before .before .before .before .before .before .before .before .before .args in
@@ -52,10 +46,10 @@ after-last-part-spec =
     (tie.spec
     (λ c. search needs)
     (λ c κs. search needs)
-    sub-n
+    (λ c. omega (arith, last-size (c .before .before .before .before .args .v .header) (c .before .before .before .before .pre .1), c .last-part-length .ensures .0))
     (λ c κs. search needs)
     (λ c κs. search needs)
-    enum-told
+    (λ c. search needs)
     (λ c κs. search needs)
     (λ c κs. search needs)
     (λ c. search needs)

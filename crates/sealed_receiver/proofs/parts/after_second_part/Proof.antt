@@ -9,15 +9,6 @@ use borrow.Author.Needs.{needs}
 use Rattle.sealed_receiver.proofs.parts.after_second_part.Statement.{statement}
 use Rattle.sealed_receiver.proofs.parts.after_second_part.Tie as tie
 
-sub-padding : tie.Need-sub-padding
-sub-padding c = omega (arith, rest-beyond (c .before .before .args .v .header) (c .before .before .pre .2))
-
-sub-put-zeros : tie.Need-sub-put-zeros
-sub-put-zeros c = omega (arith, pads-fit (c .before .before .before .before .before .before .before .args .v .header) (c .before .before .before .before .before .before .before .pre .2) (c .before .before .before .before .padding .result) (c .before .before .before .before .padding .ensures .0), c .before .before .before .before .before .before .before .pre .0)
-
-part-put-zeros-start : tie.Need-part-put-zeros-start
-part-put-zeros-start c = omega (arith, pads-fit (c .before .before .before .before .before .before .before .args .v .header) (c .before .before .before .before .before .before .before .pre .2) (c .before .before .before .before .padding .result) (c .before .before .before .before .padding .ensures .0), c .before .before .before .before .before .before .before .pre .0)
-
 returns : tie.Need-returns
 returns c =
     let g = c .before .before .before .before .before .before .before .before .before .before .before .before .before .before .before .args in
@@ -39,13 +30,13 @@ after-second-part-spec =
     tie.close
     (tie.spec
     (λ c. search needs)
-    sub-padding
+    (λ c. omega (arith, rest-beyond (c .before .before .args .v .header) (c .before .before .pre .2)))
     (λ c κs. search needs)
     (λ c κs. search needs)
     (λ c κs. search needs)
     (λ c. search needs)
-    sub-put-zeros
-    part-put-zeros-start
+    (λ c. omega (arith, pads-fit (c .before .before .before .before .before .before .before .args .v .header) (c .before .before .before .before .before .before .before .pre .2) (c .before .before .before .before .padding .result) (c .before .before .before .before .padding .ensures .0), c .before .before .before .before .before .before .before .pre .0))
+    (λ c. omega (arith, pads-fit (c .before .before .before .before .before .before .before .args .v .header) (c .before .before .before .before .before .before .before .pre .2) (c .before .before .before .before .padding .result) (c .before .before .before .before .padding .ensures .0), c .before .before .before .before .before .before .before .pre .0))
     (λ c. search needs)
     (λ c κs. search needs)
     (λ c κs. search needs)

@@ -11,9 +11,6 @@ returns c =
     let g = c .before .before .before .before .before .before .before .args in
     c .before .before .end-whole .ensures ∙ whole-behind (g .v) (g .store .now) (fine-is (judgeHeader (g .v .header)) (c .before .before .before .before .before .before .before .pre .1)) (sym (c .before .before .before .before .before .no-last-part .ensures) ∙ c .before .before .before .before .if1 .taken)
 
-returns-2 : tie.Need-returns-2
-returns-2 c = rw (sym (c .before .before .before .no-last-part .ensures) ∙ c .before .before .if1 .left) (c .more .ensures (c .before .before .before .before .before .args .store .now) ∙ rw (c .before .state-at .ensures))
-
 pub begin-last-spec : {M : Type 1} → statement M
 begin-last-spec =
     tie.close
@@ -24,4 +21,4 @@ begin-last-spec =
     returns
     (λ c κs. search needs)
     (λ c κs. search needs)
-    returns-2)
+    (λ c. rw (sym (c .before .before .before .no-last-part .ensures) ∙ c .before .before .if1 .left) (c .more .ensures (c .before .before .before .before .before .args .store .now) ∙ rw (c .before .state-at .ensures))))

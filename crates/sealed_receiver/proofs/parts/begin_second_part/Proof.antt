@@ -3,12 +3,6 @@ use borrow.Author.Needs.{needs}
 use Rattle.sealed_receiver.proofs.parts.begin_second_part.Statement.{statement}
 use Rattle.sealed_receiver.proofs.parts.begin_second_part.Tie as tie
 
-returns : tie.Need-returns
-returns c = rw (sym (c .before .before .before .before .before .no-second-part .ensures) ∙ c .before .before .before .before .if1 .taken) (c .before .before .begin-last .ensures)
-
-returns-2 : tie.Need-returns-2
-returns-2 c = rw (sym (c .before .before .before .no-second-part .ensures) ∙ c .before .before .if1 .left) (c .more .ensures (c .before .before .before .before .before .args .store .now) ∙ rw (c .before .state-at .ensures))
-
 pub begin-second-part-spec : {M : Type 1} → statement M
 begin-second-part-spec =
     tie.close
@@ -16,7 +10,7 @@ begin-second-part-spec =
     (λ c κs. search needs)
     (λ c κs. search needs)
     (λ c. search needs)
-    returns
+    (λ c. rw (sym (c .before .before .before .before .before .no-second-part .ensures) ∙ c .before .before .before .before .if1 .taken) (c .before .before .begin-last .ensures))
     (λ c κs. search needs)
     (λ c κs. search needs)
-    returns-2)
+    (λ c. rw (sym (c .before .before .before .no-second-part .ensures) ∙ c .before .before .if1 .left) (c .more .ensures (c .before .before .before .before .before .args .store .now) ∙ rw (c .before .state-at .ensures))))

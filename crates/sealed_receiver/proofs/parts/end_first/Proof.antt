@@ -11,9 +11,6 @@ use borrow.Author.Needs.{needs}
 use Rattle.sealed_receiver.proofs.parts.end_first.Statement.{statement}
 use Rattle.sealed_receiver.proofs.parts.end_first.Tie as tie
 
-enum-told : tie.Need-enum-told
-enum-told c = search needs
-
 slice-aggregate-part : tie.Need-slice-aggregate-part
 slice-aggregate-part c =
     let ys = c .before .before .before .before .before .open-part .last .1 .0 in
@@ -51,7 +48,7 @@ end-first-spec =
     (λ c. search needs)
     (λ c. search needs)
     (λ c κs. search needs)
-    enum-told
+    (λ c. search needs)
     (λ c κs. search needs)
     slice-aggregate-part
     (λ c κs. search needs)

@@ -34,9 +34,6 @@ open-part-requires c κs =
     let d = length-drop place s in
     (omega (arith, c .before .last-part-length .ensures .0, c .before .before .before .before .before .before .pre .fits), omega (arith, c .before .last-part-length .ensures .1))
 
-enum-told : tie.Need-enum-told
-enum-told c = search needs
-
 behind-last-requires : tie.Need-after-last-part-requires
 behind-last-requires c κs =
     let v = c .before .before .before .before .before .before .before .before .before .before .before .before .before .args .v in
@@ -84,7 +81,7 @@ end-last-spec =
     (λ c. search needs)
     part-open-part-end
     open-part-requires
-    enum-told
+    (λ c. search needs)
     (λ c κs. search needs)
     behind-last-requires
     (λ c. search needs)

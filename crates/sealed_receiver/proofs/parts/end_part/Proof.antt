@@ -5,15 +5,6 @@ use borrow.Author.Needs.{needs}
 use Rattle.sealed_receiver.proofs.parts.end_part.Statement.{statement}
 use Rattle.sealed_receiver.proofs.parts.end_part.Tie as tie
 
-enum-told : tie.Need-enum-told
-enum-told c = search needs
-
-end-rest-requires : tie.Need-end-second-part-requires
-end-rest-requires c κs = subst (λ (k : Stage). step.Ready k (c .before .before .before .before .args .v) (c .before .before .before .before .args .store .now)) (c .before .enum-told2 .given .1) (c .before .before .before .before .pre)
-
-end-last-requires : tie.Need-end-last-requires
-end-last-requires c κs = subst (λ (k : Stage). step.Ready k (c .before .before .before .before .args .v) (c .before .before .before .before .args .store .now)) (c .before .enum-told3 .given .1) (c .before .before .before .before .pre)
-
 returns : tie.Need-returns
 returns c =
     let g = c .before .before .before .before .before .before .before .args in
@@ -39,12 +30,12 @@ pub end-part-spec : {M : Type 1} → statement M
 end-part-spec =
     tie.close
     (tie.spec
-    enum-told
+    (λ c. search needs)
     (λ c κs. search needs)
     (λ c. search needs)
-    end-rest-requires
+    (λ c κs. subst (λ (k : Stage). step.Ready k (c .before .before .before .before .args .v) (c .before .before .before .before .args .store .now)) (c .before .enum-told2 .given .1) (c .before .before .before .before .pre))
     (λ c. search needs)
-    end-last-requires
+    (λ c κs. subst (λ (k : Stage). step.Ready k (c .before .before .before .before .args .v) (c .before .before .before .before .args .store .now)) (c .before .enum-told3 .given .1) (c .before .before .before .before .pre))
     (λ c. search needs)
     (λ c κs. search needs)
     (λ c κs. search needs)

@@ -34,9 +34,6 @@ open-part-requires c κs =
     let d = length-drop 48 s in
     (omega (arith, c .before .second-part-length .ensures .0, c .before .before .before .before .before .pre .fits), omega (arith, c .before .second-part-length .ensures .1))
 
-enum-told : tie.Need-enum-told
-enum-told c = search needs
-
 behind-rest-requires : tie.Need-after-second-part-requires
 behind-rest-requires c κs =
     let v = c .before .before .before .before .before .before .before .before .before .before .before .before .args .v in
@@ -80,7 +77,7 @@ end-second-part-spec =
     (λ c. search needs)
     part-open-part-end
     open-part-requires
-    enum-told
+    (λ c. search needs)
     (λ c κs. search needs)
     behind-rest-requires
     (λ c. search needs)

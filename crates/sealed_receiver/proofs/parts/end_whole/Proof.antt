@@ -12,15 +12,6 @@ use borrow.Author.Needs.{needs}
 use Rattle.sealed_receiver.proofs.parts.end_whole.Statement.{statement}
 use Rattle.sealed_receiver.proofs.parts.end_whole.Tie as tie
 
-sub-put-zeros : tie.Need-sub-put-zeros
-sub-put-zeros c = omega (arith, segments-fit (c .before .before .before .args .v .header), c .total-of .ensures, c .before .before .before .pre)
-
-part-put-zeros-start : tie.Need-part-put-zeros-start
-part-put-zeros-start c = omega (arith, segments-fit (c .before .before .before .args .v .header), c .total-of .ensures, c .before .before .before .pre)
-
-sub-put-zeros-2 : tie.Need-sub-put-zeros-2
-sub-put-zeros-2 c = omega (arith, segments-fit (c .before .before .before .before .before .args .v .header), c .before .before .total-of .ensures, c .needed-of .ensures .0)
-
 returns : tie.Need-returns
 returns c =
     let g = c .before .before .before .before .before .before .before .before .before .args in
@@ -32,11 +23,11 @@ end-whole-spec =
     tie.close
     (tie.spec
     (λ c κs. search needs)
-    sub-put-zeros
-    part-put-zeros-start
+    (λ c. omega (arith, segments-fit (c .before .before .before .args .v .header), c .total-of .ensures, c .before .before .before .pre))
+    (λ c. omega (arith, segments-fit (c .before .before .before .args .v .header), c .total-of .ensures, c .before .before .before .pre))
     (λ c. search needs)
     (λ c κs. search needs)
-    sub-put-zeros-2
+    (λ c. omega (arith, segments-fit (c .before .before .before .before .before .args .v .header), c .before .before .total-of .ensures, c .needed-of .ensures .0))
     (λ c κs. search needs)
     (λ c κs. search needs)
     (λ c. search needs)

@@ -5,9 +5,12 @@ use borrow.Author.Needs.{needs}
 use Rattle.sealed_receiver.proofs.parts.is_padded.Statement.{statement}
 use Rattle.sealed_receiver.proofs.parts.is_padded.Tie as tie
 
-returns : tie.Need-returns
-returns c = let g = c .before .before .before .before .args in c .all-zero .ensures ∙ ap allZero (c .before .part .ensures ∙ pads (g .text .now) (g .at) (g .n) (c .before .before .padding .result) (c .before .before .padding .ensures .0))
-
 pub is-padded-spec : {M : Type 1} → statement M
 is-padded-spec =
-    tie.close (tie.spec (λ c. search needs) (λ c κs. search needs) (λ c κs. search needs) (λ c κs. search needs) returns)
+    tie.close
+    (tie.spec
+    (λ c. search needs)
+    (λ c κs. search needs)
+    (λ c κs. search needs)
+    (λ c κs. search needs)
+    (λ c. let g = c .before .before .before .before .args in c .all-zero .ensures ∙ ap allZero (c .before .part .ensures ∙ pads (g .text .now) (g .at) (g .n) (c .before .before .padding .result) (c .before .before .padding .ensures .0))))

@@ -4,8 +4,11 @@ use borrow.Author.Needs.{needs}
 use Rattle.sealed_receiver.proofs.parts.judgement_of.Statement.{statement}
 use Rattle.sealed_receiver.proofs.parts.judgement_of.Tie as tie
 
-returns-2 : tie.Need-returns-2
-returns-2 c = sym (ap step.judgedAs (c .before .o .given .1))
-
 pub judgement-of-spec : {M : Type 1} → statement M
-judgement-of-spec = tie.close (tie.spec (λ c. search needs) (λ c. search needs) (λ c. search needs) returns-2)
+judgement-of-spec =
+    tie.close
+    (tie.spec
+    (λ c. search needs)
+    (λ c. search needs)
+    (λ c. search needs)
+    (λ c. sym (ap step.judgedAs (c .before .o .given .1))))

@@ -13,36 +13,12 @@ Inv-loop store₀ to from n i₀ store i = (i ≤ n) × (length store ≡ length
 abbrev μ-loop : tie.MeasureT-loop
 μ-loop store₀ to from n i₀ store i = n - i
 
-loop-holds : tie.Need-loop-holds Inv-loop μ-loop
-loop-holds c = (omega arith, refl, paste-zero (c .args .store .now) (c .args .to) (drop (c .args .from) (c .args .store .now)))
-
-add-store : tie.Need-add-store Inv-loop μ-loop
-add-store c = omega (arith, c .before .before .pre .1, c .before .before .good .0)
-
-slice-read-store : tie.Need-slice-read-store Inv-loop μ-loop
-slice-read-store c = omega (arith, c .before .before .before .pre .1, c .before .before .loop .inv .1)
-
-add-store-2 : tie.Need-add-store-2 Inv-loop μ-loop
-add-store-2 c = omega (arith, c .before .before .before .pre, c .before .before .before .good .0)
-
-slice-write-store : tie.Need-slice-write-store Inv-loop μ-loop
-slice-write-store c = omega (arith, c .before .before .before .pre, c .before .before .loop .inv .1)
-
-add-i : tie.Need-add-i Inv-loop μ-loop
-add-i c = omega arith
-
-loop-less : tie.Need-loop-less Inv-loop μ-loop
-loop-less c = omega arith
-
 loop-again : tie.Need-loop-again Inv-loop μ-loop
 loop-again c =
     let g = c .before .before .before .args in
     let s = c .before .before .loop .store in
     let i = c .before .before .loop .i in
     (omega arith, length-set s (g .to + i) (getD s (g .from + i) 0) ∙ c .before .before .loop .inv .1, moved-more (g .store .now) (g .to) (g .from) (g .n) (c .before .before .before .pre .0) (c .before .before .before .pre .1) s i (omega arith) (c .before .before .loop .inv .2))
-
-same-length : tie.Need-same-length Inv-loop μ-loop
-same-length c = c .before .loop .inv .1
 
 returns : tie.Need-returns Inv-loop μ-loop
 returns c =
@@ -56,13 +32,13 @@ move-down-spec =
     (tie.spec
     Inv-loop
     μ-loop
-    loop-holds
-    add-store
-    slice-read-store
-    add-store-2
-    slice-write-store
-    add-i
-    loop-less
+    (λ c. (omega arith, refl, paste-zero (c .args .store .now) (c .args .to) (drop (c .args .from) (c .args .store .now))))
+    (λ c. omega (arith, c .before .before .pre .1, c .before .before .good .0))
+    (λ c. omega (arith, c .before .before .before .pre .1, c .before .before .loop .inv .1))
+    (λ c. omega (arith, c .before .before .before .pre, c .before .before .before .good .0))
+    (λ c. omega (arith, c .before .before .before .pre, c .before .before .loop .inv .1))
+    (λ c. omega arith)
+    (λ c. omega arith)
     loop-again
-    same-length
+    (λ c. c .before .loop .inv .1)
     returns)

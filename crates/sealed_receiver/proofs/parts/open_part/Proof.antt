@@ -6,9 +6,6 @@ use borrow.Author.Needs.{needs}
 use Rattle.sealed_receiver.proofs.parts.open_part.Statement.{statement}
 use Rattle.sealed_receiver.proofs.parts.open_part.Tie as tie
 
-returns : tie.Need-returns
-returns c = none-left (c .before .before .args .r) (c .before .before .args .bytes .now) _ (c .if1 .taken)
-
 returns-2 : tie.Need-returns-2
 returns-2 c =
     let r = c .before .before .before .before .before .before .before .before .before .before .before .args .r in
@@ -22,7 +19,7 @@ pub open-part-spec : {M : Type 1} → statement M
 open-part-spec =
     tie.close
     (tie.spec
-    returns
+    (λ c. none-left (c .before .before .args .r) (c .before .before .args .bytes .now) _ (c .if1 .taken))
     (λ c κs. search needs)
     (λ c κs. search needs)
     (λ c κs. search needs)

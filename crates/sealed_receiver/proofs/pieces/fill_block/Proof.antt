@@ -6,12 +6,6 @@ use borrow.Author.Needs.{needs}
 use Rattle.sealed_receiver.proofs.pieces.fill_block.Statement.{statement}
 use Rattle.sealed_receiver.proofs.pieces.fill_block.Tie as tie
 
-sub-put : tie.Need-sub-put
-sub-put c = omega (arith, c .before .before .pre (c .if1 .taken))
-
-part-b-start : tie.Need-part-b-start
-part-b-start c = omega (arith, c .before .before .pre (c .if1 .taken))
-
 returns : tie.Need-returns
 returns c =
     let z = c .before .before .before .before .before in
@@ -21,4 +15,11 @@ returns c =
 
 pub fill-block-spec : {M : Type 1} → statement M
 fill-block-spec =
-    tie.close (tie.spec sub-put part-b-start (λ c. search needs) (λ c κs. search needs) returns (λ c. search needs))
+    tie.close
+    (tie.spec
+    (λ c. omega (arith, c .before .before .pre (c .if1 .taken)))
+    (λ c. omega (arith, c .before .before .pre (c .if1 .taken)))
+    (λ c. search needs)
+    (λ c κs. search needs)
+    returns
+    (λ c. search needs))

@@ -78,9 +78,6 @@ store-is f =
     ∙ ap₂ (λ (n : ℕ) (xs : List ℕ). step.storeWith (inFrame (st .position .stage)) (n + st .position .got) s xs)
     (f .before .place-of .ensures .0) (bytes-are a)
 
-sub-min : tie.Need-sub-min
-sub-min c = omega (arith, c .size-of .ensures .0, inside-of (c .before .before .before .before .before .before .before .pre))
-
 fill-block-requires : tie.Need-fill-block-requires
 fill-block-requires c κs =
     let a = c .before in
@@ -143,7 +140,7 @@ step-spec =
     tie.close
     (tie.spec
     (λ c κs. search needs)
-    sub-min
+    (λ c. omega (arith, c .size-of .ensures .0, inside-of (c .before .before .before .before .before .before .before .pre)))
     (λ c κs. search needs)
     (λ c κs. search needs)
     (λ c κs. search needs)

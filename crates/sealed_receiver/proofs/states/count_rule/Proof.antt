@@ -3,11 +3,11 @@ use borrow.Author.Needs.{needs}
 use Rattle.sealed_receiver.proofs.states.count_rule.Statement.{statement}
 use Rattle.sealed_receiver.proofs.states.count_rule.Tie as tie
 
-returns : tie.Need-returns
-returns c = rw (sym (c .before .is-refused .ensures) ∙ c .if1 .taken)
-
-returns-2 : tie.Need-returns-2
-returns-2 c = rw (sym (c .before .before .is-refused .ensures) ∙ c .before .if1 .left) (cc)
-
 pub count-rule-spec : {M : Type 1} → statement M
-count-rule-spec = tie.close (tie.spec (λ c κs. search needs) returns (λ c κs. search needs) returns-2)
+count-rule-spec =
+    tie.close
+    (tie.spec
+    (λ c κs. search needs)
+    (λ c. rw (sym (c .before .is-refused .ensures) ∙ c .if1 .taken))
+    (λ c κs. search needs)
+    (λ c. rw (sym (c .before .before .is-refused .ensures) ∙ c .before .if1 .left) (cc)))

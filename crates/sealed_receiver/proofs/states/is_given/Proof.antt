@@ -2,9 +2,6 @@ use borrow.Author.Needs.{needs}
 use Rattle.sealed_receiver.proofs.states.is_given.Statement.{statement}
 use Rattle.sealed_receiver.proofs.states.is_given.Tie as tie
 
-returns : tie.Need-returns
-returns c = cc
-
 pub is-given-spec : {M : Type 1} → statement M
 is-given-spec =
     tie.close
@@ -15,4 +12,4 @@ is-given-spec =
     (λ c κs. search needs)
     (λ c κs. search needs)
     (λ c κs. search needs)
-    returns)
+    (λ c. cc))

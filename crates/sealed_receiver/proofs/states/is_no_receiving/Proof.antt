@@ -2,9 +2,6 @@ use borrow.Author.Needs.{needs}
 use Rattle.sealed_receiver.proofs.states.is_no_receiving.Statement.{statement}
 use Rattle.sealed_receiver.proofs.states.is_no_receiving.Tie as tie
 
-returns : tie.Need-returns
-returns c = cc
-
 pub is-no-receiving-spec : {M : Type 1} → statement M
 is-no-receiving-spec =
     tie.close
@@ -16,4 +13,4 @@ is-no-receiving-spec =
     (λ c κs. search needs)
     (λ c κs. search needs)
     (λ c κs. search needs)
-    returns)
+    (λ c. cc))

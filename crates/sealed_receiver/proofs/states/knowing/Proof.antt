@@ -2,8 +2,5 @@ use borrow.Author.Needs.{needs}
 use Rattle.sealed_receiver.proofs.states.knowing.Statement.{statement}
 use Rattle.sealed_receiver.proofs.states.knowing.Tie as tie
 
-returns : tie.Need-returns
-returns c = cc
-
 pub knowing-spec : {M : Type 1} → statement M
-knowing-spec = tie.close (tie.spec (λ c κs. search needs) returns)
+knowing-spec = tie.close (tie.spec (λ c κs. search needs) (λ c. cc))

@@ -3,9 +3,6 @@ use borrow.Author.Needs.{needs}
 use Rattle.sealed_receiver.proofs.states.opened_before.Statement.{statement}
 use Rattle.sealed_receiver.proofs.states.opened_before.Tie as tie
 
-returns-3 : tie.Need-returns-3
-returns-3 c = (simp (c .before-last .ensures .0, c .before .enum-told3 .given .1), omega (arith, c .before-last .ensures .1))
-
 pub opened-before-spec : {M : Type 1} → statement M
 opened-before-spec =
     tie.close
@@ -17,5 +14,5 @@ opened-before-spec =
     (λ c. search needs)
     (λ c. search needs)
     (λ c. search needs)
-    returns-3
+    (λ c. (simp (c .before-last .ensures .0, c .before .enum-told3 .given .1), omega (arith, c .before-last .ensures .1)))
     (λ c. search needs))

@@ -2,9 +2,6 @@ use borrow.Author.Needs.{needs}
 use Rattle.sealed_receiver.proofs.states.refused_state.Statement.{statement}
 use Rattle.sealed_receiver.proofs.states.refused_state.Tie as tie
 
-returns : tie.Need-returns
-returns c = cc
-
 pub refused-state-spec : {M : Type 1} → statement M
 refused-state-spec =
-    tie.close (tie.spec (λ c κs. search needs) (λ c κs. search needs) (λ c κs. search needs) returns)
+    tie.close (tie.spec (λ c κs. search needs) (λ c κs. search needs) (λ c κs. search needs) (λ c. cc))

@@ -3,12 +3,6 @@ use borrow.Author.Needs.{needs}
 use Rattle.sealed_receiver.proofs.states.size_of.Statement.{statement}
 use Rattle.sealed_receiver.proofs.states.size_of.Tie as tie
 
-returns-2 : tie.Need-returns-2
-returns-2 c = (simp (c .second-part-length .ensures .0, c .before .enum-told2 .given .1), omega arith)
-
-returns-3 : tie.Need-returns-3
-returns-3 c = (simp (c .last-part-length .ensures .0, c .before .enum-told3 .given .1), omega arith)
-
 pub size-of-spec : {M : Type 1} → statement M
 size-of-spec =
     tie.close
@@ -20,6 +14,6 @@ size-of-spec =
     (λ c κs. search needs)
     (λ c. search needs)
     (λ c. search needs)
-    returns-2
-    returns-3
+    (λ c. (simp (c .second-part-length .ensures .0, c .before .enum-told2 .given .1), omega arith))
+    (λ c. (simp (c .last-part-length .ensures .0, c .before .enum-told3 .given .1), omega arith))
     (λ c. search needs))
