@@ -1,15 +1,15 @@
 -- Whether words stand for a state that agrees with itself. Of the part for crc frames a call says so, with any piece and any store: it gives 26 exactly where it does not.
 use mathlib.Core.Path.{_≡_, refl, sym, ap, ap₂, subst, _∙_}
 use mathlib.Core.List.{List}
-use mathlib.Core.Bool.{Bool, true, false, not, cond, _&&_}
+use mathlib.Core.Bool.{Bool, true, false, not, cond, _&&_, and-assoc}
 use Prim.Native.Nat.{ℕ, _≤_}
 use native.Mathlib.Omega.{arith}
 use lib.Dec.{eqb}
 use lib.ListN.{getD}
 use borrow.Author.Tests.{eqb-true}
 use Rattle.refusal.specs.declared.Refusal.the-variants as refusal
-use Rattle.refusal.specs.Refusals.{Judged, refused, orElse, unless, contradiction}
-use Rattle.refusal.proofs.Booleans.{wrong, both-left, both-right}
+use Rattle.refusal.specs.Refusals.{Judged, orElse, unless, contradiction}
+use Rattle.refusal.proofs.Booleans.{by-test, at-test, each-true}
 use Rattle.banner.specs.declared.Revision.the-variants.{Msgr20, Msgr21}
 use Rattle.stream.specs.declared.Event.the-variants as event
 use Rattle.receiver.specs.declared.Report.the-variants as report
@@ -19,7 +19,7 @@ use Rattle.receiver.specs.Step as crc-step
 use Rattle.receiver.proofs.Every.{sound}
 use Rattle.sealed_receiver.specs.State as sealed-states
 use Rattle.connection.specs.declared.State.{State}
-use Rattle.connection.specs.Step.{readyRule, agreesInUse, agrees, mayBeSwitched, judgeSwitch}
+use Rattle.connection.specs.Step.{readyRule, agreesInUse, agrees, mayBeSwitched}
 use Rattle.connection.proofs.Laws.{switch-judged}
 use Rattle.abi_receiver.specs.Words as crc
 use Rattle.abi_receiver.specs.Words.{AbiState, stateOf, reportWords}
@@ -34,21 +34,11 @@ use Rattle.abi_connection.proofs.Calls.{crc-stands, secure-stands, crc-
 
 tells-26 : (q : List ℕ) → is26 q ≡ true → refusedReport q ≡ report.Event (event.Refused contradiction)
 tells-26 q e =
-    let d = eqb (getD q 18 0) 0 in
-    let c = eqb (getD q 17 0) 0 && d in
-    let b = eqb (getD q 16 0) 0 && c in
-    let a = eqb (getD q 15 0) 26 && b in
-    let ea = both-right (eqb (getD q 0 0) 4) a e in
-    let eb = both-right (eqb (getD q 15 0) 26) b ea in
-    let ec = both-right (eqb (getD q 16 0) 0) c eb in
-    let ed = both-right (eqb (getD q 17 0) 0) d ec in
-    rw (
-      eqb-true (getD q 0 0) 4 (both-left (eqb (getD q 0 0) 4) a e),
-      eqb-true (getD q 15 0) 26 (both-left (eqb (getD q 15 0) 26) b ea),
-      eqb-true (getD q 16 0) 0 (both-left (eqb (getD q 16 0) 0) c eb),
-      eqb-true (getD q 17 0) 0 (both-left (eqb (getD q 17 0) 0) d ec),
-      eqb-true (getD q 18 0) 0 ed,
-    )
+    let a = each-true (eqb (getD q 0 0) 4) (eqb (getD q 15 0) 26 && (eqb (getD q 16 0) 0 && (eqb (getD q 17 0) 0 && eqb (getD q 18 0) 0))) e in
+    let b = each-true (eqb (getD q 15 0) 26) (eqb (getD q 16 0) 0 && (eqb (getD q 17 0) 0 && eqb (getD q 18 0) 0)) (a .1) in
+    let c = each-true (eqb (getD q 16 0) 0) (eqb (getD q 17 0) 0 && eqb (getD q 18 0) 0) (b .1) in
+    let d = each-true (eqb (getD q 17 0) 0) (eqb (getD q 18 0) 0) (c .1) in
+    rw (eqb-true (getD q 0 0) 4 (a .0), eqb-true (getD q 15 0) 26 (b .0), eqb-true (getD q 16 0) 0 (c .0), eqb-true (getD q 17 0) 0 (d .0), eqb-true (getD q 18 0) 0 (d .1))
 
 module _ (c : AbiState) (s piece : List ℕ) (o : crc.AbiReceived) (s′ : List ℕ) (h : crc.AbiAnswered c s piece o s′) where
   abbrev answered : crc-step.Answer
@@ -64,24 +54,19 @@ module _ (c : AbiState) (s piece : List ℕ) (o : crc.AbiReceived) (s′ : List 
   unfolding crc-step.answer
   contradicting e = rw e
 
-  agreeing : crc-states.agrees (stateOf c) ≡ true → (b : Bool) → is26 (reportWords (answered .received .taken) (answered .received .report)) ≡ b → b ≡ false
-  agreeing e false i = refl
-  agreeing e true i =
-      absurd
-      (sound (stateOf c) s piece (answered .received) (answered .store) (record { received = refl; store = refl }) .never26 e
-      (refused-report (answered .received .taken) (answered .received .report) contradiction (tells-26 (reportWords (answered .received .taken) (answered .received .report)) i)))
+  agreeing : crc-states.agrees (stateOf c) ≡ true → is26 (reportWords (answered .received .taken) (answered .received .report)) ≡ false
+  agreeing e =
+      let x = answered .received in
+      by-test (is26 (reportWords (x .taken) (x .report)))
+      (λ i. absurd (sound (stateOf c) s piece x (answered .store) (record { received = refl; store = refl }) .never26 e (refused-report (x .taken) (x .report) contradiction (tells-26 (reportWords (x .taken) (x .report)) i))))
+      (λ i. i)
 
   pub crc-says : not (is26 (o .report)) ≡ (crc.fits (c .numbers) && crc-states.agrees (stateOf c))
-  crc-says = go (crc.fits (c .numbers)) refl (crc-states.agrees (stateOf c)) refl
-    where
-      go : (f : Bool) → crc.fits (c .numbers) ≡ f → (a : Bool) → crc-states.agrees (stateOf c) ≡ a → not (is26 (o .report)) ≡ (crc.fits (c .numbers) && crc-states.agrees (stateOf c))
-      go false f a e = ap (λ (q : List ℕ). not (is26 q)) (words-beyond f) ∙ sym (ap (λ (x : Bool). x && crc-states.agrees (stateOf c)) f)
-      go true f false e =
-          ap (λ (q : List ℕ). not (is26 q)) (words-within f ∙ ap (λ (x : crc-step.Answer). reportWords (x .received .taken) (x .received .report)) (contradicting e))
-          ∙ sym (rw (f, e))
-      go true f true e =
-          let q = reportWords (answered .received .taken) (answered .received .report) in
-          ap (λ (x : List ℕ). not (is26 x)) (words-within f) ∙ ap not (agreeing e (is26 q) refl) ∙ sym (rw (f, e))
+  crc-says =
+      by-test (crc.fits (c .numbers))
+      (λ f. by-test (crc-states.agrees (stateOf c)) (λ e. ap (λ (q : List ℕ). not (is26 q)) (words-within f) ∙ ap not (agreeing e) ∙ sym (rw (f, e)))
+      (λ e. ap (λ (q : List ℕ). not (is26 q)) (words-within f ∙ ap (λ (x : crc-step.Answer). reportWords (x .received .taken) (x .received .report)) (contradicting e)) ∙ sym (rw (f, e))))
+      (λ f. ap (λ (q : List ℕ). not (is26 q)) (words-beyond f) ∙ sym (ap (λ (x : Bool). x && crc-states.agrees (stateOf c)) f))
 
 -- ---- the whole
 
@@ -90,12 +75,9 @@ unfolding agrees
 agrees-is st = refl
 
 pub disagrees : (p : AbiConnection) → usable p ≡ false → false ≡ (fits p && agrees (connectionOf p))
-disagrees p e = go (fits p) (readyRule (connectionOf p)) (agreesInUse (connectionOf p)) (not-usable p e) ∙ sym (ap (λ (b : Bool). fits p && b) (agrees-is (connectionOf p)))
-  where
-    go : (f r a : Bool) → (f && r) ≡ false → false ≡ (f && (r && a))
-    go true true a e = wrong (sym e)
-    go true false a e = refl
-    go false r a e = refl
+disagrees p e =
+    let st = connectionOf p in
+    ap (λ (b : Bool). b && agreesInUse st) (sym (not-usable p e)) ∙ and-assoc (fits p) (readyRule st) (agreesInUse st) ∙ sym (ap (λ (b : Bool). fits p && b) (agrees-is st))
 
 module _ (ready : ℕ) (c : AbiState) (x : AbiSecure) where
   pub crc-agrees : (b : Bool) → Usable (connected 0 ready c x) → b ≡ (crc.fits (c .numbers) && crc-states.agrees (stateOf c))
@@ -138,21 +120,12 @@ module _ (link : List ℕ) (c : AbiState) (x : AbiSecure) where
 
 pub may-switch : (p : AbiConnection) → (not (eqb (p .ready) 0) && not (eqb (getD (p .crc .numbers) 1 0) 0)) ≡ mayBeSwitched (connectionOf p)
 unfolding connectionOf stateOf
-may-switch p = ap (λ (b : Bool). not (eqb (p .ready) 0) && b) (go (eqb (getD (p .crc .numbers) 1 0) 0))
-  where
-    go : (b : Bool) → not b ≡ isMsgr21 (cond b Msgr20 Msgr21)
-    go true = refl
-    go false = refl
+may-switch p =
+    ap (λ (b : Bool). not (eqb (p .ready) 0) && b) (at-test (λ b. not b ≡ isMsgr21 (cond b Msgr20 Msgr21)) (eqb (getD (p .crc .numbers) 1 0) 0) (λ _. refl) (λ _. refl))
 
 pub judged-words : (p : AbiConnection) → orElse (unless (fits p && agrees (connectionOf p)) refusal.StateContradicts) (unless (mayBeSwitched (connectionOf p)) refusal.SwitchRefused) ≡ judgeWords p
 unfolding judgeWords agrees
-judged-words p = go (fits p) refl
-  where
-    go : (f : Bool) → fits p ≡ f
-        → orElse (unless (fits p && (readyRule (connectionOf p) && agreesInUse (connectionOf p))) refusal.StateContradicts) (unless (mayBeSwitched (connectionOf p)) refusal.SwitchRefused)
-        ≡ cond (fits p) (judgeSwitch (connectionOf p)) (refused contradiction)
-    go true f = rw f (switch-judged (connectionOf p))
-    go false f = rw f
+judged-words p = by-test (fits p) (λ f. rw f (switch-judged (connectionOf p))) (λ f. rw f)
 
 -- from the judgements of its two tests
 pub judged-by : (p : AbiConnection) (v a m : Judged) (g : Bool) → v ≡ orElse a m → a ≡ unless g refusal.StateContradicts → g ≡ (fits p && agrees (connectionOf p))

@@ -1,14 +1,14 @@
 -- What a start, a call and a switch promise, on each of their ways.
 use mathlib.Core.Path.{_≡_, refl, sym, ap, subst, _∙_}
 use mathlib.Core.List.{List}
-use mathlib.Core.Bool.{Bool, true, false, not, cond, _&&_, _||_}
+use mathlib.Core.Bool.{Bool, true, false, cond, _&&_, _||_}
 use Prim.Native.Nat.{ℕ, zero, suc, _≤_, zero-le}
 use native.Mathlib.Omega.{arith}
 use borrow.Author.Tests.{le-leb, leb-true}
 use lib.Dec.{leb, eqb}
 use lib.ListN.{getD}
 use Rattle.refusal.specs.Refusals.{Judged, fine, refused, isFine, contradiction}
-use Rattle.refusal.proofs.Booleans.{wrong, both-true, both-left, both-right}
+use Rattle.refusal.proofs.Booleans.{by-test, wrong, both-true, each-true}
 use Rattle.refusal.proofs.Judgements.{fine-is}
 use Rattle.banner.specs.declared.Features.{Features}
 use Rattle.stream.specs.declared.Event.the-variants as event
@@ -25,7 +25,7 @@ use Rattle.sealed_builder.specs.declared.Sending.{Sending}
 use Rattle.connection.specs.declared.Mode.the-variants as mode
 use Rattle.connection.specs.declared.State.{State}
 use Rattle.connection.specs.declared.Received.{Received}
-use Rattle.connection.specs.Step.{isSecure, begun, readyAfter, readyRule, Answer, byCrc, bySecure, answer, judgeSwitch, switchedState, switchedSending}
+use Rattle.connection.specs.Step.{begun, readyAfter, readyRule, Answer, byCrc, bySecure, answer, judgeSwitch, switchedState, switchedSending}
 use Rattle.connection.proofs.Laws.{contradicted, mode-is}
 use Rattle.abi.specs.Words.{markNumber, markOf}
 use Rattle.abi.proofs.Back.{mark-back, mark-known, mark-number-back}
@@ -71,12 +71,9 @@ markedRule p = eqb (p .ready) 0 || (eqb (p .mode) 0 && (eqb (getD (p .crc .numbe
 
 rule-in-words : (p : AbiConnection) → readyRule (connectionOf p) ≡ markedRule p
 unfolding connectionOf stateOf
-rule-in-words p = rw (rank-is (getD (p .crc .numbers) 0 0) 4 (omega arith)) (go (eqb (p .ready) 0) (eqb (p .mode) 0) (eqb (getD (p .crc .numbers) 0 0) 4 && eqb (getD (p .crc .numbers) 18 0) 0))
-  where
-    go : (r m t : Bool) → cond (not r) (not (isSecure (cond m mode.Crc mode.Secure)) && t) true ≡ (r || (m && t))
-    go true m t = refl
-    go false true t = refl
-    go false false t = refl
+rule-in-words p =
+    rw (rank-is (getD (p .crc .numbers) 0 0) 4 (omega arith))
+    (by-test (eqb (p .ready) 0) (λ e. rw e) (λ e. by-test (eqb (p .mode) 0) (λ f. rw (e, f)) (λ f. rw (e, f))))
 
 -- ---- calls that are turned away
 
@@ -94,12 +91,8 @@ module _ (p : AbiConnection) (s piece : List ℕ) where
       received = ap (handed p) d ∙ sym (ap (λ (y : AbiAnswer). y .received) e);
       store = sym (ap (λ (y : AbiAnswer). y .store) e);
       back = λ t. record { state = ap (λ (y : Received). y .state) (contradicted (connectionOf p) s piece contradiction (f t) refl .received); fit = t };
-      tells = go (fits p) refl;
+      tells = by-test (fits p) (λ t. rw (t, d) (ap (λ (y : Received). y .report) (contradicted (connectionOf p) s piece contradiction (f t) refl .received))) (λ t. rw (t, d));
     }
-      where
-        go : (b : Bool) → fits p ≡ b → reportOf r ≡ cond (fits p) (answer (connectionOf p) s piece .received .report) (report.Event (event.Refused contradiction))
-        go true t = rw (t, d) (ap (λ (y : Received). y .report) (contradicted (connectionOf p) s piece contradiction (f t) refl .received))
-        go false t = rw (t, d)
 
     pub words-refused : (fits p && readyRule (connectionOf p)) ≡ false → AbiAnswered p s piece (handed p r) s
     words-refused e = away (answer-by false e) (λ t. sym (rw t) ∙ e)
@@ -205,11 +198,7 @@ module _ (ready : ℕ) (c : AbiState) (x : AbiSecure) (s piece : List ℕ) (o : 
       (words-refused crcWords s piece (contradicts crcWords .report) refl (ap (λ (y : Bool). y && readyRule (connectionOf crcWords)) g)))
 
   pub crc-call : readyRule (connectionOf crcWords) ≡ true → AbiAnswered crcWords s piece (handed (connected 0 r (o .state) x) (o .report)) s′
-  crc-call q = go (crc.fits (c .numbers)) refl
-    where
-      go : (b : Bool) → crc.fits (c .numbers) ≡ b → AbiAnswered crcWords s piece (handed (connected 0 r (o .state) x) (o .report)) s′
-      go true f = crc-answered q f
-      go false f = crc-beyond f
+  crc-call q = by-test (crc.fits (c .numbers)) (crc-answered q) crc-beyond
 
 -- ---- sealed frames
 
@@ -248,11 +237,7 @@ module _ (ready : ℕ) (c : AbiState) (x : AbiSecure) (s piece : List ℕ) (o : 
       (words-refused secureWords s piece (contradicts secureWords .report) refl (ap (λ (y : Bool). y && readyRule (connectionOf secureWords)) g)))
 
   pub secure-call : readyRule (connectionOf secureWords) ≡ true → AbiAnswered secureWords s piece (handed (connected 1 ready c (o .state)) (o .report)) s′
-  secure-call q = go (secure.fits (x .numbers)) refl
-    where
-      go : (b : Bool) → secure.fits (x .numbers) ≡ b → AbiAnswered secureWords s piece (handed (connected 1 ready c (o .state)) (o .report)) s′
-      go true f = secure-answered q f
-      go false f = secure-beyond f
+  secure-call q = by-test (secure.fits (x .numbers)) (secure-answered q) secure-beyond
 
 -- ---- what a call tests before it looks at either part
 
@@ -281,10 +266,9 @@ pub record Usable (p : AbiConnection) : Type 0 where
 
 pub is-usable : (p : AbiConnection) → usable p ≡ true → Usable p
 is-usable p e =
-    let a = leb (p .mode) 1 in
-    let b = leb (p .ready) 1 in
-    let t = both-right a (b && markedRule p) e in
-    record { mode = leb-true (p .mode) 1 (both-left a (b && markedRule p) e); ready = leb-true (p .ready) 1 (both-left b (markedRule p) t); rule = rule-in-words p ∙ both-right b (markedRule p) t }
+    let a = each-true (leb (p .mode) 1) (leb (p .ready) 1 && markedRule p) e in
+    let b = each-true (leb (p .ready) 1) (markedRule p) (a .1) in
+    record { mode = leb-true (p .mode) 1 (a .0); ready = leb-true (p .ready) 1 (b .0); rule = rule-in-words p ∙ b .1 }
 
 -- what the two calls answer, and the kind of the report
 module _ (link : List ℕ) (c : AbiState) (x : AbiSecure) (s piece : List ℕ) where

@@ -1,14 +1,15 @@
 -- What `deliver` asks of a session and does to it, in words.
 use mathlib.Core.Path.{_≡_, refl, sym, ap, subst, _∙_}
 use mathlib.Core.List.{List, [], _∷_}
-use mathlib.Core.Bool.{Bool, true, false, cond, true≢false}
+use mathlib.Core.Bool.{false}
 use Prim.Native.Nat.{ℕ}
 use native.Mathlib.Omega.{arith}
 use lib.Dec.{eqb}
 use lib.ListN.{length, getD}
 use Rattle.refusal.specs.Refusals.{noRefusal}
 use Rattle.preamble.specs.declared.Header.{Header}
-use Rattle.stream.specs.declared.Event.the-variants as event
+use Rattle.refusal.proofs.Booleans.{at-cond}
+use Rattle.stream.specs.declared.Event.{Event}
 use Rattle.receiver.specs.declared.Report as receiver
 use Rattle.receiver.specs.declared.Report.the-variants as report
 use Rattle.session.specs.declared.Session.{Session}
@@ -19,7 +20,7 @@ use Rattle.delivery.specs.declared.Request.{Request}
 use Rattle.delivery.specs.declared.Request.the-variants as request
 use Rattle.delivery.specs.declared.Applied.{Applied}
 use Rattle.delivery.specs.Requests.{requestByFrame, requestByReport, doneTo}
-use Rattle.abi.specs.Words.{features, revisionByNumber, refusalAt, headerAt}
+use Rattle.abi.specs.Words.{headerAt}
 use Rattle.abi_receiver.specs.Words.{reportAs, reportOf}
 use Rattle.abi_session.specs.Words.{abiSession, sessionOf, sessionNumbers, answering}
 use Rattle.abi_delivery.specs.Words.{effectWords, AbiApplied, appliedWith, abiApplied}
@@ -31,23 +32,11 @@ frame-requests q s e f g =
     g ∙ ap (λ (x : Header). requestByFrame x s) f ∙ subst (λ (n : ℕ). requestByFrame (headerAt 5 q) s ≡ requestByReport (reportAs n q) s) (sym e) refl
 
 pub others-request : (q s : List ℕ) → eqb (getD q 0 0) 2 ≡ false → request.Nothing ≡ requestByReport (reportOf q) s
-others-request q s e = go (eqb (getD q 0 0) 0) (eqb (getD q 0 0) 1) (eqb (getD q 0 0) 2) (eqb (getD q 0 0) 3) (eqb (getD q 0 0) 4) e
-  where
-    go : (a b f c d : Bool) → f ≡ false
-        → request.Nothing
-        ≡ requestByReport
-        (cond a report.More
-        (report.Event
-        (cond b (event.Banner (features (getD q 3 0) (getD q 4 0)) (revisionByNumber (getD q 2 0)))
-        (cond f (event.Frame (headerAt 5 q))
-        (cond c (event.Dropped (headerAt 5 q))
-        (cond d (event.Refused (refusalAt 15 q)) (event.First (headerAt 5 q)))))))) s
-    go true b f c d h = refl
-    go false true f c d h = refl
-    go false false true c d h = absurd (true≢false h)
-    go false false false true d h = refl
-    go false false false false true h = refl
-    go false false false false false h = refl
+others-request q s e =
+    let n = getD q 0 0 in
+    let asksNothing : Event → Type 0 = λ w. request.Nothing ≡ requestByReport (report.Event w) s in
+    rw e (at-cond (λ r. request.Nothing ≡ requestByReport r s) (eqb n 0) refl
+    (at-cond asksNothing (eqb n 1) refl (at-cond asksNothing (eqb n 3) refl (at-cond asksNothing (eqb n 4) refl refl))))
 
 -- ---- what is done: no frame changes a handle
 

@@ -6,6 +6,7 @@ use Prim.Native.Nat.{ℕ, zero, suc, _+_, _<_}
 use native.Mathlib.Nat.{add-zero, zero-add, add-suc, suc-add, not-suc-le-zero, le-of-suc-le-suc}
 use native.Mathlib.Numerals.{add-one}
 use native.Mathlib.Omega.{arith}
+use lib.Arith.{lt-of-le-ne}
 use lib.Dec.{eqb}
 use lib.ListN.{getD, length, set}
 use lib.Seq.{ext-getD, getD-set-same, getD-set-other}
@@ -33,12 +34,10 @@ rcon-next n = rw (add-one n)
 
 put : (w : List State) (key x : State) (n j : ℕ) → n < length w → x ≡ roundKey n key
     → (j < n → getD w j [] ≡ roundKey j key) → j < n + 1 → (b : Bool) → eqb j n ≡ b → getD (set w n x) j [] ≡ roundKey j key
-put w key x n j h e f k true d =
-    let q : j ≡ n = eqb-true j n d in
-    ap (λ (i : ℕ). getD (set w n x) i []) q ∙ getD-set-same w n x [] h ∙ e ∙ ap (λ (i : ℕ). roundKey i key) (sym q)
+put w key x n j h e f k true d = rw (eqb-true j n d, getD-set-same w n x [] h) e
 put w key x n j h e f k false d =
-    let q : (j ≡ n → ⊥) = eqb-false j n d in
-    getD-set-other w n j x [] q ∙ f (omega arith)
+    let q = eqb-false j n d in
+    getD-set-other w n j x [] q ∙ f (lt-of-le-ne (omega arith) q)
 
 pub keys-more : (w : List State) (key x : State) (n : ℕ) → n < length w → x ≡ roundKey n key
     → ((j : ℕ) → j < n → getD w j [] ≡ roundKey j key) → (j : ℕ) → j < n + 1 → getD (set w n x) j [] ≡ roundKey j key

@@ -30,16 +30,12 @@ zeros-lowest (suc k) n =
     under-is (n % 2) (trailingZeros k (n / 2)) (omega arith)
     ∙ ap (λ (t : ℕ). cond (eqb (n % 2) 1) 0 (suc t)) (zeros-lowest k (n / 2))
 
-comp-half : (k s : ℕ) → s < 2 ^ suc k → (2 ^ suc k - 1 - s) / 2 ≡ 2 ^ k - 1 - s / 2
-comp-half k s h = omega arith
-
-comp-odd : (k s : ℕ) → s < 2 ^ suc k → (2 ^ suc k - 1 - s) % 2 ≡ 1 - s % 2
-comp-odd k s h = omega arith
-
 -- what `r & !s` gives
 pub missing-is : (k r s : ℕ) → r < 2 ^ k → s < 2 ^ k → bitAnd r (2 ^ k - 1 - s) ≡ missing k r s
 unfolding missing
 missing-is zero r s hr hs = rw (lt-one hr) (and-zero-l (2 ^ 0 - 1 - s))
 missing-is (suc k) r s hr hs =
+    let half : (2 ^ suc k - 1 - s) / 2 ≡ 2 ^ k - 1 - s / 2 = omega arith in
+    let odd : (2 ^ suc k - 1 - s) % 2 ≡ 1 - s % 2 = omega arith in
     and-step r (2 ^ suc k - 1 - s)
-    ∙ rw (comp-half k s hs, comp-odd k s hs) (ap (λ (x : ℕ). x * 2 + min (r % 2) (1 - s % 2)) (missing-is k (r / 2) (s / 2) (halved k r hr) (halved k s hs)))
+    ∙ rw (half, odd) (ap (λ (x : ℕ). x * 2 + min (r % 2) (1 - s % 2)) (missing-is k (r / 2) (s / 2) (halved k r hr) (halved k s hs)))

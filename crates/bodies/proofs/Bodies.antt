@@ -1,9 +1,8 @@
 -- A row of steps makes the body that its layout says.
 use mathlib.Core.Path.{_≡_, refl, sym, ap, _∙_}
-use mathlib.Core.Bool.{Bool, true, false, cond}
+use mathlib.Core.Bool.{false}
 use mathlib.Core.List.{List, [], _∷_}
 use Prim.Native.Nat.{ℕ, _+_, _-_}
-use borrow.Author.Tests.{eq-eqb, ne-eqb}
 use lib.Dec.{eqb}
 use lib.ListN.{length}
 use Rattle.buffer.specs.Le.{numberAt}
@@ -15,7 +14,8 @@ use Rattle.fields.specs.Layout as kind
 use Rattle.fields.specs.Field.{Field, number, negative, numbers, payload, opaque, fixed, fieldAt, Place, nowhere, numbersAt, bytesAt, numbersFrom, bytesFrom, placeAt}
 use Rattle.fields.specs.Reading.{spanIn, numbersIn}
 use Rattle.bodies.specs.declared.Body.{Body}
-use Rattle.bodies.specs.Read.{run, fieldsOf, whole, malformed, settled, readOf, answerOf, Took, malformedBody, settledBody}
+use Rattle.bodies.specs.Read.{run, fieldsOf, whole, settled, readOf, answerOf, Took, malformedBody, settledBody}
+use Rattle.refusal.proofs.Booleans.{by-test}
 use Rattle.bodies.proofs.Rows.{fine-before, stuck}
 
 -- ---- what the code has of a field: its number, or where its numbers or bytes stand
@@ -104,11 +104,7 @@ rowed {s} {c} (step {k = k} {d = d} {ks = ks} {m = m} x t r) =
 -- what was read behind a fault makes no difference
 same-settled : (s : List ℕ) (c : Cursor) (a b : Body) → (c .failed ≡ false → a ≡ b) → settledBody s c a ≡ settledBody s c b
 unfolding settledBody
-same-settled s c a b h = go (c .failed) refl
-  where
-    go : (x : Bool) → c .failed ≡ x → settledBody s c a ≡ settledBody s c b
-    go true t = rw t
-    go false t = rw (h t)
+same-settled s c a b h = by-test (c .failed) (λ t. rw t) (λ t. rw (h t))
 
 pub row-read : {s : List ℕ} {c e : Cursor} {ks : List Kind} {m : Makes ks} {b r a : Body} → from ks s 0 m ≡ a → c ≡ good 0 → Row s c ks m e b → r ≡ settledBody s e b → r ≡ a
 unfolding from
@@ -116,22 +112,6 @@ row-read {s} {c} {e} {ks} {m} {b} i z r t =
     let q = rowed r in
     let f : settledBody s e (made ks m s c) ≡ settledBody s (run ks s (good 0)) (made ks m s (good 0)) = rw (← (q .runs), z) in
     t ∙ same-settled s e b (made ks m s c) (λ h. sym (q .body h)) ∙ f ∙ i
-
--- ---- the returns of `settle`
-
-module _ (s : List ℕ) (c : Cursor) where
-  pub malformed-at : (b : Body) → c .failed ≡ true → malformedBody (c .at) ≡ settledBody s c b
-  unfolding settledBody
-  malformed-at b t = rw t
-
-  module _ (t : c .failed ≡ false) where
-    pub left-over : (b : Body) → (c .at ≡ length s → ⊥) → malformedBody (c .at) ≡ settledBody s c b
-    unfolding settledBody
-    left-over b h = rw (t, ne-eqb (c .at) (length s) h)
-
-    pub all-read : (b : Body) → c .at ≡ length s → b ≡ settledBody s c b
-    unfolding settledBody
-    all-read b h = rw (t, eq-eqb (c .at) (length s) h)
 
 -- a field that fails
 pub stopped : (s : List ℕ) (ks : List Kind) (c : Cursor) (n : ℕ) (b : Body) → c ≡ fault n → settledBody s (run ks s c) b ≡ malformedBody n
@@ -152,12 +132,8 @@ shows s (k ∷ ks) m f c h =
 
 settled-answer : (s : List ℕ) (c : Cursor) (b : Body) → answerOf s (settledBody s c b) ≡ settled s c (answerOf s b)
 unfolding settled settledBody
-settled-answer s c b = go (c .failed) (eqb (c .at) (length s))
-  where
-    go : (x y : Bool) → answerOf s (cond x (malformedBody (c .at)) (cond y b (malformedBody (c .at)))) ≡ cond x (malformed (c .at)) (cond y (answerOf s b) (malformed (c .at)))
-    go true y = refl
-    go false true = refl
-    go false false = refl
+settled-answer s c b =
+    by-test (c .failed) (λ t. rw t) (λ t. by-test (eqb (c .at) (length s)) (λ u. rw (t, u)) (λ u. rw (t, u)))
 
 pub answers : (s : List ℕ) (ks : List Kind) (m : Makes ks) {b : Body} → from ks s 0 m ≡ b → Shows s ks m (λ l. l) → answerOf s b ≡ readOf ks s
 unfolding from

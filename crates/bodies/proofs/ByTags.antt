@@ -1,45 +1,45 @@
 -- What a tag's row makes is what is written out by tag, what stands at its places is what the table says, and it stands within the body.
-use mathlib.Core.Path.{_≡_, refl, ap, _∙_}
+use mathlib.Core.Path.{_≡_, refl, sym, ap, _∙_}
 use mathlib.Core.Bool.{Bool, true, false, cond, _||_}
 use mathlib.Core.List.{List, [], _∷_}
 use Prim.Native.Nat.{ℕ, _+_, _-_, _*_, _/_, _≤_, _<_}
+use native.Mathlib.Nat.{zero-add}
 use native.Mathlib.Omega.{arith}
 use lib.Dec.{ltb, eqb}
 use borrow.Author.Tests.{le-leb, lt-leb, lt-ltb, le-ltb, eq-eqb, ne-eqb, ltb-true, ltb-false}
 use lib.ListN.{length}
 use Rattle.buffer.specs.Le.{numberAt}
 use Rattle.preamble.specs.Judge.{segmentLimit}
+use Rattle.refusal.proofs.Booleans.{at-test, by-less, at-cond, wrong}
 use Rattle.fields.specs.declared.Span.{Span}
 use Rattle.fields.specs.declared.NumberList.{NumberList}
-use Rattle.fields.specs.Layout.{Kind, good, fault, stepOf}
+use Rattle.fields.specs.Layout.{Kind, good, fault, past, stepOf}
 use Rattle.fields.specs.Layout as kind
 use Rattle.fields.specs.Field.{bytesFrom}
 use Rattle.bodies.specs.declared.Body.{Body}
 use Rattle.bodies.specs.declared.Body.the-variants as body
-use Rattle.bodies.specs.Table.{Row, listed, layoutIn, layoutOf, hello, authRequest, badMethod, more, authDone, ident, reconnect, oneNumber, reset, stamp}
-use Rattle.bodies.specs.Read.{readOf, readBy, readBody, answerOf, malformedBody, settledBody}
+use Rattle.bodies.specs.Table.{Found, listed, layoutIn, layoutOf, hello, authRequest, badMethod, more, authDone, ident, reconnect, oneNumber, reset, stamp}
+use Rattle.bodies.specs.Read.{readBy, readBody, answerOf, malformedBody, settledBody}
 use Rattle.bodies.specs.ByTag.{malformedWhen, short, endsAt, listThen, listEnd, listAt, restAt, helloBody, authRequestBody, badMethodBody, moreBody, authDoneBody, identBody, reconnectBody, oneNumberBody, resetBody, stampBody, tagBody, bodyOf, Within, EveryBody}
 use Rattle.bodies.specs.Claims.{Reads}
-use Rattle.bodies.proofs.Bodies.{saidAt, Makes, from, stopped, answers}
+use Rattle.bodies.proofs.Bodies.{saidAt, Makes, from, stopped, Shows, answers}
 
--- what holds where the test does not
-under : {x y : Body} (b : Bool) (at : ℕ) → (b ≡ false → x ≡ y) → malformedWhen b at x ≡ malformedWhen b at y
-under true at h = refl
-under false at h = h refl
+-- malformed at a place where one number is below another, or else what follows
+when-less : {x y : Body} (a b at : ℕ) → (a < b → x ≡ malformedBody at) → (b ≤ a → x ≡ y) → x ≡ malformedWhen (ltb a b) at y
+when-less {x} {y} a b at l g =
+    at-test (λ t. x ≡ malformedWhen t at y) (ltb a b) (λ e. l (ltb-true a b e)) (λ e. g (ltb-false a b e))
 
-both-at : (b : Bool) (at : ℕ) → malformedWhen b at (malformedBody at) ≡ malformedBody at
-both-at true at = refl
-both-at false at = refl
+-- the same by either of two tests
+when-either : {x y : Body} (a b c d at : ℕ) → (a < b → x ≡ malformedBody at) → (c < d → x ≡ malformedBody at) → (b ≤ a → d ≤ c → x ≡ y) → x ≡ malformedWhen (ltb a b || ltb c d) at y
+when-either {x} {y} a b c d at l k g =
+    at-test (λ t. x ≡ malformedWhen (t || ltb c d) at y) (ltb a b) (λ e. l (ltb-true a b e)) (λ e. when-less c d at k (g (ltb-false a b e)))
 
 module _ (s : List ℕ) (at : ℕ) where
   -- past the last field
   finished : (b : Body) → at ≤ length s → from [] s at b ≡ endsAt s at b
   unfolding from settledBody
-  finished b h = go (ltb at (length s)) refl
-    where
-      go : (x : Bool) → ltb at (length s) ≡ x → from [] s at b ≡ endsAt s at b
-      go true t = let k = ltb-true at (length s) t in rw (t, ne-eqb at (length s) (λ e. omega arith))
-      go false t = let k = ltb-false at (length s) t in rw (t, eq-eqb at (length s) (omega arith))
+  finished b h =
+      when-less at (length s) at (λ k. rw (ne-eqb at (length s) (λ e. omega arith))) (λ k. rw (eq-eqb at (length s) (omega arith)))
 
   -- a field that fails, and one that stands
   fails : (k : Kind) (ks : List Kind) (m : Makes (k ∷ ks)) (p : ℕ) → stepOf k s (good at) ≡ fault p → from (k ∷ ks) s at m ≡ malformedBody p
@@ -50,70 +50,36 @@ module _ (s : List ℕ) (at : ℕ) where
   unfolding from
   stands k ks m n e = rw e
 
+  -- each field, and what follows where it stands
   module _ (ks : List Kind) where
     number-on : (w n : ℕ) (m : ℕ → Makes ks) → at + w ≤ length s → at + w ≡ n → from (kind.number w ∷ ks) s at m ≡ from ks s n (m (numberAt w at s))
     unfolding stepOf
     number-on w n m h e = stands (kind.number w) ks m n (rw (le-leb w (length s - at) (omega arith), e))
 
-    number-first : (w n : ℕ) (m : ℕ → Makes ks) → 1 ≤ w → at + w ≡ n → from (kind.number w ∷ ks) s at m ≡ malformedWhen (short s n) at (from ks s n (m (numberAt w at s)))
-    unfolding stepOf
-    number-first w n m o e = go (ltb (length s) n) refl
-      where
-        go : (b : Bool) → ltb (length s) n ≡ b → from (kind.number w ∷ ks) s at m ≡ malformedWhen b at (from ks s n (m (numberAt w at s)))
-        go true t = let h = ltb-true (length s) n t in fails (kind.number w) ks m at (rw (lt-leb w (length s - at) (omega arith)))
-        go false t = let h = ltb-false (length s) n t in number-on w n m (omega arith) e
+    past-then : {y : Body} (k : Kind) (w : ℕ) (m : Makes (k ∷ ks)) → stepOf k s (good at) ≡ past w s at → 1 ≤ w → (at + w ≤ length s → from ks s (at + w) (m (saidAt k s at)) ≡ y) → from (k ∷ ks) s at m ≡ malformedWhen (short s (at + w)) at y
+    past-then k w m p o f =
+        when-less (length s) (at + w) at (λ h. fails k ks m at (p ∙ rw (lt-leb w (length s - at) (omega arith))))
+        (λ h. stands k ks m (at + w) (p ∙ rw (le-leb w (length s - at) (omega arith))) ∙ f h)
 
-    bytes-first : (w n : ℕ) (m : Span → Makes ks) → 1 ≤ w → at + w ≡ n → from (kind.fixed w ∷ ks) s at m ≡ malformedWhen (short s n) at (from ks s n (m (bytesFrom at w)))
+    negative-then : {y : Body} (m : ℕ → Makes ks) → from ks s (at + 4) (m (numberAt 4 at s)) ≡ y → from (kind.negative ∷ ks) s at m ≡ malformedWhen (short s (at + 4) || ltb (numberAt 4 at s) 2147483648) at y
     unfolding stepOf
-    bytes-first w n m o e = go (ltb (length s) n) refl
-      where
-        go : (b : Bool) → ltb (length s) n ≡ b → from (kind.fixed w ∷ ks) s at m ≡ malformedWhen b at (from ks s n (m (bytesFrom at w)))
-        go true t = let h = ltb-true (length s) n t in fails (kind.fixed w) ks m at (rw (lt-leb w (length s - at) (omega arith)))
-        go false t = let h = ltb-false (length s) n t in stands (kind.fixed w) ks m n (rw (le-leb w (length s - at) (omega arith), e))
+    negative-then m f =
+        when-either (length s) (at + 4) (numberAt 4 at s) 2147483648 at
+        (λ h. fails kind.negative ks m at (at-cond (λ c. c ≡ fault at) (ltb (numberAt 4 at s) 2147483648) refl (rw (lt-leb 4 (length s - at) (omega arith)))))
+        (λ u. fails kind.negative ks m at (rw (lt-ltb (numberAt 4 at s) 2147483648 u)))
+        (λ h u. stands kind.negative ks m (at + 4) (rw (le-ltb (numberAt 4 at s) 2147483648 u, le-leb 4 (length s - at) (omega arith))) ∙ f)
 
-    negative-first : (n : ℕ) (m : ℕ → Makes ks) → at + 4 ≡ n → from (kind.negative ∷ ks) s at m ≡ malformedWhen (short s n || ltb (numberAt 4 at s) 2147483648) at (from ks s n (m (numberAt 4 at s)))
+    list-then : {y : Body} (m : NumberList → Makes ks) → (listEnd s at ≤ length s → from ks s (listEnd s at) (m (listAt s at)) ≡ y) → from (kind.numbers ∷ ks) s at m ≡ listThen s at y
     unfolding stepOf
-    negative-first n m e = go (ltb (length s) n) (ltb (numberAt 4 at s) 2147483648) refl refl
-      where
-        go : (b c : Bool) → ltb (length s) n ≡ b → ltb (numberAt 4 at s) 2147483648 ≡ c → from (kind.negative ∷ ks) s at m ≡ malformedWhen (b || c) at (from ks s n (m (numberAt 4 at s)))
-        go true true t u = fails kind.negative ks m at (rw u)
-        go true false t u = let h = ltb-true (length s) n t in fails kind.negative ks m at (rw (u, lt-leb 4 (length s - at) (omega arith)))
-        go false true t u = fails kind.negative ks m at (rw u)
-        go false false t u = let h = ltb-false (length s) n t in stands kind.negative ks m n (rw (u, le-leb 4 (length s - at) (omega arith), e))
-
-    list-first : (m : NumberList → Makes ks) → from (kind.numbers ∷ ks) s at m ≡ listThen s at (from ks s (listEnd s at) (m (listAt s at)))
-    unfolding stepOf
-    list-first m = go (ltb (length s) (at + 4)) (ltb 32 (numberAt 4 at s)) (ltb (length s) (listEnd s at)) refl refl refl
-      where
-        go : (a b c : Bool) → ltb (length s) (at + 4) ≡ a → ltb 32 (numberAt 4 at s) ≡ b → ltb (length s) (listEnd s at) ≡ c
-            → from (kind.numbers ∷ ks) s at m ≡ malformedWhen a at (malformedWhen b at (malformedWhen c (at + 4 + (length s - (at + 4)) / 4 * 4) (from ks s (listEnd s at) (m (listAt s at)))))
-        go true true c t u v = fails kind.numbers ks m at (rw u)
-        go true false c t u v =
-            let h = ltb-true (length s) (at + 4) t in
-            let e : at + (length s - at) / 4 * 4 ≡ at = omega arith in
-            fails kind.numbers ks m at (rw (u, lt-leb (4 + 4 * numberAt 4 at s) (length s - at) (omega arith), e))
-        go false true c t u v = fails kind.numbers ks m at (rw u)
-        go false false true t u v =
-            let h = ltb-false (length s) (at + 4) t in
-            let k = ltb-true (length s) (listEnd s at) v in
-            let e : at + (length s - at) / 4 * 4 ≡ at + 4 + (length s - (at + 4)) / 4 * 4 = omega arith in
-            fails kind.numbers ks m (at + 4 + (length s - (at + 4)) / 4 * 4) (rw (u, lt-leb (4 + 4 * numberAt 4 at s) (length s - at) (omega arith), e))
-        go false false false t u v =
-            let h = ltb-false (length s) (at + 4) t in
-            let k = ltb-false (length s) (listEnd s at) v in
-            let e : at + (4 + 4 * numberAt 4 at s) ≡ listEnd s at = omega arith in
-            stands kind.numbers ks m (listEnd s at) (rw (u, le-leb (4 + 4 * numberAt 4 at s) (length s - at) (omega arith), e))
-
-    payload-first : (l n : ℕ) (m : Span → Makes ks) → at + 4 ≡ l → at + (4 + numberAt 4 at s) ≡ n
-        → from (kind.payload ∷ ks) s at m ≡ malformedWhen (short s l || short s n) at (from ks s n (m (bytesFrom (at + 4) (numberAt 4 at s))))
-    unfolding stepOf
-    payload-first l n m e g = go (ltb (length s) l) (ltb (length s) n) refl refl
-      where
-        go : (b c : Bool) → ltb (length s) l ≡ b → ltb (length s) n ≡ c
-            → from (kind.payload ∷ ks) s at m ≡ malformedWhen (b || c) at (from ks s n (m (bytesFrom (at + 4) (numberAt 4 at s))))
-        go true c t u = let h = ltb-true (length s) l t in fails kind.payload ks m at (rw (lt-leb (4 + numberAt 4 at s) (length s - at) (omega arith)))
-        go false true t u = let h = ltb-true (length s) n u in fails kind.payload ks m at (rw (lt-leb (4 + numberAt 4 at s) (length s - at) (omega arith)))
-        go false false t u = let h = ltb-false (length s) n u in stands kind.payload ks m n (rw (le-leb (4 + numberAt 4 at s) (length s - at) (omega arith), g))
+    list-then m f =
+        let n = numberAt 4 at s in
+        let long : 32 < n → from (kind.numbers ∷ ks) s at m ≡ malformedBody at = λ u. fails kind.numbers ks m at (rw (lt-ltb 32 n u)) in
+        let cut : (p : ℕ) → n ≤ 32 → length s < listEnd s at → at + (length s - at) / 4 * 4 ≡ p → from (kind.numbers ∷ ks) s at m ≡ malformedBody p = λ p u v e. fails kind.numbers ks m p (rw (le-ltb 32 n u, lt-leb (4 + 4 * n) (length s - at) (omega arith), e)) in
+        when-less (length s) (at + 4) at (λ h. by-less 32 n long (λ u. cut at u (omega arith) (omega arith))) (λ h.
+        when-less 32 n at long (λ u.
+        when-less (length s) (listEnd s at) (at + 4 + (length s - (at + 4)) / 4 * 4) (λ v. cut _ u v (omega arith)) (λ v.
+        let e : at + (4 + 4 * n) ≡ listEnd s at = omega arith in
+        stands kind.numbers ks m (listEnd s at) (rw (le-ltb 32 n u, le-leb (4 + 4 * n) (length s - at) (omega arith), e)) ∙ f v)))
 
   -- all bytes to the end, in a row that ends there
   opaque-last : (m : Span → Body) → at ≤ length s → from (kind.opaque 0 ∷ []) s at m ≡ m (restAt s at)
@@ -128,17 +94,6 @@ module _ (s : List ℕ) (at : ℕ) where
   unfolding stepOf
   closing-on k n ks m h e = stands (kind.opaque k) ks m n (rw (le-leb k (length s - at) (omega arith), e)) ∙ rw e
 
-  closing-short : (k : ℕ) (ks : List Kind) (m : Span → Makes ks) → at ≤ length s → length s < at + k → from (kind.opaque k ∷ ks) s at m ≡ malformedBody 0
-  unfolding stepOf
-  closing-short k ks m l h = fails (kind.opaque k) ks m 0 (rw (lt-leb k (length s - at) (omega arith)))
-
-  -- a list that stands ends within the body
-  in-list : {x y : Body} → (listEnd s at ≤ length s → x ≡ y) → listThen s at x ≡ listThen s at y
-  in-list h =
-      under (short s (at + 4)) at (λ t.
-      under (ltb 32 (numberAt 4 at s)) at (λ u.
-      under (short s (listEnd s at)) (at + 4 + (length s - (at + 4)) / 4 * 4) (λ v. h (ltb-false (length s) (listEnd s at) v))))
-
 -- ---- the bodies
 
 abbrev identified : ℕ → Span → ℕ → ℕ → ℕ → ℕ → ℕ → ℕ → Body
@@ -148,49 +103,47 @@ abbrev resumed : ℕ → Span → ℕ → ℕ → ℕ → ℕ → ℕ → Body
 resumed n p a b c d e = body.Reconnect n p (record { «client_cookie» = a; «server_cookie» = b; «global_seq» = c; «connect_seq» = d; «msg_seq» = e })
 
 module _ (s : List ℕ) where
-  not-short : (b : Bool) (n : ℕ) → (b || short s n) ≡ false → n ≤ length s
-  not-short true n t = absurd (let z : _≡_ {A = ℕ} 0 1 = cc in omega arith)
-  not-short false n t = ltb-false (length s) n t
-
   pub hello-is : from hello s 0 (λ n p. body.Hello n p) ≡ helloBody s
-  unfolding helloBody
-  hello-is = number-first s 0 _ 1 1 _ (omega arith) refl ∙ under (short s 1) 0 (λ t. opaque-last s 1 _ (ltb-false (length s) 1 t))
+  unfolding helloBody stepOf
+  hello-is = past-then s 0 _ (kind.number 1) 1 _ refl (omega arith) (opaque-last s 1 _)
 
   pub auth-request-is : from authRequest s 0 (λ n l p. body.AuthRequest n l p) ≡ authRequestBody s
-  unfolding authRequestBody
+  unfolding authRequestBody stepOf
   auth-request-is =
-      number-first s 0 _ 4 4 _ (omega arith) refl ∙ under (short s 4) 0 (λ t.
-      list-first s 4 _ _ ∙ in-list s 4 (λ h. opaque-last s (listEnd s 4) _ h))
+      past-then s 0 _ (kind.number 4) 4 _ refl (omega arith) (λ _. list-then s 4 _ _ (opaque-last s (listEnd s 4) _))
 
   pub bad-method-is : from badMethod s 0 (λ n e l m. body.BadMethod n e l m) ≡ badMethodBody s
-  unfolding badMethodBody
+  unfolding badMethodBody stepOf
   bad-method-is =
-      number-first s 0 _ 4 4 _ (omega arith) refl ∙ under (short s 4) 0 (λ t.
-      negative-first s 4 _ 8 _ refl ∙ under (short s 8 || ltb (numberAt 4 4 s) 2147483648) 4 (λ u.
-      list-first s 8 _ _ ∙ in-list s 8 (λ h.
-      list-first s (listEnd s 8) _ _ ∙ in-list s (listEnd s 8) (λ k. finished s (listEnd s (listEnd s 8)) _ k))))
+      past-then s 0 _ (kind.number 4) 4 _ refl (omega arith) (λ _.
+      negative-then s 4 _ _
+      (list-then s 8 _ _ (λ _. list-then s (listEnd s 8) _ _ (finished s (listEnd s (listEnd s 8)) _))))
 
   pub more-is : from more s 0 (λ p. body.More p) ≡ moreBody s
-  unfolding moreBody
-  more-is = payload-first s 0 _ 4 (4 + numberAt 4 0 s) _ refl (omega arith) ∙ under (short s 4 || short s (4 + numberAt 4 0 s)) 0 (λ t. finished s (4 + numberAt 4 0 s) _ (not-short (short s 4) (4 + numberAt 4 0 s) t))
+  unfolding moreBody stepOf
+  more-is =
+      let n : ℕ = 4 + numberAt 4 0 s in
+      let cut : length s < n → from more s 0 (λ p. body.More p) ≡ malformedBody 0 = λ h. fails s 0 kind.payload [] _ 0 (rw (lt-leb n (length s - 0) (omega arith))) in
+      when-either (length s) 4 (length s) n 0 (λ h. cut (omega arith)) cut
+      (λ _ h. stands s 0 kind.payload [] _ n (rw (le-leb n (length s - 0) (omega arith), zero-add n)) ∙ finished s n _ h)
 
   pub auth-done-is : from authDone s 0 (λ g n p. body.AuthDone g n p) ≡ authDoneBody s
-  unfolding authDoneBody
+  unfolding authDoneBody stepOf
   auth-done-is =
-      number-first s 0 _ 8 8 _ (omega arith) refl ∙ under (short s 8) 0 (λ t.
-      number-first s 8 _ 4 12 _ (omega arith) refl ∙ under (short s 12) 8 (λ u. opaque-last s 12 _ (ltb-false (length s) 12 u)))
+      past-then s 0 _ (kind.number 8) 8 _ refl (omega arith) (λ _.
+      past-then s 8 _ (kind.number 4) 4 _ refl (omega arith) (opaque-last s 12 _))
 
   pub one-number-is : from oneNumber s 0 (λ n. body.Number n) ≡ oneNumberBody s
-  unfolding oneNumberBody
-  one-number-is = number-first s 0 _ 8 8 _ (omega arith) refl ∙ under (short s 8) 0 (λ t. finished s 8 _ (ltb-false (length s) 8 t))
+  unfolding oneNumberBody stepOf
+  one-number-is = past-then s 0 _ (kind.number 8) 8 _ refl (omega arith) (finished s 8 _)
 
   pub reset-is : from reset s 0 (λ n. body.Reset n) ≡ resetBody s
-  unfolding resetBody
-  reset-is = number-first s 0 _ 1 1 _ (omega arith) refl ∙ under (short s 1) 0 (λ t. finished s 1 _ (ltb-false (length s) 1 t))
+  unfolding resetBody stepOf
+  reset-is = past-then s 0 _ (kind.number 1) 1 _ refl (omega arith) (finished s 1 _)
 
   pub stamp-is : from stamp s 0 (λ p. body.Stamp p) ≡ stampBody s
-  unfolding stampBody
-  stamp-is = bytes-first s 0 _ 8 8 _ (omega arith) refl ∙ under (short s 8) 0 (λ t. finished s 8 _ (ltb-false (length s) 8 t))
+  unfolding stampBody stepOf
+  stamp-is = past-then s 0 _ (kind.fixed 8) 8 _ refl (omega arith) (finished s 8 _)
 
   -- the closing fields end where the body does
   ended : (b : Body) → from [] s (length s) b ≡ b
@@ -199,88 +152,30 @@ module _ (s : List ℕ) where
 
   -- too short for the address count, or for the closing fields
   closing-missing : (k : ℕ) (ks : List Kind) (m : ℕ → Span → Makes ks) → length s < 4 + k → from (kind.number 4 ∷ kind.opaque k ∷ ks) s 0 m ≡ malformedBody 0
+  unfolding stepOf
   closing-missing k ks m h =
-      number-first s 0 _ 4 4 m (omega arith) refl ∙ under (short s 4) 0 (λ t. closing-short s 4 k ks _ (ltb-false (length s) 4 t) h) ∙ both-at (short s 4) 0
+      past-then s 0 _ (kind.number 4) 4 m refl (omega arith) (λ t. fails s 4 (kind.opaque k) ks _ 0 (rw (lt-leb k (length s - 4) (omega arith))))
+      ∙ at-cond (λ b. b ≡ malformedBody 0) (short s 4) refl refl
 
   pub ident-is : from ident s 0 identified ≡ identBody s
   unfolding identBody
-  ident-is = go (ltb (length s) 52) refl
-    where
-      at : ℕ
-      at = length s - 48
-
-      go : (b : Bool) → ltb (length s) 52 ≡ b → from ident s 0 identified ≡ malformedWhen b 0 (identified (numberAt 4 0 s) (bytesFrom 4 (at - 4)) (numberAt 8 at s) (numberAt 8 (at + 8) s) (numberAt 8 (at + 16) s) (numberAt 8 (at + 24) s) (numberAt 8 (at + 32) s) (numberAt 8 (at + 40) s))
-      go true t = closing-missing 48 (kind.number 8 ∷ kind.number 8 ∷ kind.number 8 ∷ kind.number 8 ∷ kind.number 8 ∷ kind.number 8 ∷ []) identified (ltb-true (length s) 52 t)
-      go false t =
-          let h = ltb-false (length s) 52 t in
-          number-on s 0 _ 4 4 identified (omega arith) refl ∙ closing-on s 4 48 at _ _ (omega arith) refl
-          ∙ number-on s at _ 8 (at + 8) _ (omega arith) refl ∙ number-on s (at + 8) _ 8 (at + 16) _ (omega arith) (omega arith)
-          ∙ number-on s (at + 16) _ 8 (at + 24) _ (omega arith) (omega arith) ∙ number-on s (at + 24) _ 8 (at + 32) _ (omega arith) (omega arith)
-          ∙ number-on s (at + 32) _ 8 (at + 40) _ (omega arith) (omega arith) ∙ number-on s (at + 40) _ 8 (length s) _ (omega arith) (omega arith) ∙ ended _
+  ident-is =
+      let at : ℕ = length s - 48 in
+      when-less (length s) 52 0 (closing-missing 48 _ identified) (λ h.
+      number-on s 0 _ 4 4 identified (omega arith) refl ∙ closing-on s 4 48 at _ _ (omega arith) refl
+      ∙ number-on s at _ 8 (at + 8) _ (omega arith) refl ∙ number-on s (at + 8) _ 8 (at + 16) _ (omega arith) (omega arith)
+      ∙ number-on s (at + 16) _ 8 (at + 24) _ (omega arith) (omega arith) ∙ number-on s (at + 24) _ 8 (at + 32) _ (omega arith) (omega arith)
+      ∙ number-on s (at + 32) _ 8 (at + 40) _ (omega arith) (omega arith) ∙ number-on s (at + 40) _ 8 (length s) _ (omega arith) (omega arith) ∙ ended _)
 
   pub reconnect-is : from reconnect s 0 resumed ≡ reconnectBody s
   unfolding reconnectBody
-  reconnect-is = go (ltb (length s) 44) refl
-    where
-      at : ℕ
-      at = length s - 40
-
-      go : (b : Bool) → ltb (length s) 44 ≡ b → from reconnect s 0 resumed ≡ malformedWhen b 0 (resumed (numberAt 4 0 s) (bytesFrom 4 (at - 4)) (numberAt 8 at s) (numberAt 8 (at + 8) s) (numberAt 8 (at + 16) s) (numberAt 8 (at + 24) s) (numberAt 8 (at + 32) s))
-      go true t = closing-missing 40 (kind.number 8 ∷ kind.number 8 ∷ kind.number 8 ∷ kind.number 8 ∷ kind.number 8 ∷ []) resumed (ltb-true (length s) 44 t)
-      go false t =
-          let h = ltb-false (length s) 44 t in
-          number-on s 0 _ 4 4 resumed (omega arith) refl ∙ closing-on s 4 40 at _ _ (omega arith) refl
-          ∙ number-on s at _ 8 (at + 8) _ (omega arith) refl ∙ number-on s (at + 8) _ 8 (at + 16) _ (omega arith) (omega arith)
-          ∙ number-on s (at + 16) _ 8 (at + 24) _ (omega arith) (omega arith) ∙ number-on s (at + 24) _ 8 (at + 32) _ (omega arith) (omega arith)
-          ∙ number-on s (at + 32) _ 8 (length s) _ (omega arith) (omega arith) ∙ ended _
-
-  -- ---- by tag
-
-  -- what stands in a body of a table is what the table says
-  data Comes (tag : ℕ) : List Row → Body → Type 0 where
-    none : Comes tag [] (malformedBody 0)
-    one : {r : Row} {rs : List Row} {y : Body} (x : Body) → answerOf s x ≡ readOf (r .layout) s → Comes tag rs y → Comes tag (r ∷ rs) (cond (eqb tag (r .tag)) x y)
-
-  by-rows : {tag : ℕ} {rs : List Row} {y : Body} → Comes tag rs y → answerOf s y ≡ readBy (layoutIn rs tag) s
-  unfolding layoutIn
-  by-rows none = refl
-  by-rows {tag} (one {r = r} {rs = rs} {y = y} x p q) = go (eqb tag (r .tag)) (by-rows q)
-    where
-      go : (b : Bool) → answerOf s y ≡ readBy (layoutIn rs tag) s → answerOf s (cond b x y) ≡ readBy (cond b (listed (r .layout)) (layoutIn rs tag)) s
-      go true e = p
-      go false e = e
-
-  tags : (tag : ℕ) → answerOf s (tagBody tag s) ≡ readBy (layoutOf tag) s
-  unfolding tagBody
-  tags tag =
-      let payload = answers s more _ more-is (λ p. refl) in
-      let identity = answers s ident identified ident-is (λ n p a b c d e f. refl) in
-      let number = answers s oneNumber _ one-number-is (λ n. refl) in
-      let stamped = answers s stamp _ stamp-is (λ p. refl) in
-      by-rows
-      (one (helloBody s) (answers s hello _ hello-is (λ n p. refl))
-      (one (authRequestBody s) (answers s authRequest _ auth-request-is (λ n l p. refl))
-      (one (badMethodBody s) (answers s badMethod _ bad-method-is (λ n e l m. refl))
-      (one (moreBody s) payload
-      (one (moreBody s) payload
-      (one (authDoneBody s) (answers s authDone _ auth-done-is (λ g n p. refl))
-      (one (identBody s) identity
-      (one (identBody s) identity
-      (one (oneNumberBody s) number
-      (one (reconnectBody s) (answers s reconnect resumed reconnect-is (λ n p a b c d e. refl))
-      (one (resetBody s) (answers s reset _ reset-is (λ n. refl))
-      (one (oneNumberBody s) number
-      (one (stampBody s) stamped
-      (one (stampBody s) stamped
-      (one (oneNumberBody s) number none)))))))))))))))
-
-  pub reads-as : (tag : ℕ) → answerOf s (bodyOf tag s) ≡ readBody tag s
-  unfolding readBody bodyOf
-  reads-as tag = go (ltb segmentLimit (length s)) refl
-    where
-      go : (b : Bool) → ltb segmentLimit (length s) ≡ b → answerOf s (malformedWhen b 0 (tagBody tag s)) ≡ readBody tag s
-      go true t = rw (lt-leb (length s) segmentLimit (ltb-true segmentLimit (length s) t))
-      go false t = rw (le-leb (length s) segmentLimit (ltb-false segmentLimit (length s) t)) (tags tag)
+  reconnect-is =
+      let at : ℕ = length s - 40 in
+      when-less (length s) 44 0 (closing-missing 40 _ resumed) (λ h.
+      number-on s 0 _ 4 4 resumed (omega arith) refl ∙ closing-on s 4 40 at _ _ (omega arith) refl
+      ∙ number-on s at _ 8 (at + 8) _ (omega arith) refl ∙ number-on s (at + 8) _ 8 (at + 16) _ (omega arith) (omega arith)
+      ∙ number-on s (at + 16) _ 8 (at + 24) _ (omega arith) (omega arith) ∙ number-on s (at + 24) _ 8 (at + 32) _ (omega arith) (omega arith)
+      ∙ number-on s (at + 32) _ 8 (length s) _ (omega arith) (omega arith) ∙ ended _)
 
   -- ---- within the body
 
@@ -298,74 +193,61 @@ module _ (s : List ℕ) where
   list-fits : {x : Body} (at : ℕ) → (listEnd s at ≤ length s → Stands x) → Stands (listThen s at x)
   list-fits at h = fits (at + 4) at (λ _. kept (ltb 32 (numberAt 4 at s)) at (λ _. fits (listEnd s at) _ h))
 
-  either-way : {x y : Body} (b : Bool) → Stands x → Stands y → Stands (cond b x y)
-  either-way true h k = h
-  either-way false h k = k
+  not-short : (b : Bool) (n : ℕ) → (b || short s n) ≡ false → n ≤ length s
+  not-short true n t = wrong (sym t)
+  not-short false n t = ltb-false (length s) n t
 
-  hello-within : Stands (helloBody s)
-  unfolding helloBody Within
-  hello-within = fits 1 0 (λ h. record { fact = omega arith })
+  -- ---- by tag: what stands in a body is what the table says, and it stands within
 
-  auth-request-within : Stands (authRequestBody s)
-  unfolding authRequestBody Within
-  auth-request-within = fits 4 0 (λ _. list-fits 4 (λ h. record { fact = (omega arith, omega arith) }))
+  record Right (f : Found) (b : Body) : Type 0 where
+    answer : answerOf s b ≡ readBy f s
+    within : Stands b
 
-  bad-method-within : Stands (badMethodBody s)
-  unfolding badMethodBody Within
-  bad-method-within =
-      fits 4 0 (λ _. kept (short s 8 || ltb (numberAt 4 4 s) 2147483648) 4 (λ _.
-      list-fits 8 (λ h. list-fits (listEnd s 8) (λ k. kept (ltb (listEnd s (listEnd s 8)) (length s)) _ (λ _. record { fact = (omega arith, omega arith) })))))
+  right : (ks : List Kind) (m : Makes ks) {b : Body} → from ks s 0 m ≡ b → Shows s ks m (λ l. l) → Stands b → Right (listed ks) b
+  right ks m i h w = record { answer = answers s ks m i h; within = w }
 
-  more-within : Stands (moreBody s)
-  unfolding moreBody Within
-  more-within = kept (short s 4 || short s (4 + numberAt 4 0 s)) 0 (λ t. kept (ltb (4 + numberAt 4 0 s) (length s)) _ (λ _. record { fact = not-short (short s 4) (4 + numberAt 4 0 s) t }))
+  by-row : {f g : Found} {x y : Body} (b : Bool) → Right f x → Right g y → Right (cond b f g) (cond b x y)
+  by-row true p q = p
+  by-row false p q = q
 
-  auth-done-within : Stands (authDoneBody s)
-  unfolding authDoneBody Within
-  auth-done-within = fits 8 0 (λ _. fits 12 8 (λ h. record { fact = omega arith }))
+  tags : (tag : ℕ) → Right (layoutOf tag) (tagBody tag s)
+  unfolding layoutIn Within helloBody authRequestBody badMethodBody moreBody authDoneBody identBody reconnectBody oneNumberBody resetBody stampBody tagBody
+  tags tag =
+      let greeting = right hello _ hello-is (λ n p. refl) (fits 1 0 (λ h. record { fact = omega arith })) in
+      let request = right authRequest _ auth-request-is (λ n l p. refl) (fits 4 0 (λ _. list-fits 4 (λ h. record { fact = (omega arith, omega arith) }))) in
+      let refusal = right badMethod _ bad-method-is (λ n e l m. refl) (fits 4 0 (λ _. kept (short s 8 || ltb (numberAt 4 4 s) 2147483648) 4 (λ _. list-fits 8 (λ h. list-fits (listEnd s 8) (λ k. kept (ltb (listEnd s (listEnd s 8)) (length s)) _ (λ _. record { fact = (omega arith, omega arith) })))))) in
+      let payload = right more _ more-is (λ p. refl) (kept (short s 4 || short s (4 + numberAt 4 0 s)) 0 (λ t. kept (ltb (4 + numberAt 4 0 s) (length s)) _ (λ _. record { fact = not-short (short s 4) (4 + numberAt 4 0 s) t }))) in
+      let finished = right authDone _ auth-done-is (λ g n p. refl) (fits 8 0 (λ _. fits 12 8 (λ h. record { fact = omega arith }))) in
+      let identity = right ident identified ident-is (λ n p a b c d e f. refl) (fits 52 0 (λ h. record { fact = omega arith })) in
+      let resumption = right reconnect resumed reconnect-is (λ n p a b c d e. refl) (fits 44 0 (λ h. record { fact = omega arith })) in
+      let number = right oneNumber _ one-number-is (λ n. refl) (fits 8 0 (λ _. kept (ltb 8 (length s)) 8 (λ _. record { fact = tt }))) in
+      let resets = right reset _ reset-is (λ n. refl) (fits 1 0 (λ _. kept (ltb 1 (length s)) 1 (λ _. record { fact = tt }))) in
+      let stamped = right stamp _ stamp-is (λ p. refl) (fits 8 0 (λ h. kept (ltb 8 (length s)) 8 (λ _. record { fact = h }))) in
+      by-row (eqb tag 1) greeting
+      (by-row (eqb tag 2) request
+      (by-row (eqb tag 3) refusal
+      (by-row (eqb tag 4) payload
+      (by-row (eqb tag 5) payload
+      (by-row (eqb tag 6) finished
+      (by-row (eqb tag 8) identity
+      (by-row (eqb tag 9) identity
+      (by-row (eqb tag 10) number
+      (by-row (eqb tag 11) resumption
+      (by-row (eqb tag 12) resets
+      (by-row (eqb tag 15) number
+      (by-row (eqb tag 18) stamped
+      (by-row (eqb tag 19) stamped
+      (by-row (eqb tag 20) number (record { answer = refl; within = record { fact = tt } })))))))))))))))
 
-  ident-within : Stands (identBody s)
-  unfolding identBody Within
-  ident-within = fits 52 0 (λ h. record { fact = omega arith })
-
-  reconnect-within : Stands (reconnectBody s)
-  unfolding reconnectBody Within
-  reconnect-within = fits 44 0 (λ h. record { fact = omega arith })
-
-  one-number-within : Stands (oneNumberBody s)
-  unfolding oneNumberBody Within
-  one-number-within = fits 8 0 (λ _. kept (ltb 8 (length s)) 8 (λ _. record { fact = tt }))
-
-  reset-within : Stands (resetBody s)
-  unfolding resetBody Within
-  reset-within = fits 1 0 (λ _. kept (ltb 1 (length s)) 1 (λ _. record { fact = tt }))
-
-  stamp-within : Stands (stampBody s)
-  unfolding stampBody Within
-  stamp-within = fits 8 0 (λ h. kept (ltb 8 (length s)) 8 (λ _. record { fact = h }))
-
-  tags-within : (tag : ℕ) → Stands (tagBody tag s)
-  unfolding tagBody Within
-  tags-within tag =
-      either-way (eqb tag 1) hello-within
-      (either-way (eqb tag 2) auth-request-within
-      (either-way (eqb tag 3) bad-method-within
-      (either-way (eqb tag 4) more-within
-      (either-way (eqb tag 5) more-within
-      (either-way (eqb tag 6) auth-done-within
-      (either-way (eqb tag 8) ident-within
-      (either-way (eqb tag 9) ident-within
-      (either-way (eqb tag 10) one-number-within
-      (either-way (eqb tag 11) reconnect-within
-      (either-way (eqb tag 12) reset-within
-      (either-way (eqb tag 15) one-number-within
-      (either-way (eqb tag 18) stamp-within
-      (either-way (eqb tag 19) stamp-within
-      (either-way (eqb tag 20) one-number-within (record { fact = tt })))))))))))))))
+  pub reads-as : (tag : ℕ) → answerOf s (bodyOf tag s) ≡ readBody tag s
+  unfolding readBody bodyOf
+  reads-as tag =
+      by-less segmentLimit (length s) (λ h. rw (lt-ltb segmentLimit (length s) h, lt-leb (length s) segmentLimit h))
+      (λ h. rw (le-ltb segmentLimit (length s) h, le-leb (length s) segmentLimit h) (tags tag .answer))
 
   pub all-within : (tag : ℕ) → Within s (bodyOf tag s)
   unfolding bodyOf
-  all-within tag = kept (ltb segmentLimit (length s)) 0 (λ _. tags-within tag) .fact
+  all-within tag = kept (ltb segmentLimit (length s)) 0 (λ _. tags tag .within) .fact
 
 -- THE CLAIM
 pub every-body : EveryBody

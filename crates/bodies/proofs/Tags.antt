@@ -1,13 +1,14 @@
 -- Kinds that compare alike are the same, and which tags a request may have.
-use mathlib.Core.Path.{_≡_, refl, sym, ap, ap₂, subst, _∙_}
+use mathlib.Core.Path.{_≡_, refl, sym, ap, ap₂, _∙_}
 use mathlib.Core.Bool.{Bool, true, false, _&&_, _||_}
 use mathlib.Core.List.{List, [], _∷_}
 use Prim.Native.Nat.{ℕ, zero, suc, _<_}
 use native.Mathlib.Omega.{arith}
 use native.Mathlib.Nat.{not-suc-le-zero}
-use lib.Dec.{leb, eqb}
-use borrow.Author.Tests.{eqb-true, eq-eqb, leb-true, leb-false}
-use Rattle.refusal.proofs.Booleans.{each-true}
+use lib.Dec.{eqb}
+use lib.ListN.{getD}
+use borrow.Author.Tests.{eqb-true, eq-eqb}
+use Rattle.refusal.proofs.Booleans.{by-less, wrong, each-true}
 use Rattle.fields.specs.Layout.{Kind}
 use Rattle.fields.specs.Layout as kind
 use Rattle.bodies.specs.declared.Ident.{Ident}
@@ -18,12 +19,7 @@ use Rattle.bodies.specs.Write.{kindsOf, writes}
 use Rattle.bodies.specs.Table.{hello, authRequest, badMethod, more, authDone, ident, reconnect, oneNumber, reset, stamp, shape, width, sameKinds, Found, listed, unlisted, isListed, layoutIn, layoutOf}
 
 kindBy : ℕ → ℕ → Kind
-kindBy zero w = kind.number w
-kindBy (suc zero) w = kind.negative
-kindBy (suc (suc zero)) w = kind.numbers
-kindBy (suc (suc (suc zero))) w = kind.payload
-kindBy (suc (suc (suc (suc zero)))) w = kind.opaque w
-kindBy (suc (suc (suc (suc (suc n))))) w = kind.fixed w
+kindBy n w = getD (kind.number w ∷ kind.negative ∷ kind.numbers ∷ kind.payload ∷ kind.opaque w ∷ []) n (kind.fixed w)
 
 kind-by : (k : Kind) → kindBy (shape k) (width k) ≡ k
 unfolding kindBy
@@ -40,8 +36,8 @@ same-kind j k a b =
 
 same-kinds : (js ks : List Kind) → sameKinds js ks ≡ true → js ≡ ks
 same-kinds [] [] h = refl
-same-kinds [] (k ∷ ks) h = absurd (let z : _≡_ {A = ℕ} 0 1 = cc in omega arith)
-same-kinds (j ∷ js) [] h = absurd (let z : _≡_ {A = ℕ} 0 1 = cc in omega arith)
+same-kinds [] (k ∷ ks) h = wrong cc
+same-kinds (j ∷ js) [] h = wrong cc
 same-kinds (j ∷ js) (k ∷ ks) h =
     let a = each-true (eqb (shape j) (shape k)) (eqb (width j) (width k) && sameKinds js ks) h in
     let b = each-true (eqb (width j) (width k)) (sameKinds js ks) (a .1) in
@@ -49,7 +45,7 @@ same-kinds (j ∷ js) (k ∷ ks) h =
 
 pub is-listed : (f : Found) (ks : List Kind) → isListed f ks ≡ true → f ≡ listed ks
 is-listed (listed js) ks h = ap listed (same-kinds js ks h)
-is-listed unlisted ks h = absurd (let z : _≡_ {A = ℕ} 0 1 = cc in omega arith)
+is-listed unlisted ks h = wrong cc
 
 -- and the other way
 kinds-same : (ks : List Kind) → sameKinds ks ks ≡ true
@@ -69,7 +65,7 @@ sameBool false false = true
 same-bool : (a b : Bool) → sameBool a b ≡ true → a ≡ b
 unfolding sameBool
 same-bool true b h = sym h
-same-bool false true h = absurd (let z : _≡_ {A = ℕ} 0 1 = cc in omega arith)
+same-bool false true h = wrong cc
 same-bool false false h = refl
 
 everyBelow : ℕ → (ℕ → Bool) → Bool
@@ -79,14 +75,9 @@ everyBelow (suc n) p = p n && everyBelow n p
 every-below : (n i : ℕ) (p : ℕ → Bool) → everyBelow n p ≡ true → i < n → p i ≡ true
 unfolding everyBelow
 every-below zero i p h l = absurd (not-suc-le-zero l)
-every-below (suc n) i p h l = go (leb n i) refl (every-below n i p)
-  where
-    a : (p n ≡ true) × (everyBelow n p ≡ true)
-    a = each-true (p n) (everyBelow n p) h
-
-    go : (b : Bool) → leb n i ≡ b → (everyBelow n p ≡ true → i < n → p i ≡ true) → p i ≡ true
-    go true t ih = let k = leb-true n i t in let e : i ≡ n = omega arith in rw e (a .0)
-    go false t ih = ih (a .1) (leb-false n i t)
+every-below (suc n) i p h l =
+    let a = each-true (p n) (everyBelow n p) h in
+    by-less i n (every-below n i p (a .1)) (λ k. let e : i ≡ n = omega arith in rw e (a .0))
 
 -- a byte's tags are those that a test says, where the two agree on every byte
 by-byte : (f : ℕ → Bool) (ks : List Kind) (tag : ℕ) → everyBelow 256 (λ t. sameBool (f t) (isListed (layoutOf t) ks)) ≡ true → tag < 256 → f tag ≡ isListed (layoutOf tag) ks
@@ -95,7 +86,7 @@ by-byte f ks tag h l = same-bool (f tag) (isListed (layoutOf tag) ks) (every-bel
 -- ---- the tags of each request
 
 pub as-served : {b : Bool} {r k : Request} (tag : ℕ) → r ≡ k → b ≡ writes tag k → b ≡ writes tag r
-as-served {b} tag e h = subst (λ (x : Request). b ≡ writes tag x) (sym e) h
+as-served tag e h = rw e h
 
 pub serves-hello : (tag : ℕ) (n : ℕ) → tag < 256 → (eqb tag 1) ≡ writes tag (request.Hello n)
 unfolding everyBelow sameBool layoutIn writes kindsOf

@@ -1,11 +1,11 @@
 -- Reading what was written gives it back, and writing what was read gives the same bytes.
-use mathlib.Core.Path.{_≡_, refl, sym, ap, ap₂, subst, _∙_}
+use mathlib.Core.Path.{_≡_, refl, sym, ap, ap₂, _∙_}
 use mathlib.Core.Bool.{Bool, true, false, cond}
-use mathlib.Core.List.{List, [], _∷_, _++_}
+use mathlib.Core.List.{List, [], _∷_}
 use Prim.Native.Nat.{ℕ, _+_, _≤_}
 use native.Mathlib.Omega.{arith}
 use lib.Dec.{leb, eqb}
-use borrow.Author.Tests.{le-leb, leb-true, leb-false, eqb-true}
+use borrow.Author.Tests.{le-leb, eqb-true}
 use lib.ListN.{length, take, drop, take-append-drop}
 use lib.Seq.{take-at, drop-drop, drop-length}
 use Rattle.buffer.specs.Le.{Bytes}
@@ -13,10 +13,10 @@ use Rattle.buffer.specs.Splice.{replaceFront}
 use Rattle.preamble.specs.Judge.{segmentLimit}
 use Rattle.refusal.specs.declared.Numbers.{Numbers}
 use Rattle.refusal.specs.Refusals.{row}
-use Rattle.refusal.proofs.Booleans.{wrong}
+use Rattle.refusal.proofs.Booleans.{by-test, by-less, wrong}
 use Rattle.fields.specs.declared.Cursor.{Cursor}
 use Rattle.fields.specs.Layout.{Kind, good, stepOf}
-use Rattle.fields.specs.Field.{Field, fieldBytes, fieldAt}
+use Rattle.fields.specs.Field.{Field, fieldBytes}
 use Rattle.fields.specs.Reading.{spanIn, numbersIn}
 use Rattle.fields.proofs.ReadBack.{over-field, same-kind}
 use Rattle.bodies.specs.declared.Body.{Body}
@@ -28,7 +28,7 @@ use Rattle.refusal.specs.declared.WriteResult.the-variants as written
 use Rattle.refusal.specs.Writes.{WriteOutcome, wrote, refusedFor, Done, done, outcomeOf}
 use Rattle.bodies.specs.Table.{Found, listed, unlisted, layoutOf, isListed}
 use Rattle.bodies.specs.Rows.{requested}
-use Rattle.bodies.specs.Read.{run, fieldsOf, Answer, whole, refused, malformed, settled, readOf, readBy, readBody, answerOf}
+use Rattle.bodies.specs.Read.{run, fieldsOf, Answer, whole, refused, malformed, settled, readBy, readBody, answerOf}
 use Rattle.bodies.specs.Write.{kindsOf, bytesOf, writeAs, writeBody, writes}
 use Rattle.bodies.specs.Claims.{AllFit, AllSound, Requested, holds, Reads, Writes, RoundTrips}
 use Rattle.bodies.proofs.Rows.{failed-run}
@@ -52,7 +52,7 @@ same-count : {n m : ℕ} → wrote n ≡ wrote m → n ≡ m
 same-count e = cc
 
 not-wrote : {A : Type 0} {n : ℕ} {r : Numbers} → wrote n ≡ refusedFor r → A
-not-wrote e = absurd (let z : _≡_ {A = ℕ} 0 1 = cc in omega arith)
+not-wrote e = wrong cc
 
 -- only a body that reads, with room, is written
 wrote-well : (tag n : ℕ) (fs : List Field) (out l : List ℕ) → done (wrote n) l ≡ writeBody tag fs out → Written-well tag n fs out l
@@ -70,18 +70,11 @@ wrote-well tag n fs out l = go (isListed (layoutOf tag) (kindsOf fs)) (readBody 
     go false r b x y z e = let f : done (wrote n) l ≡ done (refusedFor (row 20 0 0 0)) out = e in not-wrote (outcomes f)
 
 -- where the bytes of filled fields read at all, they read as those fields
-whole-by : (tag : ℕ) (fs gs : List Field) (b : Bool) (n : ℕ) → readBody tag (bytesOf fs) ≡ whole gs → readBody tag (bytesOf fs) ≡ cond b (malformed n) (whole fs) → readBody tag (bytesOf fs) ≡ whole fs
-whole-by tag fs gs true n e h = let x : whole gs ≡ malformed n = sym e ∙ h in absurd (let z : _≡_ {A = ℕ} 0 1 = cc in omega arith)
-whole-by tag fs gs false n e h = h
-
 reads-same : (tag : ℕ) (fs gs : List Field) → isListed (layoutOf tag) (kindsOf fs) ≡ true → AllFit fs → Closed fs → readBody tag (bytesOf fs) ≡ whole gs → readBody tag (bytesOf fs) ≡ whole fs
-reads-same tag fs gs k x y e = go (leb (length (bytesOf fs)) segmentLimit) refl
-  where
-    go : (a : Bool) → leb (length (bytesOf fs)) segmentLimit ≡ a → readBody tag (bytesOf fs) ≡ whole fs
-    go true t = whole-by tag fs gs (judge fs 0 .failed) (judge fs 0 .at) e (read-listed tag fs (is-listed (layoutOf tag) (kindsOf fs) k) x y (leb-true (length (bytesOf fs)) segmentLimit t))
-    go false t =
-        let h : whole gs ≡ malformed 0 = sym e ∙ read-long tag (bytesOf fs) (leb-false (length (bytesOf fs)) segmentLimit t) in
-        absurd (let z : _≡_ {A = ℕ} 0 1 = cc in omega arith)
+reads-same tag fs gs k x y e =
+    by-less segmentLimit (length (bytesOf fs)) (λ l. wrong (cc (read-long tag (bytesOf fs) l))) (λ l.
+    let h = read-listed tag fs (is-listed (layoutOf tag) (kindsOf fs) k) x y l in
+    by-test (judge fs 0 .failed) (λ t. wrong cc) (λ t. h ∙ rw t))
 
 back : (tag n : ℕ) (r : Request) (ms ns bs out l : List ℕ) (b : Body) → Writes tag (requested r ms ns bs) out (written.Wrote n) l → Reads tag (take n l) b → answerOf (take n l) b ≡ whole (requested r ms ns bs)
 back tag n r ms ns bs out l b w q =
@@ -95,58 +88,45 @@ back tag n r ms ns bs out l b w q =
 fields-again : (ks : List Kind) (s : List ℕ) (at : ℕ) → Bytes s → at ≤ length s → run ks s (good at) .failed ≡ false → run ks s (good at) .at ≡ length s → bytesOf (fieldsOf ks s (good at)) ≡ drop at s
 unfolding bytesOf
 fields-again [] s at h l f e = sym (ap (λ (n : ℕ). drop n s) e ∙ drop-length s)
-fields-again (k ∷ ks) s at h l f e = go (stepOf k s (good at) .failed) refl (λ (n : ℕ). fields-again ks s n h)
-  where
-    go : (b : Bool) → stepOf k s (good at) .failed ≡ b → ((n : ℕ) → n ≤ length s → run ks s (good n) .failed ≡ false → run ks s (good n) .at ≡ length s → bytesOf (fieldsOf ks s (good n)) ≡ drop n s) → fieldBytes (fieldAt k s at) ++ bytesOf (fieldsOf ks s (stepOf k s (good at))) ≡ drop at s
-    go true t ih = wrong (sym f ∙ failed-run ks s (stepOf k s (good at)) t)
-    go false t ih =
-        let o = over-field s at h l k t in
-        let x : run ks s (good (at + o .m)) .failed ≡ false = subst (λ (c : Cursor). run ks s c .failed ≡ false) (o .next) f in
-        let y : run ks s (good (at + o .m)) .at ≡ length s = subst (λ (c : Cursor). run ks s c .at ≡ length s) (o .next) e in
-        let i = ih (at + o .m) (o .within) x y in
-        rw (o .next, o .bytes, i, ← (drop-drop (o .m) at s)) (take-append-drop (o .m) (drop at s))
+fields-again (k ∷ ks) s at h l f e =
+    by-test (stepOf k s (good at) .failed) (λ t. wrong (sym f ∙ failed-run ks s (stepOf k s (good at)) t)) (λ t.
+    let o = over-field s at h l k t in
+    let i = fields-again ks s (at + o .m) h (o .within) (rw (o .next, run) at f) (rw (o .next, run) at e) in
+    rw (o .next, o .bytes, i, ← (drop-drop (o .m) at s)) (take-append-drop (o .m) (drop at s)))
 
 kinds-again : (ks : List Kind) (s : List ℕ) (c : Cursor) → kindsOf (fieldsOf ks s c) ≡ ks
 unfolding kindsOf
 kinds-again [] s c = refl
 kinds-again (k ∷ ks) s c = ap₂ (λ (x : Kind) (xs : List Kind). x ∷ xs) (same-kind k s (c .at)) (kinds-again ks s (stepOf k s c))
 
-record Read-well (ks : List Kind) (s : List ℕ) (fs : List Field) : Type 0 where
+-- a body that reads whole: of a listed layout, with no fault, and with no byte left over
+record Read-well (tag : ℕ) (s : List ℕ) (fs : List Field) : Type 0 where
+  ks : List Kind
+  layout : layoutOf tag ≡ listed ks
   fine : run ks s (good 0) .failed ≡ false
   ended : run ks s (good 0) .at ≡ length s
   same : fieldsOf ks s (good 0) ≡ fs
 
-read-well : (ks : List Kind) (s : List ℕ) (fs : List Field) → readOf ks s ≡ whole fs → Read-well ks s fs
-unfolding settled
-read-well ks s fs = go (run ks s (good 0) .failed) (eqb (run ks s (good 0) .at) (length s)) refl refl
+read-well : (tag : ℕ) (s : List ℕ) (fs : List Field) → readBody tag s ≡ whole fs → Read-well tag s fs
+unfolding readBody settled
+read-well tag s fs e = by-test (leb (length s) segmentLimit) (λ a. go (layoutOf tag) refl (rw a at e)) (λ a. wrong cc)
   where
-    go : (a b : Bool) → run ks s (good 0) .failed ≡ a → eqb (run ks s (good 0) .at) (length s) ≡ b → cond a (malformed (run ks s (good 0) .at)) (cond b (whole (fieldsOf ks s (good 0))) (malformed (run ks s (good 0) .at))) ≡ whole fs → Read-well ks s fs
-    go false true x y e = record { fine = x; ended = eqb-true (run ks s (good 0) .at) (length s) y; same = cc }
-    go false false x y e = absurd (let z : _≡_ {A = ℕ} 0 1 = cc in omega arith)
-    go true b x y e = absurd (let z : _≡_ {A = ℕ} 0 1 = cc in omega arith)
+    go : (f : Found) → layoutOf tag ≡ f → readBy f s ≡ whole fs → Read-well tag s fs
+    go (listed ks) x e =
+        by-test (run ks s (good 0) .failed) (λ y. wrong cc) (λ y. by-test (eqb (run ks s (good 0) .at) (length s))
+        (λ z. record { ks = ks; layout = x; fine = y; ended = eqb-true (run ks s (good 0) .at) (length s) z; same = cc }) (λ z. wrong cc))
+    go unlisted x e = wrong cc
 
 -- the fields that a body reads as are of the tag's kinds
 pub kinds-read : (tag : ℕ) (s : List ℕ) (fs : List Field) → readBody tag s ≡ whole fs → isListed (layoutOf tag) (kindsOf fs) ≡ true
-unfolding readBody
-kinds-read tag s fs = go (leb (length s) segmentLimit) (layoutOf tag) refl
-  where
-    go : (a : Bool) (f : Found) → layoutOf tag ≡ f → cond a (readBy f s) (malformed 0) ≡ whole fs → isListed (layoutOf tag) (kindsOf fs) ≡ true
-    go true (listed ks) x e =
-        let k : kindsOf fs ≡ ks = ap kindsOf (sym (read-well ks s fs e .same)) ∙ kinds-again ks s (good 0) in
-        listed-is (layoutOf tag) (kindsOf fs) (x ∙ ap listed (sym k))
-    go true unlisted x e = absurd (let z : _≡_ {A = ℕ} 0 1 = cc in omega arith)
-    go false f x e = absurd (let z : _≡_ {A = ℕ} 0 1 = cc in omega arith)
+kinds-read tag s fs e =
+    let r = read-well tag s fs e in
+    listed-is (layoutOf tag) (kindsOf fs) (r .layout ∙ ap listed (sym (kinds-again (r .ks) s (good 0)) ∙ ap kindsOf (r .same)))
 
 same-bytes : (tag : ℕ) (s : List ℕ) (fs : List Field) → Bytes s → readBody tag s ≡ whole fs → bytesOf fs ≡ s
-unfolding readBody
-same-bytes tag s fs h = go (leb (length s) segmentLimit) (layoutOf tag)
-  where
-    go : (a : Bool) (f : Found) → cond a (readBy f s) (malformed 0) ≡ whole fs → bytesOf fs ≡ s
-    go true (listed ks) e =
-        let r = read-well ks s fs e in
-        ap bytesOf (sym (r .same)) ∙ fields-again ks s 0 h (omega arith) (r .fine) (r .ended)
-    go true unlisted e = absurd (let z : _≡_ {A = ℕ} 0 1 = cc in omega arith)
-    go false f e = absurd (let z : _≡_ {A = ℕ} 0 1 = cc in omega arith)
+same-bytes tag s fs h e =
+    let r = read-well tag s fs e in
+    ap bytesOf (sym (r .same)) ∙ fields-again (r .ks) s 0 h (omega arith) (r .fine) (r .ended)
 
 -- it is then written whole, where there is room
 written-again : (tag : ℕ) (s : List ℕ) (fs : List Field) (out : List ℕ) → Bytes s → readBody tag s ≡ whole fs → length s ≤ length out → writeBody tag fs out ≡ done (wrote (length s)) (replaceFront s out)
@@ -190,7 +170,7 @@ held-by s (body.Reconnect n p k) fs e = holds (request.Reconnect n k) [] [] (spa
 held-by s (body.Number n) fs e = holds (request.Number n) [] [] [] cc
 held-by s (body.Reset n) fs e = holds (request.Reset n) [] [] [] cc
 held-by s (body.Stamp p) fs e = holds request.Stamp [] [] (spanIn s p) cc
-held-by s (body.Refused r) fs e = absurd (let z : _≡_ {A = ℕ} 0 1 = cc in omega arith)
+held-by s (body.Refused r) fs e = wrong cc
 
 -- THE CLAIM
 pub round-trips : RoundTrips

@@ -2,14 +2,15 @@
 use Prim.Native.Nat.{ℕ, zero, suc, _+_, _≤_, _<_}
 use mathlib.Core.List.{List, [], _∷_}
 use mathlib.Core.Path.{_≡_, refl, sym, ap, ap₂, _∙_}
-use mathlib.Core.Bool.{Bool, true, false, _||_}
+use mathlib.Core.Bool.{true, _||_}
 use native.Mathlib.Omega.{arith}
 use lib.ListN.{length, drop, getD}
 use lib.Dec.{leb, ltb, eqb}
-use borrow.Author.Tests.{le-ltb, lt-ltb, leb-true, leb-false, le-leb, lt-leb, eq-eqb, eqb-true}
+use borrow.Author.Tests.{le-ltb, lt-ltb, le-leb, lt-leb, eq-eqb, eqb-true}
 use Rattle.refusal.specs.declared.Refusal.the-variants as refusal
 use Rattle.refusal.specs.Refusals.{fine, unless}
 use Rattle.refusal.proofs.Judgements.{both-fine, passed}
+use Rattle.refusal.proofs.Booleans.{by-less}
 use Rattle.body.specs.Body.{segmentSum, field, fieldsFrom}
 use Rattle.body.specs.End.{compareFrom, unusedFrom}
 
@@ -32,11 +33,7 @@ every-sum count k (f ∷ fs) ss e (suc i) l u =
 
 -- one test, by what is stored
 test-holds : (count k f : ℕ) (s : List ℕ) → (k ≤ count → f ≡ segmentSum s) → (ltb count k || eqb f (segmentSum s)) ≡ true
-test-holds count k f s a = go (leb k count) refl
-  where
-    go : (c : Bool) → leb k count ≡ c → (ltb count k || eqb f (segmentSum s)) ≡ true
-    go true c = (let u = leb-true k count c in rw (le-ltb count k u, eq-eqb f (segmentSum s) (a u)))
-    go false c = rw (lt-ltb count k (leb-false k count c))
+test-holds count k f s a = by-less count k (λ l. rw (lt-ltb count k l)) (λ u. rw (le-ltb count k u, eq-eqb f (segmentSum s) (a u)))
 
 pub all-sums : (count k : ℕ) (fs : List ℕ) (ss : List (List ℕ))
     → ((i : ℕ) → i < length fs → k + i ≤ count → getD fs i 0 ≡ segmentSum (getD ss i [])) → compareFrom count k fs ss ≡ fine
@@ -48,10 +45,7 @@ all-sums count k (f ∷ fs) ss a =
 -- checksums that were written compare as equal
 pub same-sums : (count k : ℕ) (ss : List (List ℕ)) → compareFrom count k (fieldsFrom count k ss) ss ≡ fine
 same-sums count k [] = refl
-same-sums count k (s ∷ ss) = rw (test-holds count k (field count k s) s (λ u. used u)) (same-sums count (suc k) ss)
-  where
-    used : k ≤ count → field count k s ≡ segmentSum s
-    used u = rw (le-leb k count u)
+same-sums count k (s ∷ ss) = rw (test-holds count k (field count k s) s (λ u. rw (le-leb k count u))) (same-sums count (suc k) ss)
 
 -- ---- the fields fs of unused segments, which are numbered from k on, are 0
 
@@ -66,11 +60,7 @@ every-unused count k (f ∷ fs) e (suc i) l u =
     every-unused count (suc k) fs (a .1) i (omega arith) (omega arith)
 
 unused-holds : (count k f : ℕ) → (count < k → f ≡ 0) → (leb k count || eqb f 0) ≡ true
-unused-holds count k f a = go (leb k count) refl
-  where
-    go : (c : Bool) → leb k count ≡ c → (leb k count || eqb f 0) ≡ true
-    go true c = rw c
-    go false c = rw (c, eq-eqb f 0 (a (leb-false k count c)))
+unused-holds count k f a = by-less count k (λ l. rw (lt-leb k count l, eq-eqb f 0 (a l))) (λ u. rw (le-leb k count u))
 
 pub all-unused : (count k : ℕ) (fs : List ℕ) → ((i : ℕ) → i < length fs → count < k + i → getD fs i 0 ≡ 0) → unusedFrom count k fs ≡ fine
 all-unused count k [] a = refl
@@ -90,10 +80,10 @@ fields-back count k (f ∷ fs) [] l c u = absurd (omega arith)
 fields-back count k (f ∷ fs) (s ∷ ss) l c u =
     let a = both-fine (unless (ltb count k || eqb f (segmentSum s)) (refusal.SegmentChecksum k)) (compareFrom count (suc k) fs ss) c in
     let b = both-fine (unless (leb k count || eqb f 0) (refusal.NonCanonical k)) (unusedFrom count (suc k) fs) u in
+    let p = passed (ltb count k || eqb f (segmentSum s)) (refusal.SegmentChecksum k) (a .0) in
+    let q = passed (leb k count || eqb f 0) (refusal.NonCanonical k) (b .0) in
     ap₂ (λ (x : ℕ) (xs : List ℕ). x ∷ xs)
-    (one (leb k count) refl (passed (ltb count k || eqb f (segmentSum s)) (refusal.SegmentChecksum k) (a .0)) (passed (leb k count || eqb f 0) (refusal.NonCanonical k) (b .0)))
+    (by-less count k
+    (λ l. rw (lt-leb k count l) (eqb-true f 0 (rw (lt-leb k count l) at q)))
+    (λ u. rw (le-leb k count u) (eqb-true f (segmentSum s) (rw (le-ltb count k u) at p))))
     (fields-back count (suc k) fs ss (omega arith) (a .1) (b .1))
-  where
-    one : (c : Bool) → leb k count ≡ c → (ltb count k || eqb f (segmentSum s)) ≡ true → (leb k count || eqb f 0) ≡ true → f ≡ field count k s
-    one true c p q = rw c (eqb-true f (segmentSum s) (rw (le-ltb count k (leb-true k count c)) at p))
-    one false c p q = rw c (eqb-true f 0 (rw c at q))

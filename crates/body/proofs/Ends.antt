@@ -1,13 +1,14 @@
 -- A body and its end are read by their own bytes: what stands behind them does not count.
 use Prim.Native.Nat.{ℕ, _+_, _≤_, _<_}
 use mathlib.Core.List.{List, _++_}
-use mathlib.Core.Path.{_≡_, refl, sym, ap, ap₂, _∙_}
-use mathlib.Core.Bool.{Bool, true, false}
+use mathlib.Core.Path.{_≡_, sym, ap, ap₂, _∙_}
+use mathlib.Core.Bool.{true, false}
 use native.Mathlib.Omega.{arith}
 use lib.ListN.{length, take, drop, length-append, length-drop, List·getD-append}
 use lib.Seq.{getD-take, length-take-le, take-append-le, drop-append-le}
 use lib.Dec.{lit<, lit≤, leb}
 use Rattle.buffer.proofs.Numbers.{number-take, number-append}
+use Rattle.refusal.proofs.Booleans.{by-test}
 use Rattle.banner.specs.declared.Revision.{Revision}
 use Rattle.banner.specs.declared.Revision.the-variants.{Msgr20, Msgr21}
 use Rattle.preamble.specs.declared.Header.{Header}
@@ -42,13 +43,12 @@ pub ending-append : (r : Revision) (h : Header) (e y p : List ℕ) → epilogueL
 unfolding ending
 ending-append Msgr20 h e y p l =
     rw (List·getD-append e y 0 0 (omega arith), number-append 4 1 e y (omega arith), number-append 4 5 e y (omega arith), number-append 4 9 e y (omega arith), number-append 4 13 e y (omega arith))
-ending-append Msgr21 h e y p l = go (leb (h .count) 1) refl
-  where
-    go : (c : Bool) → leb (h .count) 1 ≡ c → ending Msgr21 h (e ++ y) p ≡ ending Msgr21 h e p
-    go true c = ending-none Msgr21 h (e ++ y) p c ∙ sym (ending-none Msgr21 h e p c)
-    go false c =
-        let l′ : 13 ≤ length e = rw c at l in
-        rw (List·getD-append e y 0 0 (omega arith), number-append 4 1 e y (omega arith), number-append 4 5 e y (omega arith), number-append 4 9 e y (omega arith))
+ending-append Msgr21 h e y p l =
+    by-test (leb (h .count) 1)
+    (λ c. ending-none Msgr21 h (e ++ y) p c ∙ sym (ending-none Msgr21 h e p c))
+    (λ c.
+    let l′ : 13 ≤ length e = rw c at l in
+    rw (List·getD-append e y 0 0 (omega arith), number-append 4 1 e y (omega arith), number-append 4 5 e y (omega arith), number-append 4 9 e y (omega arith)))
 
 -- ---- a body's bytes b, and y behind them
 

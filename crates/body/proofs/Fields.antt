@@ -1,6 +1,5 @@
 -- Checksum fields: 32-bit numbers, and those of an epilogue, from its bytes.
 use mathlib.Core.Path.{_≡_, refl}
-use mathlib.Core.Bool.{Bool, true, false, cond}
 use mathlib.Core.List.{List, [], _∷_}
 use Prim.Native.Nat.{ℕ, zero, suc, _+_, _*_, _^_, _<_}
 use native.Mathlib.Omega.{arith}
@@ -9,6 +8,7 @@ use lib.ListN.{getD}
 use Rattle.buffer.specs.Le.{numberAt, Bytes, words}
 use Rattle.buffer.proofs.Numbers.{leOf-le}
 use Rattle.crc32c.proofs.Laws.{crc-lt}
+use Rattle.refusal.proofs.Booleans.{at-cond}
 use Rattle.banner.specs.declared.Revision.the-variants.{Msgr20, Msgr21}
 use Rattle.body.specs.Body.{segmentSum, field}
 use Rattle.body.specs.End.{stored}
@@ -17,11 +17,7 @@ pub sum-lt : {l : List ℕ} → Bytes l → segmentSum l < 2 ^ 32
 sum-lt {l} h = crc-lt 0xFFFFFFFF l (lit< tt) (h .at)
 
 pub field-lt : (count k : ℕ) {l : List ℕ} → Bytes l → field count k l < 2 ^ 32
-field-lt count k {l} h = go (leb k count)
-  where
-    go : (c : Bool) → cond c (segmentSum l) 0 < 2 ^ 32
-    go true = sum-lt h
-    go false = lit< tt
+field-lt count k h = at-cond (λ (x : ℕ). x < 2 ^ 32) (leb k count) (sum-lt h) (lit< tt)
 
 -- ---- an epilogue's fields
 

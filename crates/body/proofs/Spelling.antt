@@ -1,18 +1,19 @@
 -- A body that passes its checks is the one that its segments are written as (02, K10).
-use Prim.Native.Nat.{ℕ, _+_, _*_, _%_, _≤_, _<_}
+use Prim.Native.Nat.{ℕ, _+_, _*_, _%_}
 use mathlib.Core.List.{List, [], _∷_, _++_}
-use mathlib.Core.Path.{_≡_, refl, sym, ap, ap₂, _∙_}
+use mathlib.Core.Path.{_≡_, refl, sym, ap, _∙_}
 use mathlib.Core.Bool.{Bool, true, false, cond}
 use native.Mathlib.Omega.{arith}
 use lib.ListN.{length, take, drop, getD, length-drop, take-append-drop, drop-of-length-le}
-use lib.Seq.{take-add, take-at, drop-at, drop-drop, length-take-le}
+use lib.Seq.{take-add, take-at, drop-at, drop-cons, length-take-le}
 use lib.Dec.{ltb, eqb}
 use borrow.Author.Tests.{ltb-true, eqb-true, eqb-false}
 use Rattle.buffer.specs.Le.{le, numberAt, Bytes, words}
-use Rattle.buffer.proofs.Numbers.{number-again, bytes-drop}
+use Rattle.buffer.proofs.Numbers.{number-again, number-on, bytes-drop}
 use Rattle.refusal.specs.declared.Refusal.the-variants as refusal
 use Rattle.refusal.specs.Refusals.{Judged, fine, refused}
 use Rattle.refusal.proofs.Judgements.{both-fine, passed}
+use Rattle.refusal.proofs.Booleans.{by-test, at-test}
 use Rattle.banner.specs.declared.Revision.{Revision}
 use Rattle.banner.specs.declared.Revision.the-variants.{Msgr20, Msgr21}
 use Rattle.preamble.specs.declared.Header.{Header}
@@ -55,53 +56,23 @@ judged-whole r h e p c w =
 late-is : (r : Revision) (b : ℕ) → judgeLateFlags r b ≡ fine → lateOf r b ≡ late.Complete → lateAgain r b ≡ true → b ≡ lateByte r false
 late-is Msgr20 b f l a =
     let k = ltb-true b 2 (passed (ltb b 2) (refusal.NonCanonical 0) f) in
-    go (eqb (b % 2) 1) refl k l
-  where
-    go : (c : Bool) → eqb (b % 2) 1 ≡ c → b < 2 → cond (eqb (b % 2) 1) late.Aborted late.Complete ≡ late.Complete → b ≡ 0
-    go true c k l = (let z : late.Aborted ≡ late.Complete = rw c at l in cc)
-    go false c k l = (let n = eqb-false (b % 2) 1 c in omega arith)
-late-is Msgr21 b f l a = go (eqb (b % 16) 0x0E) refl (ltb-true b 16 a) l
-  where
-    go : (c : Bool) → eqb (b % 16) 0x0E ≡ c → b < 16 → cond (eqb (b % 16) 0x0E) late.Complete (cond (eqb (b % 16) 0x01) late.Aborted late.Wrong) ≡ late.Complete → b ≡ 0x0E
-    go true c k l = (let n = eqb-true (b % 16) 0x0E c in omega arith)
-    go false c k l = other (eqb (b % 16) 0x01) (rw c at l)
-      where
-        other : (d : Bool) → cond d late.Aborted late.Wrong ≡ late.Complete → b ≡ 0x0E
-        other true z = cc
-        other false z = cc
+    by-test (eqb (b % 2) 1) (λ c. let z : late.Aborted ≡ late.Complete = rw c at l in cc) (λ c. omega (arith, eqb-false (b % 2) 1 c))
+late-is Msgr21 b f l a =
+    let k = ltb-true b 16 a in
+    by-test (eqb (b % 16) 0x0E)
+    (λ c. omega (arith, eqb-true (b % 16) 0x0E c))
+    (λ c. by-test (eqb (b % 16) 0x01) (λ d. let z : late.Aborted ≡ late.Complete = rw (c, d) at l in cc) (λ d. let z : late.Wrong ≡ late.Complete = rw (c, d) at l in cc))
 
 -- its bytes from its fields
-word-on : (i : ℕ) (e : List ℕ) → Bytes e → i + 4 ≤ length e → le 4 (numberAt 4 i e) ++ drop (i + 4) e ≡ drop i e
-word-on i e b l =
-    let n = number-again 4 i e b (omega arith) in
-    ap₂ (λ (x y : List ℕ). x ++ y) n (sym (drop-drop 4 i e)) ∙ take-append-drop 4 (drop i e)
-
-head-on : (e : List ℕ) → 0 < length e → getD e 0 0 ∷ drop 1 e ≡ e
-head-on [] l = absurd (omega arith)
-head-on (x ∷ e) l = refl
-
-last-of : (n : ℕ) (e : List ℕ) → length e ≡ n → drop n e ≡ []
-last-of n e l = drop-of-length-le e {i = n} (omega arith)
-
 bytes-of : (r : Revision) (e : List ℕ) → Bytes e → length e ≡ 1 + 4 * length (stored r e) → getD e 0 0 ∷ words (stored r e) ≡ e
 bytes-of Msgr20 e b l =
     ap (λ (t : List ℕ). getD e 0 0 ∷ t)
-    (ap (λ (t : List ℕ). le 4 (numberAt 4 1 e) ++ t)
-    (ap (λ (t : List ℕ). le 4 (numberAt 4 5 e) ++ t)
-    (ap (λ (t : List ℕ). le 4 (numberAt 4 9 e) ++ t)
-    (ap (λ (t : List ℕ). le 4 (numberAt 4 13 e) ++ t) (sym (last-of 17 e l)) ∙ word-on 13 e b (omega arith))
-    ∙ word-on 9 e b (omega arith))
-    ∙ word-on 5 e b (omega arith))
-    ∙ word-on 1 e b (omega arith))
-    ∙ head-on e (omega arith)
+    (number-on 4 1 e b (omega arith) (number-on 4 5 e b (omega arith) (number-on 4 9 e b (omega arith) (number-on 4 13 e b (omega arith) (sym (drop-of-length-le e {i = 17} (omega arith)))))))
+    ∙ sym (drop-cons e 0 0 (omega arith))
 bytes-of Msgr21 e b l =
     ap (λ (t : List ℕ). getD e 0 0 ∷ t)
-    (ap (λ (t : List ℕ). le 4 (numberAt 4 1 e) ++ t)
-    (ap (λ (t : List ℕ). le 4 (numberAt 4 5 e) ++ t)
-    (ap (λ (t : List ℕ). le 4 (numberAt 4 9 e) ++ t) (sym (last-of 13 e l)) ∙ word-on 9 e b (omega arith))
-    ∙ word-on 5 e b (omega arith))
-    ∙ word-on 1 e b (omega arith))
-    ∙ head-on e (omega arith)
+    (number-on 4 1 e b (omega arith) (number-on 4 5 e b (omega arith) (number-on 4 9 e b (omega arith) (sym (drop-of-length-le e {i = 13} (omega arith))))))
+    ∙ sym (drop-cons e 0 0 (omega arith))
 
 same-count : (r : Revision) (h : Header) (e first rest : List ℕ) → length (stored r e) ≡ length (inEpilogue r (segments h first rest))
 same-count Msgr20 h e first rest = refl
@@ -143,38 +114,26 @@ module _ (r : Revision) (h : Header) (b : List ℕ) (bytes : Bytes b) (long : le
   rest-again = drop-at (take n b) (take m (drop (n + k) b)) n (length-take-le n b (omega arith))
 
   parts : take n b ++ take k (drop n b) ++ take m (drop (n + k) b) ++ drop (n + k + m) b ≡ b
-  parts =
-      ap (λ (t : List ℕ). t ++ drop (n + k + m) b) (ap (λ (t : List ℕ). t ++ take m (drop (n + k) b)) (sym (take-add n k b)) ∙ sym (take-add (n + k) m b))
-      ∙ take-append-drop (n + k + m) b
+  parts = rw (← (take-add n k b), ← (take-add (n + k) m b)) (take-append-drop (n + k + m) b)
 
   sum-again : (noFirstSum r h ≡ false → numberAt 4 n b ≡ segmentSum (take n b)) → take k (drop n b) ≡ firstSum r h (take n b)
-  sum-again f = go (noFirstSum r h) refl
-    where
-      go : (c : Bool) → noFirstSum r h ≡ c → take (cond c 0 4) (drop n b) ≡ cond c [] (le 4 (segmentSum (take n b)))
-      go true c = refl
-      go false c =
-          let l : n + 4 ≤ length b = (let z = rw c at long in omega arith) in
-          sym (number-again 4 n b bytes (omega arith)) ∙ ap (le 4) (f c)
+  sum-again f =
+      at-test (λ (c : Bool). take (cond c 0 4) (drop n b) ≡ cond c [] (le 4 (segmentSum (take n b)))) (noFirstSum r h) (λ c. refl)
+      (λ c.
+      let z = rw c at long in
+      sym (number-again 4 n b bytes (omega arith)) ∙ ap (le 4) (f c))
 
   last-again : ending r h (drop (total h + k) b) p ≡ whole → (noEpilogue r h ≡ false → lateAgain r (getD (drop (total h + k) b) 0 0) ≡ true)
       → drop (total h + k) b ≡ epilogue r h (lateByte r false) (take n p) (drop n p)
-  last-again w a = go (noEpilogue r h) refl
-    where
-      d : length (drop (total h + k) b) ≡ epilogueLength r h
-      d = length-drop (total h + k) b ∙ omega arith
-
-      go : (c : Bool) → noEpilogue r h ≡ c → drop (total h + k) b ≡ epilogue r h (lateByte r false) (take n p) (drop n p)
-      go true c = (let z = no-length r h c in rw c (drop-of-length-le b {i = total h + k} (omega arith)))
-      go false c = epilogue-again r h (drop (total h + k) b) p (bytes-drop (total h + k) bytes) d c w (a c)
+  last-again w a =
+      let d : length (drop (total h + k) b) ≡ epilogueLength r h = length-drop (total h + k) b ∙ omega arith in
+      by-test (noEpilogue r h)
+      (λ c. let z = no-length r h c in rw c (drop-of-length-le b {i = total h + k} (omega arith)))
+      (λ c. epilogue-again r h (drop (total h + k) b) p (bytes-drop (total h + k) bytes) d c w (a c))
 
   pub body-again : (noFirstSum r h ≡ false → numberAt 4 n b ≡ segmentSum (take n b)) → ending r h (drop (total h + k) b) p ≡ whole
       → (noEpilogue r h ≡ false → lateAgain r (getD (drop (total h + k) b) 0 0) ≡ true) → b ≡ body r h (lateByte r false) (take n p) (drop n p)
   unfolding body
   body-again f w a =
       let e : n + k + m ≡ total h + k = omega arith in
-      sym parts
-      ∙ ap₂ (λ (x y : List ℕ). x ++ y)
-      (ap₂ (λ (x y : List ℕ). x ++ y)
-      (ap₂ (λ (x y : List ℕ). x ++ y) (sym first-again) (sum-again f ∙ ap (firstSum r h) (sym first-again)))
-      (sym rest-again))
-      (ap (λ (i : ℕ). drop i b) e ∙ last-again w a)
+      rw (← (last-again w a), first-again, rest-again, ← (sum-again f)) (sym (rw e at parts))

@@ -3,16 +3,14 @@ use mathlib.Core.Path.{_≡_, sym, ap, _∙_}
 use mathlib.Core.List.{List, [], _∷_, _++_, append-nil}
 use Prim.Native.Nat.{ℕ, _+_, _≤_, _<_}
 use native.Mathlib.Numerals.{add-one}
-use lib.ListN.{length, take, drop, getD, drop-of-length-le}
+use lib.ListN.{length, drop, getD, drop-of-length-le}
 use lib.Seq.{drop-cons}
-use Rattle.buffer.specs.Le.{numberAt}
-use Rattle.bodies.specs.Read.{readBody}
 use Rattle.io.specs.Digits.{digits}
 use Rattle.text.specs.Line.{Piece, raw}
 use Rattle.text.specs.Line as line
 use Rattle.text.specs.Page.{Page, put, puts}
 use Rattle.text.proofs.Laws.{puts-append}
-use Rattle.body_cases.specs.Reading.{eachNumber, eachByte, readLine, answerOf}
+use Rattle.body_cases.specs.Reading.{eachNumber, eachByte}
 
 -- one more number of a list
 pub each-more : (ns : List ℕ) (i n : ℕ) (p : Page) {q : Page} → i < length ns → n ≡ getD ns i 0 → q ≡ put (line.number n) p
@@ -41,10 +39,3 @@ two-parts xs ys zs p = sym (puts-append (xs ++ ys) zs p ∙ ap (puts zs) (puts-a
 
 pub two-lists : (xs : List Piece) (x y : Piece) (ys zs : List Piece) (p : Page) → puts zs (puts ys (put y (put x (puts xs p)))) ≡ puts ((xs ++ (x ∷ y ∷ (ys ++ []))) ++ zs) p
 two-lists xs x y ys zs p = rw append-nil (two-parts xs (x ∷ y ∷ ys) zs p)
-
--- ---- the record
-
-pub read-answer : (s : List ℕ) (tag n : ℕ) (bs : List ℕ) → tag ≡ getD s 1 0 → n ≡ numberAt 4 2 s → bs ≡ take n (drop 6 s)
-    → readLine tag (readBody tag bs) ≡ readLine (getD s 1 0) (answerOf s)
-unfolding answerOf
-read-answer s tag n bs et en eb = rw (eb, en, et)

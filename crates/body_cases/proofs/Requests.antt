@@ -1,11 +1,11 @@
 -- Requests that are read off a record, and the bodies that they write.
 use mathlib.Core.Path.{_≡_, refl, sym, ap, _∙_}
-use mathlib.Core.Bool.{Bool, true, not, _&&_}
+use mathlib.Core.Bool.{true}
 use mathlib.Core.List.{List, [], _∷_}
 use Prim.Native.Nat.{ℕ, _+_, _*_, _≤_, min}
 use borrow.Author.Tests.{leb-true, ne-eqb}
 use lib.Dec.{leb}
-use lib.ListN.{take, drop, getD}
+use lib.ListN.{take, drop}
 use Rattle.refusal.proofs.Booleans.{both-left}
 use Rattle.buffer.specs.Le.{numberAt}
 use Rattle.fields.specs.declared.Cursor.{Cursor}
@@ -13,15 +13,13 @@ use Rattle.fields.specs.Layout.{Kind, good, stepOf}
 use Rattle.fields.specs.Layout as kind
 use Rattle.fields.specs.Field.{Field, number, negative, numbers, payload, opaque, wordsOf}
 use Rattle.fields.specs.Reading.{spanIn}
-use Rattle.refusal.specs.Writes.{Done}
 use Rattle.bodies.specs.Table.{layoutIn, layoutOf, unlisted}
 use Rattle.bodies.specs.Rows.{requested}
 use Rattle.bodies.specs.Write.{writeAs, writeBody}
-use Rattle.records.specs.Records.{isWhole, allowed, counted}
-use Rattle.records.specs.Records as records
+use Rattle.records.specs.Records.{isWhole, allowed}
 use Rattle.records.proofs.Laws.{sized-good, words-take}
 use Rattle.body_cases.specs.declared.writing.Asked.{Asked}
-use Rattle.body_cases.specs.Writing.{limited, fieldsGiven, allGiven, kindsFor, writeSize, writeOf, Given, BytesGiven, fieldsOf, Asks, AsksFor}
+use Rattle.body_cases.specs.Writing.{limited, fieldsGiven, allGiven, kindsFor, writeSize, Given, BytesGiven, fieldsOf, Asks, AsksFor}
 
 -- ---- steps
 
@@ -126,25 +124,6 @@ fields-same s a xs ys bs m n ex ey eb =
 
 -- ---- the record
 
-pub size-is : (room : ℕ) (s : List ℕ) (tag n : ℕ) {a : Asked} {b : Bool} {size : ℕ}
-    → tag ≡ getD s 1 0
-    → n ≡ numberAt 4 2 s
-    → AsksFor tag s a
-    → b ≡ (leb n room && not (a .end .failed))
-    → size ≡ records.sized b (a .end .at)
-    → size ≡ writeSize room s
-unfolding writeSize
-size-is room s tag n et en x eb es = es ∙ rw (eb, x .end, en, et)
-
 pub write-buffer : (room : ℕ) (s : List ℕ) → isWhole (writeSize room s) s ≡ true → numberAt 4 2 s ≤ room
 unfolding writeSize
 write-buffer room s e = leb-true (numberAt 4 2 s) room (both-left (leb (numberAt 4 2 s) room) _ (sized-good _ _ s e))
-
-pub write-done : (s : List ℕ) (tag : ℕ) (buf : List ℕ) {a : Asked} {d : Done}
-    → tag ≡ getD s 1 0
-    → buf ≡ counted (getD s 6 0) (numberAt 4 2 s)
-    → AsksFor tag s a
-    → d ≡ writeBody tag (fieldsOf s a) buf
-    → d ≡ writeOf s
-unfolding writeOf
-write-done s tag buf et eb x ed = ed ∙ x .writes buf ∙ rw (et, eb)

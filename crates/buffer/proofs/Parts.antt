@@ -7,6 +7,7 @@ use native.Mathlib.Omega.{arith}
 use lib.ListN.{length, take, drop, length-append, length-take, length-drop, drop-of-length-le}
 use lib.Seq.{take-nil, take-all, take-at, drop-at, drop-append-add, drop-drop, length-take-le, drop-append-le}
 use Rattle.buffer.specs.Splice.{replaceFront, overwrite, splice}
+use Rattle.buffer.proofs.Splices.{splice-at, splice-upto}
 
 -- what a list holds again once the part from i on, lent whole, has come back as ys
 abbrev pub back : List ℕ → ℕ → List ℕ → List ℕ
@@ -71,15 +72,14 @@ next-overwrite l₀ l₁ xs ys zs n en h e₁ e₂ =
     let b : length (rest l₁ n) ≡ length l₁ - n = length-rest l₁ n in
     next l₀ l₁ xs ys zs n en e₁ (e₂ ∙ overwrite-fits ys (rest l₁ n) (omega arith))
 
+pub placed-overwrite : (l xs ys : List ℕ) (n : ℕ) → n + length xs ≤ length l → ys ≡ overwrite xs (rest l n) → back l n ys ≡ splice l n xs
+placed-overwrite l xs ys n h e = placed l xs ys n (e ∙ overwrite-fits xs (rest l n) (omega (arith, length-rest l n)))
+
 -- a front that is replaced again by a longer one
 pub over-longer : (xs ys l : List ℕ) → length xs ≤ length ys → replaceFront ys (replaceFront xs l) ≡ replaceFront ys l
 over-longer xs ys l h =
-    let n : length xs + (length ys - length xs) ≡ length ys = omega arith in
-    ap (λ (t : List ℕ). ys ++ t)
-    (ap (λ (k : ℕ). drop k (replaceFront xs l)) (sym n)
-    ∙ drop-append-add xs (drop (length xs) l) (length ys - length xs)
-    ∙ drop-drop (length ys - length xs) (length xs) l
-    ∙ ap (λ (k : ℕ). drop k l) n)
+    let n : length ys ≡ length xs + (length ys - length xs) = omega arith in
+    rw (n, drop-append-add, drop-drop)
 
 -- and over what a writer laid there
 pub replace-longer : (xs ys l after : List ℕ) → length xs ≤ length ys → length xs ≤ length l → after ≡ overwrite xs l → replaceFront ys after ≡ replaceFront ys l
@@ -98,29 +98,18 @@ splice-next l i xs ys h =
     let r : List ℕ = drop (i + length xs) l in
     let n : ℕ = i + length xs in
     let e : length p ≡ n = simp (length-append, length-take-le i l h) in
-    ap (λ (t : List ℕ). t ++ ys ++ drop (n + length ys) (p ++ r)) (take-at p r n e)
-    ∙ ap (λ (t : List ℕ). p ++ ys ++ t) (sym (drop-drop (length ys) n (p ++ r)) ∙ ap (drop (length ys)) (drop-at p r n e) ∙ drop-drop (length ys) n l)
-    ∙ simp (append-assoc, length-append, add-assoc)
+    rw (take-at p r n e, ← (drop-drop (length ys) n (p ++ r)), drop-at p r n e, drop-drop (length ys) n l) (simp (append-assoc, length-append, add-assoc))
 
 -- the bytes that stand behind the queued ones
 pub written : (buf : List ℕ) (queued : ℕ) (xs : List ℕ) (n : ℕ) → length xs ≡ n → queued ≤ length buf → take n (drop queued (splice buf queued xs)) ≡ xs
-written buf queued xs n e h =
-    let t = length-take-le queued buf h in
-    let a = length-append (take queued buf) xs in
-    ap (take n) (drop-append-le queued (take queued buf ++ xs) (drop (queued + length xs) buf) (omega arith) ∙ ap (λ (l : List ℕ). l ++ drop (queued + length xs) buf) (drop-at (take queued buf) xs queued t))
-    ∙ take-at xs (drop (queued + length xs) buf) n e
+written buf queued xs n e h = splice-at buf queued xs h n e
 
 -- what stands from q on, and behind it what was put at Q
 pub put-behind : (buf : List ℕ) (q Q : ℕ) (A : List ℕ) → q ≤ Q → Q + length A ≤ length buf
     → take (Q + length A - q) (drop q (splice buf Q A)) ≡ take (Q - q) (drop q buf) ++ A
 put-behind buf q Q A h l =
-    let R : List ℕ = drop (Q + length A) buf in
+    let m : q + (Q + length A - q) ≡ Q + length A = omega arith in
+    let k : q + (Q - q) ≡ Q = omega arith in
     let t : length (take Q buf) ≡ Q = length-take-le Q buf (omega arith) in
-    let a = length-append (take Q buf) A in
-    let e : q + (Q - q) ≡ Q = omega arith in
-    let front : drop q (take Q buf) ≡ take (Q - q) (drop q buf) = ap (λ (k : ℕ). drop q (take k buf)) (sym e) ∙ drop-take q (Q - q) buf in
-    let d : length (drop q (take Q buf)) ≡ Q - q = (let z = length-drop q (take Q buf) in omega arith) in
-    let n : length (drop q (take Q buf) ++ A) ≡ Q + length A - q = (let z = length-append (drop q (take Q buf)) A in omega arith) in
-    ap (take (Q + length A - q)) (drop-append-le q (take Q buf ++ A) R (omega arith) ∙ ap (λ (x : List ℕ). x ++ R) (drop-append-le q (take Q buf) A (omega arith)))
-    ∙ take-at (drop q (take Q buf) ++ A) R (Q + length A - q) n
-    ∙ ap (λ (x : List ℕ). x ++ A) front
+    sym (rw m at (drop-take q (Q + length A - q) (splice buf Q A)))
+    ∙ rw (splice-upto buf Q A (omega arith), drop-append-le q (take Q buf) A (omega arith)) (ap (λ (x : List ℕ). x ++ A) (rw k at (drop-take q (Q - q) buf)))

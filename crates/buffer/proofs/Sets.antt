@@ -1,25 +1,19 @@
 -- Elements set one after the other, as a front or a splice that is replaced.
-use Prim.Native.Nat.{ℕ, suc, _+_, _-_, _≤_, _<_, min}
+use Prim.Native.Nat.{ℕ, zero, suc, _+_, _-_, _≤_, _<_, min}
 use mathlib.Core.List.{List, [], _∷_, _++_, append-nil}
 use mathlib.Core.Path.{_≡_, refl, sym, subst, ap, _∙_}
-use mathlib.Core.Bool.{Bool, true, false}
 use native.Mathlib.Omega.{arith}
 use native.Mathlib.Numerals.{add-one}
-use borrow.Author.Tests.{leb-true, leb-false}
-use lib.Dec.{leb}
 use native.Mathlib.Nat.{zero-add, add-zero, add-suc, suc-add}
-use lib.ListN.{length, take, drop, set, getD, drop-of-length-le, take-append-drop}
-use lib.Seq.{sets, sets-eq, length-sets, set-out, take-at, take-length, take-suc, length-take-le, drop-set-lt}
+use lib.ListN.{length, take, drop, set, getD, drop-of-length-le, length-set}
+use lib.Seq.{sets, sets-eq, length-sets, set-out, take-at, take-nil, take-suc, length-take-le, drop-set-lt}
 use Rattle.buffer.specs.Splice.{replaceFront, splice, overwrite}
-use Rattle.buffer.proofs.Parts.{rest, back, replaceFront-next, length-replaceFront, length-rest, overwrite-fits, placed}
+use Rattle.buffer.proofs.Parts.{rest, back, replaceFront-next, length-replaceFront, placed-overwrite}
 
 -- one behind the other
 pub sets-append : (l : List ℕ) (i : ℕ) (xs ys : List ℕ) → sets (sets l i xs) (i + length xs) ys ≡ sets l i (xs ++ ys)
 sets-append l i [] ys = rw add-zero
-sets-append l i (x ∷ xs) ys = rw (add-suc i (length xs), ← (suc-add i (length xs))) (sets-append l′ (suc i) xs ys)
-  where
-    l′ : List ℕ
-    l′ = sets l i (x ∷ [])
+sets-append l i (x ∷ xs) ys = rw (add-suc i (length xs), ← (suc-add i (length xs))) (sets-append (set l i x) (suc i) xs ys)
 
 -- behind the end nothing is set
 pub sets-out : (xs l : List ℕ) (i : ℕ) → length l ≤ i → sets l i xs ≡ l
@@ -38,17 +32,9 @@ pub sets-past : (xs ys l : List ℕ) (i : ℕ) → length l ≤ i + length xs �
 sets-past xs ys l i h = sym (sets-append l i xs ys) ∙ sets-out ys (sets l i xs) (i + length xs) (rw length-sets h)
 
 pub sets-room : (xs l : List ℕ) (i n : ℕ) → n ≡ min (length xs) (length l - i) → sets l i (take n xs) ≡ sets l i xs
-sets-room xs l i n e = go (leb (length xs) (length l - i)) refl
-  where
-    go : (b : Bool) → leb (length xs) (length l - i) ≡ b → sets l i (take n xs) ≡ sets l i xs
-    go true t =
-        let h = leb-true (length xs) (length l - i) t in
-        let k : n ≡ length xs = omega arith in
-        rw (k, take-length)
-    go false t =
-        let h = leb-false (length xs) (length l - i) t in
-        let k : length (take n xs) ≡ n = length-take-le n xs (omega arith) in
-        sym (sets-past (take n xs) (drop n xs) l i (omega arith)) ∙ ap (sets l i) (take-append-drop n xs)
+sets-room [] l i n e = rw take-nil
+sets-room (x ∷ xs) l i zero e = sym (sets-out (x ∷ xs) l i (omega arith))
+sets-room (x ∷ xs) l i (suc n) e = sets-room xs (set l i x) (suc i) n (rw length-set (omega arith))
 
 -- behind them, the list is as it was
 pub drop-sets : (l : List ℕ) (i : ℕ) (xs : List ℕ) → drop (i + length xs) (sets l i xs) ≡ drop (i + length xs) l
@@ -76,9 +62,7 @@ take-sets l xs n e h = ap (take n) (sets-front l xs (omega arith)) ∙ take-at x
 
 -- put into the part from n on, which was lent
 pub part-put : (l xs ys : List ℕ) (n : ℕ) → ys ≡ overwrite xs (rest l n) → n + length xs ≤ length l → back l n ys ≡ sets l n xs
-part-put l xs ys n h k =
-    let r = length-rest l n in
-    placed l xs ys n (h ∙ overwrite-fits xs (rest l n) (omega arith)) ∙ sym (sets-eq xs l n k)
+part-put l xs ys n h k = placed-overwrite l xs ys n k h ∙ sym (sets-eq xs l n k)
 
 -- and of an array, of which the length is known as N
 pub array-put : (l xs ys : List ℕ) (n N : ℕ) → length l ≡ N → ys ≡ overwrite xs (take (N - n) (drop n l)) → n + length xs ≤ N

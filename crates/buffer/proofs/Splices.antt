@@ -30,13 +30,8 @@ module _ (l : List ℕ) (i : ℕ) (xs : List ℕ) (h : i ≤ length l) where
 
   pub splice-behind : (k : ℕ) → i + length xs ≤ k → drop k (splice l i xs) ≡ drop k l
   splice-behind k f =
-      let n : ℕ = i + length xs in
-      let p : List ℕ = take i l ++ xs in
-      let e : n + (k - n) ≡ k = omega arith in
-      ap (λ (m : ℕ). drop m (p ++ drop n l)) (sym (ap (λ (m : ℕ). m + (k - n)) front-length ∙ e))
-      ∙ drop-append-add p (drop n l) (k - n)
-      ∙ drop-drop (k - n) n l
-      ∙ ap (λ (m : ℕ). drop m l) e
+      let e : k ≡ length (take i l ++ xs) + (k - (i + length xs)) = omega (arith, front-length) in
+      rw (e, drop-append-add, drop-drop, front-length)
 
   -- a front that covers it
   pub splice-covered : (ys : List ℕ) → i + length xs ≤ length ys → replaceFront ys (splice l i xs) ≡ replaceFront ys l
@@ -56,30 +51,22 @@ given-back l ys i n e =
 -- ---- n elements moved towards the front, the first one first
 
 module _ (l : List ℕ) (to from n : ℕ) (h : to ≤ from) (k : from + n ≤ length l) where
-  source-length : length (drop from l) ≡ length l - from
-  source-length = length-drop from l
-
   -- what is read was not moved yet
   source-at : (s : List ℕ) (i : ℕ) → i < n → s ≡ paste l to (drop from l) i → getD s (from + i) 0 ≡ getD (drop from l) i 0
   source-at s i f e =
       let d : drop (to + i) s ≡ drop (to + i) l =
-      ap (drop (to + i)) e ∙ drop-paste l to (drop from l) i (omega arith) (omega (arith, source-length)) in
-      let j : to + i + (from - to) ≡ from + i = omega arith in
-      ap (λ (m : ℕ). getD s m 0) (sym j)
-      ∙ sym (getD-drop (to + i) s (from - to) 0)
-      ∙ ap (λ (t : List ℕ). getD t (from - to) 0) d
-      ∙ getD-drop (to + i) l (from - to) 0
-      ∙ ap (λ (m : ℕ). getD l m 0) j
-      ∙ sym (getD-drop from l i 0)
+      ap (drop (to + i)) e ∙ drop-paste l to (drop from l) i (omega arith) (omega (arith, length-drop from l)) in
+      let j : from + i ≡ to + i + (from - to) = omega arith in
+      rw (getD-drop from l i 0, j, ← (getD-drop (to + i) s (from - to) 0), d, getD-drop (to + i) l (from - to) 0)
 
   pub moved-more : (s : List ℕ) (i : ℕ) → i < n → s ≡ paste l to (drop from l) i
       → set s (to + i) (getD s (from + i) 0) ≡ paste l to (drop from l) (i + 1)
   moved-more s i f e =
       ap₂ (λ (t : List ℕ) (x : ℕ). set t (to + i) x) e (source-at s i f e)
-      ∙ paste-suc l to (drop from l) i 0 (omega arith) (omega (arith, source-length))
+      ∙ paste-suc l to (drop from l) i 0 (omega arith) (omega (arith, length-drop from l))
       ∙ ap (paste l to (drop from l)) (sym (add-one i))
 
   pub moved-all : paste l to (drop from l) n ≡ splice l to (take n (drop from l))
   moved-all =
       ap (λ (m : ℕ). take to l ++ take n (drop from l) ++ drop (to + m) l)
-      (sym (length-take-le n (drop from l) (omega (arith, source-length))))
+      (sym (length-take-le n (drop from l) (omega (arith, length-drop from l))))

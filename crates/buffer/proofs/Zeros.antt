@@ -1,14 +1,14 @@
 -- Lists of zeros, and zeros behind so many bytes of a list, told from the numbers that its bytes make.
 use mathlib.Core.Path.{_≡_, refl, sym, ap, ap₂, _∙_}
 use mathlib.Core.List.{List, [], _∷_, _++_}
-use mathlib.Core.Bool.{Bool, true, false, _&&_, _||_, and-assoc}
+use mathlib.Core.Bool.{Bool, true, false, _&&_, _||_, and-assoc, and-true}
 use Prim.Native.Nat.{ℕ, zero, suc, _+_, _-_, _*_, _^_, _≤_, _<_}
 use native.Mathlib.Nat.{pow-suc}
 use native.Mathlib.Omega.{arith}
 use borrow.Author.Tests.{eqb-true, eq-eqb, ne-eqb, ltb-true, lt-ltb}
 use lib.Dec.{leb, ltb, eqb, leb·zero, leb·suc-zero, leb·suc-suc}
-use lib.ListN.{length, take, drop, getD, replicate, length-drop}
-use lib.Seq.{drop-nil, drop-drop, length-take-le, take-all}
+use lib.ListN.{length, take, drop, getD, replicate, length-drop, drop-of-length-le}
+use lib.Seq.{drop-nil, drop-drop, length-take-le}
 use Rattle.buffer.specs.Le.{leOf, numberAt, Bytes}
 use Rattle.buffer.specs.Zeros.{allZero}
 use Rattle.buffer.proofs.Numbers.{bytes-take, bytes-drop}
@@ -18,19 +18,14 @@ same true b f g = sym (f refl)
 same false true f g = g refl
 same false false f g = refl
 
-left : (a b : Bool) → (a && b) ≡ true → a ≡ true
-left true b e = refl
-left false b e = e
-
-right : (a b : Bool) → (a && b) ≡ true → b ≡ true
-right true b e = e
-right false true e = refl
-right false false e = e
+both : (a b : Bool) → (a && b) ≡ true → (a ≡ true) × (b ≡ true)
+both true b e = (refl, e)
+both false b e = (e, cc)
 
 pub only-zeros : (l : List ℕ) → allZero l ≡ true → l ≡ replicate (length l) 0
 only-zeros [] e = refl
 only-zeros (x ∷ l) e =
-    ap₂ (λ (a : ℕ) (t : List ℕ). a ∷ t) (eqb-true x 0 (left (eqb x 0) (allZero l) e)) (only-zeros l (right (eqb x 0) (allZero l) e))
+    ap₂ (λ (a : ℕ) (t : List ℕ). a ∷ t) (eqb-true x 0 (both (eqb x 0) (allZero l) e .0)) (only-zeros l (both (eqb x 0) (allZero l) e .1))
 
 pub zeros-append : (xs ys : List ℕ) → allZero (xs ++ ys) ≡ (allZero xs && allZero ys)
 zeros-append [] ys = refl
@@ -46,8 +41,8 @@ zeros-are (suc n) = zeros-are n
 -- one by one
 pub zeros-each : (l : List ℕ) → allZero l ≡ true → (k : ℕ) → getD l k 0 ≡ 0
 zeros-each [] e k = refl
-zeros-each (x ∷ l) e zero = eqb-true x 0 (left (eqb x 0) (allZero l) e)
-zeros-each (x ∷ l) e (suc k) = zeros-each l (right (eqb x 0) (allZero l) e) k
+zeros-each (x ∷ l) e zero = eqb-true x 0 (both (eqb x 0) (allZero l) e .0)
+zeros-each (x ∷ l) e (suc k) = zeros-each l (both (eqb x 0) (allZero l) e .1) k
 
 pub each-zeros : (l : List ℕ) → ((k : ℕ) → k < length l → getD l k 0 ≡ 0) → allZero l ≡ true
 each-zeros [] e = refl
@@ -57,7 +52,7 @@ each-zeros (x ∷ l) e = ap₂ _&&_ (eq-eqb x 0 (e 0 (omega arith))) (each-zeros
 zeros-drop : (l : List ℕ) (k : ℕ) → allZero l ≡ true → allZero (drop k l) ≡ true
 zeros-drop l zero e = e
 zeros-drop [] (suc k) e = refl
-zeros-drop (x ∷ l) (suc k) e = zeros-drop l k (right (eqb x 0) (allZero l) e)
+zeros-drop (x ∷ l) (suc k) e = zeros-drop l k (both (eqb x 0) (allZero l) e .1)
 
 pub zeros-later : (l : List ℕ) (i k : ℕ) → allZero (drop i l) ≡ true → allZero (drop (i + k) l) ≡ true
 zeros-later l i k e = ap allZero (sym (drop-drop k i l)) ∙ zeros-drop (drop i l) k e
@@ -80,7 +75,7 @@ none [] = refl
 none (b ∷ l) =
     ap (λ (x : Bool). eqb b 0 && x) (none l)
     ∙ same (eqb b 0 && ltb (leOf l) 1) (ltb (leOf l * 256 + b) 1)
-    (λ e. lt-ltb (leOf l * 256 + b) 1 (omega (arith, eqb-true b 0 (left (eqb b 0) (ltb (leOf l) 1) e), ltb-true (leOf l) 1 (right (eqb b 0) (ltb (leOf l) 1) e))))
+    (λ e. lt-ltb (leOf l * 256 + b) 1 (omega (arith, eqb-true b 0 (both (eqb b 0) (ltb (leOf l) 1) e .0), ltb-true (leOf l) 1 (both (eqb b 0) (ltb (leOf l) 1) e .1))))
     (λ e.
     let h : leOf l * 256 + b < 1 = ltb-true (leOf l * 256 + b) 1 e in
     ap₂ _&&_ (eq-eqb b 0 (let z : b ≡ 0 = omega (arith, h) in z)) (lt-ltb (leOf l) 1 (omega (arith, h))))
@@ -90,12 +85,11 @@ below : (l : List ℕ) (n : ℕ) → Bytes l → allZero (drop n l) ≡ (leb (le
 below [] n h = ap allZero (drop-nil n) ∙ rw (leb·zero n)
 below (b ∷ l) zero h = rw (leb·suc-zero (length l)) (none (b ∷ l))
 below (b ∷ l) (suc n) h =
-    let t : Bytes l = record { at = λ i. h .at (suc i) } in
     let e : ltb (leOf l) (256 ^ n) ≡ ltb (leOf l * 256 + b) (256 ^ n * 256) =
     same (ltb (leOf l) (256 ^ n)) (ltb (leOf l * 256 + b) (256 ^ n * 256))
     (λ f. lt-ltb (leOf l * 256 + b) (256 ^ n * 256) (omega (arith, ltb-true (leOf l) (256 ^ n) f, h .at 0)))
     (λ f. lt-ltb (leOf l) (256 ^ n) (omega (arith, ltb-true (leOf l * 256 + b) (256 ^ n * 256) f))) in
-    below l n t ∙ rw (leb·suc-suc (length l) n, pow-suc 256 n) (ap (λ (x : Bool). leb (length l) n || x) e)
+    below l n (bytes-drop 1 h) ∙ rw (leb·suc-suc (length l) n, pow-suc 256 n) (ap (λ (x : Bool). leb (length l) n || x) e)
 
 -- the first k bytes, and those behind them
 split : (k : ℕ) (l : List ℕ) (n : ℕ) → allZero (drop n l) ≡ (allZero (drop n (take k l)) && allZero (drop (n - k) (drop k l)))
@@ -116,28 +110,17 @@ split (suc k) (x ∷ l) (suc n) =
 abbrev pub within : List ℕ → ℕ → ℕ → Bool
 within l i n = leb 8 n || ltb (numberAt 8 i l) (256 ^ n)
 
-eight : (l : List ℕ) (i n : ℕ) → Bytes l → i + 8 ≤ length l → allZero (drop n (take 8 (drop i l))) ≡ within l i n
+-- eight bytes from a place on, and those behind them
+word : (l : List ℕ) → Bytes l → length l ≡ 32 → (i m k : ℕ) → i + 8 ≤ 32 → m - 8 ≡ k → allZero (drop m (drop i l)) ≡ (within l i m && allZero (drop k (drop (i + 8) l)))
 unfolding numberAt
-eight l i n h r =
-    let e : length (take 8 (drop i l)) ≡ 8 = length-take-le 8 (drop i l) (rw (length-drop i l) (omega arith)) in
-    below (take 8 (drop i l)) n (bytes-take 8 (bytes-drop i h)) ∙ rw e
+word l h e i m k r d =
+    let n : length (take 8 (drop i l)) ≡ 8 = length-take-le 8 (drop i l) (rw (length-drop i l) (omega arith)) in
+    split 8 (drop i l) m ∙ rw (below (take 8 (drop i l)) m (bytes-take 8 (bytes-drop i h)), n, d, drop-drop 8 i l)
 
 -- ZEROS FROM A PLACE ON, of 32 bytes as four numbers
 pub four-words : (l : List ℕ) (n : ℕ) → Bytes l → length l ≡ 32
     → (within l 0 n && (within l 8 (n - 8) && (within l 16 (n - 16) && within l 24 (n - 24)))) ≡ allZero (drop n l)
-four-words l n h e = sym (first ∙ ap₂ _&&_ (eight l 0 n h (omega (arith, e))) (second ∙ ap₂ _&&_ (eight l 8 (n - 8) h (omega (arith, e))) (third ∙ ap₂ _&&_ (eight l 16 (n - 16) h (omega (arith, e))) fourth)))
-  where
-    first : allZero (drop n l) ≡ (allZero (drop n (take 8 l)) && allZero (drop (n - 8) (drop 8 l)))
-    first = split 8 l n
-
-    on : (m k i : ℕ) → m - 8 ≡ k → allZero (drop m (drop i l)) ≡ (allZero (drop m (take 8 (drop i l))) && allZero (drop k (drop (i + 8) l)))
-    on m k i d = split 8 (drop i l) m ∙ rw (d, drop-drop 8 i l)
-
-    second : allZero (drop (n - 8) (drop 8 l)) ≡ (allZero (drop (n - 8) (take 8 (drop 8 l))) && allZero (drop (n - 16) (drop 16 l)))
-    second = on (n - 8) (n - 16) 8 (omega arith)
-
-    third : allZero (drop (n - 16) (drop 16 l)) ≡ (allZero (drop (n - 16) (take 8 (drop 16 l))) && allZero (drop (n - 24) (drop 24 l)))
-    third = on (n - 16) (n - 24) 16 (omega arith)
-
-    fourth : allZero (drop (n - 24) (drop 24 l)) ≡ within l 24 (n - 24)
-    fourth = ap (λ (x : List ℕ). allZero (drop (n - 24) x)) (sym (take-all 8 (drop 24 l) (rw (length-drop 24 l) (omega (arith, e))))) ∙ eight l 24 (n - 24) h (omega (arith, e))
+four-words l n h e =
+    let end : drop 32 l ≡ [] = drop-of-length-le l {i = 32} (omega arith) in
+    let w = word l h e in
+    rw (w 0 n (n - 8) (omega arith) refl, w 8 (n - 8) (n - 16) (omega arith) (omega arith), w 16 (n - 16) (n - 24) (omega arith) (omega arith), w 24 (n - 24) (n - 32) (omega arith) (omega arith), end, drop-nil {A = ℕ} (n - 32), and-true)

@@ -1,6 +1,6 @@
 -- Laws of builds, and of bytes that are moved to the front of a list.
 use mathlib.Core.Path.{_≡_, sym, ap, _∙_}
-use mathlib.Core.Bool.{Bool, true, false, _&&_}
+use mathlib.Core.Bool.{true, false, _&&_}
 use mathlib.Core.List.{List, _++_}
 use Prim.Native.Nat.{ℕ, _+_, _-_, _≤_, _<_}
 use native.Mathlib.Nat.{add-comm}
@@ -13,13 +13,9 @@ use Rattle.refusal.proofs.Booleans.{both-left, both-right}
 use Rattle.buffer.proofs.CopyLoop.{copy-more}
 use Rattle.buffer.proofs.Parts.{back}
 use Rattle.buffer.specs.Le.{numberAt}
-use Rattle.builder.specs.Build.{bannerDone, frameDone}
-use Rattle.banner.specs.declared.Revision.{Revision}
-use Rattle.preamble.specs.declared.Header.{Header}
-use Rattle.preamble.specs.Judge.{headerOf}
-use Rattle.records.specs.Records.{allowed, isWhole, counted}
+use Rattle.records.specs.Records.{allowed, isWhole}
 use Rattle.records.proofs.Laws.{sized-good}
-use Rattle.cases.specs.Builds.{bannerSize, bannerDoneOf, revisionByByte, frameSize, frameDoneOf}
+use Rattle.cases.specs.Builds.{bannerSize, frameSize}
 
 -- ---- kinds
 
@@ -44,26 +40,6 @@ pub frame-buffer : (s : List ℕ) → isWhole (frameSize s) s ≡ true → numbe
 frame-buffer s e =
     let g = sized-good ((leb (getD s 1 0) 1 && leb (getD s 28 0) 1) && (allowed (numberAt 4 29 s) && allowed (numberAt 4 42 s))) (46 + numberAt 4 42 s) s e in
     leb-true (numberAt 4 29 s) 65536 (both-left (allowed (numberAt 4 29 s)) _ (both-right (leb (getD s 1 0) 1 && leb (getD s 28 0) 1) _ g))
-
-pub banner-done : (s before : List ℕ) (supported required queued : ℕ)
-    → supported ≡ numberAt 8 1 s
-    → required ≡ numberAt 8 9 s
-    → before ≡ counted (getD s 21 0) (numberAt 4 17 s)
-    → queued ≡ numberAt 8 22 s
-    → bannerDone supported required before queued ≡ bannerDoneOf s
-unfolding bannerDoneOf
-banner-done s before supported required queued es er eb eq = rw (es, er, eb, eq)
-
-pub frame-done : (s before source : List ℕ) (queued : ℕ) (revision : Revision) (header : Header) (abort : Bool)
-    → revision ≡ revisionByByte (getD s 1 0)
-    → header ≡ headerOf (drop 2 s)
-    → abort ≡ eqb (getD s 28 0) 1
-    → source ≡ take (numberAt 4 42 s) (drop 46 s)
-    → before ≡ counted (getD s 33 0) (numberAt 4 29 s)
-    → queued ≡ numberAt 8 34 s
-    → frameDone revision header abort source before queued ≡ frameDoneOf s
-unfolding frameDoneOf
-frame-done s before source queued revision header abort ev eh ea es eb eq = rw (ev, eh, ea, es, eb, eq)
 
 -- ---- moving
 

@@ -6,15 +6,14 @@ use mathlib.Core.Bool.{Bool, true, false, cond}
 use native.Mathlib.Omega.{arith}
 use native.Mathlib.Nat.{add-zero, zero-add, add-assoc}
 use lib.ListN.{length, take, drop}
-use lib.Dec.{eqb, ltb}
-use borrow.Author.Tests.{eqb-true, ltb-true, ltb-false}
+use lib.Dec.{ltb}
+use borrow.Author.Tests.{ltb-false}
 use Rattle.refusal.specs.declared.Numbers.{Numbers}
-use Rattle.refusal.specs.declared.Refusal.the-variants as refusal
 use Rattle.refusal.specs.Refusals.{Judged, fine, refused}
-use Rattle.refusal.proofs.Booleans.{wrong, both-left, both-right}
-use Rattle.refusal.proofs.Judgements.{passed}
+use Rattle.refusal.proofs.Booleans.{by-test, at-test, by-less, wrong}
+use Rattle.refusal.proofs.Judgements.{by-judgement}
 use Rattle.banner.specs.declared.Features.{Features}
-use Rattle.banner.specs.Banner.{judgeOwn, isMsgr21}
+use Rattle.banner.specs.Banner.{judgeOwn}
 use Rattle.preamble.specs.declared.Header.{Header}
 use Rattle.preamble.specs.Judge.{headerOf}
 use Rattle.body.specs.End.{Ended, whole, dropped, refusedFor}
@@ -47,11 +46,11 @@ use Rattle.connection.specs.declared.Mode.{Mode}
 use Rattle.connection.specs.declared.Mode.the-variants as mode
 use Rattle.connection.specs.declared.State.{State}
 use Rattle.connection.specs.declared.Received.{Received}
-use Rattle.connection.specs.Step.{readyAfter, readyRule, agrees, begun, Answer, byCrc, bySecure, Answered, mayBeSwitched, judgeSwitch, switchedState, SwitchedWith}
+use Rattle.connection.specs.Step.{readyAfter, readyRule, agrees, begun, Answer, byCrc, bySecure, Answered, judgeSwitch, switchedState, SwitchedWith}
 use Rattle.connection.specs.Calls.{Try}
 use Rattle.connection.specs.Every.{refusedInUse, neededInUse, Running, EveryCall, AnyCall, taking, switching, Handed, allTaken, lengthBy, allReported, cameBefore, unfinished, unfinishedAfter, unfinishedBy}
 use Rattle.connection.proofs.Machines.{crc-answer, secure-answer}
-use Rattle.connection.proofs.SplitAtSwitch.{judged-27}
+use Rattle.connection.proofs.SplitAtSwitch.{ready-so, fine-ready}
 use Rattle.connection.proofs.Every.{stateOf, rule-of, in-use-of, secure-unready, RefusedFor, refusedCrc, refusedSecure, refused-of, lasts, short-so, well, sound, sound-switch, begun-agrees}
 
 -- n bytes of the stream since the last report, by the report and the state that it leaves
@@ -94,23 +93,15 @@ module _ (ready : Bool) (c : crc-state.State) where
 
     last-counts : n ≡ firstLength + secondPartLength h → CountsStep n (sealed.beginLast v s)
     unfolding sealedLength
-    last-counts e = go (noLastPart h) refl
-      where
-        go : (b : Bool) → noLastPart h ≡ b
-            → CountsStep n (cond b (sealed.endFrame whole v (take (h .s1 .len) s) s) (sealed.silent (sealed.at stage.Last v) s))
-        go true q =
-            let z : lastPartLength h ≡ 0 = rw q in
-            frame-counts whole v (take (h .s1 .len) s) s n (omega (arith, e, z))
-        go false q = e ∙ sym (add-zero (firstLength + secondPartLength h))
+    last-counts e =
+        at-test (λ b. CountsStep n (cond b (sealed.endFrame whole v (take (h .s1 .len) s) s) (sealed.silent (sealed.at stage.Last v) s))) (noLastPart h)
+        (λ q. let z : lastPartLength h ≡ 0 = rw q in frame-counts whole v (take (h .s1 .len) s) s n (omega (arith, e, z)))
+        (λ q. e ∙ sym (add-zero (firstLength + secondPartLength h)))
 
     rest-counts : n ≡ firstLength → CountsStep n (sealed.beginSecondPart v s)
-    rest-counts e = go (noSecondPart h) refl
-      where
-        go : (b : Bool) → noSecondPart h ≡ b → CountsStep n (cond b (sealed.beginLast v s) (sealed.silent (sealed.at stage.Second v) s))
-        go true q =
-            let z : secondPartLength h ≡ 0 = rw q in
-            last-counts (omega (arith, e, z))
-        go false q = e
+    rest-counts e =
+        at-test (λ b. CountsStep n (cond b (sealed.beginLast v s) (sealed.silent (sealed.at stage.Second v) s))) (noSecondPart h)
+        (λ q. let z : secondPartLength h ≡ 0 = rw q in last-counts (omega (arith, e, z))) (λ q. e)
 
   finish-counts : (k : sealed-stage.Stage) (b : List ℕ) (v : sealed-known.Known) (s : List ℕ) → sealed-states.isRefused k ≡ false
       → CountsStep (cameBefore k (v .header) + sealed-states.sizeOf k (v .header)) (sealed.finish k b v s)
@@ -136,16 +127,13 @@ module _ (ready : Bool) (c : crc-state.State) where
 
   byte-counts : (x : sealed-state.State) (s : List ℕ) (b : ℕ) → sealed.Running x s → CountsStep (unfinished (within x) + 1) (sealed.onByte x s b)
   unfolding sealed.onByte
-  byte-counts x s b r = go (ltb (x .position .got + 1) (sealed.size x)) refl
-    where
-      go : (t : Bool) → ltb (x .position .got + 1) (sealed.size x) ≡ t
-          → CountsStep (unfinished (within x) + 1) (sealed.reached (sealed.absorbed x (b ∷ [])) (sealed.stored x s (b ∷ [])) t)
-      go true e = add-assoc (cameBefore (x .position .stage) (x .known .header)) (x .position .got) 1
-      go false e =
-          let f = ltb-false (x .position .got + 1) (sealed.size x) e in
-          let i = sealed-live.inside-of r in
-          let q : unfinished (within x) + 1 ≡ cameBefore (x .position .stage) (x .known .header) + sealed.size x = omega (arith, f, i) in
-          rw q (finish-counts (x .position .stage) _ (x .known) (sealed.stored x s (b ∷ [])) (r .live))
+  byte-counts x s b r =
+      let came = cameBefore (x .position .stage) (x .known .header) in
+      at-test (λ t. CountsStep (unfinished (within x) + 1) (sealed.reached (sealed.absorbed x (b ∷ [])) (sealed.stored x s (b ∷ [])) t)) (ltb (x .position .got + 1) (sealed.size x))
+      (λ e. add-assoc came (x .position .got) 1)
+      (λ e.
+      let q : unfinished (within x) + 1 ≡ came + sealed.size x = omega (arith, ltb-false (x .position .got + 1) (sealed.size x) e, sealed-live.inside-of r) in
+      rw q (finish-counts (x .position .stage) _ (x .known) (sealed.stored x s (b ∷ [])) (r .live)))
 
   sealed-counts : (x : sealed-state.State) (s piece : List ℕ) → sealed.Running x s
       → (let f = sealed.feed x s piece in Counts (f .received .report) (unfinished (within x) + f .received .taken) (within (f .received .state)))
@@ -226,19 +214,14 @@ refused-so (refusedSecure g) = rw (g .mode, g .hasRefused .stage)
 call-next : (n : ℕ) (st : State) (s piece : List ℕ) (r : Received) (s′ : List ℕ) → Counted n st → Answered st s piece r s′ → Next n r
 call-next n st s piece r s′ w a =
     let z = well st s piece r s′ a (w .agree) in
-    next-at n (r .taken) (r .state) (r .report) (z .agree) (λ m q. refused-so (z .hasRefused m q)) (go (refusedInUse st) refl (ltb (length s) (neededInUse st)) refl)
+    next-at n (r .taken) (r .state) (r .report) (z .agree) (λ m q. refused-so (z .hasRefused m q))
+    (by-test (refusedInUse st) (λ q. none (lasts (refused-of (st .mode) (st .ready) (st .crc) (st .sealed) (w .agree) q .1) s piece r s′ a .report))
+    (λ q. by-less (length s) (neededInUse st) (λ u. none (short-so st s piece r s′ a (w .agree) q u .report))
+    (λ u. subst (λ (k : ℕ). Counts (r .report) (k + r .taken) (r .state)) (sym (w .counts q))
+    (fed-counts (st .mode) (st .ready) (st .crc) (st .sealed) s piece r s′ a (record { agree = w .agree; live = q; fits = u })))))
   where
     none : {m : Numbers} → r .report ≡ report.Event (event.Refused m) → Counts (r .report) (n + r .taken) (r .state)
     none e = subst (λ (p : Report). Counts p (n + r .taken) (r .state)) (sym e) tt
-
-    go : (b : Bool) → refusedInUse st ≡ b → (t : Bool) → ltb (length s) (neededInUse st) ≡ t → Counts (r .report) (n + r .taken) (r .state)
-    go true q t u =
-        let g = refused-of (st .mode) (st .ready) (st .crc) (st .sealed) (w .agree) q in
-        none (lasts (g .1) s piece r s′ a .report)
-    go false q true u = none (short-so st s piece r s′ a (w .agree) q (ltb-true (length s) (neededInUse st) u) .report)
-    go false q false u =
-        let l : Running st s = record { agree = w .agree; live = q; fits = ltb-false (length s) (neededInUse st) u } in
-        subst (λ (k : ℕ). Counts (r .report) (k + r .taken) (r .state)) (sym (w .counts q)) (fed-counts (st .mode) (st .ready) (st .crc) (st .sealed) s piece r s′ a l)
 
 -- ---- a try to switch: it is made where nothing is unfinished
 
@@ -248,30 +231,25 @@ none-came k v e = ap (λ (x : Stage). crc-every.cameBefore x v) (stage-at k 4 e)
 
 ready-none : (k : Mode) (ready : Bool) (c : crc-state.State) (x : sealed-state.State)
     → (let st = stateOf k ready c x in readyRule st ≡ true → ready ≡ true → (refusedInUse st ≡ false) × (unfinished st ≡ 0))
-ready-none mode.Crc false c x e q = wrong q
-ready-none mode.Secure false c x e q = wrong q
-ready-none mode.Secure true c x e q = wrong e
-ready-none mode.Crc true c x e q =
-    let p : rank (c .position .stage) ≡ 4 = eqb-true (rank (c .position .stage)) 4 (both-left (eqb (rank (c .position .stage)) 4) (eqb (c .position .got) 0) e) in
-    let g : c .position .got ≡ 0 = eqb-true (c .position .got) 0 (both-right (eqb (rank (c .position .stage)) 4) (eqb (c .position .got) 0) e) in
-    (rw p, omega (arith, none-came (c .position .stage) (c .known) p, g))
+ready-none mode.Secure ready c x e q = wrong (sym (ready-so (stateOf mode.Secure ready c x) e q .crc))
+ready-none mode.Crc ready c x e q =
+    let z = ready-so (stateOf mode.Crc ready c x) e q in
+    (rw (z .stage), omega (arith, none-came (c .position .stage) (c .known) (z .stage), z .got))
 
 switched-counted : (n : ℕ) (st : State) (c : Try) → Counted n st → SwitchedWith st (c .key) (c .receiving) (c .sending) (c .switched) → Counted n (c .switched .state)
 unfolding sealed.switched
-switched-counted n st c w s = go (judgeSwitch st) refl
+switched-counted n st c w s =
+    by-judgement (judgeSwitch st)
+    (λ e.
+    let z = ready-none (st .mode) (st .ready) (st .crc) (st .sealed) (rule-of st (w .agree)) (fine-ready st e) in
+    record {
+      agree = sound-switch st (c .key) (c .receiving) (c .sending) (c .switched) s .agreeing (w .agree);
+      counts = λ _. w .counts (z .0) ∙ z .1 ∙ sym (ap unfinished (to e));
+    })
+    (λ m e. subst (Counted n) (sym (to e)) w)
   where
-    to : (j : Judged) → judgeSwitch st ≡ j → c .switched .state ≡ switchedState j st (c .key) (c .receiving)
-    to j e = s .state ∙ ap (λ (i : Judged). switchedState i st (c .key) (c .receiving)) e
-
-    go : (j : Judged) → judgeSwitch st ≡ j → Counted n (c .switched .state)
-    go (refused m) e = subst (Counted n) (sym (to (refused m) e)) w
-    go fine e =
-        let m : mayBeSwitched st ≡ true = passed (mayBeSwitched st) refusal.SwitchRefused (sym (judged-27 st (w .agree)) ∙ e) in
-        let z = ready-none (st .mode) (st .ready) (st .crc) (st .sealed) (rule-of st (w .agree)) (both-left (st .ready) (isMsgr21 (st .crc .known .revision)) m) in
-        record {
-          agree = sound-switch st (c .key) (c .receiving) (c .sending) (c .switched) s .agreeing (w .agree);
-          counts = λ _. w .counts (z .0) ∙ z .1 ∙ sym (ap unfinished (to fine e));
-        }
+    to : {j : Judged} → judgeSwitch st ≡ j → c .switched .state ≡ switchedState j st (c .key) (c .receiving)
+    to e = s .state ∙ ap (λ (i : Judged). switchedState i st (c .key) (c .receiving)) e
 
 add-up : (n : ℕ) (st : State) (cs : List AnyCall) → Counted n st → Handed st cs → n + allTaken cs ≡ allReported cs + unfinishedBy n cs
 add-up n st [] w h = omega arith

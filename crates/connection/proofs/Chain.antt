@@ -2,19 +2,16 @@
 use Prim.Native.Nat.{ℕ, suc, _+_, _-_, _≤_, zero-le}
 use mathlib.Core.List.{List, [], _∷_, _++_}
 use mathlib.Core.Path.{_≡_, refl, sym, ap, ap₂, subst, _∙_}
-use mathlib.Core.Bool.{Bool, true, false, not, cond, _&&_}
+use mathlib.Core.Bool.{Bool, true, false, cond, _&&_}
 use native.Mathlib.Omega.{arith}
 use native.Mathlib.Nat.{le-refl, add-zero, zero-add, sub-zero}
-use lib.Dec.{eqb, leb}
 use lib.ListN.{length, getD, take, drop, take-append-drop}
 use lib.Seq.{take-take, length-take-le}
-use borrow.Author.Tests.{leb-true, leb-false}
 use Rattle.buffer.proofs.Parts.{drop-take}
 use Rattle.refusal.specs.declared.Numbers.{Numbers}
-use Rattle.refusal.specs.declared.Refusal.the-variants as refusal
-use Rattle.refusal.specs.Refusals.{Judged, fine, refused, unless, noRefusal}
-use Rattle.refusal.proofs.Booleans.{wrong, both-left, both-right}
-use Rattle.refusal.proofs.Judgements.{all-fine, passed}
+use Rattle.refusal.specs.Refusals.{fine, refused, noRefusal}
+use Rattle.refusal.proofs.Booleans.{at-test, by-less, wrong}
+use Rattle.refusal.proofs.Judgements.{by-judgement}
 use Rattle.banner.specs.declared.Features.{Features}
 use Rattle.banner.specs.Banner.{judgeOwn, isMsgr21}
 use Rattle.stream.specs.declared.Event.{Event}
@@ -23,13 +20,12 @@ use Rattle.stream.proofs.Laws.{trace-refused}
 use Rattle.receiver.specs.declared.Report.{Report}
 use Rattle.receiver.specs.declared.Report.the-variants as report
 use Rattle.receiver.specs.declared.Stage.the-variants as stage
-use Rattle.receiver.specs.State.{rank}
 use Rattle.receiver.specs.Step as crc
 use Rattle.stream.specs.Events.{passing}
 use Rattle.receiver.specs.Calls.{pieceAt, entered, dueTaken, dueReport}
 use Rattle.receiver.proofs.Entries.{Behind, noted}
 use Rattle.receiver.proofs.Appended.{clean-here, refused-append, entered-append}
-use Rattle.receiver.proofs.Machine.{Scanned, scan, scan-append, scan-behind}
+use Rattle.receiver.proofs.Machine.{Machine, Scanned, scan, scan-append, scan-behind}
 use Rattle.receiver.proofs.Machine as machine
 use Rattle.receiver.proofs.Lists.{Comes, Standing, running, hasRefused, stays, every-list, uncut}
 use Rattle.receiver.proofs.Live as crc-live
@@ -38,13 +34,13 @@ use Rattle.secure.specs.Reading.{sealedTrace}
 use Rattle.connection.specs.declared.State.{State}
 use Rattle.connection.specs.declared.Mode.the-variants as mode
 use Rattle.connection.specs.Switched.{Switch, none, behind, endsFrame, spliced, traceWith, frameEndsAt, choseMsgr21, behindFrame, maySwitch, framesIn}
-use Rattle.connection.specs.Step.{isSecure, noSecure, begun, agrees, mayBeSwitched, judgeSwitch, switchedState}
+use Rattle.connection.specs.Step.{noSecure, begun, agrees, mayBeSwitched, switchedState}
 use Rattle.connection.specs.Calls.{Piece, Try, Call, Chained, takenBy, stateBy, storeBy, reportedBy, counted, switchBy, Each, Repeats, OneMade, Tries, AsSwitched, SwitchedDemand3}
 use Rattle.connection.proofs.Machines.{crcByte, secureByte, crcSide, secureSide, CrcRunning, SecureRunning, CrcRefusedFor, before}
-use Rattle.connection.proofs.Scans.{trace, crc-trace, secure-trace, LastEndsFrame, Just, ready-just, ready-ends, revision-chosen}
+use Rattle.connection.proofs.Scans.{trace, crc-trace, secure-trace, LastEndsFrame, ready-last, ready-ends, revision-chosen}
 use Rattle.connection.proofs.Splices.{spliced-there, AllBy, skipped, ahead-only, takes-some, lent-nothing}
 use Rattle.receiver.proofs.Machine.{runs, refuses}
-use Rattle.connection.proofs.SplitAtSwitch.{crc-agrees, secure-agrees, Fed, takenOf, stateOf, storeOf, reportedOf, EachOf, reportedThen, countedBy, Unmade, Made, SplitAtSwitch, unmade, made, parted}
+use Rattle.connection.proofs.SplitAtSwitch.{crc-agrees, secure-agrees, Fed, takenOf, stateOf, storeOf, reportedOf, EachOf, reportedThen, countedBy, Unmade, Made, SplitAtSwitch, by-split, fine-ready, unready, parted}
 use Rattle.connection.proofs.SwitchTries.{tries-answered}
 
 -- ---- runs of pieces
@@ -64,11 +60,7 @@ counted-entered : (k n : ℕ) (r : Report) (t : ℕ) (s : List ℕ) (es : List E
 counted-entered k n report.More t s es e f = f e
 counted-entered k n (report.Event w) t s es e f =
     let p = clean-here w (refusedIn (passing w es (λ m. []))) e in
-    rw p (f (rw p at e) ∙ go (endsFrame w))
-  where
-    go : (b : Bool) → cond b (suc k) k + framesIn es ≡ k + cond b (suc (framesIn es)) (framesIn es)
-    go true = omega arith
-    go false = refl
+    rw p (f (rw p at e) ∙ at-test (λ b. cond b (suc k) k + framesIn es ≡ k + cond b (suc (framesIn es)) (framesIn es)) (endsFrame w) (λ _. omega arith) (λ _. refl))
 
 counted-frames : (k t : ℕ) (ps : List Piece) → refusedIn (reportedOf t ps) ≡ false → countedBy k ps ≡ k + framesIn (reportedOf t ps)
 counted-frames k t [] e = sym (add-zero k)
@@ -99,27 +91,18 @@ module _ (es fs gs : List Entry) (stream : List ℕ) (t₁ : ℕ) (s₁ : List �
     (behind-fs : Behind t₁ fs) (behind-gs : Behind t₁ gs) where
   -- up to the frame behind which it is made, later entries do not count
   due-early : (t k n : ℕ) (r : Report) → t + n ≤ t₁ → n ≡ dueTaken (es ++ fs) t k → r ≡ dueReport (es ++ fs) t k → (n ≡ dueTaken (es ++ gs) t k) × (r ≡ dueReport (es ++ gs) t k)
-  due-early t k n r h a b = go (leb t₁ t) refl
-    where
-      go : (c : Bool) → leb t₁ t ≡ c → (n ≡ dueTaken (es ++ gs) t k) × (r ≡ dueReport (es ++ gs) t k)
-      go true e =
-          let l = leb-true t₁ t e in
-          let n0 : n ≡ 0 = omega (arith, l) in
-          let q : t ≡ t₁ = omega (arith, l) in
-          let z = skipped es fs t₁ k by clean in
-          let a₁ : n ≡ dueTaken fs t₁ k = a ∙ ap (λ (u : ℕ). dueTaken (es ++ fs) u k) q ∙ z .0 in
-          let b₁ : r ≡ dueReport fs t₁ k = b ∙ ap (λ (u : ℕ). dueReport (es ++ fs) u k) q ∙ z .1 in
-          let k0 : k ≡ 0 = takes-some fs t₁ k behind-fs (sym a₁ ∙ n0) in
-          let y = skipped es gs t₁ 0 by clean in
-          let u = lent-nothing gs t₁ behind-gs in
-          let v = lent-nothing fs t₁ behind-fs in (
-            n0 ∙ sym (u .0) ∙ sym (y .0) ∙ ap₂ (λ (w x : ℕ). dueTaken (es ++ gs) w x) (sym q) (sym k0),
-            b₁ ∙ ap (dueReport fs t₁) k0 ∙ v .1 ∙ sym (u .1) ∙ sym (y .1) ∙ ap₂ (λ (w x : ℕ). dueReport (es ++ gs) w x) (sym q) (sym k0),
-          )
-      go false e =
-          let l = leb-false t₁ t e in
-          let z = ahead-only es fs gs t t₁ k s₁ last l in
-          (a ∙ z .0, b ∙ z .1)
+  due-early t k n r h a b =
+      by-less t t₁ (λ l. let z = ahead-only es fs gs t t₁ k s₁ last l in (a ∙ z .0, b ∙ z .1))
+      (λ l.
+      let q : t ≡ t₁ = omega arith in
+      let n0 : n ≡ 0 = omega arith in
+      let z = skipped es fs t₁ k by clean in
+      let a₁ : dueTaken fs t₁ k ≡ 0 = cc in
+      let k0 : k ≡ 0 = takes-some fs t₁ k behind-fs a₁ in
+      let y = skipped es gs t₁ 0 by clean in
+      let u = lent-nothing gs t₁ behind-gs in
+      let v = lent-nothing fs t₁ behind-fs in
+      (cc, cc))
 
   each-early : (t : ℕ) (ps : List Piece) → takenOf t ps ≤ t₁ → EachOf (es ++ fs) stream t ps → EachOf (es ++ gs) stream t ps
   each-early t [] h e = tt
@@ -140,24 +123,13 @@ module _ (es fs gs : List Entry) (stream : List ℕ) (t₁ : ℕ) (s₁ : List �
 
 -- ---- a start that is not refused
 
-just-last : (bs : List ℕ) (es : List Entry) (t : ℕ) (s : List ℕ) → Just false bs es t s → LastEndsFrame es t s
-just-last [] es t s j = wrong j
-just-last (b ∷ bs) es t s j = j
-
 no-switch : {A : Type 0} {n : ℕ} {key nonce : List ℕ} → behind n key nonce ≡ none → A
 no-switch e = absurd (let z : _≡_ {A = ℕ} 0 1 = cc in omega arith)
 
-abbrev numberOf : Switch → ℕ
-numberOf none = 0
-numberOf (behind n key nonce) = n
-
-abbrev keyOf : Switch → List ℕ
-keyOf none = []
-keyOf (behind n key nonce) = key
-
-abbrev nonceOf : Switch → List ℕ
-nonceOf none = []
-nonceOf (behind n key nonce) = nonce
+by-standing : {A : Type 0} {m : Machine} {x : m .State} {s : List ℕ} {es : List Entry} → Standing m x s es
+    → (m .Running x s → refusedIn es ≡ false → A) → ((n : Numbers) → m .RefusedFor n x → A) → A
+by-standing (running l clean) f g = f l clean
+by-standing (hasRefused n r) f g = g n r
 
 module _ (own : Features) (store : List ℕ) (ok : judgeOwn (own .supported) (own .required) ≡ fine) where
   abbrev start : State
@@ -181,24 +153,16 @@ module _ (own : Features) (store : List ℕ) (ok : judgeOwn (own .supported) (ow
   scanned₀ stream ps f = rw (sub-zero (takenOf 0 ps)) at (run₁ stream ps f .reached .scanned)
 
   standing-agrees : {st : State} {s : List ℕ} {es : List Entry} → Standing crcSide st s es → agrees st ≡ true
-  standing-agrees {st} {s} (running l clean) = crc-agrees {st = st} {s = s} (runs l)
-  standing-agrees {st} {s} (hasRefused n g) = crc-agrees {st = st} {s = s} (refuses n g)
+  standing-agrees {st} {s} h = by-standing h (λ l _. crc-agrees {st = st} {s = s} (runs l)) (λ n g. crc-agrees {st = st} {s = s} (refuses n g))
 
   parted′ : (stream : List ℕ) (cs : List Call) → Chained stream (begun own) store 0 cs → SplitAtSwitch stream start store 0 0 cs
-  parted′ stream cs ch = parted stream start store 0 0 cs (runs start-runs) (subst (λ (x : State). Chained stream x store 0 cs) begun-fine ch)
+  parted′ stream cs ch = parted stream start store 0 0 cs (runs start-runs) (rw begun-fine at ch)
 
   -- ---- the tries to switch
 
   -- a refused receiver is not ready
   crc-refused-unready : {n : Numbers} {st : State} → CrcRefusedFor n st → st .ready ≡ false
-  crc-refused-unready {n} {st} g = go (st .ready) refl
-    where
-      go : (b : Bool) → st .ready ≡ b → b ≡ false
-      go false e = refl
-      go true e =
-          let q : (not (isSecure (st .mode)) && before (st .crc)) ≡ true = ap (λ (b : Bool). cond b (not (isSecure (st .mode)) && before (st .crc)) true) (sym e) ∙ g .rule in
-          let b = both-right (not (isSecure (st .mode))) (before (st .crc)) q in
-          wrong (sym (ap (λ k. eqb (rank k) 4 && eqb (st .crc .position .got) 0) (g .hasRefused .stage)) ∙ b)
+  crc-refused-unready {n} {st} g = unready st (g .rule) (λ z. omega (arith, rw (g .hasRefused .stage) at (z .stage)))
 
   may-where : (stream : List ℕ) (ps : List Piece) → Fed stream start store 0 ps
       → (agrees (stateOf start ps) ≡ true) × (mayBeSwitched (stateOf start ps) ≡ maySwitch own stream store (takenOf 0 ps))
@@ -211,21 +175,16 @@ module _ (own : Features) (store : List ℕ) (ok : judgeOwn (own .supported) (ow
       let l : 0 + length (take t stream) ≡ t = zero-add _ ∙ length-take-le t stream (r .reached .within) in
       let n : traceOf own (take t stream) store .entries ≡ es = ap (λ (y : Trace). y .entries) (sym (traced₁ (take t stream)) ∙ ap trace q) in
       let c : st .ready ≡ frameEndsAt t es = rw (q, l) at (ready-ends start store 0 (take t stream) refl) in
-      (standing-agrees (r .standing), may-stands stream ps f c (r .standing) ∙ ap (behindFrame t) (sym n))
-    where
-      may-stands : (stream : List ℕ) (ps : List Piece) → Fed stream start store 0 ps → stateOf start ps .ready ≡ frameEndsAt (takenOf 0 ps) (reportedOf 0 ps)
-          → Standing crcSide (stateOf start ps) (storeOf store ps) (reportedOf 0 ps) → mayBeSwitched (stateOf start ps) ≡ behindFrame (takenOf 0 ps) (reportedOf 0 ps)
-      may-stands stream ps f c (running live clean) =
-          let q = scanned₀ stream ps f in
-          let v = revision-chosen start store 0 (take (takenOf 0 ps) stream) start-runs (ap (λ (y : Scanned State). refusedIn (y .entries)) q ∙ clean) in
-          ap₂ _&&_ c (rw q at v)
-      may-stands stream ps f c (hasRefused n g) =
-          let z = crc-refused-unready g in
-          ap (λ (b : Bool). b && isMsgr21 (stateOf start ps .crc .known .revision)) z ∙ sym (ap (λ (b : Bool). b && choseMsgr21 (reportedOf 0 ps)) (sym c ∙ z))
+      let m : mayBeSwitched st ≡ behindFrame t es = by-standing (r .standing)
+      (λ live clean. ap₂ _&&_ c (rw q at (revision-chosen start store 0 (take t stream) start-runs (ap (λ (y : Scanned State). refusedIn (y .entries)) q ∙ clean))))
+      (λ i g.
+      let z = crc-refused-unready g in
+      ap (λ (b : Bool). b && isMsgr21 (st .crc .known .revision)) z ∙ sym (ap (λ (b : Bool). b && choseMsgr21 es) (sym c ∙ z)))
+      in
+      (standing-agrees (r .standing), m ∙ ap (behindFrame t) (sym n))
 
   tries₀ : (stream : List ℕ) (cs : List Call) → Chained stream (begun own) store 0 cs → Tries (maySwitch own stream store) 0 cs
-  tries₀ stream cs ch =
-      tries-answered stream start store (maySwitch own stream store) (may-where stream) cs (subst (λ (x : State). Chained stream x store 0 cs) begun-fine ch)
+  tries₀ stream cs ch = tries-answered stream (maySwitch own stream store) start store 0 cs (may-where stream) (rw begun-fine at ch)
 
   -- ---- without a switch
 
@@ -234,11 +193,8 @@ module _ (own : Features) (store : List ℕ) (ok : judgeOwn (own .supported) (ow
   same-unmade stream stream′ cs cs′ ps ps′ x x′ e =
       let a = x .erased in
       let b = x′ .erased in
-      let q : take (takenOf 0 ps′) stream′ ≡ take (takenOf 0 ps) stream = ap (λ (n : ℕ). take n stream′) (sym (b .taken)) ∙ e ∙ ap (λ (n : ℕ). take n stream) (a .taken) in
-      let z = sym (scanned₀ stream′ ps′ (b .fed)) ∙ ap (scan crcByte start store 0) q ∙ scanned₀ stream ps (a .fed) in (
-        b .state ∙ ap (λ (c : Scanned State). c .state) z ∙ sym (a .state),
-        b .store ∙ ap (λ (c : Scanned State). c .store) z ∙ sym (a .store),
-      )
+      let z = sym (scanned₀ stream′ ps′ (b .fed)) ∙ ap (scan crcByte start store 0) (rw (a .taken, b .taken) at e) ∙ scanned₀ stream ps (a .fed) in
+      (b .state ∙ ap (λ (c : Scanned State). c .state) z ∙ sym (a .state), b .store ∙ ap (λ (c : Scanned State). c .store) z ∙ sym (a .store))
 
   defined-unmade : (stream : List ℕ) (cs : List Call) (ps : List Piece) → Unmade stream start store 0 0 cs ps → Tries (maySwitch own stream store) 0 cs → AsSwitched own stream store cs none
   defined-unmade stream cs ps x tr =
@@ -259,16 +215,12 @@ module _ (own : Features) (store : List ℕ) (ok : judgeOwn (own .supported) (ow
             let f : refusedIn (reportedOf 0 ps) ≡ true = ap refusedIn (sym (a .reported)) ∙ (rw ok at e) in
             let u = uncut crcSide stream start store 0 ps r f in
             (rw ok (a .reported ∙ u .0 ∙ ap (λ (t : Trace). t .entries) w), a .store ∙ u .1 ∙ ap (λ (t : Trace). t .store) w);
-        same = λ stream′ cs′ ch′ q e. rw begun-fine (go stream′ cs′ q e (parted′ stream′ cs′ ch′));
+        same = λ stream′ cs′ ch′ q e.
+            rw begun-fine (by-split (parted′ stream′ cs′ ch′) (λ ps′ x′. same-unmade stream stream′ cs cs′ ps ps′ x x′ e) (λ ps′ qs′ c′ x′. no-switch (sym (x′ .made) ∙ q)));
         one = x .one;
         tries = tr;
         agreeing = rw begun-fine (ap agrees (a .state) ∙ standing-agrees (r .standing));
       }
-    where
-      go : (stream′ : List ℕ) (cs′ : List Call) → switchBy 0 cs′ ≡ none → take (takenBy 0 cs′) stream′ ≡ take (takenBy 0 cs) stream → SplitAtSwitch stream′ start store 0 0 cs′
-          → (stateBy start cs′ ≡ stateBy start cs) × (storeBy store cs′ ≡ storeBy store cs)
-      go stream′ cs′ q e (unmade ps′ x′) = same-unmade stream stream′ cs cs′ ps ps′ x x′ e
-      go stream′ cs′ q e (made ps′ qs′ c′ x′) = no-switch (sym (x′ .made) ∙ q)
 
   -- ---- with a switch
 
@@ -293,17 +245,10 @@ module _ (own : Features) (store : List ℕ) (ok : judgeOwn (own .supported) (ow
 
     -- a frame was just reported
     ready₁ : st₁ .ready ≡ true
-    unfolding judgeSwitch
-    ready₁ =
-        let a = all-fine (unless (agrees st₁) refusal.StateContradicts ∷ unless (mayBeSwitched st₁) refusal.SwitchRefused ∷ []) (x .judged) in
-        both-left (st₁ .ready) (isMsgr21 (st₁ .crc .known .revision)) (passed (mayBeSwitched st₁) refusal.SwitchRefused (a .1 .0))
+    ready₁ = fine-ready st₁ (x .judged)
 
     clean₁ : refusedIn es ≡ false
-    clean₁ = go (r₁ .standing)
-      where
-        go : Standing crcSide st₁ s₁ es → refusedIn es ≡ false
-        go (running l clean) = clean
-        go (hasRefused n g) = wrong (sym (crc-refused-unready g) ∙ ready₁)
+    clean₁ = by-standing (r₁ .standing) (λ l clean. clean) (λ n g. wrong (sym (crc-refused-unready g) ∙ ready₁))
 
     within₁ : t₁ ≤ length stream
     within₁ = r₁ .reached .within
@@ -312,10 +257,9 @@ module _ (own : Features) (store : List ℕ) (ok : judgeOwn (own .supported) (ow
     last₁ =
         let q = scanned₀ stream ps (x .fed) in
         let l : 0 + length (take t₁ stream) ≡ t₁ = zero-add _ ∙ length-take-le t₁ stream within₁ in
-        let j = ready-just start store 0 (take t₁ stream) (ap (λ (y : Scanned State). y .state .ready) q ∙ ready₁) in
+        let j = ready-last start store 0 (take t₁ stream) refl (ap (λ (y : Scanned State). y .state .ready) q ∙ ready₁) in
         subst (λ (n : ℕ). LastEndsFrame es n s₁) l
-        (subst (λ (y : Scanned State). LastEndsFrame (y .entries) (0 + length (take t₁ stream)) (y .store)) q
-        (just-last (take t₁ stream) (scan crcByte start store 0 (take t₁ stream) .entries) (0 + length (take t₁ stream)) (scan crcByte start store 0 (take t₁ stream) .store) j))
+        (subst (λ (y : Scanned State). LastEndsFrame (y .entries) (0 + length (take t₁ stream)) (y .store)) q j)
 
     by₁ : AllBy t₁ es
     by₁ =
@@ -414,11 +358,9 @@ module _ (own : Features) (store : List ℕ) (ok : judgeOwn (own .supported) (ow
         )
 
     agreeing₂ : agrees (stateBy start cs) ≡ true
-    agreeing₂ = ap agrees (x .state) ∙ go (r₂ .standing)
-      where
-        go : Standing secureSide (stateOf st₂ qs) (storeOf s₁ qs) (reportedOf t₁ qs) → agrees (stateOf st₂ qs) ≡ true
-        go (running l clean) = secure-agrees {st = stateOf st₂ qs} {s = storeOf s₁ qs} (runs l)
-        go (hasRefused n g) = secure-agrees {st = stateOf st₂ qs} {s = storeOf s₁ qs} (refuses n g)
+    agreeing₂ =
+        ap agrees (x .state)
+        ∙ by-standing (r₂ .standing) (λ l _. secure-agrees {st = stateOf st₂ qs} {s = storeOf s₁ qs} (runs l)) (λ n g. secure-agrees {st = stateOf st₂ qs} {s = storeOf s₁ qs} (refuses n g))
 
   -- two lists that made the same switch
   module _ (stream stream′ : List ℕ) (cs cs′ : List Call) (ps qs ps′ qs′ : List Piece) (c c′ : Try) (x : Made stream start store 0 0 cs ps qs c) (x′ : Made stream′ start store 0 0 cs′ ps′ qs′ c′)
@@ -497,25 +439,17 @@ module _ (own : Features) (store : List ℕ) (ok : judgeOwn (own .supported) (ow
         reports = rw ok (ap (λ (t : Trace). t .entries) d);
         final = ap (λ (t : Trace). t .store) d;
         whole = λ e. let u = whole₂ stream cs ps qs c x (rw ok at e) in (rw ok (u .0), u .1);
-        same = λ stream′ cs′ ch′ q e. rw begun-fine (go stream′ cs′ q e (parted′ stream′ cs′ ch′));
+        same = λ stream′ cs′ ch′ q e. rw begun-fine (by-split (parted′ stream′ cs′ ch′) (λ ps′ x′. no-switch (sym q ∙ x′ .none))
+            (λ ps′ qs′ c′ x′. let z = sym (x′ .made) ∙ q in same-made stream stream′ cs cs′ ps qs ps′ qs′ c c′ x x′ (cc) (cc) (cc) e));
         one = x .one;
         tries = tr;
         agreeing = rw begun-fine (agreeing₂ stream cs ps qs c x);
       }
-    where
-      go : (stream′ : List ℕ) (cs′ : List Call) → switchBy 0 cs′ ≡ behind (countedBy 0 ps) (c .key) (c .receiving) → take (takenBy 0 cs′) stream′ ≡ take (takenBy 0 cs) stream
-          → SplitAtSwitch stream′ start store 0 0 cs′ → (stateBy start cs′ ≡ stateBy start cs) × (storeBy store cs′ ≡ storeBy store cs)
-      go stream′ cs′ q e (unmade ps′ x′) = no-switch (sym q ∙ x′ .none)
-      go stream′ cs′ q e (made ps′ qs′ c′ x′) =
-          let z = sym (x′ .made) ∙ q in
-          same-made stream stream′ cs cs′ ps qs ps′ qs′ c c′ x x′ (ap numberOf z) (ap keyOf z) (ap nonceOf z) e
 
   defined-live : (stream : List ℕ) (cs : List Call) → Chained stream (begun own) store 0 cs → AsSwitched own stream store cs (switchBy 0 cs)
-  defined-live stream cs ch = go (parted′ stream cs ch)
-    where
-      go : SplitAtSwitch stream start store 0 0 cs → AsSwitched own stream store cs (switchBy 0 cs)
-      go (unmade ps x) = subst (AsSwitched own stream store cs) (sym (x .none)) (defined-unmade stream cs ps x (tries₀ stream cs ch))
-      go (made ps qs c x) = subst (AsSwitched own stream store cs) (sym (x .made)) (defined-made stream cs ps qs c x (tries₀ stream cs ch))
+  defined-live stream cs ch =
+      by-split (parted′ stream cs ch) (λ ps x. rw (x .none) (defined-unmade stream cs ps x (tries₀ stream cs ch)))
+      (λ ps qs c x. rw (x .made) (defined-made stream cs ps qs c x (tries₀ stream cs ch)))
 
 -- ---- a start that is refused
 
@@ -532,24 +466,19 @@ module _ (own : Features) (store : List ℕ) (n : Numbers) (not16 : judgeOwn (ow
 
   -- no frame was reported, so no switch is made
   never-ready : {A : Type 0} (stream : List ℕ) (cs : List Call) (ps qs : List Piece) (c : Try) → Made stream stopped store 0 0 cs ps qs c → A
-  unfolding judgeSwitch
   never-ready stream cs ps qs c x =
       let q = stays crcSide n stream 0 stopped store ps start-refused (x .fed) .state in
-      let a = all-fine (unless (agrees (stateOf stopped ps)) refusal.StateContradicts ∷ unless (mayBeSwitched (stateOf stopped ps)) refusal.SwitchRefused ∷ []) (x .judged) in
-      let r = both-left (stateOf stopped ps .ready) (isMsgr21 (stateOf stopped ps .crc .known .revision)) (passed (mayBeSwitched (stateOf stopped ps)) refusal.SwitchRefused (a .1 .0)) in
-      wrong (sym (ap (λ (y : State). y .ready) q) ∙ r)
+      wrong (sym (ap (λ (y : State). y .ready) q) ∙ fine-ready (stateOf stopped ps) (x .judged))
 
   tries-refused : (stream : List ℕ) (cs : List Call) → Chained stream (begun own) store 0 cs → Tries (maySwitch own stream store) 0 cs
   tries-refused stream cs ch =
-      tries-answered stream stopped store (maySwitch own stream store) nowhere cs (subst (λ (y : State). Chained stream y store 0 cs) begun-refused ch)
-    where
-      nowhere : (ps : List Piece) → Fed stream stopped store 0 ps → (agrees (stateOf stopped ps) ≡ true) × (mayBeSwitched (stateOf stopped ps) ≡ maySwitch own stream store (takenOf 0 ps))
-      nowhere ps f =
-          let q = stays crcSide n stream 0 stopped store ps start-refused f .state in
-          let t = takenOf 0 ps in (
-            ap agrees q ∙ crc-agrees {st = stopped} {s = store} (refuses n start-refused),
-            ap mayBeSwitched q ∙ sym (ap (λ (y : Trace). behindFrame t (y .entries)) (trace-refused own (take t stream) store n not16)),
-          )
+      tries-answered stream (maySwitch own stream store) stopped store 0 cs
+      (λ ps f.
+      let q = stays crcSide n stream 0 stopped store ps start-refused f .state in
+      let t = takenOf 0 ps in (
+        ap agrees q ∙ crc-agrees {st = stopped} {s = store} (refuses n start-refused),
+        ap mayBeSwitched q ∙ sym (ap (λ (y : Trace). behindFrame t (y .entries)) (trace-refused own (take t stream) store n not16)),
+      )) (rw begun-refused at ch)
 
   record Still (stream : List ℕ) (cs : List Call) : Type 0 where
     taken : takenBy 0 cs ≡ 0
@@ -560,14 +489,13 @@ module _ (own : Features) (store : List ℕ) (n : Numbers) (not16 : judgeOwn (ow
     one : OneMade cs
 
   still : (stream : List ℕ) (cs : List Call) → Chained stream (begun own) store 0 cs → Still stream cs
-  still stream cs ch = go (parted stream stopped store 0 0 cs (refuses n start-refused) (subst (λ (y : State). Chained stream y store 0 cs) begun-refused ch))
-    where
-      go : SplitAtSwitch stream stopped store 0 0 cs → Still stream cs
-      go (unmade ps x) =
-          let a = x .erased in
-          let r = stays crcSide n stream 0 stopped store ps start-refused (a .fed) in
-          record { taken = a .taken ∙ r .taken; state = a .state ∙ r .state; final = a .store ∙ r .store; repeats = a .repeats n (r .repeats); none = x .none; one = x .one }
-      go (made ps qs c x) = never-ready stream cs ps qs c x
+  still stream cs ch =
+      by-split (parted stream stopped store 0 0 cs (refuses n start-refused) (rw begun-refused at ch))
+      (λ ps x.
+      let a = x .erased in
+      let r = stays crcSide n stream 0 stopped store ps start-refused (a .fed) in
+      record { taken = a .taken ∙ r .taken; state = a .state ∙ r .state; final = a .store ∙ r .store; repeats = a .repeats n (r .repeats); none = x .none; one = x .one })
+      (never-ready stream cs)
 
   defined-refused : (stream : List ℕ) (cs : List Call) → Chained stream (begun own) store 0 cs → AsSwitched own stream store cs (switchBy 0 cs)
   defined-refused stream cs ch =
@@ -588,8 +516,5 @@ module _ (own : Features) (store : List ℕ) (n : Numbers) (not16 : judgeOwn (ow
 -- DEMAND 3
 pub switched-demand3 : SwitchedDemand3
 unfolding SwitchedDemand3
-switched-demand3 own stream store cs ch = go (judgeOwn (own .supported) (own .required)) refl
-  where
-    go : (j : Judged) → judgeOwn (own .supported) (own .required) ≡ j → AsSwitched own stream store cs (switchBy 0 cs)
-    go fine e = defined-live own store e stream cs ch
-    go (refused n) e = defined-refused own store n e stream cs ch
+switched-demand3 own stream store cs ch =
+    by-judgement (judgeOwn (own .supported) (own .required)) (λ e. defined-live own store e stream cs ch) (λ n e. defined-refused own store n e stream cs ch)

@@ -2,13 +2,15 @@
 -- before it and of the calls with it.
 use mathlib.Core.Path.{_≡_, refl, sym, ap, subst, _∙_}
 use mathlib.Core.List.{List, [], _∷_, _++_, append-nil, append-assoc}
-use mathlib.Core.Bool.{Bool, true, false, cond, true≢false}
+use mathlib.Core.Bool.{true, false, cond, true≢false}
 use Prim.Native.Nat.{ℕ, _+_, _≤_}
 use native.Mathlib.Omega.{arith}
 use lib.ListN.{length, take}
 use borrow.Author.Tests.{le-leb}
 use Rattle.refusal.specs.declared.Numbers.{Numbers}
 use Rattle.refusal.specs.Refusals.{Judged, fine, refused, judgedBy}
+use Rattle.refusal.proofs.Booleans.{by-test}
+use Rattle.refusal.proofs.Judgements.{by-judgement}
 use Rattle.banner.specs.declared.Features.{Features}
 use Rattle.banner.specs.Banner.{judgeOwn}
 use Rattle.stream.specs.declared.Event.{Event}
@@ -54,6 +56,13 @@ module _ (c : Try) where
   list-try fine cs = reported-try 0 cs
   list-try (refused n) cs = refl
 
+entered-more : (r : Report) (at : ℕ) (s : List ℕ) (xs es ys : List Entry) → xs ≡ es ++ cond (refusedIn es) [] ys
+    → entered r at s xs ≡ entered r at s es ++ cond (refusedIn (entered r at s es)) [] ys
+entered-more report.More at s xs es ys ih = ih
+entered-more (report.Event w) at s xs es ys ih =
+    by-event (λ v. entered (report.Event v) at s xs ≡ entered (report.Event v) at s es ++ cond (refusedIn (entered (report.Event v) at s es)) [] ys)
+    (λ v p. rw (p, ih)) (λ n. refl) w
+
 abbrev pub andPiece : Piece → List Call → List Call
 andPiece c cs = cs ++ (taking c ∷ [])
 
@@ -87,40 +96,25 @@ module _ (c : Piece) where
   reported-piece : (t : ℕ) (cs : List Call) → reportedBy t (andPiece c cs) ≡ reportedBy t cs ++ cond (refusedIn (reportedBy t cs)) [] (lastly (takenBy t cs))
   reported-piece t [] = refl
   reported-piece t (switching d ∷ cs) = reported-piece t cs
-  reported-piece t (taking d ∷ cs) = go (d .received .report) (reported-piece (t + d .received .taken) cs)
-    where
-      go : (r : Report)
-          → reportedBy (t + d .received .taken) (andPiece c cs) ≡ reportedBy (t + d .received .taken) cs ++ cond (refusedIn (reportedBy (t + d .received .taken) cs)) [] (lastly (takenBy (t + d .received .taken) cs))
-          → entered r (t + d .received .taken) (d .store) (reportedBy (t + d .received .taken) (andPiece c cs))
-          ≡ entered r (t + d .received .taken) (d .store) (reportedBy (t + d .received .taken) cs)
-          ++ cond (refusedIn (entered r (t + d .received .taken) (d .store) (reportedBy (t + d .received .taken) cs))) [] (lastly (takenBy (t + d .received .taken) cs))
-      go report.More ih = ih
-      go (report.Event w) ih = by-event C (λ v p. rw (p, ih)) (λ n. refl) w
-        where
-          C : Event → Type 0
-          C v = entered (report.Event v) (t + d .received .taken) (d .store) (reportedBy (t + d .received .taken) (andPiece c cs))
-              ≡ entered (report.Event v) (t + d .received .taken) (d .store) (reportedBy (t + d .received .taken) cs)
-              ++ cond (refusedIn (entered (report.Event v) (t + d .received .taken) (d .store) (reportedBy (t + d .received .taken) cs))) [] (lastly (takenBy (t + d .received .taken) cs))
+  reported-piece t (taking d ∷ cs) =
+      let u = t + d .received .taken in
+      entered-more (d .received .report) u (d .store) (reportedBy u (andPiece c cs)) (reportedBy u cs) (lastly (takenBy u cs)) (reported-piece u cs)
 
 -- ---- behind a refusal
 
 taken-more : (t : ℕ) (cs : List Call) → t ≤ takenBy t cs
 taken-more t [] = omega arith
 taken-more t (switching c ∷ cs) = taken-more t cs
-taken-more t (taking c ∷ cs) =
-    let h : t + c .received .taken ≤ takenBy (t + c .received .taken) cs = taken-more (t + c .received .taken) cs in
-    omega arith
+taken-more t (taking c ∷ cs) = omega (arith, taken-more (t + c .received .taken) cs)
+
+entered-by : (r : Report) (at t : ℕ) (s : List ℕ) (es : List Entry) → at ≤ t → AllBy t es → AllBy t (entered r at s es)
+entered-by report.More at t s es h b = b
+entered-by (report.Event w) at t s es h b = (h, by-event (λ v. AllBy t (passing v es (λ n. []))) (λ v p. rw p b) (λ n. tt) w)
 
 up-to : (t : ℕ) (cs : List Call) → AllBy (takenBy t cs) (reportedBy t cs)
 up-to t [] = tt
 up-to t (switching c ∷ cs) = up-to t cs
-up-to t (taking c ∷ cs) = go (c .received .report) (up-to (t + c .received .taken) cs)
-  where
-    go : (r : Report) → AllBy (takenBy (t + c .received .taken) cs) (reportedBy (t + c .received .taken) cs)
-        → AllBy (takenBy (t + c .received .taken) cs) (entered r (t + c .received .taken) (c .store) (reportedBy (t + c .received .taken) cs))
-    go report.More ih = ih
-    go (report.Event w) ih =
-        (taken-more (t + c .received .taken) cs, by-event (λ v. AllBy (takenBy (t + c .received .taken) cs) (passing v (reportedBy (t + c .received .taken) cs) (λ n. []))) (λ v p. rw p ih) (λ n. tt) w)
+up-to t (taking c ∷ cs) = let u = t + c .received .taken in entered-by (c .received .report) u (takenBy u cs) (c .store) (reportedBy u cs) (taken-more u cs) (up-to u cs)
 
 -- what is due there is the refusal again
 record Again (r : Report) : Type 0 where
@@ -206,19 +200,8 @@ module _ (demand : SwitchedDemand3) (own : Features) (stream store : List ℕ) w
             adds = reports w e;
           }
 
-      by-fine : Grows own stream store sw t c
-      by-fine = go (refusedIn (reportedBy 0 cs)) refl
-        where
-          go : (b : Bool) → refusedIn (reportedBy 0 cs) ≡ b → Grows own stream store sw t c
-          go true e = by-stopped e
-          go false e = by-live e
-
     one-more : Grows own stream store (switchBy 0 cs) (takenBy 0 cs) c
-    one-more = go (judgeOwn (own .supported) (own .required)) refl
-      where
-        go : (j : Judged) → judgeOwn (own .supported) (own .required) ≡ j → Grows own stream store sw t c
-        go fine e = by-fine e
-        go (refused n) e = by-refused n e
+    one-more = by-judgement (judgeOwn (own .supported) (own .required)) (λ j. by-test (refusedIn (reportedBy 0 cs)) (by-stopped j) (by-live j)) by-refused
 
   -- ---- with the one that later calls make
 

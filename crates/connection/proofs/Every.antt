@@ -2,20 +2,19 @@
 use Prim.Native.Nat.{ℕ, _<_}
 use mathlib.Core.List.{List, []}
 use mathlib.Core.Path.{_≡_, refl, sym, ap, subst, _∙_}
-use mathlib.Core.Bool.{Bool, true, false, _&&_, and-true}
+use mathlib.Core.Bool.{Bool, true, false, and-true}
 use native.Mathlib.Omega.{arith}
-use lib.Dec.{eqb, ltb}
 use lib.ListN.{length}
-use borrow.Author.Tests.{eqb-true, ltb-true, ltb-false}
+use borrow.Author.Tests.{eqb-true}
 use Rattle.refusal.specs.declared.Numbers.{Numbers}
 use Rattle.refusal.specs.declared.Refusal.the-variants as refusal
-use Rattle.refusal.specs.Refusals.{Judged, fine, refused, numbersOf, unless, contradiction}
-use Rattle.refusal.proofs.Booleans.{wrong, both-left, both-right, second-false}
+use Rattle.refusal.specs.Refusals.{Judged, fine, refused, numbersOf, contradiction}
+use Rattle.refusal.proofs.Booleans.{by-test, by-less, wrong, both-left, both-right, second-false}
+use Rattle.refusal.proofs.Judgements.{by-judgement}
 use Rattle.banner.specs.declared.Features.{Features}
 use Rattle.stream.specs.declared.Event.the-variants as event
 use Rattle.receiver.specs.declared.Report.the-variants as report
 use Rattle.receiver.specs.declared.State as crc-state
-use Rattle.banner.specs.Banner.{isMsgr21}
 use Rattle.receiver.specs.State.{rank}
 use Rattle.receiver.specs.State as crc-states
 use Rattle.receiver.specs.Step as crc
@@ -37,8 +36,8 @@ use Rattle.connection.specs.declared.Switched.{Switched}
 use Rattle.connection.specs.Step.{readyRule, agreesInUse, agrees, begun, Answer, answered, byCrc, bySecure, answer, Answered, mayBeSwitched, judgeSwitch, switchedState, SwitchedWith}
 use Rattle.connection.specs.Calls.{Piece, SwitchedDemand3}
 use Rattle.connection.specs.Every.{refusedInUse, neededInUse, shortStore, refusedConnection, Running, Refuses, Sound, SoundSwitch}
-use Rattle.connection.proofs.Machines.{crcSide, secureSide, CrcRunning, CrcRefusedFor, SecureRunning, SecureRefusedFor, before, crc-answer, secure-answer}
-use Rattle.connection.proofs.SplitAtSwitch.{crc-agrees, secure-agrees, judged-27, unless-number}
+use Rattle.connection.proofs.Machines.{crcSide, secureSide, CrcRunning, CrcRefusedFor, SecureRunning, SecureRefusedFor, crc-answer, secure-answer, machineAnswer, answer-given}
+use Rattle.connection.proofs.SplitAtSwitch.{crc-agrees, secure-agrees, judged-27, unless-number, unready}
 use Rattle.connection.proofs.Laws.{by-rule}
 use Rattle.connection.proofs.Chain.{switched-demand3}
 
@@ -57,27 +56,15 @@ in-use-of st e = both-right (readyRule st) (agreesInUse st) e
 
 -- sealed frames are read by one that is not ready
 pub secure-unready : (ready : Bool) (c : crc-state.State) (x : sealed-state.State) → readyRule (stateOf mode.Secure ready c x) ≡ true → ready ≡ false
-secure-unready false c x e = refl
-secure-unready true c x e = wrong e
+secure-unready ready c x e = unready (stateOf mode.Secure ready c x) e (λ z. wrong (sym (z .crc)))
 
 -- before a preamble no store is needed, and so one that needs it is not ready
-before-needs : (c : crc-state.State) → before c ≡ true → crc.neededBy c ≡ 0
-before-needs c e =
-    let q : rank (c .position .stage) ≡ 4 = eqb-true (rank (c .position .stage)) 4 (both-left (eqb (rank (c .position .stage)) 4) (eqb (c .position .got) 0) e) in
-    rw q
-
 crc-unready : (ready : Bool) (c : crc-state.State) (x : sealed-state.State) (n : ℕ) → readyRule (stateOf mode.Crc ready c x) ≡ true → n < crc.neededBy c → ready ≡ false
-crc-unready false c x n e l = refl
-crc-unready true c x n e l = let z = before-needs c e in absurd (omega (arith, l, z))
+crc-unready ready c x n e l = unready (stateOf mode.Crc ready c x) e (λ z. let q : crc.neededBy c ≡ 0 = rw (z .stage) in omega (arith, l, q))
 
 refused-unready : (k : Mode) (ready : Bool) (c : crc-state.State) (x : sealed-state.State)
     → (let st = stateOf k ready c x in readyRule st ≡ true → refusedInUse st ≡ true → ready ≡ false)
-refused-unready mode.Crc false c x e l = refl
-refused-unready mode.Crc true c x e l =
-    let p = eqb-true (rank (c .position .stage)) 4 (both-left (eqb (rank (c .position .stage)) 4) (eqb (c .position .got) 0) e) in
-    let q = eqb-true (rank (c .position .stage)) 9 l in
-    let z : _≡_ {A = ℕ} 4 9 = sym p ∙ q in
-    absurd (omega (arith, z))
+refused-unready mode.Crc ready c x e l = unready (stateOf mode.Crc ready c x) e (λ z. omega (arith, z .stage, eqb-true (rank (c .position .stage)) 9 l))
 refused-unready mode.Secure ready c x e l = secure-unready ready c x e
 
 pub data RefusedFor (n : Numbers) (st : State) : Type 0 where
@@ -133,11 +120,7 @@ module _ (s piece : List ℕ) where
       secure-answer st s piece refl (secure-unready ready c x q) ∙ ap (bySecure st) (sealed-every.contradicting x s piece (in-use-not st e q))
 
   contradicting : (st : State) → agrees st ≡ false → answer st s piece ≡ refusing st contradiction
-  contradicting st e = go (readyRule st) refl
-    where
-      go : (b : Bool) → readyRule st ≡ b → answer st s piece ≡ refusing st contradiction
-      go true q = contradicting-by (st .mode) (st .ready) (st .crc) (st .sealed) e q
-      go false q = by-rule st s piece false q
+  contradicting st e = by-test (readyRule st) (contradicting-by (st .mode) (st .ready) (st .crc) (st .sealed) e) (by-rule st s piece false)
 
 -- ---- what a state that agrees comes to
 
@@ -175,16 +158,13 @@ refused-placed n st s (refusedCrc g) = onCrc (refuses n g)
 refused-placed n st s (refusedSecure g) = onSecure (refuses n g)
 
 placed : (st : State) (s : List ℕ) → agrees st ≡ true → Placed st s
-placed st s e = go (refusedInUse st) refl (ltb (length s) (neededInUse st)) refl
+placed st s e =
+    by-test (refusedInUse st) (λ l. let g = refused-of (st .mode) (st .ready) (st .crc) (st .sealed) e l in refused-placed (g .0) st s (g .1))
+    (λ l. by-less (length s) (neededInUse st) (tooShort l) (λ f. live (running-runs st s (record { agree = e; live = l; fits = f }))))
   where
     live : Runs st s → Placed st s
     live (runsCrc r) = onCrc (runs r)
     live (runsSecure r) = onSecure (runs r)
-
-    go : (b : Bool) → refusedInUse st ≡ b → (t : Bool) → ltb (length s) (neededInUse st) ≡ t → Placed st s
-    go true l t u = let g = refused-of (st .mode) (st .ready) (st .crc) (st .sealed) e l in refused-placed (g .0) st s (g .1)
-    go false l true u = tooShort l (ltb-true (length s) (neededInUse st) u)
-    go false l false u = live (running-runs st s (record { agree = e; live = l; fits = ltb-false (length s) (neededInUse st) u }))
 
 -- ---- a refused stream
 
@@ -216,14 +196,7 @@ module _ (st : State) (s piece : List ℕ) (r : Received) (s′ : List ℕ) (a :
   call = record { size = 0; received = r; store = s′ }
 
   refusing-so : (st′ : State) (n : Numbers) → answer st s piece ≡ answered st′ 0 (report.Event (event.Refused n)) s → Refuses st′ n s r s′
-  refusing-so st′ n e =
-      let er : r ≡ record { state = st′; taken = 0; report = report.Event (event.Refused n) } = a .received ∙ ap (λ (x : Answer). x .received) e in
-      record {
-        state = ap (λ (x : Received). x .state) er;
-        taken = ap (λ (x : Received). x .taken) er;
-        report = ap (λ (x : Received). x .report) er;
-        store = a .store ∙ ap (λ (x : Answer). x .store) e;
-      }
+  refusing-so st′ n e = repeated n (ap machineAnswer (answer-given call a ∙ e))
 
   pub short-so : agrees st ≡ true → refusedInUse st ≡ false → length s < neededInUse st → Refuses (refusedConnection st (shortStore st)) (shortStore st) s r s′
   short-so e l t = refusing-so (refusedConnection st (shortStore st)) (shortStore st) (short-by s piece (st .mode) (st .ready) (st .crc) (st .sealed) e l t)
@@ -256,21 +229,17 @@ module _ (st : State) (s piece : List ℕ) (r : Received) (s′ : List ℕ) (a :
                 subst (λ (y : State). RefusedFor n y) (sym (z .state)) (subst (λ (j : Numbers). RefusedFor j (refusedConnection st (shortStore st))) i g);
           }
 
+  -- what holds of any machine that is fed the piece
+  by-feed : (P : machine.Answer State → Type 0) → ((step : State → List ℕ → ℕ → machine.Stepped State) → P (machine.feed step st s piece)) → Runs st s
+      → P (record { state = r .state; taken = r .taken; report = r .report; store = s′ })
+  by-feed P f (runsCrc x) = subst P (sym (crcSide .feeds st s piece call x a)) (f (crcSide .onByte))
+  by-feed P f (runsSecure x) = subst P (sym (secureSide .feeds st s piece call x a)) (f (secureSide .onByte))
+
   some : Running st s → 0 < length piece → 0 < r .taken
-  some l h = go (running-runs st s l)
-    where
-      go : Runs st s → 0 < r .taken
-      go (runsCrc x) = subst (λ (y : machine.Answer State). 0 < y .taken) (sym (crcSide .feeds st s piece call x a)) (feed-some (crcSide .onByte) st s piece h)
-      go (runsSecure x) = subst (λ (y : machine.Answer State). 0 < y .taken) (sym (secureSide .feeds st s piece call x a)) (feed-some (secureSide .onByte) st s piece h)
+  some l h = by-feed (λ y. 0 < y .taken) (λ step. feed-some step st s piece h) (running-runs st s l)
 
   none : Running st s → length piece ≡ 0 → (r .taken ≡ 0) × (r .report ≡ report.More)
-  none l h = go (running-runs st s l)
-    where
-      go : Runs st s → (r .taken ≡ 0) × (r .report ≡ report.More)
-      go (runsCrc x) =
-          subst (λ (y : machine.Answer State). (y .taken ≡ 0) × (y .report ≡ report.More)) (sym (crcSide .feeds st s piece call x a)) (feed-none (crcSide .onByte) st s piece h)
-      go (runsSecure x) =
-          subst (λ (y : machine.Answer State). (y .taken ≡ 0) × (y .report ≡ report.More)) (sym (secureSide .feeds st s piece call x a)) (feed-none (secureSide .onByte) st s piece h)
+  none l h = by-feed (λ y. (y .taken ≡ 0) × (y .report ≡ report.More)) (λ step. feed-none step st s piece h) (running-runs st s l)
 
   pub sound : Sound st s piece r s′
   sound = record {
@@ -301,17 +270,13 @@ module _ (st : State) (key receiving sending : List ℕ) (r : Switched) (w : Swi
         let z : _≡_ {A = ℕ} 26 27 = ap (λ (n : Numbers). n .number) i in
         absurd (omega (arith, z));
     unchanged = λ n q. unchanged n (sym (w .judgement) ∙ q);
-    agreeing = λ e. go (judgeSwitch st) refl e;
+    agreeing = λ e. by-judgement (judgeSwitch st)
+        (λ q. ap agrees (w .state ∙ rw q) ∙ secure-agrees {st = switchedState fine st key receiving} {s = []} (runs (record { mode = refl; rule = refl; live = switched-running key receiving [] })))
+        (λ n q. ap agrees (unchanged n q) ∙ e);
     stays = λ e l.
         let u = refused-unready (st .mode) (st .ready) (st .crc) (st .sealed) (rule-of st e) l in
-        w .judgement ∙ judged-27 st e ∙ ap (λ (b : Bool). unless (b && isMsgr21 (st .crc .known .revision)) refusal.SwitchRefused) u;
+        w .judgement ∙ judged-27 st e ∙ rw u;
   }
-    where
-      go : (j : Judged) → judgeSwitch st ≡ j → agrees st ≡ true → agrees (r .state) ≡ true
-      go fine q e =
-          let z : r .state ≡ switchedState fine st key receiving = w .state ∙ ap (λ (j : Judged). switchedState j st key receiving) q in
-          ap agrees z ∙ secure-agrees {st = switchedState fine st key receiving} {s = []} (runs (record { mode = refl; rule = refl; live = switched-running key receiving [] }))
-      go (refused n) q e = ap agrees (unchanged n q) ∙ e
 
 pub begun-agrees : (own : Features) → agrees (begun own) ≡ true
 unfolding SwitchedDemand3

@@ -48,29 +48,21 @@ module _ (st : State) (s piece : List ℕ) where
   unfolding answer
   by-rule b e = ap (λ (x : Bool). cond x (byMode st s piece) contradicts) e
 
-  pub contradicted : (n : Numbers) → readyRule st ≡ false → n ≡ contradiction
-      → Answered st s piece (record { state = st; taken = 0; report = report.Event (event.Refused n) }) s
-  contradicted n e q =
-      let z = by-rule false e in
-      record {
-        received = ap (λ (m : Numbers). record { state = st; taken = 0; report = report.Event (event.Refused m) }) q ∙ sym (ap (λ (a : Answer). a .received) z);
-        store = sym (ap (λ (a : Answer). a .store) z);
-      }
-
   gave : (a : Answer) (r : Received) (s′ : List ℕ) → answer st s piece ≡ a → Gave a r s′ → Answered st s piece r s′
   gave a r s′ e g = record { received = g .received ∙ sym (ap (λ (x : Answer). x .received) e); store = g .store ∙ sym (ap (λ (x : Answer). x .store) e) }
+
+  pub contradicted : (n : Numbers) → readyRule st ≡ false → n ≡ contradiction
+      → Answered st s piece (record { state = st; taken = 0; report = report.Event (event.Refused n) }) s
+  contradicted n e q = gave contradicts _ s (by-rule false e) (record { received = rw q; store = refl })
 
   pub mode-is : (b : Bool) → readyRule st ≡ true → isSecure (st .mode) ≡ b
       → answer st s piece ≡ cond b (bySecure st (sealed.answer (st .sealed) s piece)) (byCrc st (crc.answer (st .crc) s piece))
   mode-is b e m = by-rule true e ∙ ap (λ (x : Bool). cond x (bySecure st (sealed.answer (st .sealed) s piece)) (byCrc st (crc.answer (st .crc) s piece))) m
 
-  pub secure-answered : (r : Received) (s′ : List ℕ) → readyRule st ≡ true → isSecure (st .mode) ≡ true → Gave (bySecure st (sealed.answer (st .sealed) s piece)) r s′ → Answered st s piece r s′
-  secure-answered r s′ e m g = gave (bySecure st (sealed.answer (st .sealed) s piece)) r s′ (mode-is true e m) g
-
-  pub crc-answered : (r : Received) (s′ : List ℕ) → readyRule st ≡ true → isSecure (st .mode) ≡ false → Gave (byCrc st (crc.answer (st .crc) s piece)) r s′ → Answered st s piece r s′
-  crc-answered r s′ e m g = gave (byCrc st (crc.answer (st .crc) s piece)) r s′ (mode-is false e m) g
+  pub answered-by : (b : Bool) {r : Received} {s′ : List ℕ} → readyRule st ≡ true → isSecure (st .mode) ≡ b
+      → Gave (cond b (bySecure st (sealed.answer (st .sealed) s piece)) (byCrc st (crc.answer (st .crc) s piece))) r s′ → Answered st s piece r s′
+  answered-by b e m g = gave _ _ _ (mode-is b e m) g
 
 pub switch-judged : (st : State) → orElse (unless (readyRule st && agreesInUse st) refusal.StateContradicts) (unless (mayBeSwitched st) refusal.SwitchRefused) ≡ judgeSwitch st
 unfolding judgeSwitch agrees
-switch-judged st =
-    ap (orElse (unless (readyRule st && agreesInUse st) refusal.StateContradicts)) (sym (or-else-last (unless (mayBeSwitched st) refusal.SwitchRefused)))
+switch-judged st = ap (orElse (unless (readyRule st && agreesInUse st) refusal.StateContradicts)) (sym (or-else-last (unless (mayBeSwitched st) refusal.SwitchRefused)))

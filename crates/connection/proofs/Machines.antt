@@ -2,7 +2,7 @@
 use Prim.Native.Nat.{ℕ, suc, _+_, zero-le}
 use mathlib.Core.List.{List, [], _∷_}
 use mathlib.Core.Path.{_≡_, refl, ap, _∙_}
-use mathlib.Core.Bool.{Bool, true, false, not, cond, _&&_, _||_, and-true}
+use mathlib.Core.Bool.{Bool, true, false, not, cond, _&&_, _||_, and-true, and-false}
 use native.Mathlib.Numerals.{one-add}
 use native.Mathlib.Omega.{arith}
 use lib.Dec.{eqb, leb, ltb}
@@ -10,8 +10,8 @@ use lib.ListN.{length, take}
 use borrow.Author.Tests.{le-ltb, ne-eqb, not-true}
 use Rattle.refusal.specs.declared.Numbers.{Numbers}
 use Rattle.refusal.specs.declared.Refusal.the-variants as refusal
-use Rattle.refusal.specs.Refusals.{contradiction, Judged, fine, refused, numbersOf}
-use Rattle.refusal.proofs.Booleans.{wrong, both-left, or-false, and-false}
+use Rattle.refusal.specs.Refusals.{Judged, fine, refused, numbersOf}
+use Rattle.refusal.proofs.Booleans.{at-test, at-cond, wrong, or-false}
 use Rattle.buffer.specs.Le.{numberAt}
 use Rattle.banner.specs.declared.Revision.{Revision}
 use Rattle.banner.specs.Banner.{judgeFeatures, judgeMagic, judgeLength, revisionOf, featuresOf, isMsgr21}
@@ -29,8 +29,7 @@ use Rattle.receiver.specs.declared.Known.{Known}
 use Rattle.receiver.specs.declared.Stage.{Stage}
 use Rattle.receiver.specs.declared.Stage.the-variants as stage
 use Rattle.receiver.specs.declared.State as crc-state
-use Rattle.receiver.specs.State.{rank, hasFirstSum, revisionRule, rules, countRule, blockRule}
-use Rattle.receiver.specs.State as crc-states
+use Rattle.receiver.specs.State.{rank, hasFirstSum, revisionRule}
 use Rattle.receiver.specs.Step as crc
 use Rattle.receiver.proofs.Machine.{Machine, After, after-map, Silent, refusedAgain, scan-silent}
 use Rattle.receiver.proofs.Machine as machine
@@ -48,8 +47,9 @@ use Rattle.connection.specs.declared.Mode.{Mode}
 use Rattle.connection.specs.declared.Mode.the-variants as mode
 use Rattle.connection.specs.declared.State.{State}
 use Rattle.connection.specs.Switched.{endsFrame}
-use Rattle.connection.specs.Step.{isSecure, reportEndsFrame, readyAfter, readyRule, Answer, answered, byCrc, bySecure, byMode, answer, Answered}
+use Rattle.connection.specs.Step.{isSecure, reportEndsFrame, readyAfter, readyRule, Answer, byCrc, bySecure, answer, Answered}
 use Rattle.connection.specs.Calls.{Piece}
+use Rattle.connection.proofs.Laws.{mode-is}
 
 -- ---- a frame's end leaves the receiver before the next preamble, and the revision is the banner's from the banner on
 
@@ -78,10 +78,6 @@ lands-unless : (j : Judged) (w : Known) (s : List ℕ) {v : Revision} (x : crc.S
 lands-unless fine w s x l = l
 lands-unless (refused n) w s x l = lands-refused w n s
 
-lands-cond : (b : Bool) {v : Revision} (x y : crc.Stepped) → Lands v x → Lands v y → Lands v (cond b x y)
-lands-cond true x y l m = l
-lands-cond false x y l m = m
-
 lands-end : (e : Ended) (v : Known) (s : List ℕ) → Lands (v .revision) (crc.endFrame e v s)
 lands-end whole v s = record { there = λ e. refl; revision = refl }
 lands-end dropped v s = record { there = λ e. refl; revision = refl }
@@ -97,27 +93,19 @@ lands-banner v s h =
     (crc.stepped (crc.at stage.Preamble 0 (crc.withRevision v r)) s (report.Event (event.Banner (v .peer) r))) (record { there = λ e. wrong e; revision = (h, refl) })
 
 lands-epilogue : (v : Known) (s : List ℕ) → Lands (v .revision) (crc.beginEpilogue v s)
-lands-epilogue v s =
-    lands-cond (noEpilogue (v .revision) (v .header)) (crc.endFrame whole v s) (crc.silent (crc.at stage.Epilogue 0 v) s)
-    (lands-end whole v s) (lands-silent (crc.at stage.Epilogue 0 v) s)
+lands-epilogue v s = at-cond (Lands (v .revision)) (noEpilogue (v .revision) (v .header)) (lands-end whole v s) (lands-silent (crc.at stage.Epilogue 0 v) s)
 
 lands-rest : (v : Known) (got : ℕ) (s : List ℕ) → Lands (v .revision) (crc.beginRest v got s)
-lands-rest v got s =
-    lands-cond (ltb got (total (v .header))) (crc.silent (crc.at stage.Rest got v) s) (crc.beginEpilogue v s)
-    (lands-silent (crc.at stage.Rest got v) s) (lands-epilogue v s)
+lands-rest v got s = at-cond (Lands (v .revision)) (ltb got (total (v .header))) (lands-silent (crc.at stage.Rest got v) s) (lands-epilogue v s)
 
 lands-body : (v : Known) (s : List ℕ) → Lands (v .revision) (crc.beginBody v s)
-lands-body v s =
-    lands-cond (hasFirstSum v) (crc.silent (crc.at stage.First 0 v) s) (crc.beginRest v 0 s) (lands-silent (crc.at stage.First 0 v) s) (lands-rest v 0 s)
+lands-body v s = at-cond (Lands (v .revision)) (hasFirstSum v) (lands-silent (crc.at stage.First 0 v) s) (lands-rest v 0 s)
 
 -- behind segment 1 no refusal is given, and so the revision is kept
 rest-revision : (v : Known) (got : ℕ) (s : List ℕ) → crc.beginRest v got s .state .known .revision ≡ v .revision
-rest-revision v got s = go (ltb got (total (v .header))) (noEpilogue (v .revision) (v .header))
-  where
-    go : (b c : Bool) → cond b (crc.silent (crc.at stage.Rest got v) s) (cond c (crc.endFrame whole v s) (crc.silent (crc.at stage.Epilogue 0 v) s)) .state .known .revision ≡ v .revision
-    go true c = refl
-    go false true = refl
-    go false false = refl
+rest-revision v got s =
+    let kept : crc.Stepped → Type 0 = λ x. x .state .known .revision ≡ v .revision in
+    at-cond kept (ltb got (total (v .header))) refl (at-cond kept (noEpilogue (v .revision) (v .header)) refl refl)
 
 lands-first : (b : Bool) (h : Header) {v : Revision} (x : crc.Stepped) → x .state .known .revision ≡ v → Lands v x → Lands v (crc.reportFirst b h x)
 lands-first true h x q l = record { there = λ e. wrong e; revision = q }
@@ -133,7 +121,7 @@ lands-finish stage.Length b v s h =
     lands-unless (judgeLength (numberAt 2 0 b)) v s (crc.silent st s) (lands-silent st s)
 lands-finish stage.Payload b v s h =
     let w = crc.withPeer v (featuresOf (take 16 b)) in
-    lands-cond (leb (v .payload) 16) (crc.endBanner w s) (crc.silent (crc.at stage.Skip 0 w) s) (lands-banner w s (not-true (isMsgr21 (v .revision)) h)) (lands-silent (crc.at stage.Skip 0 w) s)
+    at-cond (Lands (v .revision)) (leb (v .payload) 16) (lands-banner w s (not-true (isMsgr21 (v .revision)) h)) (lands-silent (crc.at stage.Skip 0 w) s)
 lands-finish stage.Skip b v s h = lands-banner v s (not-true (isMsgr21 (v .revision)) h)
 lands-finish stage.Preamble b v s h =
     let w = crc.withHeader v (headerOf b) in
@@ -142,29 +130,20 @@ lands-finish stage.First b v s h = lands-silent (crc.at stage.FirstSum 0 v) s
 lands-finish stage.FirstSum b v s h =
     let n = v .header .s1 .len in
     let w = crc.withFirst v in
-    lands-cond (eqb (numberAt 4 0 b) (segmentSum (take n s))) (crc.behindFirstSum v s) (crc.refuse v (numbersOf (refusal.SegmentChecksum 1)) (zeroed (v .header) s))
+    at-cond (Lands (v .revision)) (eqb (numberAt 4 0 b) (segmentSum (take n s)))
     (lands-first (ltb 1 (v .header .count)) (v .header) (crc.beginRest w n s) (rest-revision w n s) (lands-rest w n s))
     (lands-refused v (numbersOf (refusal.SegmentChecksum 1)) (zeroed (v .header) s))
 lands-finish stage.Rest b v s h = lands-epilogue v s
 lands-finish stage.Epilogue b v s h = lands-end (ending (v .revision) (v .header) b (take (total (v .header)) s)) v s
 lands-finish stage.Refused b v s h = lands-silent (crc.at stage.Refused 0 v) s
 
-lands-reached : (st : crc-state.State) (s : List ℕ) (t : Bool) → revisionRule (st .position .stage) (st .known) ≡ true → Lands (st .known .revision) (crc.reached st s t)
-lands-reached st s true h = lands-silent st s
-lands-reached st s false h = lands-finish (st .position .stage) (st .position .block) (st .known) s h
-
-revision-agreed : (st : crc-state.State) → crc-states.agrees st ≡ true → revisionRule (st .position .stage) (st .known) ≡ true
-unfolding crc-states.agreesAt
-revision-agreed st e =
-    let p = st .position in
-    let k = p .stage in
-    let v = st .known in
-    let a = both-left (rules k v && countRule k v (p .got)) (blockRule k (p .got) (p .block)) e in
-    crc-live.rules-of k v (both-left (rules k v) (countRule k v (p .got)) a) .revision
-
-lands-byte : (st : crc-state.State) (s : List ℕ) (b : ℕ) → crc-states.agrees st ≡ true → Lands (st .known .revision) (crc.onByte st s b)
+lands-byte : (st : crc-state.State) (s : List ℕ) (b : ℕ) → crc.Running st s → Lands (st .known .revision) (crc.onByte st s b)
 unfolding crc.onByte
-lands-byte st s b e = lands-reached (crc.absorbed st (b ∷ [])) (crc.stored st s (b ∷ [])) (ltb (st .position .got + 1) (crc.size st)) (revision-agreed st e)
+lands-byte st s b r =
+    let st′ = crc.absorbed st (b ∷ []) in
+    let s′ = crc.stored st s (b ∷ []) in
+    at-test (λ t. Lands (st .known .revision) (crc.reached st′ s′ t)) (ltb (st .position .got + 1) (crc.size st))
+    (λ _. lands-silent st′ s′) (λ _. lands-finish (st .position .stage) (st′ .position .block) (st .known) s′ (crc-live.live r .rule .revision))
 
 -- ---- crc frames
 
@@ -189,20 +168,16 @@ rule-after : (c a : Bool) (m : Mode) → m ≡ mode.Crc → (c ≡ true → a �
 rule-after true a m e l = rw (e, l refl)
 rule-after false a m e l = refl
 
-crc-after : (r : Report) (st : State) (s : List ℕ) → st .mode ≡ mode.Crc → readyRule st ≡ true → After crc.Running crc-live.RefusedFor r (st .crc) s → After CrcRunning CrcRefusedFor r st s
-crc-after r st s m q =
-    after-map crc.Running crc-live.RefusedFor CrcRunning CrcRefusedFor r (st .crc) st s (λ a. record { mode = m; rule = q; live = a }) (λ n a. record { mode = m; rule = q; hasRefused = a })
-
 pub crc-keeps : (st : State) (s : List ℕ) (b : ℕ) → CrcRunning st s → After CrcRunning CrcRefusedFor (crcByte st s b .report) (crcByte st s b .state) (crcByte st s b .store)
 crc-keeps st s b r =
     let y = crcByte st s b in
-    crc-after (y .report) (y .state) (y .store) (r .mode)
-    (rule-after (reportEndsFrame (y .report)) (before (crc.onByte (st .crc) s b .state)) (st .mode) (r .mode) (lands-byte (st .crc) s b (r .live .agree) .there))
-    (crc-live.byte-after (st .crc) s b (r .live))
+    let q = rule-after (reportEndsFrame (y .report)) (before (y .state .crc)) (st .mode) (r .mode) (lands-byte (st .crc) s b (r .live) .there) in
+    after-map crc.Running crc-live.RefusedFor CrcRunning CrcRefusedFor (y .report) (y .state .crc) (y .state) (y .store)
+    (λ a. record { mode = r .mode; rule = q; live = a }) (λ n a. record { mode = r .mode; rule = q; hasRefused = a }) (crc-live.byte-after (st .crc) s b (r .live))
 
 pub crc-revision : (st : State) (s : List ℕ) (b : ℕ) → CrcRunning st s
     → RevisionAfter (crcByte st s b .report) (st .crc .known .revision) (crcByte st s b .state .crc .known .revision)
-crc-revision st s b r = lands-byte (st .crc) s b (r .live .agree) .revision
+crc-revision st s b r = lands-byte (st .crc) s b (r .live) .revision
 
 pub crc-silent-byte : (st : State) (s : List ℕ) (b : ℕ) → st .crc .position .stage ≡ stage.Refused → Silent {State = State} (λ x. x .crc .position .stage ≡ stage.Refused) s (crcByte st s b)
 unfolding crc.onByte crc.finish
@@ -245,17 +220,11 @@ crc-feed st s (b ∷ bs) =
 abbrev pub machineAnswer : Answer → machine.Answer State
 machineAnswer a = record { state = a .received .state; taken = a .received .taken; report = a .received .report; store = a .store }
 
-answer-given : {st : State} {s piece : List ℕ} (c : Piece) → Answered st s piece (c .received) (c .store) → record { received = c .received; store = c .store } ≡ answer st s piece
+pub answer-given : {st : State} {s piece : List ℕ} (c : Piece) → Answered st s piece (c .received) (c .store) → record { received = c .received; store = c .store } ≡ answer st s piece
 answer-given c a = rw (a .received, a .store)
 
-abbrev contradicts : State → List ℕ → Answer
-contradicts st s = answered st 0 (report.Event (event.Refused contradiction)) s
-
 pub crc-answer : (st : State) (s piece : List ℕ) → st .mode ≡ mode.Crc → readyRule st ≡ true → answer st s piece ≡ byCrc st (crc.answer (st .crc) s piece)
-unfolding answer
-crc-answer st s piece m q =
-    ap (λ (b : Bool). cond b (byMode st s piece) (contradicts st s)) q
-    ∙ ap (λ (k : Mode). cond (isSecure k) (bySecure st (sealed.answer (st .sealed) s piece)) (byCrc st (crc.answer (st .crc) s piece))) m
+crc-answer st s piece m q = mode-is st s piece false q (ap isSecure m)
 
 pub crc-feeds : (st : State) (s piece : List ℕ) (c : Piece) → CrcRunning st s → Answered st s piece (c .received) (c .store)
     → machineAnswer (record { received = c .received; store = c .store }) ≡ machine.feed crcByte st s piece
@@ -306,14 +275,12 @@ pub record SecureRefusedFor (n : Numbers) (st : State) : Type 0 where
   pub rule : st .ready ≡ false
   pub hasRefused : sealed-live.RefusedFor n (st .sealed)
 
-secure-after : (r : Report) (st : State) (s : List ℕ) → st .mode ≡ mode.Secure → st .ready ≡ false → After sealed.Running sealed-live.RefusedFor r (st .sealed) s → After SecureRunning SecureRefusedFor r st s
-secure-after r st s m q =
-    after-map sealed.Running sealed-live.RefusedFor SecureRunning SecureRefusedFor r (st .sealed) st s (λ a. record { mode = m; rule = q; live = a }) (λ n a. record { mode = m; rule = q; hasRefused = a })
-
 pub secure-keeps : (st : State) (s : List ℕ) (b : ℕ) → SecureRunning st s → After SecureRunning SecureRefusedFor (secureByte st s b .report) (secureByte st s b .state) (secureByte st s b .store)
 secure-keeps st s b r =
     let y = secureByte st s b in
-    secure-after (y .report) (y .state) (y .store) (r .mode) (r .rule) (sealed-live.chunk-leaves (st .sealed) s (b ∷ []) (r .live))
+    after-map sealed.Running sealed-live.RefusedFor SecureRunning SecureRefusedFor (y .report) (y .state .sealed) (y .state) (y .store)
+    (λ a. record { mode = r .mode; rule = r .rule; live = a }) (λ n a. record { mode = r .mode; rule = r .rule; hasRefused = a })
+    (sealed-live.chunk-leaves (st .sealed) s (b ∷ []) (r .live))
 
 pub secure-silent-byte : (st : State) (s : List ℕ) (b : ℕ) → st .sealed .position .stage ≡ part.Refused
     → Silent {State = State} (λ x. x .sealed .position .stage ≡ part.Refused) s (secureByte st s b)
@@ -337,14 +304,8 @@ secure-feed st s (b ∷ bs) =
     secure-onward st (x .report) x (machine.feed sealedByte (x .state) (x .store) bs)
     ∙ ap (machine.onward (x .report) (secureByte st s b)) (secure-feed (secureByte st s b .state) (x .store) bs)
 
-secure-rule : (st : State) → st .ready ≡ false → readyRule st ≡ true
-secure-rule st e = ap (λ (b : Bool). cond b (not (isSecure (st .mode)) && before (st .crc)) true) e
-
 pub secure-answer : (st : State) (s piece : List ℕ) → st .mode ≡ mode.Secure → st .ready ≡ false → answer st s piece ≡ bySecure st (sealed.answer (st .sealed) s piece)
-unfolding answer
-secure-answer st s piece m q =
-    ap (λ (b : Bool). cond b (byMode st s piece) (contradicts st s)) (secure-rule st q)
-    ∙ ap (λ (k : Mode). cond (isSecure k) (bySecure st (sealed.answer (st .sealed) s piece)) (byCrc st (crc.answer (st .crc) s piece))) m
+secure-answer st s piece m q = mode-is st s piece true (rw q) (ap isSecure m)
 
 pub secure-feeds : (st : State) (s piece : List ℕ) (c : Piece) → SecureRunning st s → Answered st s piece (c .received) (c .store)
     → machineAnswer (record { received = c .received; store = c .store }) ≡ machine.feed secureByte st s piece

@@ -1,7 +1,7 @@
 -- The entries of a stream's first bytes are the first of its entries: with the same switch, more bytes add entries behind those, and change none.
 use mathlib.Core.Path.{_≡_, refl, sym, ap, _∙_}
 use mathlib.Core.List.{List, [], _∷_, _++_}
-use mathlib.Core.Bool.{Bool, true, false, cond, _&&_}
+use mathlib.Core.Bool.{cond, _&&_}
 use Prim.Native.Nat.{ℕ, zero, suc, _+_, _-_, _≤_}
 use native.Mathlib.Omega.{arith}
 use native.Mathlib.Nat.{add-zero, zero-add}
@@ -10,10 +10,12 @@ use lib.Seq.{take-take}
 use lib.Dec.{leb, eqb}
 use borrow.Author.Tests.{leb-true, le-leb, lt-leb}
 use Rattle.buffer.proofs.Parts.{drop-take}
-use Rattle.refusal.specs.Refusals.{Judged, fine, refused, noRefusal}
+use Rattle.refusal.specs.Refusals.{noRefusal}
+use Rattle.refusal.proofs.Booleans.{at-test, at-cond}
+use Rattle.refusal.proofs.Judgements.{by-judgement}
 use Rattle.banner.specs.declared.Features.{Features}
 use Rattle.banner.specs.Banner.{judgeOwn}
-use Rattle.stream.specs.Stream.{Entry, Trace, byOwn, streamTrace, traceOf}
+use Rattle.stream.specs.Stream.{Entry, Trace, traceOf}
 use Rattle.receiver.specs.declared.Report.{Report}
 use Rattle.receiver.specs.declared.Report.the-variants as report
 use Rattle.receiver.specs.declared.Stage.the-variants as stage
@@ -37,11 +39,7 @@ upTo t (e ∷ es) = cond (leb (e .at) t) (e ∷ upTo t es) []
 -- the others are behind them
 pub behind-first : (t : ℕ) (es : List Entry) → es ≡ upTo t es ++ drop (length (upTo t es)) es
 behind-first t [] = refl
-behind-first t (e ∷ es) = go (leb (e .at) t) (behind-first t es)
-  where
-    go : (b : Bool) → es ≡ upTo t es ++ drop (length (upTo t es)) es → e ∷ es ≡ cond b (e ∷ upTo t es) [] ++ drop (length (cond b (e ∷ upTo t es) [])) (e ∷ es)
-    go true ih = ap (λ (l : List Entry). e ∷ l) ih
-    go false ih = refl
+behind-first t (e ∷ es) = at-cond (λ l. e ∷ es ≡ l ++ drop (length l) (e ∷ es)) (leb (e .at) t) (ap (λ (l : List Entry). e ∷ l) (behind-first t es)) refl
 
 none-yet : (t : ℕ) (es : List Entry) → Behind t es → upTo t es ≡ []
 none-yet t [] h = refl
@@ -67,16 +65,15 @@ scan-first step x s P (suc k) (b ∷ bs) =
 
 pub crc-first : (own : Features) (bytes store : List ℕ) (t : ℕ) → traceOf own (take t bytes) store .entries ≡ upTo t (traceOf own bytes store .entries)
 unfolding traceOf
-crc-first own bytes store t = go (judgeOwn (own .supported) (own .required))
-  where
-    go : (j : Judged) → byOwn j (streamTrace own (take t bytes) store) store .entries ≡ upTo t (byOwn j (streamTrace own bytes store) store .entries)
-    go (refused n) = refl
-    go fine =
-        let x = at stage.Magic 0 (onlyOwn own noRefusal) in
-        ap (λ (y : Trace). y .entries) (sym (stream-trace own (take t bytes) store))
-        ∙ scan-first byteStep x store 0 t bytes
-        ∙ ap (λ (n : ℕ). upTo n (scan byteStep x store 0 bytes .entries)) (zero-add t)
-        ∙ ap (λ (y : Trace). upTo t (y .entries)) (stream-trace own bytes store)
+crc-first own bytes store t =
+    let x = at stage.Magic 0 (onlyOwn own noRefusal) in
+    by-judgement (judgeOwn (own .supported) (own .required))
+    (λ e. rw e
+    (ap (λ (y : Trace). y .entries) (sym (stream-trace own (take t bytes) store))
+    ∙ scan-first byteStep x store 0 t bytes
+    ∙ ap (λ (n : ℕ). upTo n (scan byteStep x store 0 bytes .entries)) (zero-add t)
+    ∙ ap (λ (y : Trace). upTo t (y .entries)) (stream-trace own bytes store)))
+    (λ n e. rw e)
 
 sealed-first : (key nonce : List ℕ) (P k : ℕ) (bytes s : List ℕ) → sealedTrace key nonce 0 P (take k bytes) s .entries ≡ upTo (P + k) (sealedTrace key nonce 0 P bytes s .entries)
 sealed-first key nonce P k bytes s =
@@ -96,28 +93,20 @@ module _ (key nonce bytes : List ℕ) (t : ℕ) where
       ∙ sealed-first key nonce at (t - at) (drop at bytes) s
       ∙ ap (λ (n : ℕ). upTo n (next bytes at s .entries)) e
 
-  either : (c : Bool) (x x′ y y′ : Trace) → x′ .entries ≡ upTo t (x .entries) → y′ .entries ≡ upTo t (y .entries) → cond c x′ y′ .entries ≡ upTo t (cond c x y .entries)
-  either true x x′ y y′ e f = e
-  either false x x′ y y′ e f = f
-
   spliced-first : (n : ℕ) (es : List Entry) (s s′ : List ℕ) → spliced n (next (take t bytes)) (upTo t es) s′ .entries ≡ upTo t (spliced n (next bytes) es s .entries)
   unfolding spliced
   spliced-first n [] s s′ = refl
-  spliced-first n (e ∷ es) s s′ = go (leb (e .at) t) refl (spliced-first (cond (endsFrame (e .event)) (n - 1) n) es s s′)
-    where
-      m : ℕ
-      m = cond (endsFrame (e .event)) (n - 1) n
-
-      go : (b : Bool) → leb (e .at) t ≡ b → spliced m (next (take t bytes)) (upTo t es) s′ .entries ≡ upTo t (spliced m (next bytes) es s .entries)
-          → spliced n (next (take t bytes)) (cond b (e ∷ upTo t es) []) s′ .entries
-          ≡ cond b (e ∷ upTo t (cond (endsFrame (e .event) && eqb n 1) (next bytes (e .at) (e .store)) (spliced m (next bytes) es s) .entries)) []
-      go true h ih =
-          ap (λ (l : List Entry). e ∷ l)
-          (either (endsFrame (e .event) && eqb n 1)
-          (next bytes (e .at) (e .store)) (next (take t bytes) (e .at) (e .store))
-          (spliced m (next bytes) es s) (spliced m (next (take t bytes)) (upTo t es) s′)
-          (next-first (e .at) (e .store) (leb-true (e .at) t h)) ih)
-      go false h ih = refl
+  spliced-first n (e ∷ es) s s′ =
+      let m = cond (endsFrame (e .event)) (n - 1) n in
+      let x = next bytes (e .at) (e .store) in
+      let x′ = next (take t bytes) (e .at) (e .store) in
+      let y = spliced m (next bytes) es s in
+      let y′ = spliced m (next (take t bytes)) (upTo t es) s′ in
+      at-test (λ b. spliced n (next (take t bytes)) (cond b (e ∷ upTo t es) []) s′ .entries ≡ cond b (e ∷ upTo t (cond (endsFrame (e .event) && eqb n 1) x y .entries)) []) (leb (e .at) t)
+      (λ h. ap (λ (l : List Entry). e ∷ l)
+      (at-test (λ c. cond c x′ y′ .entries ≡ upTo t (cond c x y .entries)) (endsFrame (e .event) && eqb n 1)
+      (λ _. next-first (e .at) (e .store) (leb-true (e .at) t h)) (λ _. spliced-first m es s s′)))
+      (λ h. refl)
 
 -- of all bytes
 pub trace-first : (sw : Switch) (own : Features) (bytes store : List ℕ) (t : ℕ) → traceWith sw own (take t bytes) store .entries ≡ upTo t (traceWith sw own bytes store .entries)

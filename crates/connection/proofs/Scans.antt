@@ -2,13 +2,13 @@
 use Prim.Native.Nat.{ℕ, suc, _+_, _<_}
 use mathlib.Core.List.{List, [], _∷_}
 use mathlib.Core.Path.{_≡_, refl, sym, ap, _∙_}
-use mathlib.Core.Bool.{Bool, true, false, _&&_, _||_, and-true}
+use mathlib.Core.Bool.{Bool, true, false, _&&_, _||_, and-true, and-false}
 use native.Mathlib.Omega.{arith}
 use native.Mathlib.Numerals.{add-one}
 use lib.ListN.{length}
 use borrow.Author.Tests.{eq-eqb, ne-eqb}
 use Rattle.refusal.specs.Refusals.{fine, byJudgement, noRefusal}
-use Rattle.refusal.proofs.Booleans.{wrong, or-false, and-false}
+use Rattle.refusal.proofs.Booleans.{wrong, or-false}
 use Rattle.banner.specs.declared.Features.{Features}
 use Rattle.banner.specs.declared.Revision.{Revision}
 use Rattle.banner.specs.declared.Revision.the-variants.{Msgr20, Msgr21}
@@ -65,11 +65,6 @@ LastEndsFrame [] t s = ⊥
 LastEndsFrame (e ∷ []) t s = (endsFrame (e .event) ≡ true) × (e .at ≡ t) × (e .store ≡ s)
 LastEndsFrame (e ∷ f ∷ es) t s = LastEndsFrame (f ∷ es) t s
 
--- what is ready has just reported one, or took no byte
-abbrev pub Just : Bool → List ℕ → List Entry → ℕ → List ℕ → Type 0
-Just ready [] es t s = ready ≡ true
-Just ready (b ∷ bs) es t s = LastEndsFrame es t s
-
 last-noted : (r : Report) (at : ℕ) (s : List ℕ) (es : List Entry) (t : ℕ) (u : List ℕ) → LastEndsFrame es t u → LastEndsFrame (noted r at s es) t u
 last-noted report.More at s es t u l = l
 last-noted (report.Event e) at s [] t u l = absurd l
@@ -79,22 +74,24 @@ last-here : (r : Report) (at : ℕ) (s : List ℕ) → reportEndsFrame r ≡ tru
 last-here report.More at s e = wrong e
 last-here (report.Event v) at s e = (e, refl, refl)
 
-pub ready-just : (st : State) (s : List ℕ) (P : ℕ) (bs : List ℕ) → machine.scan crcByte st s P bs .state .ready ≡ true
-    → (let c = machine.scan crcByte st s P bs in Just (st .ready) bs (c .entries) (P + length bs) (c .store))
+-- what is ready behind a byte has just reported a frame's end
+ready-just : (st : State) (s : List ℕ) (P b : ℕ) (bs : List ℕ) → machine.scan crcByte st s P (b ∷ bs) .state .ready ≡ true
+    → (let c = machine.scan crcByte st s P (b ∷ bs) in LastEndsFrame (c .entries) (P + length (b ∷ bs)) (c .store))
 unfolding machine.scan
-ready-just st s P [] e = e
-ready-just st s P (b ∷ []) e = rw (add-one P) (last-here (crcByte st s b .report) (suc P) (crcByte st s b .store) e)
-ready-just st s P (b ∷ c ∷ cs) e =
+ready-just st s P b [] e = rw (add-one P) (last-here (crcByte st s b .report) (suc P) (crcByte st s b .store) e)
+ready-just st s P b (c ∷ cs) e =
     let y = crcByte st s b in
     let z = machine.scan crcByte (y .state) (y .store) (suc P) (c ∷ cs) in
     let n : suc P + length (c ∷ cs) ≡ P + length (b ∷ c ∷ cs) = omega arith in
-    last-noted (y .report) (suc P) (y .store) (z .entries) (P + length (b ∷ c ∷ cs)) (z .store) (rw n at (ready-just (y .state) (y .store) (suc P) (c ∷ cs) e))
+    last-noted (y .report) (suc P) (y .store) (z .entries) (P + length (b ∷ c ∷ cs)) (z .store) (rw n at (ready-just (y .state) (y .store) (suc P) c cs e))
 
--- so it is ready exactly where the last entry is one, at the last byte
-abbrev readyBy : Bool → List ℕ → Bool → Bool
-readyBy ready [] closed = ready
-readyBy ready (b ∷ bs) closed = closed
+pub ready-last : (st : State) (s : List ℕ) (P : ℕ) (bs : List ℕ) → st .ready ≡ false → machine.scan crcByte st s P bs .state .ready ≡ true
+    → (let c = machine.scan crcByte st s P bs in LastEndsFrame (c .entries) (P + length bs) (c .store))
+unfolding machine.scan
+ready-last st s P [] q e = wrong (sym q ∙ e)
+ready-last st s P (b ∷ bs) q e = ready-just st s P b bs e
 
+-- so it is ready exactly where the last entry is a frame's end, at the last byte
 ends-here : (r : Report) (at : ℕ) (s : List ℕ) → reportEndsFrame r ≡ frameEndsAt at (noted r at s [])
 ends-here report.More at s = refl
 ends-here (report.Event e) at s = sym (ap (λ (b : Bool). endsFrame e && b) (eq-eqb at at refl) ∙ and-true (endsFrame e))
@@ -104,23 +101,22 @@ ends-later report.More at s es t h = refl
 ends-later (report.Event e) at s [] t h = ap (λ (b : Bool). endsFrame e && b) (ne-eqb at t (λ z. absurd (omega (arith, h)))) ∙ and-false (endsFrame e)
 ends-later (report.Event e) at s (f ∷ es) t h = refl
 
-ready-is : (st : State) (s : List ℕ) (P : ℕ) (bs : List ℕ)
-    → (let c = machine.scan crcByte st s P bs in c .state .ready ≡ readyBy (st .ready) bs (frameEndsAt (P + length bs) (c .entries)))
+ready-is : (st : State) (s : List ℕ) (P b : ℕ) (bs : List ℕ)
+    → (let c = machine.scan crcByte st s P (b ∷ bs) in c .state .ready ≡ frameEndsAt (P + length (b ∷ bs)) (c .entries))
 unfolding machine.scan
-ready-is st s P [] = refl
-ready-is st s P (b ∷ []) = rw (add-one P) (ends-here (crcByte st s b .report) (suc P) (crcByte st s b .store))
-ready-is st s P (b ∷ c ∷ cs) =
+ready-is st s P b [] = rw (add-one P) (ends-here (crcByte st s b .report) (suc P) (crcByte st s b .store))
+ready-is st s P b (c ∷ cs) =
     let y = crcByte st s b in
     let z = machine.scan crcByte (y .state) (y .store) (suc P) (c ∷ cs) in
     let n : suc P + length (c ∷ cs) ≡ P + length (b ∷ c ∷ cs) = omega arith in
     let l : suc P < P + length (b ∷ c ∷ cs) = omega arith in
-    (rw n at (ready-is (y .state) (y .store) (suc P) (c ∷ cs))) ∙ sym (ends-later (y .report) (suc P) (y .store) (z .entries) (P + length (b ∷ c ∷ cs)) l)
+    (rw n at (ready-is (y .state) (y .store) (suc P) c cs)) ∙ sym (ends-later (y .report) (suc P) (y .store) (z .entries) (P + length (b ∷ c ∷ cs)) l)
 
 pub ready-ends : (st : State) (s : List ℕ) (P : ℕ) (bs : List ℕ) → st .ready ≡ false
     → (let c = machine.scan crcByte st s P bs in c .state .ready ≡ frameEndsAt (P + length bs) (c .entries))
 unfolding machine.scan
 ready-ends st s P [] e = e
-ready-ends st s P (b ∷ bs) e = ready-is st s P (b ∷ bs)
+ready-ends st s P (b ∷ bs) e = ready-is st s P b bs
 
 -- and its revision is msgr2.1 exactly where a banner chose that
 clean-onward : (r : Report) (at : ℕ) (st : State) (s : List ℕ) (es : List Entry) → refusedIn (noted r at s es) ≡ false → machine.After CrcRunning CrcRefusedFor r st s

@@ -6,6 +6,7 @@ use mathlib.Core.Bool.{Bool, true, false, cond, _&&_}
 use native.Mathlib.Omega.{arith}
 use lib.Dec.{leb, eqb}
 use borrow.Author.Tests.{le-leb, lt-leb, ne-eqb}
+use Rattle.refusal.proofs.Booleans.{at-cond}
 use Rattle.stream.specs.declared.Event.the-variants as event
 use Rattle.stream.specs.Stream.{Entry, Trace, refusedIn}
 use Rattle.receiver.specs.declared.Report.{Report}
@@ -20,11 +21,7 @@ use Rattle.connection.proofs.Scans.{LastEndsFrame}
 some-frame-end : (es : List Entry) (t : ℕ) (s : List ℕ) → LastEndsFrame es t s → 0 < framesIn es
 some-frame-end [] t s l = absurd l
 some-frame-end (e ∷ []) t s l = rw (l .0) (omega arith)
-some-frame-end (e ∷ f ∷ es) t s l = go (endsFrame (e .event)) (some-frame-end (f ∷ es) t s l)
-  where
-    go : (b : Bool) → 0 < framesIn (f ∷ es) → 0 < cond b (suc (framesIn (f ∷ es))) (framesIn (f ∷ es))
-    go true h = omega arith
-    go false h = h
+some-frame-end (e ∷ f ∷ es) t s l = at-cond (λ n. 0 < n) (endsFrame (e .event)) (omega arith) (some-frame-end (f ∷ es) t s l)
 
 module _ (next : ℕ → List ℕ → Trace) (later : List Entry) (store : List ℕ) where
   abbrev put : List Entry → ℕ → List ℕ → Trace

@@ -2,14 +2,17 @@
 use Prim.Native.Nat.{ℕ, _+_}
 use mathlib.Core.List.{List, [], _∷_}
 use mathlib.Core.Path.{_≡_, refl, sym, ap, subst, _∙_}
-use mathlib.Core.Bool.{Bool, true, false, not, cond, _&&_}
+use mathlib.Core.Bool.{Bool, true, false, not}
 use native.Mathlib.Omega.{arith}
+use lib.Dec.{eqb}
+use borrow.Author.Tests.{eqb-true, not-true}
 use Rattle.refusal.specs.declared.Numbers.{Numbers}
 use Rattle.refusal.specs.declared.Refusal.the-variants as refusal
 use Rattle.refusal.specs.Refusals.{Judged, fine, refused, numbersOf, judgedBy, unless}
-use Rattle.refusal.proofs.Booleans.{both-true}
-use Rattle.refusal.proofs.Judgements.{or-else-last}
+use Rattle.refusal.proofs.Booleans.{by-test, both-left, each-true, both-true}
+use Rattle.refusal.proofs.Judgements.{by-judgement, all-fine, or-else-last, passed}
 use Rattle.stream.specs.Stream.{Entry}
+use Rattle.receiver.specs.State.{rank}
 use Rattle.receiver.specs.State as crc-states
 use Rattle.banner.specs.Banner.{isMsgr21}
 use Rattle.receiver.specs.Calls.{pieceAt, entered}
@@ -26,17 +29,13 @@ use Rattle.connection.proofs.Machines.{crcSide, secureSide, before}
 
 -- ---- so it agrees with itself, and a try that is refused is refused with 27
 
-in-use : (b : Bool) (st : State) → isSecure (st .mode) ≡ b → cond b (sealed-states.agrees (st .sealed)) (crc-states.agrees (st .crc)) ≡ true → agreesInUse st ≡ true
-in-use b st e h = rw (← e) at h
-
 crc-agreed : (st : State) → st .mode ≡ mode.Crc → readyRule st ≡ true → crc-states.agrees (st .crc) ≡ true → agrees st ≡ true
 unfolding agrees
-crc-agreed st m q a = both-true (readyRule st) (agreesInUse st) q (in-use false st (ap isSecure m) a)
+crc-agreed st m q a = both-true (readyRule st) (agreesInUse st) q (rw m a)
 
 secure-agreed : (st : State) → st .mode ≡ mode.Secure → st .ready ≡ false → sealed-states.agrees (st .sealed) ≡ true → agrees st ≡ true
 unfolding agrees
-secure-agreed st m q a =
-    both-true (readyRule st) (agreesInUse st) (ap (λ (b : Bool). cond b (not (isSecure (st .mode)) && before (st .crc)) true) q) (in-use true st (ap isSecure m) a)
+secure-agreed st m q a = both-true (readyRule st) (agreesInUse st) (rw q) (rw m a)
 
 pub crc-agrees : {st : State} {s : List ℕ} → Stands crcSide st s → agrees st ≡ true
 crc-agrees {st} (runs r) = crc-agreed st (r .mode) (r .rule) (r .live .agree)
@@ -54,8 +53,27 @@ pub unless-number : (b : Bool) (n : Numbers) → unless b refusal.SwitchRefused 
 unless-number true n e = absurd (let z : _≡_ {A = ℕ} 0 1 = cc in omega arith)
 unless-number false n e = sym (let i : numbersOf refusal.SwitchRefused ≡ n = cc in i)
 
-secure-refused : (st : State) → agrees st ≡ true → st .ready ≡ false → judgeSwitch st ≡ refused (numbersOf refusal.SwitchRefused)
-secure-refused st a q = judged-27 st a ∙ ap (λ (b : Bool). unless (b && isMsgr21 (st .crc .known .revision)) refusal.SwitchRefused) q
+-- a switch that is made was ready
+pub fine-ready : (st : State) → judgeSwitch st ≡ fine → st .ready ≡ true
+unfolding judgeSwitch
+fine-ready st j =
+    let a = all-fine (unless (agrees st) refusal.StateContradicts ∷ unless (mayBeSwitched st) refusal.SwitchRefused ∷ []) j in
+    both-left (st .ready) (isMsgr21 (st .crc .known .revision)) (passed (mayBeSwitched st) refusal.SwitchRefused (a .1 .0))
+
+-- what is ready reads crc frames, and stands before a preamble
+pub record Ready (st : State) : Type 0 where
+  pub crc : isSecure (st .mode) ≡ false
+  pub stage : rank (st .crc .position .stage) ≡ 4
+  pub got : st .crc .position .got ≡ 0
+
+pub ready-so : (st : State) → readyRule st ≡ true → st .ready ≡ true → Ready st
+ready-so st e q =
+    let a = each-true (not (isSecure (st .mode))) (before (st .crc)) (rw q at e) in
+    let b = each-true (eqb (rank (st .crc .position .stage)) 4) (eqb (st .crc .position .got) 0) (a .1) in
+    record { crc = not-true (isSecure (st .mode)) (a .0); stage = eqb-true (rank (st .crc .position .stage)) 4 (b .0); got = eqb-true (st .crc .position .got) 0 (b .1) }
+
+pub unready : (st : State) → readyRule st ≡ true → (Ready st → ⊥) → st .ready ≡ false
+unready st e never = by-test (st .ready) (λ q. absurd (never (ready-so st e q))) (λ q. q)
 
 secure-ready : {st : State} {s : List ℕ} → Stands secureSide st s → st .ready ≡ false
 secure-ready (runs r) = r .rule
@@ -125,6 +143,11 @@ pub data SplitAtSwitch (stream : List ℕ) (st : State) (s : List ℕ) (t k : �
   unmade : (ps : List Piece) → Unmade stream st s t k cs ps → SplitAtSwitch stream st s t k cs
   made : (ps qs : List Piece) (c : Try) → Made stream st s t k cs ps qs c → SplitAtSwitch stream st s t k cs
 
+pub by-split : {A : Type 0} {stream : List ℕ} {st : State} {s : List ℕ} {t k : ℕ} {cs : List Call} → SplitAtSwitch stream st s t k cs
+    → ((ps : List Piece) → Unmade stream st s t k cs ps → A) → ((ps qs : List Piece) (c : Try) → Made stream st s t k cs ps qs c → A) → A
+by-split (unmade ps x) u m = u ps x
+by-split (made ps qs c x) u m = m ps qs c x
+
 module _ (stream : List ℕ) where
   erased-none : (st : State) (s : List ℕ) (t : ℕ) → Erased stream st s t [] []
   erased-none st s t = record { fed = tt; taken = refl; state = refl; store = refl; reported = refl; each = λ es e. tt; repeats = λ n r. tt }
@@ -165,7 +188,7 @@ module _ (stream : List ℕ) where
       let ih = later-calls (c .received .state) (c .store) (t + c .received .taken) cs (next-stands secureSide st s (pieceAt stream t (c .size)) c h (ch .0)) (ch .1) in
       (c ∷ ih .0, (erased-piece st s t c cs (ih .0) ch (ih .1 .0), ih .1 .1))
   later-calls st s t (switching c ∷ cs) h ch =
-      let j = secure-refused st (secure-agrees h) (secure-ready h) in
+      let j : judgeSwitch st ≡ refused (numbersOf refusal.SwitchRefused) = judged-27 st (secure-agrees h) ∙ rw (secure-ready h) in
       let q = left-alone st c (numbersOf refusal.SwitchRefused) (ch .0) j in
       let ih = later-calls st s t cs h (subst (λ (y : State). Chained stream y s t cs) q (ch .1)) in
       (ih .0, (erased-try st s t c cs (ih .0) q (ih .1 .0), (ch .0 .judgement ∙ j, ih .1 .1)))
@@ -240,11 +263,9 @@ module _ (stream : List ℕ) where
   parted st s t k (taking c ∷ cs) h ch =
       with-piece st s t k c cs ch
       (parted (c .received .state) (c .store) (t + c .received .taken) (counted k (c .received .report)) cs (next-stands crcSide st s (pieceAt stream t (c .size)) c h (ch .0)) (ch .1))
-  parted st s t k (switching c ∷ cs) h ch = go (judgeSwitch st) refl (parted st s t k cs h)
-    where
-      go : (j : Judged) → judgeSwitch st ≡ j → (Chained stream st s t cs → SplitAtSwitch stream st s t k cs) → SplitAtSwitch stream st s t k (switching c ∷ cs)
-      go fine j ih = made-here st s t k c cs j ch
-      go (refused n) j ih =
-          let q = left-alone st c n (ch .0) j in
-          with-try st s t k c cs n (ch .0 .judgement ∙ j) (unless-number (mayBeSwitched st) n (sym (judged-27 st (crc-agrees h)) ∙ j)) q
-          (ih (subst (λ (y : State). Chained stream y s t cs) q (ch .1)))
+  parted st s t k (switching c ∷ cs) h ch =
+      by-judgement (judgeSwitch st) (λ j. made-here st s t k c cs j ch)
+      (λ n j.
+      let q = left-alone st c n (ch .0) j in
+      with-try st s t k c cs n (ch .0 .judgement ∙ j) (unless-number (mayBeSwitched st) n (sym (judged-27 st (crc-agrees h)) ∙ j)) q
+      (parted st s t k cs h (subst (λ (y : State). Chained stream y s t cs) q (ch .1))))

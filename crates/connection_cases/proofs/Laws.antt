@@ -1,5 +1,5 @@
 -- Laws of calls, of tries to switch, and of the record.
-use mathlib.Core.Path.{_≡_, refl, sym, ap, ap₂, _∙_}
+use mathlib.Core.Path.{_≡_, refl, sym, _∙_}
 use mathlib.Core.Bool.{Bool, true, false, _&&_}
 use mathlib.Core.List.{List, [], _∷_, _++_, append-nil}
 use Prim.Native.Nat.{ℕ, zero, suc, _+_, _-_, _≤_, _<_}
@@ -12,29 +12,21 @@ use lib.Seq.{take-all, drop-drop, drop-length}
 use Rattle.buffer.specs.Le.{numberAt}
 use Rattle.refusal.specs.Refusals.{Judged, judgedBy}
 use Rattle.refusal.proofs.Booleans.{both-left, both-right}
-use Rattle.banner.specs.declared.Features.{Features}
 use Rattle.banner.specs.Banner.{judgeOwn}
-use Rattle.crc32c.specs.Crc.{crcOf}
-use Rattle.preamble.specs.declared.Header.{Header}
-use Rattle.refusal.specs.declared.WriteResult.{WriteResult}
-use Rattle.refusal.specs.Writes.{outcomeOf}
-use Rattle.sealed_builder.specs.declared.Sending.{Sending}
-use Rattle.sealed_builder.specs.Build.{done, sealedDone}
 use Rattle.connection.specs.declared.State.{State}
 use Rattle.connection.specs.declared.Switched.{Switched}
-use Rattle.connection.specs.Step.{answer, begun, judgeSwitch, switchedState, switchedSending, SwitchedWith}
+use Rattle.connection.specs.Step.{answer, begun, SwitchedWith}
 use Rattle.text.specs.Line.{Piece, codes}
 use Rattle.text.specs.Page.{Page, page}
-use Rattle.records.specs.declared.Step.{Step}
-use Rattle.records.specs.Records.{outcomeLine, Did, isWhole, whole, print, prints, counted}
-use Rattle.records.proofs.Laws.{sized-good, whole-within, did-is}
+use Rattle.records.specs.Records.{isWhole, print, prints, counted}
+use Rattle.records.proofs.Laws.{sized-good, whole-within}
 use Rattle.build_cases.specs.Sealed.{sealedLine}
 use Rattle.connection_cases.specs.declared.places.Layout.{Layout}
 use Rattle.connection_cases.specs.declared.places.Call.{Call}
 use Rattle.connection_cases.specs.declared.Called.{Called}
 use Rattle.connection_cases.specs.Lines.{judgementLine}
-use Rattle.connection_cases.specs.Places.{layoutOf, countAt, callsAt, callsOf, callWidth, streamAt, streamOf, callAt, callsFrom, isTry, tryAt, callGood, callsGood, inRange, receiverSize}
-use Rattle.connection_cases.specs.Calls.{lentAnswer, callAnswer, Outcome, answerOutcome, openedBy, emptyHeader, emptyDone, tryOutcome, callOutcome, CallDid, callLines, ownOf, receiverLines, receiverRecord}
+use Rattle.connection_cases.specs.Places.{countAt, callsAt, callsOf, callWidth, streamAt, streamOf, callAt, callsFrom, isTry, tryAt, callGood, callsGood, inRange, receiverSize}
+use Rattle.connection_cases.specs.Calls.{lentAnswer, openedBy, emptyDone, tryOutcome, callOutcome, CallDid, callLines, ownOf, receiverLines}
 
 -- ---- calls
 
@@ -71,18 +63,6 @@ try-fits l n e =
     let b = ltb-true n (4294967040 + l .switches) (both-right (leb 4294967040 n) _ e) in
     (a, b, omega arith)
 
--- the line of the build, as code comes to it
-pub empty-line : (sending : Sending) (b : WriteResult) (sum : ℕ) (x : Sending) (buf before : List ℕ) (h : Header)
-    → before ≡ counted 0 96
-    → h ≡ emptyHeader
-    → done (outcomeOf b) x buf ≡ sealedDone sending h false [] before 0
-    → sum ≡ crcOf 4294967295 buf
-    → outcomeLine (outcomeOf b) sum ≡ sealedLine (emptyDone sending)
-unfolding emptyDone
-empty-line sending b sum x buf before h eb eh e k =
-    let d : done (outcomeOf b) x buf ≡ emptyDone sending = e ∙ rw (eb, eh) in
-    ap (outcomeLine (outcomeOf b)) k ∙ ap sealedLine d
-
 pub try-did : (s : List ℕ) (i : ℕ) (st : State) (o : Switched) {key receiving sending : List ℕ} {spent : ℕ} {before : List ℕ} {at : ℕ} {after : List ℕ} {r : Called} {q : Page}
     → key ≡ take 16 (drop i s)
     → receiving ≡ take 12 (drop (i + 16) s)
@@ -95,34 +75,15 @@ pub try-did : (s : List ℕ) (i : ℕ) (st : State) (o : Switched) {key receivin
     → page after (r .filled) ≡ print (sealedLine (emptyDone (o .sending))) q
     → (store : List ℕ) → CallDid (tryOutcome s i st store) before at store after r
 unfolding tryOutcome prints
-try-did s i st o {key} {receiving} {sending} {spent} {before} {at} {after} {r} {q} ek er es ep w e t eq f store =
-    let j : Judged = judgeSwitch st in
+try-did s i st o ek er es ep w e t eq f store =
     record {
-      state =
-          e
-          ∙ ap (λ (v : Judged). openedBy v (o .state) spent) (w .judgement)
-          ∙ ap (λ (x : State). openedBy j x spent) (w .state)
-          ∙ ap (λ (n : ℕ). openedBy j (switchedState j st key receiving) n) ep
-          ∙ ap₂ (λ (k n : List ℕ). openedBy j (switchedState j st k n) (numberAt 8 (i + 40) s)) ek er;
+      state = rw (w .judgement, w .state, ek, er, ep) at e;
       taken = t;
       store = refl;
-      printed =
-          f
-          ∙ ap (λ (x : Sending). print (sealedLine (emptyDone x)) q) (w .sends ∙ ap₂ (λ (k n : List ℕ). switchedSending j k n) ek es)
-          ∙ ap (λ (p : Page). print (sealedLine (emptyDone (switchedSending j (take 16 (drop i s)) (take 12 (drop (i + 28) s))))) p)
-          (eq ∙ ap (λ (v : Judged). print (judgementLine (codes "switch") v) (page before at)) (w .judgement));
+      printed = rw (w .sends, ek, es, eq, w .judgement) at f;
     }
 
 -- ---- calls and tries
-
-module _ (l : Layout) (s : List ℕ) (st : State) (x : Call) (rest store : List ℕ) {before : List ℕ} {at : ℕ} {store′ after : List ℕ} {r : Called} where
-  pub either-try : isTry l (x .number) ≡ true → CallDid (tryOutcome s (tryAt l (x .number)) st store) before at store′ after r → CallDid (callOutcome l s st x rest store) before at store′ after r
-  unfolding callOutcome
-  either-try e d = rw e d
-
-  pub either-call : isTry l (x .number) ≡ false → CallDid (answerOutcome (callAnswer st x rest store)) before at store′ after r → CallDid (callOutcome l s st x rest store) before at store′ after r
-  unfolding callOutcome
-  either-call e d = rw e d
 
 prints-append : (xs ys : List (List Piece)) (p : Page) → prints (xs ++ ys) p ≡ prints ys (prints xs p)
 unfolding prints
@@ -134,14 +95,8 @@ calls-step : (l : Layout) (s : List ℕ) (xs : List Call) (st : State) (x : Call
     → CallDid (callOutcome l s st x rest store) before at store′ after r
     → prints (callLines l s xs (drop (r .taken) rest) (r .state) store′) (page after (r .filled)) ≡ prints (callLines l s (x ∷ xs) rest st store) (page before at)
 unfolding callLines
-calls-step l s xs st x rest store {before} {at} {store′} {after} {r} d =
-    let o : Outcome = callOutcome l s st x rest store in
-    let p : Page = prints (o .lines) (page before at) in
-    ap (λ (q : Page). prints (callLines l s xs (drop (r .taken) rest) (r .state) store′) q) (d .printed)
-    ∙ ap (λ (m : List ℕ). prints (callLines l s xs (drop (r .taken) rest) (r .state) m) p) (d .store)
-    ∙ ap (λ (σ : State). prints (callLines l s xs (drop (r .taken) rest) σ (o .store)) p) (d .state)
-    ∙ ap (λ (t : ℕ). prints (callLines l s xs (drop t rest) (o .state) (o .store)) p) (d .taken)
-    ∙ sym (prints-append (o .lines) (callLines l s xs (drop (o .taken) rest) (o .state) (o .store)) (page before at))
+calls-step l s xs st x rest store d =
+    rw (d .printed, d .store, d .state, d .taken, prints-append (callOutcome l s st x rest store .lines))
 
 pub calls-on : (l : Layout) (s : List ℕ) (n i : ℕ) (stream : List ℕ) (taken taken′ width : ℕ) (st : State) (x : Call) (rest store : List ℕ) {before : List ℕ} {at : ℕ} {store′ after : List ℕ} {r : Called}
     → 0 < n
@@ -152,13 +107,9 @@ pub calls-on : (l : Layout) (s : List ℕ) (n i : ℕ) (stream : List ℕ) (take
     → width ≡ callWidth (l .lends)
     → prints (callLines l s (callsFrom (l .lends) s (n - 1) (i + width)) (drop taken′ stream) (r .state) store′) (page after (r .filled))
     ≡ prints (callLines l s (callsFrom (l .lends) s n i) (drop taken stream) st store) (page before at)
-calls-on l s n i stream taken taken′ width st x rest store {before} {at} {store′} {after} {r} h ex er d et ew =
+calls-on l s n i stream taken taken′ width st x rest store h ex er d et ew =
     let xs : List Call = callsFrom (l .lends) s (n - 1) (i + callWidth (l .lends)) in
-    ap (λ (w : ℕ). prints (callLines l s (callsFrom (l .lends) s (n - 1) (i + w)) (drop taken′ stream) (r .state) store′) (page after (r .filled))) ew
-    ∙ ap (λ (m : List ℕ). prints (callLines l s xs m (r .state) store′) (page after (r .filled))) (et ∙ ap (drop (r .taken)) (sym er))
-    ∙ calls-step l s xs st x rest store d
-    ∙ ap (λ (m : List ℕ). prints (callLines l s (x ∷ xs) m st store) (page before at)) er
-    ∙ ap (λ (ys : List Call). prints (callLines l s ys (drop taken stream) st store) (page before at)) (ap (λ (y : Call). y ∷ xs) ex ∙ sym (calls-next (l .lends) s n i h))
+    rw (ew, et, calls-next (l .lends) s n i h, ← ex, ← er) (calls-step l s xs st x rest store d)
 
 -- ---- the record
 
@@ -181,13 +132,6 @@ module _ (room : ℕ) (l : Layout) (s : List ℕ) (e : isWhole (receiverSize roo
       let t : receiverSize room l s ≡ streamAt l s + 4 + streamOf l s = rw in-range in
       omega arith
 
-features : ℕ → ℕ → Features
-features a b = record { supported = a; required = b }
-
-pub own-is : (own : Features) (s : List ℕ) → own .supported ≡ numberAt 8 1 s → own .required ≡ numberAt 8 9 s → own ≡ ownOf s
-unfolding features
-own-is own s p q = ap₂ features p q
-
 -- the start and the calls of a record
 pub receiver-printed : (l : Layout) (s : List ℕ) (p : Page) {n from : ℕ} {stream : List ℕ} {st : State} {store : List ℕ} {v : Judged} {q r : Page}
     → n ≡ callsOf l s
@@ -200,13 +144,7 @@ pub receiver-printed : (l : Layout) (s : List ℕ) (p : Page) {n from : ℕ} {st
     → r ≡ prints (callLines l s (callsFrom (l .lends) s n from) stream st store) q
     → r ≡ prints (receiverLines l s) p
 unfolding receiverLines prints
-receiver-printed l s p {n} {from} {stream} {st} {store} en ef es est eb ev eq er =
-    er ∙ ap (λ (x : Page). prints (callLines l s (callsFrom (l .lends) s n from) stream st store) x) eq ∙ rw (en, ef, es, est, eb, ev)
-
-pub receiver-did : (switches lends : Bool) (room : ℕ) (l : Layout) {s before : List ℕ} {at : ℕ} {after : List ℕ} {r : Step}
-    → l ≡ layoutOf switches lends s → Did (whole (receiverSize room l s) s (receiverLines l s)) s before at after r → Did (receiverRecord switches lends room s) s before at after r
-unfolding receiverRecord
-receiver-did switches lends room l {s} e d = did-is (ap (λ (k : Layout). whole (receiverSize room k s) s (receiverLines k s)) (sym e)) d
+receiver-printed l s p en ef es est eb ev eq er = er ∙ rw (eq, en, ef, es, est, eb, ev)
 
 -- behind the end nothing is left
 pub drop-end : (s : List ℕ) (at n : ℕ) → length s ≤ at + n → drop (length s) s ≡ drop n (drop at s)

@@ -17,10 +17,7 @@ unfolding crcOf
 crc-zeros zero c = sym (steps-none c)
 crc-zeros (suc n) c =
     let e : 8 + 8 * n ≡ 8 * suc n = omega arith in
-    crc-zeros n (crcByte c 0)
-    ∙ ap (λ (x : ℕ). steps (8 * n) (steps 8 x)) (xor-zero-r c)
-    ∙ sym (steps-add 8 (8 * n) c)
-    ∙ ap (λ (k : ℕ). steps k c) e
+    rw (crc-zeros n (crcByte c 0), xor-zero-r c, ← (steps-add 8 (8 * n) c), e)
 
 twice : (n r c : ℕ) → r < 2 ^ 32 → square r ≡ c → square (crcOf r (replicate n 0)) ≡ crcOf c (replicate (n + n) 0)
 twice n r c h e =
@@ -32,7 +29,7 @@ unfolding crcOf
 none c n e = rw e
 
 -- r is the root of c, x what half of n zeros make of it, and y the square of x
-module _ (n c r x y : ℕ) (root : square r ≡ c) (half : x ≡ crcOf r (replicate (n / 2) 0)) (whole : y ≡ square x) (r-lt : r < 2 ^ 32) where
+module _ (n r : ℕ) {c x y : ℕ} (root : square r ≡ c) (half : x ≡ crcOf r (replicate (n / 2) 0)) (whole : y ≡ square x) (r-lt : r < 2 ^ 32) where
   halved : y ≡ crcOf c (replicate (n / 2 + n / 2) 0)
   halved = whole ∙ ap square half ∙ twice (n / 2) r c r-lt root
 

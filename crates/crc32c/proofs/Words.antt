@@ -26,11 +26,9 @@ crc-xor : (a b : ℕ) (bs : List ℕ) → crcOf (bitXor a b) bs ≡ bitXor (crcO
 unfolding crcOf
 crc-xor a b [] = ap (bitXor a) (sym (steps-none b))
 crc-xor a b (x ∷ bs) =
-    let e : 8 + 8 * length bs ≡ 8 * suc (length bs) = omega arith in
-    ap (λ (y : ℕ). crcOf (steps 8 y) bs) (xor-assoc a b x ∙ ap (bitXor a) (xor-comm b x) ∙ sym (xor-assoc a x b))
-    ∙ ap (λ (y : ℕ). crcOf y bs) (steps-xor 8 (bitXor a x) b)
-    ∙ crc-xor (crcByte a x) (steps 8 b) bs
-    ∙ ap (bitXor (crcOf (crcByte a x) bs)) (sym (steps-add 8 (8 * length bs) b) ∙ ap (λ (k : ℕ). steps k b) e)
+    let e : 8 * suc (length bs) ≡ 8 + 8 * length bs = omega arith in
+    let right : bitXor (bitXor a b) x ≡ bitXor (bitXor a x) b = xor-assoc a b x ∙ ap (bitXor a) (xor-comm b x) ∙ sym (xor-assoc a x b) in
+    rw (right, steps-xor 8 (bitXor a x) b, crc-xor (crcByte a x) (steps 8 b) bs, e, steps-add 8 (8 * length bs) b)
 
 -- the number of the bytes is xored in, and all its bits are shifted out
 crc-number : (c : ℕ) (bs : List ℕ) → Bytes bs → steps (8 * length bs) (bitXor c (leOf bs)) ≡ crcOf c bs
@@ -40,12 +38,8 @@ crc-number c (b ∷ bs) h =
     let w : ℕ = leOf bs in
     let b-lt : b < 256 = h .at 0 in
     let e : 8 * suc (length bs) ≡ 8 + 8 * length bs = omega arith in
-    ap (λ (k : ℕ). steps k (bitXor c (w * 256 + b))) e
-    ∙ steps-add 8 (8 * length bs) (bitXor c (w * 256 + b))
-    ∙ ap (λ (x : ℕ). steps (8 * length bs) (steps 8 (bitXor c x))) (sym (xor-shifted w 8 b b-lt) ∙ xor-comm (w * 256) b)
-    ∙ ap (λ (x : ℕ). steps (8 * length bs) (steps 8 x)) (sym (xor-assoc c b (w * 256)))
-    ∙ ap (steps (8 * length bs)) (steps-xor 8 (bitXor c b) (w * 256) ∙ ap (bitXor (crcByte c b)) (steps-shifted 8 w))
-    ∙ crc-number (crcByte c b) bs (record { at = λ i. h .at (suc i) })
+    rw (e, steps-add 8 (8 * length bs) (bitXor c (w * 256 + b)), ← (xor-shifted w 8 b b-lt), xor-comm (w * 256) b, ← (xor-assoc c b (w * 256)), steps-xor 8 (bitXor c b) (w * 256), steps-shifted 8 w)
+    (crc-number (crcByte c b) bs (record { at = λ i. h .at (suc i) }))
 
 pub mixed-in : (c : ℕ) (g : List ℕ) → length g ≤ 4 → Bytes g → steps (8 * length g) (bitXor c (numberAt 4 0 g)) ≡ crcOf c g
 unfolding numberAt
@@ -67,22 +61,14 @@ shifted x s r =
 
 pub padded : (x s r : ℕ) → s + r ≡ 32 → bitXor (steps 32 (x * 2 ^ r % 2 ^ 32)) (x / 2 ^ s) ≡ steps s x
 padded x s r e =
-    let k : 32 ≡ r + s = omega arith in
-    ap (λ (y : ℕ). bitXor y (x / 2 ^ s))
-    (ap (steps 32) (ap (λ (j : ℕ). x * 2 ^ r % 2 ^ j) (sym e) ∙ shifted x s r)
-    ∙ ap (λ (j : ℕ). steps j (x % 2 ^ s * 2 ^ r)) k
-    ∙ steps-add r s (x % 2 ^ s * 2 ^ r)
-    ∙ ap (steps s) (steps-shifted r (x % 2 ^ s)))
-    ∙ sym (steps-split s x)
+    let k : r + s ≡ 32 = omega arith in
+    rw (rw e at (shifted x s r), rw k at (steps-add r s (x % 2 ^ s * 2 ^ r)), steps-shifted r (x % 2 ^ s)) (sym (steps-split s x))
 
 -- ---- four lanes
 
 alone : (a : ℕ) (bs : List ℕ) → whole a 0 0 0 bs ≡ crcOf a bs
 unfolding whole lanes
-alone a bs =
-    let n : ℕ = 8 * length bs in
-    ap (bitXor (crcOf a bs)) (ap₂ bitXor (steps-zero (n - 32)) (ap₂ bitXor (steps-zero (n - 64)) (steps-zero (n - 96))))
-    ∙ xor-zero-r (crcOf a bs)
+alone a bs = simp (steps-zero, xor-zero-r)
 
 pub begins : (start : ℕ) (bs : List ℕ) → Left start bs start 0 0 0 0
 begins start bs = record {
@@ -102,7 +88,7 @@ pub rest-length : (i : ℕ) (bs : List ℕ) → length (rest bs i) ≡ length bs
 rest-length i bs = ap length (rest-is bs i) ∙ length-drop i bs
 
 -- a word, mixed in as m
-module _ (start : ℕ) (bs : List ℕ) (a b c d i m : ℕ) (l : Left start bs a b c d i) (word : i + 4 ≤ length bs)
+module _ {start : ℕ} {bs : List ℕ} {a b c d i : ℕ} (m : ℕ) (l : Left start bs a b c d i) (word : i + 4 ≤ length bs)
     (mixed : steps (8 * length (u32-at i bs)) m ≡ crcOf a (u32-at i bs)) where
   abbrev r : List ℕ
   r = drop (i + 4) bs
@@ -132,15 +118,12 @@ module _ (start : ℕ) (bs : List ℕ) (a b c d i m : ℕ) (l : Left start bs a 
       let e : 8 * length (drop i bs) - 32 ≡ n = omega (arith, longer) in
       let f : 8 * length (drop i bs) - 64 ≡ n - 32 = omega (arith, longer) in
       let g : 8 * length (drop i bs) - 96 ≡ n - 64 = omega (arith, longer) in
-      ap₂ bitXor behind (ap₂ bitXor (ap (λ (k : ℕ). steps k b) e) (ap₂ bitXor (ap (λ (k : ℕ). steps k c) f) (ap (λ (k : ℕ). steps k d) g)))
+      rw (behind, e, f, g)
 
   near-same : whole (bitXor y b) c d 0 r ≡ whole a b c d (drop i bs)
   unfolding whole lanes
   near-same =
-      let D : ℕ = steps (n - 64) d in
-      ap₂ bitXor (crc-xor y b r) (ap (bitXor (steps (n - 32) c)) (ap (bitXor D) (steps-zero (n - 96)) ∙ xor-zero-r D))
-      ∙ xor-assoc (crcOf y r) (steps n b) (bitXor (steps (n - 32) c) D)
-      ∙ sym before
+      rw (crc-xor y b r, steps-zero (n - 96), xor-zero-r (steps (n - 64) d), xor-assoc (crcOf y r) (steps n b) (bitXor (steps (n - 32) c) (steps (n - 64) d))) (sym before)
 
   from-zero : (x : ℕ) → crcOf x r ≡ bitXor (crcOf 0 r) (steps n x)
   from-zero x = ap (λ (z : ℕ). crcOf z r) (sym (xor-zero-l x)) ∙ crc-xor 0 x r
@@ -160,29 +143,29 @@ module _ (start : ℕ) (bs : List ℕ) (a b c d i m : ℕ) (l : Left start bs a 
       ∙ sym before
 
   -- 32 steps of it: into the next word
-  pub near : (x : ℕ) → x ≡ steps 32 m → Left start bs (bitXor x b) c d 0 (i + 4)
-  near x e = record {
+  pub near : {x : ℕ} → x ≡ steps 32 m → Left start bs (bitXor x b) c d 0 (i + 4)
+  near e = record {
     within = word;
     room = record { first = λ k. l .room .second (omega arith); second = λ k. l .room .third (omega arith); third = λ k. refl };
     same = ap (λ (z : ℕ). whole (bitXor z b) c d 0 r) e ∙ near-same ∙ l .same;
   }
 
   -- 128 steps of it: into the word behind the next three
-  pub far : (x : ℕ) → x ≡ steps 128 m → i + 20 ≤ length bs → Left start bs b c d x (i + 4)
-  far x e k = record {
+  pub far : {x : ℕ} → x ≡ steps 128 m → i + 20 ≤ length bs → Left start bs b c d x (i + 4)
+  far e k = record {
     within = word;
     room = record { first = λ h. absurd (omega arith); second = λ h. absurd (omega arith); third = λ h. absurd (omega arith) };
     same = ap (λ (z : ℕ). whole b c d z r) e ∙ far-same (omega (arith, length-drop (i + 4) bs)) ∙ l .same;
   }
 
 -- two words, mixed in as m and o
-module _ (start : ℕ) (bs : List ℕ) (a b c d i m o : ℕ) (l : Left start bs a b c d i) (words : i + 8 ≤ length bs)
+module _ {start : ℕ} {bs : List ℕ} {a b c d i : ℕ} (m o : ℕ) (l : Left start bs a b c d i) (words : i + 8 ≤ length bs)
     (first : steps (8 * length (u32-at i bs)) m ≡ crcOf a (u32-at i bs)) (second : steps (8 * length (u32-at (i + 4) bs)) o ≡ crcOf b (u32-at (i + 4) bs)) where
-  pub pair : (x y : ℕ) → x ≡ steps 64 m → y ≡ steps 32 o → Left start bs (bitXor x (bitXor y c)) d 0 0 (i + 4 + 4)
-  pair x y e f =
+  pub pair : {x y : ℕ} → x ≡ steps 64 m → y ≡ steps 32 o → Left start bs (bitXor x (bitXor y c)) d 0 0 (i + 4 + 4)
+  pair {x} {y} e f =
       let w : List ℕ = u32-at (i + 4) bs in
       let z : ℕ = steps 32 m in
-      let one : Left start bs (bitXor z b) c d 0 (i + 4) = near start bs a b c d i m l (omega arith) first z refl in
+      let one : Left start bs (bitXor z b) c d 0 (i + 4) = near m l (omega arith) first refl in
       let both : steps (8 * length w) (bitXor z o) ≡ crcOf (bitXor z b) w =
       steps-xor (8 * length w) z o
       ∙ ap (bitXor (steps (8 * length w) z)) second
@@ -191,15 +174,9 @@ module _ (start : ℕ) (bs : List ℕ) (a b c d i m o : ℕ) (l : Left start bs 
       ∙ ap (λ (q : ℕ). crcOf q w) (xor-comm b z) in
       let g : bitXor x y ≡ steps 32 (bitXor z o) = ap₂ bitXor (e ∙ steps-add 32 32 m) f ∙ sym (steps-xor 32 z o) in
       subst (λ (q : ℕ). Left start bs q d 0 0 (i + 4 + 4)) (xor-assoc x y c)
-      (near start bs (bitXor z b) c d 0 (i + 4) (bitXor z o) one (omega arith) both (bitXor x y) g)
+      (near (bitXor z o) one (omega arith) both g)
 
 -- fewer than four bytes are left
-pub ends : (start : ℕ) (bs : List ℕ) (a b c d i : ℕ) → Left start bs a b c d i → length bs - i < 4 → crcOf a (rest bs i) ≡ crcOf start bs
-ends start bs a b c d i l h =
-    let r : List ℕ = drop i bs in
-    ap (crcOf a) (rest-is bs i)
-    ∙ sym (alone a r)
-    ∙ ap (λ (x : ℕ). whole a x 0 0 r) (sym (l .room .first h))
-    ∙ ap (λ (x : ℕ). whole a b x 0 r) (sym (l .room .second (omega arith)))
-    ∙ ap (λ (x : ℕ). whole a b c x r) (sym (l .room .third (omega arith)))
-    ∙ l .same
+pub ends : {start : ℕ} {bs : List ℕ} {a b c d i : ℕ} → Left start bs a b c d i → length bs - i < 4 → crcOf a (rest bs i) ≡ crcOf start bs
+ends {start} {bs} {a} {b} {c} {d} {i} l h =
+    rw (rest-is bs i, ← (l .same), l .room .first h, l .room .second (omega arith), l .room .third (omega arith)) (sym (alone a (drop i bs)))

@@ -34,22 +34,14 @@ nibbles-end t r x j n h =
 -- ---- a number from its lowest nibble and the rest
 
 place : (j k : ℕ) → k * 2 ^ (4 * suc j) ≡ k * 2 ^ (4 * j) * 16
-place j k =
-    ap (λ (n : ℕ). k * 2 ^ n) (mul-suc 4 j)
-    ∙ ap (λ (x : ℕ). k * x) (pow-add 2 (4 * j) 4)
-    ∙ sym (mul-assoc k (2 ^ (4 * j)) 16)
+place j k = rw (mul-suc 4 j, pow-add 2 (4 * j) 4, ← (mul-assoc k (2 ^ (4 * j)) 16))
 
 shl-xor : (k a b : ℕ) → bitXor (a * 2 ^ k) (b * 2 ^ k) ≡ bitXor a b * 2 ^ k
-shl-xor k a b =
-    sym (ap₂ bitXor (add-zero (a * 2 ^ k)) (add-zero (b * 2 ^ k)))
-    ∙ xor-block k a b 0 0 (pow-pos k) (pow-pos k)
-    ∙ add-zero (bitXor a b * 2 ^ k)
+shl-xor k a b = simp add-zero at (xor-block k a b 0 0 (pow-pos k) (pow-pos k))
 
 lowest : (j x : ℕ) → bitXor (x % 16 * 2 ^ (4 * j)) (x / 16 * 2 ^ (4 * suc j)) ≡ x * 2 ^ (4 * j)
 lowest j x =
-    ap (bitXor (x % 16 * 2 ^ (4 * j))) (place j (x / 16) ∙ mul-right-comm (x / 16) (2 ^ (4 * j)) 16)
-    ∙ shl-xor (4 * j) (x % 16) (x / 16 * 16)
-    ∙ ap (λ (y : ℕ). y * 2 ^ (4 * j)) (xor-comm (x % 16) (x / 16 * 16) ∙ xor-shifted (x / 16) 4 (x % 16) (mod-lt x (pow-pos 4)) ∙ split x 4)
+    rw (place j (x / 16), mul-right-comm (x / 16) (2 ^ (4 * j)) 16, shl-xor (4 * j) (x % 16) (x / 16 * 16), xor-comm (x % 16) (x / 16 * 16), xor-shifted (x / 16) 4 (x % 16) (mod-lt x (pow-pos 4)), split x 4)
 
 -- ---- the table's places from p on, N of them, have under g what f gives at each nibble at its place
 

@@ -55,11 +55,8 @@ high-square k h = each 16 highSquare (squareOf 4) tt k h ∙ sym (square-shifted
 down : (j k : ℕ) → j < 8 → steps (4 * (7 - j)) (k * 2 ^ 28) ≡ k * 2 ^ (4 * j)
 down j k h =
     let m : ℕ = 4 * (7 - j) in
-    let e : 28 ≡ 4 * j + m = omega arith in
-    ap (λ (n : ℕ). steps m (k * 2 ^ n)) e
-    ∙ ap (λ (x : ℕ). steps m (k * x)) (pow-add 2 (4 * j) m)
-    ∙ ap (steps m) (sym (mul-assoc k (2 ^ (4 * j)) (2 ^ m)))
-    ∙ steps-shifted m (k * 2 ^ (4 * j))
+    let e : 4 * j + m ≡ 28 = omega arith in
+    rw (rw e at (pow-add 2 (4 * j) m), ← (mul-assoc k (2 ^ (4 * j)) (2 ^ m)), steps-shifted m (k * 2 ^ (4 * j)))
 
 -- the entry for nibble k at place p
 module _ (p k : ℕ) (h : k < 16) where
@@ -72,17 +69,10 @@ pub roots : (j k : ℕ) → j < 8 → k < 16 → square (rootOrSquareAt (j * 16 
 roots j k hj hk =
     let m : ℕ = 2 * (7 - j) in
     let e : 2 * m ≡ 4 * (7 - j) = omega arith in
-    ap square (entry j k hk 0 (omega arith) ∙ computed-is m (highRoot k))
-    ∙ square-steps m (highRoot k) (high-lt k hk)
-    ∙ ap₂ steps e (high-root k hk)
-    ∙ down j k hj
+    rw (entry j k hk 0 (omega arith), computed-is m (highRoot k), square-steps m (highRoot k) (high-lt k hk), e, high-root k hk) (down j k hj)
 
 pub squares : (j k : ℕ) → j < 8 → k < 16 → rootOrSquareAt ((8 + j) * 16 + k) ≡ square (k * 2 ^ (4 * j))
 squares j k hj hk =
     let m : ℕ = 4 * (7 - j) in
     let e : 8 * (15 - (8 + j)) ≡ 2 * m = omega arith in
-    entry (8 + j) k hk 1 (omega arith)
-    ∙ computed-is (8 * (15 - (8 + j))) (highSquare k)
-    ∙ ap₂ steps e (high-square k hk)
-    ∙ sym (square-steps m (k * 2 ^ 28) (shl-lt 4 28 hk))
-    ∙ ap square (down j k hj)
+    rw (entry (8 + j) k hk 1 (omega arith), computed-is (8 * (15 - (8 + j))) (highSquare k), e, high-square k hk, ← (square-steps m (k * 2 ^ 28) (shl-lt 4 28 hk)), down j k hj)

@@ -29,11 +29,7 @@ square-xor (suc n) a b =
 pub square-shifted : (m n x : ℕ) → squareOf (m + n) (x * 2 ^ m) ≡ squareOf n x
 square-shifted zero n x = ap₂ squareOf (zero-add n) (mul-one x)
 square-shifted (suc m) n x =
-    ap (λ (k : ℕ). squareOf k (x * 2 ^ suc m)) (suc-add m n)
-    ∙ square-cons (m + n) (x * 2 ^ suc m)
-    ∙ ap₂ (λ (d y : ℕ). bitXor (d * power (m + n)) (squareOf (m + n) y)) (shifted-even x m) (shifted-half x m)
-    ∙ ap (λ (z : ℕ). bitXor z (squareOf (m + n) (x * 2 ^ m))) (zero-mul (power (m + n)))
-    ∙ square-shifted m n x
+    rw (suc-add m n, square-cons (m + n) (x * 2 ^ suc m), shifted-even x m, shifted-half x m, zero-mul (power (m + n))) (square-shifted m n x)
 
 -- a power more at the lowest digit, and at all of them
 power-more : (n c : ℕ) → c % 2 * power (suc n) ≡ steps 2 (c % 2 * power n)
@@ -70,7 +66,4 @@ unfolding steps
 square-steps zero c h = refl
 square-steps (suc m) c h =
     let e : 2 + 2 * m ≡ 2 * suc m = omega arith in
-    square-steps m (step c) (step-lt c h)
-    ∙ ap (steps (2 * m)) (square-step c h)
-    ∙ sym (steps-add 2 (2 * m) (square c))
-    ∙ ap (λ (k : ℕ). steps k (square c)) e
+    rw (square-steps m (step c) (step-lt c h), square-step c h, ← (steps-add 2 (2 * m) (square c)), e)

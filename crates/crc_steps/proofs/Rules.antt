@@ -1,7 +1,7 @@
 -- The rules of the tables: an entry is what the bit steps give, and a word's steps are those of its bytes.
 use mathlib.Core.List.{List}
 use mathlib.Core.Path.{_≡_, refl, sym, ap, ap₂, _∙_}
-use Prim.Native.Nat.{ℕ, zero, suc, _+_, _*_, _/_, _%_, _^_, _<_}
+use Prim.Native.Nat.{ℕ, zero, suc, _+_, _-_, _*_, _/_, _%_, _^_, _<_}
 use native.Mathlib.Nat.{add-zero, add-suc, zero-add, suc-add, zero-mul, one-mul, mod-lt}
 use native.Mathlib.Omega.{arith}
 use lib.Bits.{bitXor, xor-zero-r}
@@ -9,7 +9,7 @@ use lib.Dec.{T}
 use lib.ListN.{getD}
 use lib.Pow.{pow-pos}
 use Rattle.crc_steps.specs.Steps.{poly, step, steps}
-use Rattle.crc_steps.proofs.Linear.{steps-add, steps-split, steps-xor}
+use Rattle.crc_steps.proofs.Linear.{steps-add, steps-none, steps-split, steps-xor}
 use Rattle.bits.proofs.Xor.{digit}
 use Rattle.crc_steps.proofs.Tests.{alike, each}
 use Rattle.crc_steps.specs.Tables.{Bytewise, shifted, computed, entryFrom, entry}
@@ -42,10 +42,14 @@ pub bytewise : {t : List ℕ} → T (alike 256 (λ k. getD t k 0) (computed 8)) 
 bytewise {t} r = record { at = λ k h. each 256 (λ k. getD t k 0) (computed 8) r k h ∙ computed-is 8 k }
 
 -- eight steps by the table
-pub by-byte : (t : List ℕ) → Bytewise t → (n c : ℕ) → steps (8 + n) c ≡ steps n (bitXor (getD t (c % 256) 0) (c / 256))
-by-byte t h n c =
-    steps-add 8 n c
-    ∙ ap (steps n) (steps-split 8 c ∙ ap (λ (x : ℕ). bitXor x (c / 256)) (sym (h .at (c % 256) (mod-lt c (pow-pos 8)))))
+pub by-byte : (t : List ℕ) → Bytewise t → (left c : ℕ) → 0 < left → steps (8 * (left - 1)) (bitXor (getD t (c % 256) 0) (c / 256)) ≡ steps (8 * left) c
+by-byte t h left c some =
+    let e : 8 * left ≡ 8 + 8 * (left - 1) = omega arith in
+    rw (e, steps-add 8 (8 * (left - 1)) c, steps-split 8 c, h .at (c % 256) (mod-lt c (pow-pos 8)))
+
+-- no byte is left
+pub walked : (n k c left : ℕ) → left ≡ 0 → steps (8 * left) c ≡ steps (8 * n) (k % 256) → c ≡ entry (8 * n) k
+walked n k c left e inv = sym (steps-none c) ∙ (rw e at inv) ∙ sym (entry-is (8 * n) k)
 
 -- ---- a word by its bytes
 
@@ -59,10 +63,10 @@ lowest n x =
 placed : (n p x : ℕ) → p ≡ x % 256 + 256 → entry n p ≡ steps n (x % 256)
 placed n p x e =
     let m : p % 256 ≡ x % 256 = omega arith in
-    entry-is n p ∙ ap (steps n) m
+    rw (entry-is n p, m)
 
 -- the four bytes of w, each at its place of a table
-module _ (n w : ℕ) (fits : w < 2 ^ 32) (p0 p1 p2 p3 : ℕ)
+module _ (n w : ℕ) (fits : w < 2 ^ 32) {p0 p1 p2 p3 : ℕ}
     (e0 : p0 ≡ w % 256 + 256) (e1 : p1 ≡ w / 256 % 256 + 256) (e2 : p2 ≡ w / 65536 % 256 + 256) (e3 : p3 ≡ w / 16777216 % 256 + 256) where
   pub by-bytes : bitXor (entry (8 + (8 + (8 + (8 + n)))) p0) (bitXor (entry (8 + (8 + (8 + n))) p1) (bitXor (entry (8 + (8 + n)) p2) (entry (8 + n) p3)))
       ≡ steps (8 + (8 + (8 + (8 + n)))) w

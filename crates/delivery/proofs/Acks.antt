@@ -1,6 +1,6 @@
 -- Acknowledgements that are sealed with any key and nonce: what is opened is read, and nothing else is.
 use mathlib.Core.Path.{_≡_, refl, sym, ap, ap₂, subst, _∙_}
-use mathlib.Core.List.{List, [], _∷_, _++_, map}
+use mathlib.Core.List.{List, [], _++_, map}
 use Prim.Native.Nat.{ℕ, _+_, _-_, _<_}
 use native.Mathlib.Omega.{arith}
 use native.Mathlib.Nat.{le-refl}
@@ -32,10 +32,8 @@ use Rattle.bodies.specs.Table.{layoutIn}
 use Rattle.bodies.specs.Read.{settled, readBody}
 use Rattle.session.specs.Laws.{ack}
 use Rattle.session.specs.Calls.{heldFrom, agrees, judgeState, judgeAccept, judgeAck, acceptOf, ackOf}
-use Rattle.delivery.specs.declared.Request.the-variants.{Nothing, Ack}
 use Rattle.delivery.specs.Requests.{requestByFrame}
-use Rattle.delivery.specs.Calls.{receives, callsDue}
-use Rattle.delivery.specs.Worked.{ours, store, message, entryRequest, first, second, third, heldBy, ackText, masked, sealedAck, behindMessage, sealedEntries, SealedAck}
+use Rattle.delivery.specs.Worked.{ours, store, message, entryRequest, heldBy, ackText, masked, sealedAck, behindMessage, sealedEntries, SealedAck}
 use Rattle.connection.proofs.Prefixes.{upTo, behind-first, crc-first}
 use Rattle.delivery.proofs.NoRequests.{NoRequests, releases-nothing}
 use Rattle.delivery.proofs.OneRequest.{all-played}
@@ -99,23 +97,6 @@ module _ (key nonce : List ℕ) where
       (length-append (masked key nonce) tag ∙ ap₂ _+_ (gctr-length (keyExpansion key) nonce 0 ackText) l)
       (not-opened (keyExpansion key) nonce ackText tag l differs)
 
-  -- what they ask, and what is then held
-  requests-ack : map entryRequest (sofar .entries ++ part key nonce 106 (sofar .store) (plain ackText) .entries) ≡ Nothing ∷ Nothing ∷ Ack 1 ∷ []
-  unfolding numberAt crcOf steps step missing lowestBit bitCount judgeFeatures shapeFault limitFault headerOf judgeFields judgePreamble ending stream.frames streamTrace traceOf needed judgeFirst frames stepOf layoutIn settled readBody requestByFrame
-  requests-ack = refl
-
-  requests-none : map entryRequest (sofar .entries ++ part key nonce 106 (sofar .store) fail .entries) ≡ Nothing ∷ Nothing ∷ Nothing ∷ []
-  unfolding numberAt crcOf steps step missing lowestBit bitCount judgeFeatures shapeFault limitFault headerOf judgeFields judgePreamble ending stream.frames streamTrace traceOf requestByFrame
-  requests-none = refl
-
-  releases-one : heldBy (sofar .entries ++ part key nonce 106 (sofar .store) (plain ackText) .entries) ≡ second ∷ third ∷ []
-  unfolding numberAt crcOf steps step missing lowestBit bitCount judgeFeatures shapeFault limitFault headerOf judgeFields judgePreamble ending stream.frames streamTrace traceOf needed judgeFirst frames stepOf layoutIn settled readBody requestByFrame agrees judgeState judgeAccept judgeAck acceptOf ackOf heldFrom
-  releases-one = refl
-
-  holds-all : heldBy (sofar .entries ++ part key nonce 106 (sofar .store) fail .entries) ≡ first ∷ second ∷ third ∷ []
-  unfolding numberAt crcOf steps step missing lowestBit bitCount judgeFeatures shapeFault limitFault headerOf judgeFields judgePreamble ending stream.frames streamTrace traceOf requestByFrame agrees judgeState judgeAccept judgeAck acceptOf ackOf heldFrom
-  holds-all = refl
-
   no-requests-front : NoRequests (sofar .entries ++ [])
   unfolding numberAt crcOf steps step missing lowestBit bitCount judgeFeatures shapeFault limitFault headerOf judgeFields judgePreamble ending stream.frames streamTrace traceOf requestByFrame
   no-requests-front = (refl, (refl, tt))
@@ -125,27 +106,16 @@ module _ (key nonce : List ℕ) where
       let l : length (take n (sealedAck key nonce)) < 96 = (let e = length-take n (sealedAck key nonce) in omega (arith, e)) in
       rw (sealed-entries key nonce (take n (sealedAck key nonce)), short key nonce 106 (sofar .store) (take n (sealedAck key nonce)) l) no-requests-front
 
-  -- all of it, without calls of the caller's own
-  requests-once : callsDue (map receives (upTo 202 (sofar .entries ++ part key nonce 106 (sofar .store) (plain ackText) .entries))) ≡ ack 1 ∷ []
-  unfolding numberAt crcOf steps step missing lowestBit bitCount judgeFeatures shapeFault limitFault headerOf judgeFields judgePreamble ending stream.frames streamTrace traceOf needed judgeFirst frames stepOf layoutIn settled readBody requestByFrame
-  requests-once = refl
-
-  none-before : upTo 0 (sofar .entries ++ part key nonce 106 (sofar .store) (plain ackText) .entries) ≡ []
-  unfolding numberAt crcOf steps step missing lowestBit bitCount judgeFeatures shapeFault limitFault headerOf judgeFields judgePreamble ending stream.frames streamTrace traceOf
-  none-before = refl
-
   pub sealed-ack : SwitchedDemand3 → SealedAck key nonce
+  unfolding numberAt crcOf steps step missing lowestBit bitCount judgeFeatures shapeFault limitFault headerOf judgeFields judgePreamble ending stream.frames streamTrace traceOf needed judgeFirst frames stepOf layoutIn settled readBody requestByFrame agrees judgeState judgeAccept judgeAck acceptOf ackOf heldFrom
   sealed-ack demand = record {
-    requests = ap (map entryRequest) acked ∙ requests-ack;
-    releases = ap heldBy acked ∙ releases-one;
-    damaged = λ tag l differs. (
-      ap (map entryRequest) (tag-refused tag l differs) ∙ requests-none,
-      ap heldBy (tag-refused tag l differs) ∙ holds-all,
-    );
+    requests = ap (map entryRequest) acked;
+    releases = ap heldBy acked;
+    damaged = λ tag l differs. (ap (map entryRequest) (tag-refused tag l differs), ap heldBy (tag-refused tag l differs));
     splits = λ n h.
         releases-nothing demand (λ sw. sw ≡ behind 1 key nonce) (behindMessage (take n (sealedAck key nonce)))
         (λ sw e. rw e (no-requests-part n h));
     completes =
         all-played demand (behind 1 key nonce) (behindMessage (sealedAck key nonce)) 202 (ack 1) (sofar .entries ++ part key nonce 106 (sofar .store) (plain ackText) .entries)
-        acked none-before requests-once;
+        acked refl refl;
   }

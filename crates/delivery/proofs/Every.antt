@@ -5,6 +5,7 @@ use mathlib.Core.List.{List, [], _∷_}
 use mathlib.Core.Bool.{Bool, true, false, cond, true≢false}
 use Prim.Native.Nat.{ℕ}
 use lib.ListN.{length}
+use Rattle.refusal.proofs.Booleans.{by-test}
 use Rattle.stream.proofs.Events.{by-frame}
 use Rattle.stream.specs.Stream.{entry}
 use Rattle.receiver.specs.declared.Report.{Report}
@@ -71,11 +72,7 @@ module _ (every : session.EveryCall) (s : Session) (sized : length (s .handles) 
 
   -- by whether the session agrees with itself
   by-agreement : (s′ : Session) (causes : List Cause) → (agrees s ≡ false → s′ ≡ s) → (Good s → Leaves s s′ causes) → Leaves s s′ causes
-  by-agreement s′ causes b f = go (agrees s) refl
-    where
-      go : (x : Bool) → agrees s ≡ x → Leaves s s′ causes
-      go true e = f (record { agreeing = e; sized = sized })
-      go false e = same-held s s′ causes (b e)
+  by-agreement s′ causes b f = by-test (agrees s) (λ e. f (record { agreeing = e; sized = sized })) (λ e. same-held s s′ causes (b e))
 
   reported-leaves : (q : Report) (t : ℕ) (s′ : List ℕ) → Good s → Leaves s (doneTo s (requestByReport q s′) .session) (reportedCause q t s′)
   reported-leaves report.More t s′ g = λ x k. inl k

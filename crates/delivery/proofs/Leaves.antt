@@ -1,9 +1,9 @@
 -- A message leaves the table at its reason's own call: from what the session promises of every single call.
 use mathlib.Core.Path.{_≡_, refl, sym, ap, subst, _∙_}
-use mathlib.Core.Logic.{_⊎_, inl, inr}
+use mathlib.Core.Logic.{inl, inr}
 use mathlib.Core.List.{List, [], _∷_, map, List·Memᴰ}
-use mathlib.Core.Bool.{Bool, true, false}
 use Prim.Native.Nat.{ℕ, _+_}
+use Rattle.refusal.proofs.Booleans.{by-test}
 use Rattle.stream.specs.Stream.{Entry}
 use Rattle.session.specs.declared.Session.{Session}
 use Rattle.session.specs.Calls.{heldOf}
@@ -15,18 +15,15 @@ use Rattle.delivery.specs.declared.Request.{Request}
 use Rattle.delivery.specs.declared.Request.the-variants as request
 use Rattle.delivery.specs.declared.Applied.{Applied}
 use Rattle.delivery.specs.Requests.{requestBy, applied, doneTo}
-use Rattle.delivery.specs.Calls.{Call, piece, tried, accepted, handed, Chained, sessionAfter, Connection, Connects, added, Cause, hands, receives, callsRequested, callsBy, Does, nothing, one, Each, EachOf, Covered, Leaves, LeavesIn, LeavesOf}
+use Rattle.delivery.specs.Calls.{Call, piece, tried, accepted, handed, Chained, sessionAfter, Connection, Connects, added, Cause, hands, receives, callsRequested, callsBy, Does, nothing, one, Each, EachOf, Leaves, LeavesIn, LeavesOf}
 use Rattle.delivery.specs.Calls as calls
 use Rattle.delivery.proofs.Reasons.{reason}
 
 module _ (every : EveryCall) where
   -- a cause that makes one call due
   pub by-call : (s : Session) (c : session.Call) (w : Cause) → callsBy w ≡ c ∷ [] → Good s → Leaves s (callOf s c .session) (w ∷ [])
-  by-call s c w q g x k = go (releases (x .number) c) refl
-    where
-      go : (b : Bool) → releases (x .number) c ≡ b → List·Memᴰ x (heldOf (callOf s c .session)) ⊎ Covered (x .number) (w ∷ [])
-      go true e = inr (calls.here (reason (x .number) w (ap (oneReleases (x .number)) q ∙ rw e)))
-      go false e = inl (call-keeps every s c x g e k)
+  by-call s c w q g x k =
+      by-test (releases (x .number) c) (λ e. inr (calls.here (reason (x .number) w (ap (oneReleases (x .number)) q ∙ rw e)))) (λ e. inl (call-keeps every s c x g e k))
 
   pub record Left (s s′ : Session) (causes : List Cause) : Type 0 where
     pub leaves : Leaves s s′ causes

@@ -2,43 +2,31 @@
 use mathlib.Core.Path.{_≡_, refl, sym, ap, _∙_}
 use mathlib.Core.Logic.{inl, inr}
 use mathlib.Core.List.{List, [], _∷_, map}
-use mathlib.Core.Bool.{Bool, true, false, cond, true≢false}
+use mathlib.Core.Bool.{true, false, true≢false}
 use Prim.Native.Nat.{ℕ}
-use lib.Dec.{leb, eqb}
 use borrow.Author.Tests.{le-leb}
-use Rattle.refusal.specs.Refusals.{row}
 use Rattle.preamble.specs.declared.Header.{Header}
 use Rattle.fields.specs.Field.{number}
-use Rattle.bodies.specs.Read.{Answer, whole}
+use Rattle.bodies.specs.Read.{whole}
 use Rattle.stream.specs.Stream.{Entry}
 use Rattle.session.proofs.Releases.{oneReleases}
 use Rattle.delivery.specs.declared.Request.{Request}
-use Rattle.delivery.specs.declared.Request.the-variants as request
-use Rattle.delivery.specs.Requests.{forSession, requestOf, byBody, bodyOf, requestByFrame}
+use Rattle.delivery.specs.Requests.{forSession, requestOf, bodyOf, requestByFrame}
 use Rattle.delivery.specs.Calls.{Cause, receives, callsRequested, callsBy, Reason, acknowledged, dropped, handedIn, Covered, here, later}
 use Rattle.delivery.proofs.NoRequests.{NoRequests}
 
 -- a whole body of one number, with one of the session's tags, asks what the tag says
 frame-request : (h : Header) (s : List ℕ) (t w n : ℕ) → h .tag ≡ t → forSession t ≡ true → h .count ≡ 1 → bodyOf h s ≡ whole (number w n ∷ []) → requestByFrame h s ≡ requestOf t n
 unfolding requestByFrame
-frame-request h s t w n e f c b =
-    let other = request.Malformed (row 20 (h .s1 .len) 0 0) in
-    ap (λ (a : Answer). cond (forSession (h .tag)) (byBody h a) request.Nothing) b
-    ∙ ap (λ (x : ℕ). cond (forSession x) (cond (eqb (h .count) 1) (requestOf x n) other) request.Nothing) e
-    ∙ ap (λ (y : Bool). cond y (cond (eqb (h .count) 1) (requestOf t n) other) request.Nothing) f
-    ∙ ap (λ (x : ℕ). cond (eqb x 1) (requestOf t n) other) c
-
-one-of : (b : Bool) → b ≡ true → cond b true false ≡ true
-one-of true e = refl
-one-of false e = e
+frame-request h s t w n e f c b = rw (b, e, f, c)
 
 reason-releases : (m : ℕ) (c : Cause) → Reason m c → oneReleases m (callsBy c) ≡ true
 reason-releases m c (acknowledged h at n s (inl t) q b l) =
-    ap (λ (a : Request). oneReleases m (callsRequested a)) (frame-request h s 20 8 n t refl q b) ∙ one-of (leb m n) (le-leb m n l)
+    ap (λ (a : Request). oneReleases m (callsRequested a)) (frame-request h s 20 8 n t refl q b) ∙ rw (le-leb m n l)
 reason-releases m c (acknowledged h at n s (inr t) q b l) =
-    ap (λ (a : Request). oneReleases m (callsRequested a)) (frame-request h s 15 8 n t refl q b) ∙ one-of (leb m n) (le-leb m n l)
+    ap (λ (a : Request). oneReleases m (callsRequested a)) (frame-request h s 15 8 n t refl q b) ∙ rw (le-leb m n l)
 reason-releases m c (dropped h at s t q b) = ap (λ (a : Request). oneReleases m (callsRequested a)) (frame-request h s 12 1 1 t refl q b)
-reason-releases m c (handedIn n l) = one-of (leb m n) (le-leb m n l)
+reason-releases m c (handedIn n l) = rw (le-leb m n l)
 
 -- none of the calls that causes make due releases the message
 abbrev pub Holding : ℕ → List Cause → Type 0

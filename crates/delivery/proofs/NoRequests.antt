@@ -1,9 +1,10 @@
 -- A stream whose entries ask nothing, whatever switch is made on it: under every cutting the session is where the caller's own calls lead.
 use mathlib.Core.Path.{_≡_, refl, ap, subst, _∙_}
 use mathlib.Core.List.{List, [], _∷_, _++_}
-use mathlib.Core.Bool.{Bool, true, false, cond, _&&_}
+use mathlib.Core.Bool.{true, cond, _&&_}
 use Prim.Native.Nat.{ℕ, _+_, _-_}
 use lib.Dec.{leb, eqb}
+use Rattle.refusal.proofs.Booleans.{at-test, at-cond}
 use Rattle.stream.specs.Stream.{Entry, Trace}
 use Rattle.connection.specs.Switched.{Switch, endsFrame, spliced, traceWith}
 use Rattle.connection.specs.Calls.{SwitchedDemand3}
@@ -26,11 +27,7 @@ NoRequests (e ∷ es) = (entryRequest e ≡ request.Nothing) × NoRequests es
 
 no-requests-first : (t : ℕ) (es : List Entry) → NoRequests es → NoRequests (upTo t es)
 no-requests-first t [] q = tt
-no-requests-first t (e ∷ es) q = go (leb (e .at) t) (no-requests-first t es (q .1))
-  where
-    go : (b : Bool) → NoRequests (upTo t es) → NoRequests (cond b (e ∷ upTo t es) [])
-    go true ih = (q .0, ih)
-    go false ih = tt
+no-requests-first t (e ∷ es) q = at-cond NoRequests (leb (e .at) t) (q .0, no-requests-first t es (q .1)) tt
 
 no-requests-right : (es fs : List Entry) → NoRequests (es ++ fs) → NoRequests fs
 no-requests-right [] fs q = q
@@ -41,19 +38,14 @@ abbrev pub NoRequestsBehind : (ℕ → List ℕ → Trace) → List Entry → Ty
 NoRequestsBehind next [] = Unit {0}
 NoRequestsBehind next (e ∷ es) = (entryRequest e ≡ request.Nothing) × (endsFrame (e .event) ≡ true → next (e .at) (e .store) .entries ≡ []) × NoRequestsBehind next es
 
-no-requests-either : (b : Bool) (x y : Trace) → NoRequests (x .entries) → NoRequests (y .entries) → NoRequests (cond b x y .entries)
-no-requests-either true x y p q = p
-no-requests-either false x y p q = q
-
 pub no-requests-spliced : (n : ℕ) (next : ℕ → List ℕ → Trace) (es : List Entry) (s : List ℕ) → NoRequestsBehind next es → NoRequests (spliced n next es s .entries)
 unfolding spliced
 no-requests-spliced n next [] s q = tt
-no-requests-spliced n next (e ∷ es) s q = (q .0, go (endsFrame (e .event)) refl (λ m. no-requests-spliced m next es s (q .2)))
-  where
-    go : (c : Bool) → endsFrame (e .event) ≡ c → ((m : ℕ) → NoRequests (spliced m next es s .entries))
-        → NoRequests (cond (c && eqb n 1) (next (e .at) (e .store)) (spliced (cond c (n - 1) n) next es s) .entries)
-    go true h ih = no-requests-either (eqb n 1) (next (e .at) (e .store)) (spliced (n - 1) next es s) (rw (q .1 h) tt) (ih (n - 1))
-    go false h ih = ih n
+no-requests-spliced n next (e ∷ es) s q = (
+  q .0,
+  at-test (λ c. NoRequests (cond (c && eqb n 1) (next (e .at) (e .store)) (spliced (cond c (n - 1) n) next es s) .entries)) (endsFrame (e .event))
+      (λ h. at-cond (λ (x : Trace). NoRequests (x .entries)) (eqb n 1) (rw (q .1 h) tt) (no-requests-spliced (n - 1) next es s (q .2))) (λ h. no-requests-spliced n next es s (q .2)),
+)
 
 does-nothing : (s : Session) (t′ : ℕ) (d : Applied) (es : List Entry) → Does s t′ d es → NoRequests es → d .session ≡ s
 does-nothing s t′ d es (nothing e) q = ap (λ (x : Applied). x .session) e

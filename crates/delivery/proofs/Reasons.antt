@@ -1,6 +1,6 @@
 -- Why a message is no longer held: from the fate that K13's claim gives it, back to the cause.
 use mathlib.Core.Path.{_≡_, refl, sym, ap, subst, _∙_}
-use mathlib.Core.Logic.{_⊎_, inl, inr}
+use mathlib.Core.Logic.{_⊎_, inl, inr, ⊎-elim}
 use mathlib.Core.List.{List, [], _∷_, _++_, List·Memᴰ}
 use mathlib.Core.Bool.{Bool, true, false, cond, true≢false, _||_}
 use Prim.Native.Nat.{ℕ}
@@ -9,6 +9,7 @@ use lib.Dec.{leb, eqb}
 use borrow.Author.Tests.{leb-true, eqb-true}
 use Rattle.refusal.specs.declared.Numbers.{Numbers}
 use Rattle.refusal.specs.Refusals.{row}
+use Rattle.refusal.proofs.Booleans.{by-test, at-test, at-cond}
 use Rattle.buffer.specs.Le.{numberAt}
 use Rattle.preamble.specs.declared.Header.{Header}
 use Rattle.preamble.specs.Judge.{segmentLimit}
@@ -43,28 +44,21 @@ data Reads (fs : List Field) (a : Answer) : Type 0 where
 
 settles : (s : List ℕ) (c : Cursor) (fs : List Field) → Reads fs (settled s c (whole fs))
 unfolding settled
-settles s c fs = go (c .failed) (eqb (c .at) (length s))
-  where
-    go : (f e : Bool) → Reads fs (cond f (read.malformed (c .at)) (cond e (whole fs) (read.malformed (c .at))))
-    go true e = is-refused (row 20 (c .at) 0 0) refl
-    go false true = is-whole refl
-    go false false = is-refused (row 20 (c .at) 0 0) refl
-
-within : (fs : List Field) (b : Bool) (a : Answer) → Reads fs a → Reads fs (cond b a (read.malformed 0))
-within fs true a r = r
-within fs false a r = is-refused (row 20 0 0 0) refl
+settles s c fs =
+    at-cond (Reads fs) (c .failed) (is-refused (row 20 (c .at) 0 0) refl)
+    (at-cond (Reads fs) (eqb (c .at) (length s)) (is-whole refl) (is-refused (row 20 (c .at) 0 0) refl))
 
 reads-20 : (s : List ℕ) → Reads (oneNumberOf (numberAt 8 0 s)) (readBody 20 s)
 unfolding readBody layoutIn
-reads-20 s = within _ (leb (length s) segmentLimit) _ (settles s _ (oneNumberOf (numberAt 8 0 s)))
+reads-20 s = at-cond (Reads _) (leb (length s) segmentLimit) (settles s _ (oneNumberOf (numberAt 8 0 s))) (is-refused (row 20 0 0 0) refl)
 
 reads-15 : (s : List ℕ) → Reads (oneNumberOf (numberAt 8 0 s)) (readBody 15 s)
 unfolding readBody layoutIn
-reads-15 s = within _ (leb (length s) segmentLimit) _ (settles s _ (oneNumberOf (numberAt 8 0 s)))
+reads-15 s = at-cond (Reads _) (leb (length s) segmentLimit) (settles s _ (oneNumberOf (numberAt 8 0 s))) (is-refused (row 20 0 0 0) refl)
 
 reads-12 : (s : List ℕ) → Reads (resetOf (numberAt 1 0 s)) (readBody 12 s)
 unfolding readBody layoutIn
-reads-12 s = within _ (leb (length s) segmentLimit) _ (settles s _ (resetOf (numberAt 1 0 s)))
+reads-12 s = at-cond (Reads _) (leb (length s) segmentLimit) (settles s _ (resetOf (numberAt 1 0 s))) (is-refused (row 20 0 0 0) refl)
 
 -- ---- what a frame asks, and why
 
@@ -81,11 +75,9 @@ module _ (h : Header) (s : List ℕ) where
 
   -- a body of one number, by what its tag asks
   by-body : (w n : ℕ) (a : Request) → requestOf (h .tag) n ≡ a → (h .count ≡ 1 → bodyOf h s ≡ whole (number w n ∷ []) → Requests h s a) → Reads (number w n ∷ []) (bodyOf h s) → Requests h s (byBody h (bodyOf h s))
-  by-body w n a e k (is-whole x) = rw x (go (eqb (h .count) 1) refl)
-    where
-      go : (b : Bool) → eqb (h .count) 1 ≡ b → Requests h s (cond b (requestOf (h .tag) n) (request.Malformed (row 20 (h .s1 .len) 0 0)))
-      go true c = subst (λ (d : Request). Requests h s d) (sym e) (k (eqb-true (h .count) 1 c) x)
-      go false c = requests-bad _
+  by-body w n a e k (is-whole x) =
+      rw x (at-test (λ b. Requests h s (cond b (requestOf (h .tag) n) (request.Malformed (row 20 (h .s1 .len) 0 0)))) (eqb (h .count) 1)
+      (λ c. subst (λ (d : Request). Requests h s d) (sym e) (k (eqb-true (h .count) 1 c) x)) (λ c. requests-bad _))
   by-body w n a e k (is-refused r x) = rw x (requests-bad r)
 
   by-20 : h .tag ≡ 20 → Requests h s (byBody h (bodyOf h s))
@@ -105,14 +97,11 @@ module _ (h : Header) (s : List ℕ) where
 
   frame-requests : Requests h s (requestByFrame h s)
   unfolding requestByFrame
-  frame-requests = go (eqb (h .tag) 20) (eqb (h .tag) 15) (eqb (h .tag) 12) (λ e. by-20 (eqb-true (h .tag) 20 e)) (λ e. by-15 (eqb-true (h .tag) 15 e)) (λ e. by-12 (eqb-true (h .tag) 12 e))
-    where
-      go : (x y z : Bool) → (x ≡ true → Requests h s (byBody h (bodyOf h s))) → (y ≡ true → Requests h s (byBody h (bodyOf h s))) → (z ≡ true → Requests h s (byBody h (bodyOf h s)))
-          → Requests h s (cond (x || (y || z)) (byBody h (bodyOf h s)) request.Nothing)
-      go true y z f g k = f refl
-      go false true z f g k = g refl
-      go false false true f g k = k refl
-      go false false false f g k = requests-nothing
+  frame-requests =
+      let asks : Bool → Type 0 = λ b. Requests h s (cond b (byBody h (bodyOf h s)) request.Nothing) in
+      at-test (λ x. asks (x || (eqb (h .tag) 15 || eqb (h .tag) 12))) (eqb (h .tag) 20) (λ e. by-20 (eqb-true (h .tag) 20 e))
+      (λ _. at-test (λ y. asks (y || eqb (h .tag) 12)) (eqb (h .tag) 15) (λ e. by-15 (eqb-true (h .tag) 15 e))
+      (λ _. at-test asks (eqb (h .tag) 12) (λ e. by-12 (eqb-true (h .tag) 12 e)) (λ _. requests-nothing)))
 
 -- ---- reasons
 
@@ -149,25 +138,17 @@ afterCalls s cs = sessionBy s (played s cs)
 
 stay : (m : ℕ) (cs ds : List session.Call) (s : Session) → oneReleases m cs ≡ false → fateOf m (eventsFrom s (cs ++ ds)) ≡ fateOf m (eventsFrom (afterCalls s cs) ds)
 stay m [] ds s e = refl
-stay m (c ∷ cs) ds s e = go (releases m c) refl (stay m cs ds (callOf s c .session)) e
-  where
-    go : (b : Bool) → releases m c ≡ b → (oneReleases m cs ≡ false → fateOf m (eventsFrom (callOf s c .session) (cs ++ ds)) ≡ fateOf m (eventsFrom (afterCalls (callOf s c .session) cs) ds))
-        → cond b true (oneReleases m cs) ≡ false
-        → fateOf m (eventOf c (callOf s c .answer) ∷ eventsFrom (callOf s c .session) (cs ++ ds)) ≡ fateOf m (eventsFrom (afterCalls (callOf s c .session) cs) ds)
-    go true q ih e = absurd (true≢false e)
-    go false q ih e = stays m c (callOf s c .answer) (eventsFrom (callOf s c .session) (cs ++ ds)) q ∙ ih e
+stay m (c ∷ cs) ds s e =
+    by-test (releases m c) (λ q. absurd (true≢false (rw q at e)))
+    (λ q. stays m c (callOf s c .answer) (eventsFrom (callOf s c .session) (cs ++ ds)) q ∙ stay m cs ds (callOf s c .session) (rw q at e))
 
 -- a message is held, by what is done after it was sent, or there is a reason why it is not
 pub held-or-covered : (m : ℕ) (cs : List Cause) (s : Session) → (fateOf m (eventsFrom s (callsDue cs)) ≡ isHeld) ⊎ Covered m cs
 unfolding fateOf
 held-or-covered m [] s = inl refl
-held-or-covered m (c ∷ cs) s = go (oneReleases m (callsBy c)) refl (held-or-covered m cs (afterCalls s (callsBy c)))
-  where
-    go : (b : Bool) → oneReleases m (callsBy c) ≡ b → (fateOf m (eventsFrom (afterCalls s (callsBy c)) (callsDue cs)) ≡ isHeld) ⊎ Covered m cs
-        → (fateOf m (eventsFrom s (callsBy c ++ callsDue cs)) ≡ isHeld) ⊎ Covered m (c ∷ cs)
-    go true e ih = inr (calls.here (reason m c e))
-    go false e (inl f) = inl (stay m (callsBy c) (callsDue cs) s e ∙ f)
-    go false e (inr k) = inr (calls.later k)
+held-or-covered m (c ∷ cs) s =
+    by-test (oneReleases m (callsBy c)) (λ e. inr (calls.here (reason m c e)))
+    (λ e. ⊎-elim (λ f. inl (stay m (callsBy c) (callsDue cs) s e ∙ f)) (λ k. inr (calls.later k)) (held-or-covered m cs (afterCalls s (callsBy c))))
 
 -- ---- and so it is among those held
 
@@ -178,9 +159,7 @@ events-append s (c ∷ cs) ds = ap (λ (es : List session.Event). eventOf c (cal
 -- of a message that was sent behind the calls cs, where the causes since are known
 pub sent-held : (s : Session) (cs : List session.Call) (since : List Cause) (h m : ℕ) → callOf (afterCalls s cs) (session.accept h) .answer ≡ answer.Accepted m
     → List·Memᴰ (message m h) (withFate isHeld (eventsFrom s (cs ++ (session.accept h ∷ callsDue since)))) ⊎ Covered m since
-sent-held s cs since h m e = go (held-or-covered m since (callOf (afterCalls s cs) (session.accept h) .session))
-  where
-    go : (fateOf m (eventsFrom (callOf (afterCalls s cs) (session.accept h) .session) (callsDue since)) ≡ isHeld) ⊎ Covered m since
-        → List·Memᴰ (message m h) (withFate isHeld (eventsFrom s (cs ++ (session.accept h ∷ callsDue since)))) ⊎ Covered m since
-    go (inr k) = inr k
-    go (inl f) = inl (rw (events-append s cs (session.accept h ∷ callsDue since), e) (among (message m h) (eventsFrom s cs) (eventsFrom (callOf (afterCalls s cs) (session.accept h) .session) (callsDue since)) f))
+sent-held s cs since h m e =
+    let s′ = callOf (afterCalls s cs) (session.accept h) .session in
+    ⊎-elim (λ f. inl (rw (events-append s cs (session.accept h ∷ callsDue since), e) (among (message m h) (eventsFrom s cs) (eventsFrom s′ (callsDue since)) f)))
+    (λ k. inr k) (held-or-covered m since s′)

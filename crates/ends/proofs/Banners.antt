@@ -1,14 +1,14 @@
 -- A whole stream: its banner, met by our features, and the frames behind it.
 use Prim.Native.Nat.{ℕ, _+_, _-_, _≤_}
 use mathlib.Core.List.{List, _++_}
-use mathlib.Core.Path.{_≡_, refl, ap, _∙_}
-use mathlib.Core.Bool.{Bool, true, false}
+use mathlib.Core.Path.{_≡_, ap, _∙_}
 use native.Mathlib.Omega.{arith}
 use lib.ListN.{length, take, drop, length-append, length-drop}
 use lib.Seq.{take-append-le, drop-append-le}
-use lib.Dec.{ltb}
-use borrow.Author.Tests.{le-ltb, ltb-false}
-use Rattle.refusal.specs.Refusals.{Judged, fine, refused}
+use borrow.Author.Tests.{lt-ltb, le-ltb}
+use Rattle.refusal.specs.Refusals.{fine}
+use Rattle.refusal.proofs.Booleans.{by-less}
+use Rattle.refusal.proofs.Judgements.{by-judgement}
 use Rattle.banner.specs.declared.Features.{Features}
 use Rattle.banner.specs.declared.Revision.{Revision}
 use Rattle.banner.specs.Banner.{judgeOwn, judgeMagic, judgeLength, judgeFeatures, revisionOf}
@@ -17,7 +17,8 @@ use Rattle.stream.specs.declared.Event.the-variants.{Banner}
 use Rattle.stream.specs.Stream.{Trace, after, frames, payloadOf, peerOf, streamTrace, traceOf}
 use Rattle.stream.proofs.Laws.{more-payload, more-peer}
 use Rattle.ends.specs.Handed.{UpTo}
-use Rattle.ends.proofs.Concatenation.{joined, frames-concatenate}
+use Rattle.ends.proofs.FrameReader.{behind, concatenate}
+use Rattle.ends.proofs.Concatenation.{crcReader}
 
 -- the banner at the front of a stream is there and fits our features
 pub record Met (own : Features) (F : List ℕ) : Type 0 where
@@ -64,50 +65,30 @@ module _ (own : Features) (F s : List ℕ) (r : Revision) (n : ℕ) (up : UpTo r
   abbrev p : Features
   p = peerOf F
 
-  by-features : judgeOwn (own .supported) (own .required) ≡ fine → 8 ≤ length F → judgeMagic (take 8 F) ≡ fine → 10 ≤ length F → judgeLength L ≡ fine → 10 + L ≤ length F
-      → (j : Judged) → judgeFeatures (own .supported) (own .required) (p .supported) (p .required) ≡ j → Met own F
-  unfolding traceOf streamTrace
-  by-features o e m t y a fine q = record { ours = o; eight = e; magic = m; ten = t; payload = y; all = a; features = q }
-  by-features o e m t y a (refused x) q = absurd (rw (o, le-ltb (length F) 8 e, m, le-ltb (length F) 10 t, y, le-ltb (length F) (10 + L) a, q) at up)
-
-  by-all : judgeOwn (own .supported) (own .required) ≡ fine → 8 ≤ length F → judgeMagic (take 8 F) ≡ fine → 10 ≤ length F → judgeLength L ≡ fine
-      → (c : Bool) → ltb (length F) (10 + L) ≡ c → Met own F
-  unfolding traceOf streamTrace
-  by-all o e m t y true q = absurd (rw (o, le-ltb (length F) 8 e, m, le-ltb (length F) 10 t, y, q) at up)
-  by-all o e m t y false q = by-features o e m t y (ltb-false (length F) (10 + L) q) _ refl
-
-  by-payload : judgeOwn (own .supported) (own .required) ≡ fine → 8 ≤ length F → judgeMagic (take 8 F) ≡ fine → 10 ≤ length F → (j : Judged) → judgeLength L ≡ j → Met own F
-  unfolding traceOf streamTrace
-  by-payload o e m t fine q = by-all o e m t q _ refl
-  by-payload o e m t (refused x) q = absurd (rw (o, le-ltb (length F) 8 e, m, le-ltb (length F) 10 t, q) at up)
-
-  by-ten : judgeOwn (own .supported) (own .required) ≡ fine → 8 ≤ length F → judgeMagic (take 8 F) ≡ fine → (c : Bool) → ltb (length F) 10 ≡ c → Met own F
-  unfolding traceOf streamTrace
-  by-ten o e m true q = absurd (rw (o, le-ltb (length F) 8 e, m, q) at up)
-  by-ten o e m false q = by-payload o e m (ltb-false (length F) 10 q) _ refl
-
-  by-magic : judgeOwn (own .supported) (own .required) ≡ fine → 8 ≤ length F → (j : Judged) → judgeMagic (take 8 F) ≡ j → Met own F
-  unfolding traceOf streamTrace
-  by-magic o e fine q = by-ten o e q _ refl
-  by-magic o e (refused x) q = absurd (rw (o, le-ltb (length F) 8 e, q) at up)
-
-  by-eight : judgeOwn (own .supported) (own .required) ≡ fine → (c : Bool) → ltb (length F) 8 ≡ c → Met own F
-  unfolding traceOf streamTrace
-  by-eight o true q = absurd (rw (o, q) at up)
-  by-eight o false q = by-magic o (ltb-false (length F) 8 q) _ refl
-
-  by-own : (j : Judged) → judgeOwn (own .supported) (own .required) ≡ j → Met own F
-  unfolding traceOf streamTrace
-  by-own fine q = by-eight q _ refl
-  by-own (refused x) q = absurd (rw q at up)
-
   pub up-met : Met own F
-  up-met = by-own (judgeOwn (own .supported) (own .required)) refl
+  unfolding traceOf streamTrace
+  up-met =
+      by-judgement (judgeOwn (own .supported) (own .required))
+      (λ o. by-less (length F) 8 (λ l. absurd (rw (o, lt-ltb (length F) 8 l) at up))
+      (λ e.
+      let e₁ = le-ltb (length F) 8 e in
+      by-judgement (judgeMagic (take 8 F))
+      (λ m. by-less (length F) 10 (λ l. absurd (rw (o, e₁, m, lt-ltb (length F) 10 l) at up))
+      (λ t.
+      let e₂ = le-ltb (length F) 10 t in
+      by-judgement (judgeLength L)
+      (λ y. by-less (length F) (10 + L) (λ l. absurd (rw (o, e₁, m, e₂, y, lt-ltb (length F) (10 + L) l) at up))
+      (λ a. by-judgement (judgeFeatures (own .supported) (own .required) (p .supported) (p .required))
+      (λ q. record { ours = o; eight = e; magic = m; ten = t; payload = y; all = a; features = q })
+      (λ x q. absurd (rw (o, e₁, m, e₂, y, le-ltb (length F) (10 + L) a, q) at up))))
+      (λ x q. absurd (rw (o, e₁, m, e₂, q) at up))))
+      (λ x q. absurd (rw (o, e₁, q) at up))))
+      (λ x q. absurd (rw q at up))
 
 -- X behind a front F that ends where a frame does
 pub record Follows (own : Features) (F X s : List ℕ) (r : Revision) : Type 0 where
   pub ours : judgeOwn (own .supported) (own .required) ≡ fine
-  pub follows : (k : ℕ) → length X ≤ k → traceOf own (F ++ X) s ≡ joined (traceOf own F s) (frames k r (length F) X (traceOf own F s .store))
+  pub follows : (k : ℕ) → length X ≤ k → traceOf own (F ++ X) s ≡ behind (traceOf own F s .entries) (frames k r (length F) X (traceOf own F s .store))
   pub same : length (traceOf own F s .store) ≡ length s
 
 pub follows-on : (own : Features) (F X s : List ℕ) (r : Revision) → UpTo r (length F) (traceOf own F s .entries) → Follows own F X s r
@@ -119,7 +100,7 @@ follows-on own F X s r up =
     let u = rw e at up in
     let d : length (drop n F) ≡ length F - n = length-drop n F in
     let l : n + length (drop n F) ≡ length F = (let a = m .all in omega arith) in
-    let g = frames-concatenate (length F) (spoken own F) n (drop n F) X s (omega arith) (rw l (u .1)) in
+    let g = concatenate crcReader (length F) (spoken own F) n (drop n F) s (omega arith) (rw l (u .1)) in
     let a = length-append F X in
     let a₂ = length-append (drop n F) X in
     let v : spoken own (F ++ X) ≡ spoken own F = ap (λ (q : Features). revisionOf (own .supported) (q .supported)) (more-peer F X (met-long own F m)) in
@@ -127,7 +108,7 @@ follows-on own F X s r up =
       ours = m .ours;
       follows = λ k hk.
           rw (more-payload F X (m .ten), v, more-peer F X (met-long own F m), drop-append-le n F X (m .all)) at e′
-          ∙ ap (after (Banner (peerOf F) (spoken own F)) n s) (g .joins (length (F ++ X)) k (omega arith) hk)
+          ∙ ap (after (Banner (peerOf F) (spoken own F)) n s) (g .joins .reads (length (F ++ X)) k X (omega arith) hk)
           ∙ rw (e, l, u .0);
       same = ap (λ (t : Trace). length (t .store)) e ∙ g .same;
     }

@@ -67,29 +67,37 @@ abbrev pub allBytes : Revision → List Build → List ℕ
 allBytes r [] = []
 allBytes r (b ∷ bs) = frameBytes r (b .header) (b .abort) (b .source) ++ allBytes r bs
 
-pub record Queue (r : Revision) (buf : List ℕ) (queued : ℕ) (bs : List Build) : Type 0 where
-  pub buffer : bufferBy buf bs ≡ splice buf queued (allBytes r bs)
-  pub queue : queuedBy queued bs ≡ queued + length (allBytes r bs)
+-- xs behind the queued bytes of buf, and the buffer and the queued count then
+pub record Queue (buf : List ℕ) (queued : ℕ) (xs after : List ℕ) (count : ℕ) : Type 0 where
+  pub buffer : after ≡ splice buf queued xs
+  pub queue : count ≡ queued + length xs
+  pub room : queued + length xs ≤ length buf
 
-pub queued-up : (r : Revision) (buf : List ℕ) (queued : ℕ) (bs : List Build) → queued ≤ length buf → Queued r buf queued bs → Queue r buf queued bs
-queued-up r buf queued [] h q = record {
+pub queue-none : (buf : List ℕ) (queued : ℕ) → queued ≤ length buf → Queue buf queued [] buf queued
+queue-none buf queued h = record {
   buffer = sym (ap₂ (λ (l : List ℕ) (k : ℕ). l ++ drop k buf) (append-nil (take queued buf)) (add-zero queued) ∙ take-append-drop queued buf);
   queue = sym (add-zero queued);
+  room = omega arith;
 }
-queued-up r buf queued (b ∷ bs) h q =
-    let xs = frameBytes r (b .header) (b .abort) (b .source) in
-    let ys = allBytes r bs in
-    let l = appended r buf queued b (q .0) in
-    let s : length (splice buf queued xs) ≡ length buf = length-splice buf queued xs (let e = l .length-bytes in let k = l .room in omega arith) in
-    let k : queued + b .written ≤ length (b .buffer) = rw (l .buffer, s) (l .room) in
-    let n = queued-up r (b .buffer) (queued + b .written) bs k (q .1) in
+
+-- n bytes xs, which leave a buffer, and ys behind them
+pub queue-more : {buf after end ys : List ℕ} {queued n count : ℕ} (xs : List ℕ) → after ≡ splice buf queued xs → length xs ≡ n → queued + n ≤ length buf
+    → (queued + n ≤ length after → Queue after (queued + n) ys end count) → Queue buf queued (xs ++ ys) end count
+queue-more {buf} {ys = ys} {queued = queued} xs e l h more =
+    let s : length (splice buf queued xs) ≡ length buf = length-splice buf queued xs (omega arith) in
+    let q = more (rw (e, s) h) in
     let a = length-append xs ys in
     record {
-      buffer = n .buffer
-          ∙ ap₂ (λ (t : List ℕ) (m : ℕ). splice t m ys) (l .buffer) (ap (λ (m : ℕ). queued + m) (sym (l .length-bytes)))
-          ∙ splice-next buf queued xs ys h;
-      queue = n .queue ∙ (let e = l .length-bytes in omega arith);
+      buffer = q .buffer ∙ rw (e, ← l) (splice-next buf queued xs ys (omega arith));
+      queue = q .queue ∙ omega arith;
+      room = (let z = ap length e in let r = q .room in omega arith);
     }
+
+pub queued-up : (r : Revision) (buf : List ℕ) (queued : ℕ) (bs : List Build) → queued ≤ length buf → Queued r buf queued bs → Queue buf queued (allBytes r bs) (bufferBy buf bs) (queuedBy queued bs)
+queued-up r buf queued [] h q = queue-none buf queued h
+queued-up r buf queued (b ∷ bs) h q =
+    let l = appended r buf queued b (q .0) in
+    queue-more (frameBytes r (b .header) (b .abort) (b .source)) (l .buffer) (l .length-bytes) (l .room) (λ k. queued-up r (b .buffer) (queued + b .written) bs k (q .1))
 
 -- ---- the banner's build
 

@@ -2,7 +2,8 @@
 use Prim.Native.Nat.{ℕ, zero, suc, _+_, _-_, _*_, _≤_, _<_}
 use mathlib.Core.List.{List, [], _∷_}
 use mathlib.Core.Path.{_≡_, refl, sym, ap, ap₂, _∙_}
-use mathlib.Core.Bool.{Bool, true, false, not, cond, _&&_}
+use mathlib.Core.Logic.{_↔_}
+use mathlib.Core.Bool.{Bool, true, false, not, cond, _&&_, and-false}
 use native.Mathlib.Omega.{arith}
 use native.Mathlib.Nat.{add-zero}
 use lib.ListN.{length, take, drop, getD, length-drop}
@@ -23,12 +24,15 @@ use Rattle.body.specs.Body.{segmentSum, cutInto, noFirstSum, noEpilogue, bodyLe
 use Rattle.body.specs.End as end
 use Rattle.body.specs.End.{Ended, whole, dropped, byLate, endUnlessRefused, lateOf, segmentBytes, stored, unusedFrom, judgeSpelling, ending}
 use Rattle.stream.specs.Stream.{firstWrong}
-use Rattle.refusal.proofs.Booleans.{both-left, both-right}
+use Rattle.refusal.proofs.Booleans.{by-test, both-left, each-true}
 use Rattle.buffer.proofs.Numbers.{number-drop}
 use Rattle.ends.specs.Handed.{headerIn, segmentOf, latePlace, sumPlace, lateIn, isCompared, unusedField, flagsFine, Spelled, Checked, CheckedFirst}
-use Rattle.ends.proofs.Locality.{Judges, JudgesFirst}
+use Rattle.ends.proofs.Locality.{first-room, endsAs, Judges, JudgesFirst}
 use Rattle.body.proofs.Checksums.{every-sum, all-sums, every-unused, all-unused}
 use Rattle.body.proofs.Fields.{at20, at21}
+
+abbrev pub lateAs : Bool → Late
+lateAs abort = cond abort late.Aborted late.Complete
 
 -- ---- the late byte
 
@@ -61,37 +65,6 @@ dropped-end : (c : Bool) (g : Judged) (l : Late) (b : ℕ) (j : Judged) → cond
 dropped-end true g l b j e s = cc
 dropped-end false g l b j e s = rw (s refl, e)
 
--- ---- the body's checksums
-
-module _ (h : Header) (e p : List ℕ) where
-  abbrev segments : List (List ℕ)
-  segments = cutInto (h .s1 .len ∷ h .s2 .len ∷ h .s3 .len ∷ h .s4 .len ∷ []) p
-
-  sums20 : end.compared Msgr20 h e p ≡ fine → (k : ℕ) → k < 4 → ltb k (h .count) ≡ true → numberAt 4 (1 + k * 4) e ≡ segmentSum (getD segments k [])
-  sums20 f k l u = sym (at20 e k l) ∙ every-sum (h .count) 1 (stored Msgr20 e) segments f k l (let t = ltb-true k (h .count) u in omega arith)
-
-  back20 : ((k : ℕ) → k < 4 → ltb k (h .count) ≡ true → numberAt 4 (1 + k * 4) e ≡ segmentSum (getD segments k [])) → end.compared Msgr20 h e p ≡ fine
-  back20 f = all-sums (h .count) 1 (stored Msgr20 e) segments (λ k l u. at20 e k l ∙ f k l (lt-ltb k (h .count) (omega arith)))
-
-  sums21 : end.compared Msgr21 h e p ≡ fine → (k : ℕ) → suc k < 4 → ltb (suc k) (h .count) ≡ true → numberAt 4 (1 + k * 4) e ≡ segmentSum (getD segments (suc k) [])
-  sums21 f k l u =
-      let l′ : k < 3 = omega arith in
-      sym (at21 e k l′) ∙ every-sum (h .count) 2 (stored Msgr21 e) (drop 1 segments) f k l′ (let t = ltb-true (suc k) (h .count) u in omega arith)
-
-  back21 : ((k : ℕ) → suc k < 4 → ltb (suc k) (h .count) ≡ true → numberAt 4 (1 + k * 4) e ≡ segmentSum (getD segments (suc k) [])) → end.compared Msgr21 h e p ≡ fine
-  back21 f =
-      all-sums (h .count) 2 (stored Msgr21 e) (drop 1 segments)
-      (λ k l u. let l′ : k < 3 = l in at21 e k l ∙ f k (omega arith) (lt-ltb (suc k) (h .count) (omega arith)))
-
-  -- and the fields of unused segments
-  unused20 : unusedFrom (h .count) 1 (stored Msgr20 e) ≡ fine → (k : ℕ) → k < 4 → leb (h .count) k ≡ true → numberAt 4 (1 + k * 4) e ≡ 0
-  unused20 f k l u = sym (at20 e k l) ∙ every-unused (h .count) 1 (stored Msgr20 e) f k l (let t = leb-true (h .count) k u in omega arith)
-
-  unused21 : unusedFrom (h .count) 2 (stored Msgr21 e) ≡ fine → (k : ℕ) → suc k < 4 → leb (h .count) (suc k) ≡ true → numberAt 4 (1 + k * 4) e ≡ 0
-  unused21 f k l u =
-      let l′ : k < 3 = omega arith in
-      sym (at21 e k l′) ∙ every-unused (h .count) 2 (stored Msgr21 e) f k l′ (let t = leb-true (h .count) (suc k) u in omega arith)
-
 -- ---- segment 1's own checksum
 
 pub first-holds : (r : Revision) (h : Header) (b : List ℕ) → firstWrong r h b ≡ false → h .s1 .len + 4 ≤ length b → noFirstSum r h ≡ false
@@ -101,15 +74,9 @@ first-holds r h b e l u =
     (not-false (eqb (numberAt 4 (h .s1 .len) b) (segmentSum (take (h .s1 .len) b))) (rw (u, le-leb (h .s1 .len + 4) (length b) l) at e))
 
 pub first-fine : (r : Revision) (h : Header) (b : List ℕ) → (noFirstSum r h ≡ false → numberAt 4 (h .s1 .len) b ≡ segmentSum (take (h .s1 .len) b)) → firstWrong r h b ≡ false
-first-fine r h b f = go (noFirstSum r h) refl (leb (h .s1 .len + 4) (length b))
-  where
-    go : (c : Bool) → noFirstSum r h ≡ c → (d : Bool) → (not c && (d && not (eqb (numberAt 4 (h .s1 .len) b) (segmentSum (take (h .s1 .len) b))))) ≡ false
-    go true e d = refl
-    go false e false = refl
-    go false e true = rw (eq-eqb (numberAt 4 (h .s1 .len) b) (segmentSum (take (h .s1 .len) b)) (f e))
-
-pub first-room : (r : Revision) (h : Header) (b : List ℕ) → bodyLength r h ≤ length b → noFirstSum r h ≡ false → h .s1 .len + 4 ≤ length b
-first-room r h b l u = (let k = rw u at l in omega arith)
+first-fine r h b f =
+    by-test (noFirstSum r h) (λ e. rw e)
+    (λ e. rw (e, eq-eqb (numberAt 4 (h .s1 .len) b) (segmentSum (take (h .s1 .len) b)) (f e)) (and-false (leb (h .s1 .len + 4) (length b))))
 
 -- ---- the whole frame
 
@@ -132,6 +99,12 @@ module _ (X : List ℕ) (n : ℕ) where
   first-segment : (r : Revision) → bodyLength r h ≤ length b → take (h .s1 .len) (segmentBytes r h b) ≡ take (h .s1 .len) b
   first-segment r l = take-at (take (h .s1 .len) b) _ (h .s1 .len) (length-take-le (h .s1 .len) b (omega arith))
 
+  -- its checksum, which msgr2.1 has behind it
+  first-sum : firstWrong Msgr21 h b ≡ false → bodyLength Msgr21 h ≤ length b → not (eqb (h .s1 .len) 0) ≡ true → numberAt 4 (h .s1 .len) b ≡ segmentSum (segmentOf Msgr21 h 0 X)
+  first-sum w m u =
+      let v = not-true (eqb (h .s1 .len) 0) u in
+      first-holds Msgr21 h b w (first-room Msgr21 h b m v) v ∙ ap segmentSum (sym (first-segment Msgr21 m))
+
   -- both ways of saying how long it is
   length-body : (r : Revision) → wireLength r h ≤ length X → bodyLength r h ≤ length b
   length-body r l = (let d = length-drop 32 X in omega arith)
@@ -139,13 +112,20 @@ module _ (X : List ℕ) (n : ℕ) where
   length-wire : (r : Revision) → 32 ≤ length X → bodyLength r h ≤ length b → wireLength r h ≤ length X
   length-wire r f l = (let d = length-drop 32 X in omega arith)
 
+  -- a checksum field, in its epilogue and behind the preamble
+  field20 : (k : ℕ) → k < 4 → getD (stored Msgr20 (epilogue Msgr20)) k 0 ≡ numberAt 4 (sumPlace Msgr20 h k) b
+  field20 k l = at20 (epilogue Msgr20) k l ∙ number-drop 4 (1 + k * 4) (latePlace Msgr20 h) b
+
+  field21 : (k : ℕ) → k < 3 → getD (stored Msgr21 (epilogue Msgr21)) k 0 ≡ numberAt 4 (sumPlace Msgr21 h (suc k)) b
+  field21 k l = at21 (epilogue Msgr21) k l ∙ number-drop 4 (1 + k * 4) (latePlace Msgr21 h) b
+
   -- the spelling
   spelled : (r : Revision) → (noEpilogue r h ≡ false → judgeSpelling r h (epilogue r) ≡ fine) → Spelled r X
   spelled Msgr20 f =
       let e : List ℕ = epilogue Msgr20 in
       let p = both-fine (unusedFrom (h .count) 1 (stored Msgr20 e)) (end.judgeLateFlags Msgr20 (getD e 0 0)) (f refl) in
       record {
-        unused = λ k l u. sym (number-drop 4 (1 + k * 4) (latePlace Msgr20 h) b) ∙ unused20 h e (segmentBytes Msgr20 h b) (p .0) k l u;
+        unused = λ k l u. sym (field20 k l) ∙ every-unused (h .count) 1 (stored Msgr20 e) (p .0) k l (let t = leb-true (h .count) k u in omega arith);
         flags = ap (flagsFine Msgr20) (sym (late-byte Msgr20)) ∙ passed (ltb (getD e 0 0) 2) (refusal.NonCanonical 0) (p .1);
       }
   spelled Msgr21 f = record { unused = go; flags = refl }
@@ -153,45 +133,53 @@ module _ (X : List ℕ) (n : ℕ) where
       go : (k : ℕ) → k < 4 → unusedField Msgr21 h k ≡ true → numberAt 4 (sumPlace Msgr21 h k) b ≡ 0
       go zero l u = cc
       go (suc k) l u =
-          let e : List ℕ = epilogue Msgr21 in
-          let c = not-true (leb (h .count) 1) (both-left (not (leb (h .count) 1)) (leb (h .count) (suc k)) u) in
-          let p = both-fine (unusedFrom (h .count) 2 (stored Msgr21 e)) fine (f c) in
-          sym (number-drop 4 (1 + k * 4) (latePlace Msgr21 h) b)
-          ∙ unused21 h e (segmentBytes Msgr21 h b) (p .0) k l (both-right (not (leb (h .count) 1)) (leb (h .count) (suc k)) u)
+          let q = each-true (not (leb (h .count) 1)) (leb (h .count) (suc k)) u in
+          let p = both-fine (unusedFrom (h .count) 2 (stored Msgr21 (epilogue Msgr21))) fine (f (not-true (leb (h .count) 1) (q .0))) in
+          let l′ : k < 3 = omega arith in
+          let t = leb-true (h .count) (suc k) (q .1) in
+          sym (field21 k l′) ∙ every-unused (h .count) 2 (stored Msgr21 (epilogue Msgr21)) (p .0) k l′ (omega arith)
 
   spelling-back : (r : Revision) → Spelled r X → noEpilogue r h ≡ false → judgeSpelling r h (epilogue r) ≡ fine
   spelling-back Msgr20 s c =
-      let e : List ℕ = epilogue Msgr20 in
       ap₂ orElse
-      (all-unused (h .count) 1 (stored Msgr20 e) (λ k l u. at20 e k l ∙ number-drop 4 (1 + k * 4) (latePlace Msgr20 h) b ∙ s .unused k l (le-leb (h .count) k (omega arith))))
+      (all-unused (h .count) 1 (stored Msgr20 (epilogue Msgr20)) (λ k l u. field20 k l ∙ s .unused k l (le-leb (h .count) k (omega arith))))
       (ap (λ (t : Bool). unless t (refusal.NonCanonical 0)) (ap (flagsFine Msgr20) (late-byte Msgr20) ∙ s .flags))
   spelling-back Msgr21 s c =
-      let e : List ℕ = epilogue Msgr21 in
       ap (λ (j : Judged). orElse j fine)
-      (all-unused (h .count) 2 (stored Msgr21 e)
-      (λ k l u. at21 e k l ∙ number-drop 4 (1 + k * 4) (latePlace Msgr21 h) b ∙ s .unused (suc k) (let l′ : k < 3 = l in omega arith) (ap₂ _&&_ (ap not c) (le-leb (h .count) (suc k) (omega arith)))))
+      (all-unused (h .count) 2 (stored Msgr21 (epilogue Msgr21))
+      (λ k l u. field21 k l ∙ s .unused (suc k) (let l′ : k < 3 = l in omega arith) (ap₂ _&&_ (ap not c) (le-leb (h .count) (suc k) (omega arith)))))
 
-  -- segment 1's checksum, which both kinds of frame compare
-  first-sum : {x : Ended} → Judges x Msgr21 X n → not (eqb (h .s1 .len) 0) ≡ true → numberAt 4 (h .s1 .len) b ≡ segmentSum (segmentOf Msgr21 h 0 X)
-  first-sum j u =
-      let v = not-true (eqb (h .s1 .len) 0) u in
-      first-holds Msgr21 h b (j .first) (first-room Msgr21 h b (j .long) v) v ∙ ap segmentSum (sym (first-segment Msgr21 (j .long)))
+  -- the checksums, where the frame is complete
+  abbrev segments : Revision → List (List ℕ)
+  segments r = cutInto (h .s1 .len ∷ h .s2 .len ∷ h .s3 .len ∷ h .s4 .len ∷ []) (segmentBytes r h b)
 
-  sums-whole : (r : Revision) → Judges whole r X n → (k : ℕ) → k < 4 → isCompared late.Complete r h k ≡ true → numberAt 4 (sumPlace r h k) b ≡ segmentSum (segmentOf r h k X)
-  unfolding ending
-  sums-whole Msgr20 j k l u =
-      sym (number-drop 4 (1 + k * 4) (latePlace Msgr20 h) b)
-      ∙ sums20 h (epilogue Msgr20) (segmentBytes Msgr20 h b) (end-whole false (judgeSpelling Msgr20 h (epilogue Msgr20)) (lateOf Msgr20 (getD (epilogue Msgr20) 0 0)) _ _ (j .end) .1 .1 refl) k l u
-  sums-whole Msgr21 j zero l u = first-sum j u
-  sums-whole Msgr21 j (suc k) l u =
-      let c : noEpilogue Msgr21 h ≡ false = lt-leb (h .count) 1 (let t = ltb-true (suc k) (h .count) u in omega arith) in
-      sym (number-drop 4 (1 + k * 4) (latePlace Msgr21 h) b)
-      ∙ sums21 h (epilogue Msgr21) (segmentBytes Msgr21 h b) (end-whole (noEpilogue Msgr21 h) (judgeSpelling Msgr21 h (epilogue Msgr21)) (lateOf Msgr21 (getD (epilogue Msgr21) 0 0)) _ _ (j .end) .1 .1 c) k l u
+  sums : (r : Revision) → (noEpilogue r h ≡ false → end.compared r h (epilogue r) (segmentBytes r h b) ≡ fine) → firstWrong r h b ≡ false → bodyLength r h ≤ length b
+      → (k : ℕ) → k < 4 → isCompared late.Complete r h k ≡ true → numberAt 4 (sumPlace r h k) b ≡ segmentSum (segmentOf r h k X)
+  sums Msgr20 f w m k l u =
+      sym (field20 k l) ∙ every-sum (h .count) 1 (stored Msgr20 (epilogue Msgr20)) (segments Msgr20) (f refl) k l (let t = ltb-true k (h .count) u in omega arith)
+  sums Msgr21 f w m zero l u = first-sum w m u
+  sums Msgr21 f w m (suc k) l u =
+      let t = ltb-true (suc k) (h .count) u in
+      let l′ : k < 3 = omega arith in
+      sym (field21 k l′) ∙ every-sum (h .count) 2 (stored Msgr21 (epilogue Msgr21)) (drop 1 (segments Msgr21)) (f (lt-leb (h .count) 1 (omega arith))) k l′ (omega arith)
 
-  sums-dropped : (r : Revision) → Judges dropped r X n → (k : ℕ) → k < 4 → isCompared late.Aborted r h k ≡ true → numberAt 4 (sumPlace r h k) b ≡ segmentSum (segmentOf r h k X)
-  sums-dropped Msgr20 j k l u = cc
-  sums-dropped Msgr21 j zero l u = first-sum j u
-  sums-dropped Msgr21 j (suc k) l u = cc
+  compared-back : (r : Revision) → Checked late.Complete r X n → end.compared r h (epilogue r) (segmentBytes r h b) ≡ fine
+  compared-back Msgr20 c =
+      all-sums (h .count) 1 (stored Msgr20 (epilogue Msgr20)) (segments Msgr20) (λ k l u. field20 k l ∙ c .sums k l (lt-ltb k (h .count) (omega arith)))
+  compared-back Msgr21 c =
+      all-sums (h .count) 2 (stored Msgr21 (epilogue Msgr21)) (drop 1 (segments Msgr21))
+      (λ k l u. let l′ : k < 3 = l in field21 k l ∙ c .sums (suc k) (omega arith) (lt-ltb (suc k) (h .count) (omega arith)))
+
+  -- segment 1's, which is compared in aborted frames too
+  sums-dropped : (r : Revision) → firstWrong r h b ≡ false → bodyLength r h ≤ length b
+      → (k : ℕ) → k < 4 → isCompared late.Aborted r h k ≡ true → numberAt 4 (sumPlace r h k) b ≡ segmentSum (segmentOf r h k X)
+  sums-dropped Msgr20 w m k l u = cc
+  sums-dropped Msgr21 w m zero l u = first-sum w m u
+  sums-dropped Msgr21 w m (suc k) l u = cc
+
+  first-back : (kind : Late) (r : Revision) → Checked kind r X n → isCompared kind Msgr21 h 0 ≡ not (eqb (h .s1 .len) 0) → firstWrong r h b ≡ false
+  first-back kind Msgr20 c e = refl
+  first-back kind Msgr21 c e = first-fine Msgr21 h b (λ u. c .sums 0 (lit< tt) (e ∙ ap not u) ∙ ap segmentSum (first-segment Msgr21 (length-body Msgr21 (c .arrived))))
 
   checked : (kind : Late) (x : Ended) (r : Revision) → Judges x r X n → Spelled r X → lateIn r h X ≡ kind
       → ((k : ℕ) → k < 4 → isCompared kind r h k ≡ true → numberAt 4 (sumPlace r h k) b ≡ segmentSum (segmentOf r h k X)) → Checked kind r X n
@@ -199,47 +187,29 @@ module _ (X : List ℕ) (n : ℕ) where
       let a = accepted-preamble (take 32 X) n (j .accepted) in
       record { preamble = a .checked; store = a .store; arrived = length-wire r (j .front) (j .long); spelling = spelling; late = said; sums = sums }
 
-  pub whole-checked : (r : Revision) → Judges whole r X n → Checked late.Complete r X n
-  unfolding ending
-  whole-checked r j =
-      let e = end-whole (noEpilogue r h) (judgeSpelling r h (epilogue r)) (lateOf r (getD (epilogue r) 0 0)) _ _ (j .end) in
-      checked late.Complete whole r j (spelled r (e .1 .0)) (sym (late-said r) ∙ e .0) (sums-whole r j)
-
-  pub dropped-checked : (r : Revision) → Judges dropped r X n → Checked late.Aborted r X n
-  unfolding ending
-  dropped-checked r j =
-      let e = end-dropped (noEpilogue r h) (judgeSpelling r h (epilogue r)) (lateOf r (getD (epilogue r) 0 0)) _ _ (j .end) in
-      checked late.Aborted dropped r j (spelled r (e .1)) (sym (late-said r) ∙ e .0) (sums-dropped r j)
-
-  -- and back
-  judges : (kind : Late) (x : Ended) (r : Revision) → Checked kind r X n → firstWrong r h b ≡ false → ending r h (epilogue r) (segmentBytes r h b) ≡ x → Judges x r X n
+  judges : (kind : Late) (x : Ended) (r : Revision) → Checked kind r X n → isCompared kind Msgr21 h 0 ≡ not (eqb (h .s1 .len) 0) → ending r h (epilogue r) (segmentBytes r h b) ≡ x → Judges x r X n
   judges kind x r c f e = record {
     front = (let l = c .arrived in omega arith);
     accepted = preamble-accepted (take 32 X) n (c .preamble) (c .store);
     long = length-body r (c .arrived);
-    first = f;
+    first = first-back kind r c f;
     end = e;
   }
 
-  first-back : (kind : Late) (r : Revision) → Checked kind r X n → isCompared kind Msgr21 h 0 ≡ not (eqb (h .s1 .len) 0) → firstWrong r h b ≡ false
-  first-back kind Msgr20 c e = refl
-  first-back kind Msgr21 c e = first-fine Msgr21 h b (λ u. c .sums 0 (lit< tt) (e ∙ ap not u) ∙ ap segmentSum (first-segment Msgr21 (length-body Msgr21 (c .arrived))))
-
-  compared-back : (r : Revision) → Checked late.Complete r X n → end.compared r h (epilogue r) (segmentBytes r h b) ≡ fine
-  compared-back Msgr20 c = back20 h (epilogue Msgr20) (segmentBytes Msgr20 h b) (λ k l u. number-drop 4 (1 + k * 4) (latePlace Msgr20 h) b ∙ c .sums k l u)
-  compared-back Msgr21 c = back21 h (epilogue Msgr21) (segmentBytes Msgr21 h b) (λ k l u. number-drop 4 (1 + k * 4) (latePlace Msgr21 h) b ∙ c .sums (suc k) l u)
-
-  pub checked-whole : (r : Revision) → Checked late.Complete r X n → Judges whole r X n
+  pub checks : (r : Revision) (abort : Bool) → Judges (endsAs abort) r X n ↔ Checked (lateAs abort) r X n
   unfolding ending
-  checked-whole r c =
-      judges late.Complete whole r c (first-back late.Complete r c refl)
-      (whole-end (noEpilogue r h) (judgeSpelling r h (epilogue r)) (lateOf r (getD (epilogue r) 0 0)) _ _ (late-said r ∙ c .late) (spelling-back r (c .spelling)) (λ f. compared-back r c))
-
-  pub checked-dropped : (r : Revision) → Checked late.Aborted r X n → Judges dropped r X n
-  unfolding ending
-  checked-dropped r c =
-      judges late.Aborted dropped r c (first-back late.Aborted r c refl)
-      (dropped-end (noEpilogue r h) (judgeSpelling r h (epilogue r)) (lateOf r (getD (epilogue r) 0 0)) _ _ (late-said r ∙ c .late) (spelling-back r (c .spelling)))
+  checks r false = (
+    λ j. let e = end-whole (noEpilogue r h) (judgeSpelling r h (epilogue r)) (lateOf r (getD (epilogue r) 0 0)) _ _ (j .end) in
+        checked late.Complete whole r j (spelled r (e .1 .0)) (sym (late-said r) ∙ e .0) (sums r (e .1 .1) (j .first) (j .long)),
+    λ c. judges late.Complete whole r c refl
+        (whole-end (noEpilogue r h) (judgeSpelling r h (epilogue r)) (lateOf r (getD (epilogue r) 0 0)) _ _ (late-said r ∙ c .late) (spelling-back r (c .spelling)) (λ f. compared-back r c)),
+  )
+  checks r true = (
+    λ j. let e = end-dropped (noEpilogue r h) (judgeSpelling r h (epilogue r)) (lateOf r (getD (epilogue r) 0 0)) _ _ (j .end) in
+        checked late.Aborted dropped r j (spelled r (e .1)) (sym (late-said r) ∙ e .0) (sums-dropped r (j .first) (j .long)),
+    λ c. judges late.Aborted dropped r c refl
+        (dropped-end (noEpilogue r h) (judgeSpelling r h (epilogue r)) (lateOf r (getD (epilogue r) 0 0)) _ _ (late-said r ∙ c .late) (spelling-back r (c .spelling))),
+  )
 
   -- segment 1, reported early
   pub first-checked : (r : Revision) → JudgesFirst r X n → CheckedFirst r X n

@@ -1,4 +1,5 @@
 pub mod Locality
+pub mod FrameReader
 pub mod Concatenation
 pub mod Banners
 pub mod Checks

@@ -7,10 +7,9 @@ use native.Mathlib.Omega.{arith}
 use lib.ListN.{length, take, drop, length-append, length-drop}
 use lib.Seq.{take-append-le, drop-append-le}
 use lib.Dec.{leb, ltb}
-use borrow.Author.Tests.{le-ltb, ltb-false, le-leb, leb-true}
+use borrow.Author.Tests.{lt-ltb, le-ltb, le-leb, leb-true}
 use Rattle.buffer.proofs.Numbers.{number-append}
 use Rattle.buffer.specs.Splice.{replaceFront}
-use Rattle.refusal.specs.declared.Numbers.{Numbers}
 use Rattle.refusal.specs.declared.Refusal.the-variants as refusal
 use Rattle.refusal.specs.Refusals.{Judged, fine, refused, numbersOf}
 use Rattle.banner.specs.declared.Revision.{Revision}
@@ -19,39 +18,35 @@ use Rattle.preamble.specs.Layout.{total}
 use Rattle.preamble.specs.Judge.{judgePreamble}
 use Rattle.body.specs.Body.{noFirstSum, firstSumLength, bodyLength, wireLength}
 use Rattle.body.specs.End.{Ended, whole, dropped, refusedFor, segmentBytes, ending}
-use Rattle.stream.specs.Stream.{Trace, ended, refusedAt, zeroed, firstSumEnd, firstWrong, firstReported, reportedFirst, atEnd, frames}
-use Rattle.refusal.proofs.Booleans.{wrong}
+use Rattle.stream.specs.Stream.{Trace, ended, unlessRefused, zeroed, firstSumEnd, firstWrong, firstReported, reportedFirst, atEnd, frames}
+use Rattle.refusal.proofs.Booleans.{by-test, by-less, wrong, each-true, both-true}
+use Rattle.refusal.proofs.Judgements.{by-judgement}
 use Rattle.body.proofs.Ends.{segments-own, ending-append}
 use Rattle.ends.specs.Handed.{headerIn, isEarly}
 
+pub first-room : (r : Revision) (h : Header) (b : List ℕ) → bodyLength r h ≤ length b → noFirstSum r h ≡ false → h .s1 .len + 4 ≤ length b
+first-room r h b l u = (let k = rw u at l in omega arith)
+
 first-own : (r : Revision) (h : Header) (b y : List ℕ) → bodyLength r h ≤ length b → firstWrong r h (b ++ y) ≡ firstWrong r h b
-first-own r h b y l = go (noFirstSum r h) refl
-  where
-    go : (c : Bool) → noFirstSum r h ≡ c → firstWrong r h (b ++ y) ≡ firstWrong r h b
-    go true c = rw c
-    go false c =
-        let l′ : h .s1 .len + 4 ≤ length b = (let k = rw c at l in omega arith) in
-        let a = length-append b y in
-        rw (le-leb (h .s1 .len + 4) (length b) l′, le-leb (h .s1 .len + 4) (length (b ++ y)) (omega arith), number-append 4 (h .s1 .len) b y l′, take-append-le (h .s1 .len) b y (omega arith))
+first-own r h b y l =
+    by-test (noFirstSum r h) (λ c. rw c)
+    (λ c.
+    let l′ = first-room r h b l c in
+    let a = length-append b y in
+    rw (le-leb (h .s1 .len + 4) (length b) l′, le-leb (h .s1 .len + 4) (length (b ++ y)) (omega arith), number-append 4 (h .s1 .len) b y l′, take-append-le (h .s1 .len) b y (omega arith)))
 
 -- with the whole body there, segment 1's early report does not depend on its bytes
-pub early-is : (r : Revision) (h : Header) (b : List ℕ) → bodyLength r h ≤ length b → firstReported r h b ≡ isEarly r h
-early-is r h b l = go (noFirstSum r h) refl
-  where
-    go : (c : Bool) → noFirstSum r h ≡ c → firstReported r h b ≡ isEarly r h
-    go true c = rw c
-    go false c = (let k : h .s1 .len + 4 ≤ length b = (let m = rw c at l in omega arith) in rw (c, le-leb (h .s1 .len + 4) (length b) k))
+early-is : (r : Revision) (h : Header) (b : List ℕ) → bodyLength r h ≤ length b → firstReported r h b ≡ isEarly r h
+early-is r h b l = by-test (noFirstSum r h) (λ c. rw c) (λ c. rw (c, le-leb (h .s1 .len + 4) (length b) (first-room r h b l c)))
 
 -- without it, its checksum has to be there
-pub reported-parts : (r : Revision) (h : Header) (b : List ℕ) → firstReported r h b ≡ true → (isEarly r h ≡ true) × (h .s1 .len + 4 ≤ length b)
-reported-parts r h b e = (let p = go (not (noFirstSum r h)) (leb (h .s1 .len + 4) (length b)) (ltb 1 (h .count)) e in (p .0, leb-true (h .s1 .len + 4) (length b) (p .1)))
-  where
-    go : (a d c : Bool) → (a && (d && c)) ≡ true → ((a && c) ≡ true) × (d ≡ true)
-    go true true c e = (e, refl)
-    go true false c e = wrong e
-    go false d c e = wrong e
+reported-parts : (r : Revision) (h : Header) (b : List ℕ) → firstReported r h b ≡ true → (isEarly r h ≡ true) × (h .s1 .len + 4 ≤ length b)
+reported-parts r h b e =
+    let p = each-true (not (noFirstSum r h)) (leb (h .s1 .len + 4) (length b) && ltb 1 (h .count)) e in
+    let q = each-true (leb (h .s1 .len + 4) (length b)) (ltb 1 (h .count)) (p .1) in
+    (both-true (not (noFirstSum r h)) (ltb 1 (h .count)) (p .0) (q .1), leb-true (h .s1 .len + 4) (length b) (q .0))
 
-pub parts-reported : (r : Revision) (h : Header) (b : List ℕ) → isEarly r h ≡ true → h .s1 .len + 4 ≤ length b → firstReported r h b ≡ true
+parts-reported : (r : Revision) (h : Header) (b : List ℕ) → isEarly r h ≡ true → h .s1 .len + 4 ≤ length b → firstReported r h b ≡ true
 parts-reported r h b e l = rw (le-leb (h .s1 .len + 4) (length b) l) e
 
 -- ---- how the frame at the front of X is judged, where n is the store's length
@@ -175,7 +170,7 @@ frame-trace-more {x} {r} f P X Y s j =
     let e₄ : take (h .s1 .len) (drop 32 X ++ Y) ≡ take (h .s1 .len) (drop 32 X) = take-append-le (h .s1 .len) (drop 32 X) Y (let k = j .long in omega arith) in
     rw (e₁, e₂, e₃, segments-own r h (drop 32 X) Y (j .long), e₄) at (frame-trace f P (X ++ Y) s (extends r X Y (j .front) (j .long) j))
 
--- an early report
+-- what follows an early report
 abbrev pub restTrace : ℕ → Revision → ℕ → List ℕ → List ℕ → Trace
 restTrace f r P X s =
     cond (ltb (length (drop 32 X)) (bodyLength r (headerIn X))) (ended (replaceFront (segmentBytes r (headerIn X) (drop 32 X)) s))
@@ -187,12 +182,18 @@ unfolding frames
 first-trace {r} f P X s j =
     rw (le-ltb (length X) 32 (j .front), j .accepted, j .first, parts-reported r (headerIn X) (drop 32 X) (j .early) (j .long))
 
--- nothing more, or a refusal, or the frame is whole or dropped; c: segment 1 was reported before
+-- a frame ends whole or, where it was aborted, dropped
+abbrev pub endsAs : Bool → Ended
+endsAs abort = cond abort dropped whole
+
+-- nothing more, or a refusal
+abbrev pub stopped : Judged → ℕ → List ℕ → Trace
+stopped j at t = unlessRefused j at t (ended t)
+
+-- the list stops, or the frame ends; c: segment 1 was reported before
 pub data Seen (r : Revision) (P : ℕ) (X s : List ℕ) : Type 0 where
-  nothing : (c : Bool) (t : List ℕ) → (c ≡ true → JudgesFirst r X (length s)) → ((f : ℕ) → frames (suc f) r P X s ≡ behindEarly c P X s (ended t)) → Seen r P X s
-  refuses : (c : Bool) (n : Numbers) (at : ℕ) (t : List ℕ) → (c ≡ true → JudgesFirst r X (length s)) → ((f : ℕ) → frames (suc f) r P X s ≡ behindEarly c P X s (refusedAt n at t)) → Seen r P X s
-  hands : Judges whole r X (length s) → Seen r P X s
-  drops : Judges dropped r X (length s) → Seen r P X s
+  stops : (c : Bool) (j : Judged) (at : ℕ) (t : List ℕ) → (c ≡ true → JudgesFirst r X (length s)) → ((f : ℕ) → frames (suc f) r P X s ≡ behindEarly c P X s (stopped j at t)) → Seen r P X s
+  ends : (abort : Bool) → Judges (endsAs abort) r X (length s) → Seen r P X s
 
 module _ (r : Revision) (P : ℕ) (X s : List ℕ) where
   abbrev h : Header
@@ -201,38 +202,23 @@ module _ (r : Revision) (P : ℕ) (X s : List ℕ) where
   abbrev b : List ℕ
   b = drop 32 X
 
-  abbrev ends : Ended
-  ends = ending r h (drop (total h + firstSumLength r h) b) (segmentBytes r h b)
-
-  by-end : 32 ≤ length X → judgePreamble (take 32 X) (length s) ≡ fine → firstWrong r h b ≡ false → bodyLength r h ≤ length b → (x : Ended) → ends ≡ x → Seen r P X s
-  by-end l a w n whole e = hands (record { front = l; accepted = a; long = n; first = w; end = e })
-  by-end l a w n dropped e = drops (record { front = l; accepted = a; long = n; first = w; end = e })
-  by-end l a w n (refusedFor m) e =
-      let j : Judges (refusedFor m) r X (length s) = record { front = l; accepted = a; long = n; first = w; end = e } in
-      refuses (isEarly r h) m (P + wireLength r h) (zeroed h s) (judges-first X j) (λ f. frame-trace f P X s j)
-
-  by-length : 32 ≤ length X → judgePreamble (take 32 X) (length s) ≡ fine → firstWrong r h b ≡ false → (c : Bool) → ltb (length b) (bodyLength r h) ≡ c → Seen r P X s
-  unfolding frames
-  by-length l a w true e =
-      nothing (firstReported r h b) (replaceFront (segmentBytes r h b) s)
-      (λ q. let p = reported-parts r h b q in record { front = l; accepted = a; first = w; early = p .0; long = p .1 })
-      (λ f. rw (le-ltb (length X) 32 l, a, w, e))
-  by-length l a w false e = by-end l a w (ltb-false (length b) (bodyLength r h) e) ends refl
-
-  by-first : 32 ≤ length X → judgePreamble (take 32 X) (length s) ≡ fine → (c : Bool) → firstWrong r h b ≡ c → Seen r P X s
-  unfolding frames
-  by-first l a true e = refuses false (numbersOf (refusal.SegmentChecksum 1)) (firstSumEnd P h) (zeroed h s) (λ q. wrong q) (λ f. rw (le-ltb (length X) 32 l, a, e))
-  by-first l a false e = by-length l a e (ltb (length b) (bodyLength r h)) refl
-
-  by-preamble : 32 ≤ length X → (j : Judged) → judgePreamble (take 32 X) (length s) ≡ j → Seen r P X s
-  unfolding frames
-  by-preamble l fine e = by-first l e (firstWrong r h b) refl
-  by-preamble l (refused n) e = refuses false n (P + 32) s (λ q. wrong q) (λ f. rw (le-ltb (length X) 32 l, e))
-
-  by-front : (c : Bool) → ltb (length X) 32 ≡ c → Seen r P X s
-  unfolding frames
-  by-front true e = nothing false s (λ q. wrong q) (λ f. rw e)
-  by-front false e = by-preamble (ltb-false (length X) 32 e) (judgePreamble (take 32 X) (length s)) refl
+  by-end : (x : Ended) → Judges x r X (length s) → Seen r P X s
+  by-end whole j = ends false j
+  by-end dropped j = ends true j
+  by-end (refusedFor m) j = stops (isEarly r h) (refused m) (P + wireLength r h) (zeroed h s) (judges-first X j) (λ f. frame-trace f P X s j)
 
   pub seen : Seen r P X s
-  seen = by-front (ltb (length X) 32) refl
+  unfolding frames
+  seen =
+      by-less (length X) 32 (λ l. stops false fine P s (λ q. wrong q) (λ f. rw (lt-ltb (length X) 32 l)))
+      (λ l.
+      let e₁ = le-ltb (length X) 32 l in
+      by-judgement (judgePreamble (take 32 X) (length s))
+      (λ a. by-test (firstWrong r h b)
+      (λ w. stops false (refused (numbersOf (refusal.SegmentChecksum 1))) (firstSumEnd P h) (zeroed h s) (λ q. wrong q) (λ f. rw (e₁, a, w)))
+      (λ w. by-less (length b) (bodyLength r h)
+      (λ n. stops (firstReported r h b) fine P (replaceFront (segmentBytes r h b) s)
+      (λ q. let p = reported-parts r h b q in record { front = l; accepted = a; first = w; early = p .0; long = p .1 })
+      (λ f. rw (e₁, a, w, lt-ltb (length b) (bodyLength r h) n)))
+      (λ n. by-end (ending r h (drop (total h + firstSumLength r h) b) (segmentBytes r h b)) (record { front = l; accepted = a; long = n; first = w; end = refl }))))
+      (λ n e. stops false (refused n) (P + 32) s (λ q. wrong q) (λ f. rw (e₁, e))))

@@ -1,18 +1,19 @@
 -- A built frame is read back: its judgements come to a frame, or to a drop where it was built aborted.
 use Prim.Native.Nat.{ℕ, suc, _+_, _-_, _^_, _≤_, _<_}
-use mathlib.Core.List.{List, [], _∷_, _++_}
+use mathlib.Core.List.{List, [], _∷_, _++_, append-assoc}
 use mathlib.Core.Path.{_≡_, refl, sym, ap, ap₂, _∙_}
 use mathlib.Core.Bool.{Bool, true, false, not, cond, true≢false}
 use native.Mathlib.Omega.{arith}
 use lib.ListN.{length, take, drop, length-append, length-drop, take-append-drop, drop-of-length-le}
-use lib.Seq.{take-at, drop-at, take-append-le, drop-append-le, length-take-le}
+use lib.Seq.{take-at, drop-at, length-take-le}
 use lib.Dec.{leb, eqb, ltb}
 use borrow.Author.Tests.{leb-true, eq-eqb}
 use Rattle.buffer.specs.Splice.{replaceFront}
 use Rattle.buffer.specs.Le.{le, leOf, numberAt, Bytes, words}
-use Rattle.buffer.proofs.Numbers.{leOf-le, number-append, bytes-take, bytes-drop, bytes-zeros}
+use Rattle.buffer.proofs.Numbers.{leOf-le, bytes-take, bytes-drop, bytes-zeros}
 use Rattle.refusal.specs.declared.Refusal.the-variants as refusal
 use Rattle.refusal.specs.Refusals.{Judged, fine, orElse, unless}
+use Rattle.refusal.proofs.Booleans.{by-test, at-cond}
 use Rattle.refusal.proofs.Judgements.{passed}
 use Rattle.banner.specs.declared.Revision.{Revision}
 use Rattle.banner.specs.declared.Revision.the-variants.{Msgr20, Msgr21}
@@ -25,14 +26,15 @@ use Rattle.preamble.proofs.Headers.{some-segment}
 use Rattle.preamble.proofs.Back.{front-back}
 use Rattle.body.specs.Body.{segmentSum, cutInto, segments, field, restLength, lateByte, epilogue, firstSum, firstSumLength, bodyLength, wireLength, body, restSent, frameBytes}
 use Rattle.body.specs.End as end
-use Rattle.body.specs.End.{Ended, whole, dropped, compareFrom, unusedFrom, segmentBytes, ending}
+use Rattle.body.specs.End.{whole, compareFrom, unusedFrom, segmentBytes, ending}
 use Rattle.body.proofs.Laws.{length-sent, length-first-sum, length-frame}
 use Rattle.builder.specs.Build.{judgeAbort}
 use Rattle.builder.proofs.Accepted.{Accepted}
-use Rattle.stream.specs.declared.Event.the-variants.{Frame, Dropped}
-use Rattle.stream.specs.Stream.{Trace, after, reportedFirst, zeroed, firstSumEnd, firstWrong, atEnd, frames}
+use Rattle.stream.specs.Stream.{firstWrong, frames}
 use Rattle.ends.specs.Handed.{isEarly}
-use Rattle.ends.proofs.Locality.{Judges, frame-trace-more}
+use Rattle.ends.proofs.Locality.{Judges, endsAs, frame-trace-more}
+use Rattle.ends.proofs.FrameReader.{behind}
+use Rattle.ends.proofs.Concatenation.{storeAs, entriesAs, at-ends}
 use Rattle.body.proofs.Checksums.{same-sums, same-unused}
 use Rattle.body.proofs.Fields.{sum-lt, field-lt, stored20, stored21}
 use Rattle.ends.proofs.Checks.{first-fine}
@@ -47,16 +49,12 @@ module _ (r : Revision) (h : Header) (first mid rest last : List ℕ) (e₁ : le
   a₂ = length-append (first ++ mid) rest ∙ omega (arith, a₁, e₃)
 
   first-part : take (h .s1 .len) (first ++ mid ++ rest ++ last) ≡ first
-  first-part =
-      let n = h .s1 .len in
-      take-append-le n (first ++ mid ++ rest) last (omega (arith, a₂)) ∙ take-append-le n (first ++ mid) rest (omega (arith, a₁)) ∙ take-at first mid n e₁
+  first-part = simp append-assoc (take-at first (mid ++ (rest ++ last)) (h .s1 .len) e₁)
 
   segment-parts : segmentBytes r h (first ++ mid ++ rest ++ last) ≡ first ++ rest
   segment-parts =
-      let k = h .s1 .len + firstSumLength r h in
-      ap₂ _++_
-      first-part
-      (ap (take (restLength h)) (drop-append-le k (first ++ mid ++ rest) last (omega (arith, a₂)) ∙ ap (λ (t : List ℕ). t ++ last) (drop-at (first ++ mid) rest k a₁)) ∙ take-at rest last (restLength h) e₃)
+      ap₂ _++_ first-part
+      (rw (append-assoc (first ++ mid) rest last, drop-at (first ++ mid) (rest ++ last) (h .s1 .len + firstSumLength r h) a₁) (take-at rest last (restLength h) e₃))
 
   last-part : drop (total h + firstSumLength r h) (first ++ mid ++ rest ++ last) ≡ last
   last-part = drop-at (first ++ mid ++ rest) last (total h + firstSumLength r h) a₂
@@ -64,14 +62,7 @@ module _ (r : Revision) (h : Header) (first mid rest last : List ℕ) (e₁ : le
 -- a number behind the first part
 number-mid : (first rest last : List ℕ) (v n : ℕ) → length first ≡ n → v < 2 ^ 32 → numberAt 4 n (first ++ le 4 v ++ rest ++ last) ≡ v
 unfolding numberAt
-number-mid first rest last v n e lt =
-    let m : List ℕ = le 4 v in
-    let a₁ : length (first ++ m) ≡ n + 4 = length-append first m ∙ ap (λ (k : ℕ). k + 4) e in
-    let a₂ = length-append (first ++ m) rest in
-    number-append 4 n (first ++ m ++ rest) last (omega arith)
-    ∙ number-append 4 n (first ++ m) rest (omega arith)
-    ∙ ap (λ (t : List ℕ). leOf (take 4 t)) (drop-at first m n e)
-    ∙ leOf-le 4 v lt
+number-mid first rest last v n e lt = simp append-assoc (ap (λ (t : List ℕ). leOf (take 4 t)) (drop-at first (le 4 v ++ (rest ++ last)) n e) ∙ leOf-le 4 v lt)
 
 -- an aborted frame of msgr2.1 has more than one segment
 only-whole : (h : Header) (abort : Bool) → judgeHeader h ≡ fine → judgeAbort Msgr21 (h .count) abort ≡ fine → leb (h .count) 1 ≡ true → abort ≡ false
@@ -81,9 +72,6 @@ only-whole h true e a c =
     let m = some-segment h e in
     let one : eqb (h .count) 1 ≡ true = eq-eqb (h .count) 1 (omega arith) in
     absurd (true≢false (sym (passed (not (eqb (h .count) 1)) refusal.AbortOneSegment a) ∙ ap not one))
-
-abbrev ends-as : Bool → Ended
-ends-as abort = cond abort dropped whole
 
 module _ (h : Header) (first rest : List ℕ) (e₁ : length first ≡ h .s1 .len) (bf : Bytes first) (br : Bytes rest) where
   abbrev f1 : ℕ
@@ -133,29 +121,22 @@ module _ (h : Header) (first rest : List ℕ) (e₁ : length first ≡ h .s1 .le
       ap (λ (j : Judged). orElse j fine)
       (ap (unusedFrom (h .count) 2) (stored21 late f2 f3 f4 lt2 lt3 lt4) ∙ same-unused (h .count) 2 (cutInto (h .s2 .len ∷ h .s3 .len ∷ h .s4 .len ∷ []) rest))
 
-  ends20 : (abort : Bool) → ending Msgr20 h (epilogue Msgr20 h (lateByte Msgr20 abort) first rest) (first ++ rest) ≡ ends-as abort
+  ends20 : (abort : Bool) → ending Msgr20 h (epilogue Msgr20 h (lateByte Msgr20 abort) first rest) (first ++ rest) ≡ endsAs abort
   unfolding ending
   ends20 true = rw (spelled20 1 refl)
   ends20 false = rw (spelled20 0 refl) (ap end.endedBy (read20 0))
 
-  -- with an epilogue, and without one, which an aborted frame always has
-  ends21 : (abort : Bool) → leb (h .count) 1 ≡ false → ending Msgr21 h (epilogue Msgr21 h (lateByte Msgr21 abort) first rest) (first ++ rest) ≡ ends-as abort
+  -- with an epilogue, which an aborted frame always has
+  ends21 : (abort : Bool) → leb (h .count) 1 ≡ false → ending Msgr21 h (epilogue Msgr21 h (lateByte Msgr21 abort) first rest) (first ++ rest) ≡ endsAs abort
   unfolding ending
   ends21 true c = rw (c, spelled21 1)
   ends21 false c = rw (c, spelled21 0x0E) (ap end.endedBy (read21 0x0E))
 
-  none21 : leb (h .count) 1 ≡ true → ending Msgr21 h (epilogue Msgr21 h (lateByte Msgr21 false) first rest) (first ++ rest) ≡ whole
-  unfolding ending
-  none21 c = rw c
-
   ends : (r : Revision) (abort : Bool) → judgeHeader h ≡ fine → judgeAbort r (h .count) abort ≡ fine
-      → ending r h (epilogue r h (lateByte r abort) first rest) (first ++ rest) ≡ ends-as abort
+      → ending r h (epilogue r h (lateByte r abort) first rest) (first ++ rest) ≡ endsAs abort
+  unfolding ending
   ends Msgr20 abort e a = ends20 abort
-  ends Msgr21 abort e a = go (leb (h .count) 1) refl
-    where
-      go : (c : Bool) → leb (h .count) 1 ≡ c → ending Msgr21 h (epilogue Msgr21 h (lateByte Msgr21 abort) first rest) (first ++ rest) ≡ ends-as abort
-      go true c = (let o = only-whole h abort e a c in rw o (none21 c))
-      go false c = ends21 abort c
+  ends Msgr21 abort e a = by-test (leb (h .count) 1) (λ c. let o = only-whole h abort e a c in rw (o, c)) (λ c. ends21 abort c)
 
 -- ---- segment 1's own checksum
 
@@ -197,11 +178,7 @@ module _ {space queued : ℕ} (r : Revision) (h : Header) (abort : Bool) (source
   length-rest = (let e = a .whole in length-sent abort (drop (h .s1 .len) source) ∙ length-drop (h .s1 .len) source ∙ omega arith)
 
   rest-bytes : Bytes rest
-  rest-bytes = go abort
-    where
-      go : (b : Bool) → Bytes (restSent b (drop (h .s1 .len) source))
-      go true = bytes-zeros (length (drop (h .s1 .len) source))
-      go false = bytes-drop (h .s1 .len) bytes
+  rest-bytes = at-cond Bytes abort (bytes-zeros (length (drop (h .s1 .len) source))) (bytes-drop (h .s1 .len) bytes)
 
   frame-is : X ≡ preambleBytes h ++ B
   unfolding frameBytes body
@@ -226,14 +203,14 @@ module _ {space queued : ℕ} (r : Revision) (h : Header) (abort : Bool) (source
     header-is : headerOf (take 32 X) ≡ h
     header-is = ap headerOf take-front ∙ front-back h n fits (a .header) room .header
 
-    ends-so : ending r h (drop (total h + firstSumLength r h) (drop 32 X)) (segmentBytes r h (drop 32 X)) ≡ ends-as abort
+    ends-so : ending r h (drop (total h + firstSumLength r h) (drop 32 X)) (segmentBytes r h (drop 32 X)) ≡ endsAs abort
     ends-so =
         ap₂ (ending r h)
         (ap (drop (total h + firstSumLength r h)) drop-front ∙ last-part r h first mid rest last length-first (length-first-sum r h first) length-rest)
         segments-back
         ∙ ends h first rest length-first (bytes-take (h .s1 .len) bytes) rest-bytes r abort (a .header) (a .late)
 
-    judges : Judges (ends-as abort) r X n
+    judges : Judges (endsAs abort) r X n
     judges =
         let d = length-drop 32 X in
         let e = length-X in
@@ -245,23 +222,21 @@ module _ {space queued : ℕ} (r : Revision) (h : Header) (abort : Bool) (source
           end = rw header-is ends-so;
         }
 
--- the end, by how the frame was built
-end-as : (h : Header) (abort : Bool) (at : ℕ) (s source : List ℕ) (next : List ℕ → Trace)
-    → atEnd (ends-as abort) h at s (take (h .s1 .len) source ++ restSent abort (drop (h .s1 .len) source)) next
-    ≡ after (cond abort (Dropped h) (Frame h)) at (cond abort (zeroed h s) (replaceFront source s)) (next (cond abort (zeroed h s) (replaceFront source s)))
-end-as h true at s source next = refl
-end-as h false at s source next = ap (λ (p : List ℕ). after (Frame h) at (replaceFront p s) (next (replaceFront p s))) (take-append-drop (h .s1 .len) source)
+-- what stands in the store then
+sent-store : (h : Header) (abort : Bool) (source s : List ℕ) → storeAs abort h (take (h .s1 .len) source ++ restSent abort (drop (h .s1 .len) source)) s ≡ storeAs abort h source s
+sent-store h true source s = refl
+sent-store h false source s = ap (λ (p : List ℕ). replaceFront p s) (take-append-drop (h .s1 .len) source)
 
 -- the definition reports it, and goes on behind it
 pub built-trace : {space queued : ℕ} (f : ℕ) (r : Revision) (P : ℕ) (h : Header) (abort : Bool) (source Y s : List ℕ)
     → Accepted r h abort (length source) space queued → HeaderFits h → Bytes source → total h ≤ length s
     → frames (suc f) r P (frameBytes r h abort source ++ Y) s
-    ≡ reportedFirst (isEarly r h) h (firstSumEnd P h) (replaceFront (take (h .s1 .len) source) s)
-    (after (cond abort (Dropped h) (Frame h)) (P + wireLength r h) (cond abort (zeroed h s) (replaceFront source s)) (frames f r (P + wireLength r h) Y (cond abort (zeroed h s) (replaceFront source s))))
+    ≡ behind (entriesAs (isEarly r h) abort h P (P + wireLength r h) (take (h .s1 .len) source) source s) (frames f r (P + wireLength r h) Y (storeAs abort h source s))
 built-trace f r P h abort source Y s a fits bytes room =
     let X : List ℕ = frameBytes r h abort source in
     let t = frame-trace-more f P X Y s (judges r h abort source a fits bytes (length s) room) in
     let e = length-X r h abort source a fits bytes in
     let z : drop (32 + bodyLength r h) X ≡ [] = drop-of-length-le X {i = 32 + bodyLength r h} (omega arith) in
     rw (header-is r h abort source a fits bytes (length s) room, segments-back r h abort source a fits bytes, first-back r h abort source a fits bytes, z) at t
-    ∙ ap (reportedFirst (isEarly r h) h (firstSumEnd P h) (replaceFront (take (h .s1 .len) source) s)) (end-as h abort (P + wireLength r h) s source (λ t. frames f r (P + wireLength r h) Y t))
+    ∙ at-ends h P (P + wireLength r h) (take (h .s1 .len) source) (take (h .s1 .len) source ++ restSent abort (drop (h .s1 .len) source)) s (isEarly r h) abort _
+    ∙ rw (sent-store h abort source s)

@@ -19,7 +19,7 @@ use Rattle.stream.specs.Stream.{Entry, entry, frames}
 use Rattle.ends.specs.Handed.{headerIn, zeroNibble, isFrame, firstIs, afterEarlyReport}
 use Rattle.ends.specs.Spelling.{ReadAs, OneSpelling}
 use Rattle.ends.proofs.Locality.{Judges}
-use Rattle.ends.proofs.Checks.{checked-whole}
+use Rattle.ends.proofs.Checks.{checks}
 use Rattle.ends.proofs.Written.{spelled-so}
 use Rattle.ends.proofs.Handover.{exactly}
 
@@ -53,7 +53,7 @@ read-as r h p X a =
     let q : List ℕ = segmentBytes r k (drop 32 X) in
     let f : firstIs isFrame (afterEarlyReport (frames (suc (length X)) r P X s .entries)) ≡ true = ap (firstIs isFrame) (a .entries) in
     let x = exactly (length X) r P X s in
-    let j : Judges whole r X (length s) = checked-whole X (length s) r (x .handed .0 f) in
+    let j : Judges whole r X (length s) = checks X (length s) r false .1 (x .handed .0 f) in
     let later = x .frames f .0 in
     let e : entry (Frame k) (P + wireLength r k) (replaceFront q s) ∷ later ≡ entry (Frame h) (P + length X) (replaceFront p s) ∷ [] = sym (x .frames f .1) ∙ a .entries in
     let ev : Frame k ≡ Frame h = ap (eventAt (Frame h)) e in

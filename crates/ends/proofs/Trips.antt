@@ -1,17 +1,16 @@
 -- What is built comes back.
-use Prim.Native.Nat.{ℕ, zero, suc, _+_, _-_, _^_, _≤_, _<_}
+use Prim.Native.Nat.{ℕ, suc, _+_, _-_, _^_, _≤_, _<_}
 use mathlib.Core.List.{List, [], _∷_, _++_, append-assoc}
 use mathlib.Core.Path.{_≡_, refl, sym, ap, ap₂, _∙_}
-use mathlib.Core.Bool.{Bool, true, false, cond, _&&_}
+use mathlib.Core.Bool.{_&&_}
 use native.Mathlib.Omega.{arith}
-use native.Mathlib.Nat.{add-zero}
-use lib.ListN.{length, take, drop, replicate, length-append, length-replicate}
+use lib.ListN.{length, take, drop, length-append}
 use lib.Dec.{lit≤, ltb, eqb}
 use borrow.Author.Tests.{ltb-true}
 use Rattle.buffer.specs.Le.{numberAt}
 use Rattle.buffer.proofs.Numbers.{leOf-le}
-use Rattle.buffer.specs.Splice.{replaceFront, splice}
-use Rattle.buffer.proofs.Parts.{length-replaceFront, length-splice, splice-next, written}
+use Rattle.buffer.specs.Splice.{splice}
+use Rattle.buffer.proofs.Parts.{length-splice, splice-next, written}
 use Rattle.refusal.specs.declared.Refusal.the-variants as refusal
 use Rattle.refusal.specs.Refusals.{fine}
 use Rattle.refusal.proofs.Judgements.{passed}
@@ -19,41 +18,22 @@ use Rattle.banner.specs.declared.Features.{Features}
 use Rattle.banner.specs.declared.Revision.{Revision}
 use Rattle.banner.specs.Bits.{missing}
 use Rattle.banner.specs.Banner.{bannerBytes, judgeOwn, judgeFeatures, revisionOf}
-use Rattle.preamble.specs.Layout.{total}
 use Rattle.body.specs.Body.{frameBytes, wireLength}
-use Rattle.stream.specs.declared.Event.the-variants.{Banner, First}
-use Rattle.stream.specs.Stream.{Entry, entry, Trace, after, reportedFirst, zeroed, firstSumEnd, payloadOf, peerOf, frames, traceOf}
+use Rattle.stream.specs.declared.Event.the-variants.{Banner}
+use Rattle.stream.specs.Stream.{Entry, entry, Trace, after, payloadOf, peerOf, frames, traceOf}
 use Rattle.stream.proofs.Sums.{least}
 use Rattle.stream.proofs.Laws.{more-payload, more-peer}
 use Rattle.refusal.proofs.Booleans.{both-left, both-right}
 use Rattle.receiver.specs.Calls.{takenBy}
 use Rattle.builder.specs.Build.{bannerLength}
-use Rattle.ends.specs.Handed.{isEarly}
-use Rattle.ends.specs.Trip.{Build, Accepts, bytesOf, eventOf, storeAfter, entriesOf, RoundTrip}
+use Rattle.ends.specs.Trip.{Build, bytesOf, storeAfter, entriesOf, RoundTrip}
 use Rattle.ends.specs.Ends.{Queued, bufferBy, queuedBy, Link, Linked, sentBy, Fitting, allEntries, storeAfterAll, TwoEnds}
-use Rattle.ends.proofs.Concatenation.{fuel}
+use Rattle.ends.proofs.FrameReader as reader
+use Rattle.ends.proofs.Concatenation.{kept-length, crcReader}
 use Rattle.ends.proofs.Banners.{Met, met-trace, met-long, met-more, follows-on}
 use Rattle.ends.proofs.Handover.{reported}
 use Rattle.ends.proofs.ReadBack.{built-trace}
 use Rattle.ends.proofs.Builds.{appended, allBytes, queued-up, bannered}
-
--- one build, and what follows it
-build-entries : (f k : ℕ) (r : Revision) (P : ℕ) (buf : List ℕ) (queued : ℕ) (b : Build) (Y s : List ℕ) → Accepts r buf queued b → total (b .header) ≤ length s → length Y ≤ f → length Y ≤ k
-    → frames (suc f) r P (frameBytes r (b .header) (b .abort) (b .source) ++ Y) s .entries
-    ≡ entriesOf r P s b ++ frames k r (P + wireLength r (b .header)) Y (storeAfter b s) .entries
-build-entries f k r P buf queued b Y s p room hf hk =
-    let h = b .header in
-    let Q = P + wireLength r h in
-    ap (λ (t : Trace). t .entries)
-    (built-trace f r P h (b .abort) (b .source) Y s (appended r buf queued b p .request) (p .header) (p .source) room
-    ∙ ap (λ (t : Trace). reportedFirst (isEarly r h) h (firstSumEnd P h) (replaceFront (take (h .s1 .len) (b .source)) s) (after (eventOf b) Q (storeAfter b s) t)) (fuel f k r Q Y (storeAfter b s) hf hk))
-    ∙ early (isEarly r h) (replaceFront (take (h .s1 .len) (b .source)) s) (frames k r Q Y (storeAfter b s))
-  where
-    early : (c : Bool) (s₁ : List ℕ) (t : Trace)
-        → reportedFirst c (b .header) (firstSumEnd P (b .header)) s₁ (after (eventOf b) (P + wireLength r (b .header)) (storeAfter b s) t) .entries
-        ≡ cond c (entry (First (b .header)) (firstSumEnd P (b .header)) s₁ ∷ []) [] ++ (entry (eventOf b) (P + wireLength r (b .header)) (storeAfter b s) ∷ []) ++ t .entries
-    early true s₁ t = refl
-    early false s₁ t = refl
 
 -- ---- the round trip
 
@@ -75,48 +55,28 @@ round-trip own front store r up buf queued b p room behind cs ch t =
     ∙ ap (λ (x : List ℕ). traceOf own x store .entries) (append-assoc front (bytesOf queued b) Y ∙ ap (λ (x : List ℕ). front ++ (x ++ Y)) e)
     ∙ ap (λ (u : Trace). u .entries) (a .follows (suc (length (X ++ Y))) (omega arith))
     ∙ ap (λ (es : List Entry). traceOf own front store .entries ++ es)
-    (build-entries (length (X ++ Y)) (length Y) r P buf queued b Y s p (let m = a .same in omega arith) (omega arith) (omega arith)
+    (ap (λ (u : Trace). u .entries)
+    (built-trace (length (X ++ Y)) r P (b .header) (b .abort) (b .source) Y s (l .request) (p .header) (p .source) (let m = a .same in omega arith)
+    ∙ ap (reader.behind (entriesOf r P s b)) (reader.fuel crcReader (length (X ++ Y)) (length Y) r (P + wireLength r (b .header)) Y (storeAfter b s) (omega arith) (omega arith)))
     ∙ ap (λ (k : ℕ). entriesOf r P s b ++ frames (length Y) r k Y (storeAfter b s) .entries) (sym n))
 
 -- ---- many builds
 
-pub kept-length : (b : Build) (s : List ℕ) → length (b .source) ≡ total (b .header) → total (b .header) ≤ length s → length (storeAfter b s) ≡ length s
-kept-length b s e h = go (b .abort)
-  where
-    go : (c : Bool) → length (cond c (zeroed (b .header) s) (replaceFront (b .source) s)) ≡ length s
-    go true = (let z = length-replicate {A = ℕ} (total (b .header)) 0 in length-replaceFront (replicate (total (b .header)) 0) s (omega arith))
-    go false = length-replaceFront (b .source) s (omega arith)
-
-builds-entries : (f k : ℕ) (r : Revision) (P : ℕ) (buf : List ℕ) (queued : ℕ) (bs : List Build) (Y s : List ℕ) → Queued r buf queued bs → Fitting (length s) bs
-    → length (allBytes r bs ++ Y) ≤ f → length Y ≤ k
-    → frames f r P (allBytes r bs ++ Y) s .entries ≡ allEntries r P s bs ++ frames k r (P + length (allBytes r bs)) Y (storeAfterAll bs s) .entries
-builds-entries f k r P buf queued [] Y s q fit hf hk =
-    ap (λ (u : Trace). u .entries) (fuel f k r P Y s hf hk)
-    ∙ ap (λ (Q : ℕ). frames k r Q Y s .entries) (sym (add-zero P))
-builds-entries zero k r P buf queued (b ∷ bs) Y s q fit hf hk =
-    let X : List ℕ = frameBytes r (b .header) (b .abort) (b .source) in
-    let l = appended r buf queued b (q .0) in
-    let a = length-append X (allBytes r bs) in
-    let a₂ = length-append (X ++ allBytes r bs) Y in
-    absurd (let e = l .length-bytes in let w = l .wire in let m = least r (b .header) in omega arith)
-builds-entries (suc f) k r P buf queued (b ∷ bs) Y s q fit hf hk =
+builds-read : (r : Revision) (P : ℕ) (buf : List ℕ) (queued : ℕ) (bs : List Build) (s : List ℕ) → Queued r buf queued bs → Fitting (length s) bs
+    → reader.Reads frames r P (allBytes r bs) s (allEntries r P s bs) r (storeAfterAll bs s)
+builds-read r P buf queued [] s q fit = reader.reads-none crcReader r P s
+builds-read r P buf queued (b ∷ bs) s q fit =
     let l = appended r buf queued b (q .0) in
     let X : List ℕ = frameBytes r (b .header) (b .abort) (b .source) in
     let A : List ℕ = allBytes r bs in
     let Q = P + wireLength r (b .header) in
     let a = length-append X A in
-    let a₂ = length-append (X ++ A) Y in
-    let a₃ = length-append A Y in
-    let m : length (A ++ Y) ≤ f = (let e = l .length-bytes in let w = l .wire in let m₂ = least r (b .header) in omega arith) in
-    let n = kept-length b s (l .request .whole) (fit .0) in
-    let place : Q + length A ≡ P + length (X ++ A) = (let e = l .length-bytes in let w = l .wire in omega arith) in
-    let tail : List Entry = frames k r (P + length (X ++ A)) Y (storeAfterAll bs (storeAfter b s)) .entries in
-    ap (λ (x : List ℕ). frames (suc f) r P x s .entries) (append-assoc X A Y)
-    ∙ build-entries f f r P buf queued b (A ++ Y) s (q .0) (fit .0) m m
-    ∙ ap (λ (es : List Entry). entriesOf r P s b ++ es)
-    (builds-entries f k r Q (b .buffer) (queued + b .written) bs Y (storeAfter b s) (q .1) (rw n (fit .1)) m hk
-    ∙ ap (λ (x : ℕ). allEntries r Q (storeAfter b s) bs ++ frames k r x Y (storeAfterAll bs (storeAfter b s)) .entries) place)
-    ∙ sym (append-assoc (entriesOf r P s b) (allEntries r Q (storeAfter b s) bs) tail)
+    let e = l .length-bytes in
+    let w = l .wire in
+    let m = least r (b .header) in
+    let n = kept-length (b .abort) (b .header) (b .source) s (l .request .whole) (fit .0) in
+    reader.reads-step crcReader (entriesOf r P s b) (λ f Y. rw (append-assoc X A Y) (built-trace f r P (b .header) (b .abort) (b .source) (A ++ Y) s (l .request) (q .0 .header) (q .0 .source) (fit .0)))
+    (omega arith) (omega arith) (builds-read r Q (b .buffer) (queued + b .written) bs (storeAfter b s) (q .1) (rw n (fit .1)))
 
 -- ---- our banner
 
@@ -227,7 +187,8 @@ sent-entries own store l k ours fit fits Y =
     ap (λ (x : List ℕ). traceOf own x store .entries) (ap (λ (x : List ℕ). x ++ Y) e ∙ append-assoc B A Y)
     ∙ ap (λ (u : Trace). u .entries) (banner-trace own f (A ++ Y) store ours (b .ours) fit)
     ∙ ap (λ (es : List Entry). entry (Banner f r) bannerLength store ∷ es)
-    (builds-entries (length (B ++ (A ++ Y))) (length Y) r bannerLength (l .buffer) (l .queued + l .written) (l .builds) Y store (k .builds) fits (omega arith) (omega arith)
+    (ap (λ (u : Trace). u .entries)
+    (builds-read r bannerLength (l .buffer) (l .queued + l .written) (l .builds) store (k .builds) fits .reads (length (B ++ (A ++ Y))) (length Y) Y (omega arith) (omega arith))
     ∙ ap (λ (x : ℕ). allEntries r bannerLength store (l .builds) ++ frames (length Y) r x Y (storeAfterAll (l .builds) store) .entries) place)
 
 pub two-ends : TwoEnds

@@ -2,7 +2,7 @@
 use Prim.Native.Nat.{ℕ, _+_, _≤_, _<_}
 use mathlib.Core.List.{List, _++_}
 use mathlib.Core.Path.{_≡_, refl, sym, ap, ap₂, subst, _∙_}
-use mathlib.Core.Bool.{Bool, true, false, _||_}
+use mathlib.Core.Bool.{true, false}
 use native.Mathlib.Omega.{arith}
 use native.Mathlib.Nat.{add-zero}
 use lib.ListN.{length, take, drop, getD, length-drop, take-append-drop, List·getD-append}
@@ -10,6 +10,7 @@ use lib.Seq.{take-take, take-at, getD-drop, length-take-le}
 use lib.Dec.{leb, ltb}
 use Rattle.buffer.specs.Le.{Bytes}
 use Rattle.buffer.proofs.Numbers.{bytes-take, bytes-drop}
+use Rattle.refusal.proofs.Booleans.{by-test}
 use Rattle.banner.specs.declared.Revision.{Revision}
 use Rattle.banner.specs.declared.Revision.the-variants.{Msgr20, Msgr21}
 use Rattle.preamble.specs.declared.Header.{Header}
@@ -22,8 +23,8 @@ use Rattle.body.specs.End.{whole, segmentBytes}
 use Rattle.body.proofs.Ends.{segments-own, has-length}
 use Rattle.body.proofs.Spelling.{lateAgain, body-again}
 use Rattle.ends.specs.Handed.{headerIn, latePlace, zeroNibble}
-use Rattle.ends.proofs.Locality.{Judges, front-own, body-own, restricts}
-use Rattle.ends.proofs.Checks.{first-holds, first-room}
+use Rattle.ends.proofs.Locality.{first-room, Judges, front-own, body-own, restricts}
+use Rattle.ends.proofs.Checks.{first-holds}
 
 -- ---- its bytes
 
@@ -67,16 +68,14 @@ module _ (r : Revision) (X : List ℕ) (n : ℕ) (bytes : Bytes X) (j : Judges w
 nibble-own : (r : Revision) (h : Header) (X Y : List ℕ) → 32 ≤ length X → bodyLength r h ≤ length (drop 32 X) → drop 32 (X ++ Y) ≡ drop 32 X ++ Y
     → zeroNibble r h (X ++ Y) ≡ true → zeroNibble r h X ≡ true
 nibble-own Msgr20 h X Y l₁ l₂ e z = refl
-nibble-own Msgr21 h X Y l₁ l₂ e z = go (leb (h .count) 1) refl
-  where
-    go : (c : Bool) → leb (h .count) 1 ≡ c → (leb (h .count) 1 || ltb (getD (drop 32 X) (latePlace Msgr21 h) 0) 16) ≡ true
-    go true c = rw c
-    go false c =
-        let k = has-length Msgr21 h c .0 in
-        let i : latePlace Msgr21 h < length (drop 32 X) = omega arith in
-        let g : getD (drop 32 (X ++ Y)) (latePlace Msgr21 h) 0 ≡ getD (drop 32 X) (latePlace Msgr21 h) 0 =
-        ap (λ (t : List ℕ). getD t (latePlace Msgr21 h) 0) e ∙ List·getD-append (drop 32 X) Y 0 (latePlace Msgr21 h) i in
-        rw c (ap (λ (b : ℕ). ltb b 16) (sym g) ∙ (rw c at z))
+nibble-own Msgr21 h X Y l₁ l₂ e z =
+    by-test (leb (h .count) 1) (λ c. rw c)
+    (λ c.
+    let k = has-length Msgr21 h c .0 in
+    let i : latePlace Msgr21 h < length (drop 32 X) = omega arith in
+    let g : getD (drop 32 (X ++ Y)) (latePlace Msgr21 h) 0 ≡ getD (drop 32 X) (latePlace Msgr21 h) 0 =
+    ap (λ (t : List ℕ). getD t (latePlace Msgr21 h) 0) e ∙ List·getD-append (drop 32 X) Y 0 (latePlace Msgr21 h) i in
+    rw c (ap (λ (b : ℕ). ltb b 16) (sym g) ∙ (rw c at z)))
 
 module _ (r : Revision) (X Y : List ℕ) (n : ℕ) (l₁ : 32 ≤ length X) (l₂ : bodyLength r (headerIn X) ≤ length (drop 32 X)) (long : length X ≡ wireLength r (headerIn X)) where
   abbrev Z : List ℕ

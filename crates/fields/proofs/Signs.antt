@@ -26,12 +26,9 @@ pub record Mirrored (z d : ℤ) : Type 0 where
   pub small : natAbs d < 2147483648
   pub bits : 4294967295 - natAbs d ≡ bitsOf z
 
-mirrored-neg : (k : ℕ) → k < 2147483648 → Mirrored (negsuc k) (pos k)
-mirrored-neg k h = record { fits = record { sfits = h }; above = tt; small = h; bits = refl }
-
 mirrored : (z : ℤ) → SFits w32 z → ltZ z (pos 0) ≡ true → Mirrored z (negsuc 0 -ℤ z)
 mirrored (pos n) f t = absurd (let h = ltb-true n 0 t in omega arith)
-mirrored (negsuc k) f t = rw (minus-neg k) (mirrored-neg k (f .sfits))
+mirrored (negsuc k) f t = rw (minus-neg k) (record { fits = record { sfits = f .sfits }; above = tt; small = f .sfits; bits = refl })
 
 pub below : (z : ℤ) → SFits w32 z → ltZ (toZ w32 (ofZ w32 z)) (pos 0) ≡ true → Mirrored z (negsuc 0 -ℤ toZ w32 (ofZ w32 z))
 below z f t = rw (toZ-ofZ f) (mirrored z f (rw (toZ-ofZ f) at t))

@@ -1,119 +1,49 @@
--- One law for each return of a step of the cursor, over plain variables.
+-- Where the cursor's steps read: places up to the body's end, and the words of a list.
 use mathlib.Core.Path.{_≡_, refl, sym, ap, _∙_}
-use mathlib.Core.Bool.{Bool, true, false, cond}
+use mathlib.Core.Bool.{true, false}
 use mathlib.Core.List.{List, [], _∷_}
-use Prim.Native.Nat.{ℕ, zero, suc, _+_, _-_, _*_, _/_, _≤_, _<_, min}
+use Prim.Native.Nat.{ℕ, zero, suc, _+_, _-_, _*_, _≤_, _<_, min}
 use native.Mathlib.Omega.{arith}
-use lib.Dec.{leb, ltb}
-use borrow.Author.Tests.{le-leb, lt-leb, lt-ltb, le-ltb, leb-true, leb-false}
+use lib.Dec.{ltb}
+use borrow.Author.Tests.{lt-leb}
 use lib.ListN.{length, take, drop, getD, drop-of-length-le, List·getD-eq-default}
 use lib.Seq.{drop-drop}
 use Rattle.buffer.specs.Le.{numberAt, leOf}
+use Rattle.refusal.proofs.Booleans.{by-test, by-less, at-cond, wrong}
 use Rattle.fields.specs.declared.Cursor.{Cursor}
-use Rattle.fields.specs.Layout.{Kind, good, fault, stepOf}
+use Rattle.fields.specs.Layout.{Kind, endOf, stepOf}
 use Rattle.fields.specs.Layout as kind
 use Rattle.fields.specs.Field.{wordsOf}
 
-module _ (s : List ℕ) (c : Cursor) where
-  pub stays : (k : Kind) → c .failed ≡ true → c ≡ stepOf k s c
-  unfolding stepOf
-  stays k b = rw b
-
-  module _ (b : c .failed ≡ false) where
-    pub passed : (w : ℕ) → w ≤ length s - c .at → good (c .at + w) ≡ stepOf (kind.number w) s c
-    unfolding stepOf
-    passed w h = rw (b, le-leb w (length s - c .at) h)
-
-    pub short : (w : ℕ) → length s - c .at < w → fault (c .at) ≡ stepOf (kind.number w) s c
-    unfolding stepOf
-    short w h = rw (b, lt-leb w (length s - c .at) h)
-
-    pub not-negative : numberAt 4 (c .at) s < 2147483648 → fault (c .at) ≡ stepOf kind.negative s c
-    unfolding stepOf
-    not-negative h = rw (b, lt-ltb (numberAt 4 (c .at) s) 2147483648 h)
-
-    pub is-negative : 2147483648 ≤ numberAt 4 (c .at) s → stepOf (kind.number 4) s c ≡ stepOf kind.negative s c
-    unfolding stepOf
-    is-negative h = rw (b, le-ltb (numberAt 4 (c .at) s) 2147483648 h)
-
-    pub overlong : 32 < numberAt 4 (c .at) s → fault (c .at) ≡ stepOf kind.numbers s c
-    unfolding stepOf
-    overlong h = rw (b, lt-ltb 32 (numberAt 4 (c .at) s) h)
-
-    pub listed : (n : ℕ) → n ≡ numberAt 4 (c .at) s → n ≤ 32 → 4 + 4 * n ≤ length s - c .at → good (c .at + (4 + 4 * n)) ≡ stepOf kind.numbers s c
-    unfolding stepOf
-    listed n e h k = rw (b, ← e, le-ltb 32 n h, le-leb (4 + 4 * n) (length s - c .at) k)
-
-    pub cut-off : (n r : ℕ) → n ≡ numberAt 4 (c .at) s → r ≡ length s - c .at → n ≤ 32 → r < 4 + 4 * n → fault (c .at + r / 4 * 4) ≡ stepOf kind.numbers s c
-    unfolding stepOf
-    cut-off n r e f h k = rw (b, ← e, ← f, le-ltb 32 n h, lt-leb (4 + 4 * n) r k)
-
-    pub closed : (k : ℕ) → k ≤ length s - c .at → good (length s - k) ≡ stepOf (kind.opaque k) s c
-    unfolding stepOf
-    closed k h = rw (b, le-leb k (length s - c .at) h)
-
-    pub too-short : (k : ℕ) → length s - c .at < k → fault 0 ≡ stepOf (kind.opaque k) s c
-    unfolding stepOf
-    too-short k h = rw (b, lt-leb k (length s - c .at) h)
-
-pub payload-passed : (s : List ℕ) (c : Cursor) → stepOf (kind.number (4 + numberAt 4 (c .at) s)) s c ≡ stepOf kind.payload s c
-unfolding stepOf
-payload-passed s c = refl
-
 -- a place past the end drops as much as the end itself
 pub behind : (s : List ℕ) (at r k : ℕ) → r ≡ min at (length s) → drop (r + k) s ≡ drop (at + k) s
-behind s at r k e = go (leb at (length s)) refl
-  where
-    go : (b : Bool) → leb at (length s) ≡ b → drop (r + k) s ≡ drop (at + k) s
-    go true t = let h = leb-true at (length s) t in let f : r ≡ at = omega arith in rw f
-    go false t =
-        let h = leb-false at (length s) t in
-        drop-of-length-le s {i = r + k} (omega arith) ∙ sym (drop-of-length-le s {i = at + k} (omega arith))
+behind s at r k e =
+    by-less (length s) at (λ h. drop-of-length-le s {i = r + k} (omega arith) ∙ sym (drop-of-length-le s {i = at + k} (omega arith)))
+    (λ h. let f : r ≡ at = omega arith in rw f)
 
 -- ---- a list or payload that stands begins within the segment
 
-first-fine : (b : Bool) (c d : Cursor) → c .failed ≡ true → cond b c d .failed ≡ false → d .failed ≡ false
-first-fine true c d t h = absurd (let z : _≡_ {A = ℕ} 0 1 = cc in omega arith)
-first-fine false c d t h = h
-
-not-failed : (c d : Cursor) → cond (c .failed) c d .failed ≡ false → d .failed ≡ false
-not-failed c d = go (c .failed) refl
-  where
-    go : (b : Bool) → c .failed ≡ b → cond b c d .failed ≡ false → d .failed ≡ false
-    go true t h = first-fine true c d t h
-    go false t h = h
-
-counted : (w n p : ℕ) (c : Cursor) → cond (leb (4 + w) n) c (fault p) .failed ≡ false → 4 ≤ n
-counted w n p c = go (leb (4 + w) n) refl
-  where
-    go : (b : Bool) → leb (4 + w) n ≡ b → cond b c (fault p) .failed ≡ false → 4 ≤ n
-    go true t h = let l = leb-true (4 + w) n t in omega arith
-    go false t h = absurd (let z : _≡_ {A = ℕ} 0 1 = cc in omega arith)
-
 module _ (s : List ℕ) (c d : Cursor) (h : d .failed ≡ false) where
-  pub list-begins : d ≡ stepOf kind.numbers s c → c .at ≤ length s
+  -- behind the end of the segment it would have failed
+  begins : (k : Kind) → (length s < c .at → endOf k s (c .at) .failed ≡ true) → d ≡ stepOf k s c → c .at ≤ length s
   unfolding stepOf
-  list-begins e =
+  begins k f e =
+      by-less (length s) (c .at) (λ l.
+      let t : stepOf k s c .failed ≡ true = by-test (c .failed) (λ t. rw t) (λ t. rw t (f l)) in
+      wrong (sym (rw e at h) ∙ t))
+      (λ g. g)
+
+  pub list-begins : d ≡ stepOf kind.numbers s c → c .at ≤ length s
+  list-begins =
       let n = numberAt 4 (c .at) s in
-      let g : stepOf kind.numbers s c .failed ≡ false = rw e at h in
-      let i = first-fine (ltb 32 n) (fault (c .at)) _ refl (not-failed c _ g) in
-      let k = counted (4 * n) (length s - c .at) _ _ i in
-      omega arith
+      begins kind.numbers (λ l. at-cond (λ (x : Cursor). x .failed ≡ true) (ltb 32 n) refl (rw (lt-leb (4 + 4 * n) (length s - c .at) (omega arith))))
 
   pub payload-begins : d ≡ stepOf kind.payload s c → c .at ≤ length s
-  unfolding stepOf
-  payload-begins e =
-      let g : stepOf kind.payload s c .failed ≡ false = rw e at h in
-      let k = counted (numberAt 4 (c .at) s) (length s - c .at) _ _ (not-failed c _ g) in
-      omega arith
+  payload-begins = begins kind.payload (λ l. rw (lt-leb (4 + numberAt 4 (c .at) s) (length s - c .at) (omega arith)))
 
 -- all bytes up to the closing ones, cut as the code cuts them
 pub up-to : (s : List ℕ) (at k a b : ℕ) → a ≡ min k (length s) → b ≡ min at (length s - a) → length s - a - b ≡ length s - k - at
 up-to s at k a b ea eb = omega arith
-
-pub fixed-passed : (s : List ℕ) (c : Cursor) (w : ℕ) → stepOf (kind.number w) s c ≡ stepOf (kind.fixed w) s c
-unfolding stepOf
-fixed-passed s c w = refl
 
 -- one byte is its own number
 pub byte-there : (s : List ℕ) (at : ℕ) → getD s at 0 ≡ numberAt 1 at s

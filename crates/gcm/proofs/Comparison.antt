@@ -1,5 +1,5 @@
 -- Two runs of bytes compared with no early end: a difference stays in what is gathered.
-use mathlib.Core.Bool.{Bool, true, false, _&&_, and-assoc, and-true}
+use mathlib.Core.Bool.{Bool, true, _&&_, and-assoc, and-true}
 use mathlib.Core.List.{List, [], _∷_}
 use mathlib.Core.Path.{_≡_, refl, sym, ap, ap₂, _∙_}
 use Prim.Native.Nat.{ℕ, _+_, _<_}
@@ -11,30 +11,18 @@ use lib.Dec.{eqb}
 use lib.ListN.{length, getD, drop}
 use lib.Seq.{drop-cons, drop-length}
 use Rattle.bits.proofs.Xor.{xor-twice}
+use Rattle.refusal.proofs.Booleans.{by-test}
 use Rattle.gcm.specs.Gcm.{sameAs}
 
 or-none : (a b : ℕ) → eqb (bitOr a b) 0 ≡ (eqb a 0 && eqb b 0)
-or-none a b = go (eqb a 0) refl
-  where
-    go : (t : Bool) → eqb a 0 ≡ t → eqb (bitOr a b) 0 ≡ (eqb a 0 && eqb b 0)
-    go true e =
-        let z : a ≡ 0 = eqb-true a 0 e in
-        ap (λ (x : ℕ). eqb (bitOr x b) 0) z ∙ ap (λ (x : ℕ). eqb x 0) (or-zero-l b) ∙ sym (ap (λ (t : Bool). t && eqb b 0) e)
-    go false e =
-        let n : (a ≡ 0 → ⊥) = eqb-false a 0 e in
-        ne-eqb (bitOr a b) 0 (λ z. n (omega (arith, or-add-and a b, and-le-r a b))) ∙ sym (ap (λ (t : Bool). t && eqb b 0) e)
+or-none a b =
+    by-test (eqb a 0) (λ e. let z : a ≡ 0 = eqb-true a 0 e in rw z (ap (λ (x : ℕ). eqb x 0) (or-zero-l b)))
+    (λ e. rw e (ne-eqb (bitOr a b) 0 (λ z. eqb-false a 0 e (omega (arith, or-add-and a b, and-le-r a b)))))
 
 xor-none : (x y : ℕ) → eqb (bitXor x y) 0 ≡ eqb x y
-xor-none x y = go (eqb x y) refl
-  where
-    equal : bitXor x y ≡ 0 → x ≡ y
-    equal e = sym (xor-twice x y) ∙ ap (λ (z : ℕ). bitXor z y) e ∙ xor-zero-l y
-
-    go : (t : Bool) → eqb x y ≡ t → eqb (bitXor x y) 0 ≡ eqb x y
-    go true e =
-        let q : x ≡ y = eqb-true x y e in
-        eq-eqb (bitXor x y) 0 (ap (λ (z : ℕ). bitXor z y) q ∙ xor-self y) ∙ sym e
-    go false e = ne-eqb (bitXor x y) 0 (λ z. eqb-false x y e (equal z)) ∙ sym e
+xor-none x y =
+    by-test (eqb x y) (λ e. rw e (eq-eqb (bitXor x y) 0 (rw (eqb-true x y e) (xor-self y))))
+    (λ e. rw e (ne-eqb (bitXor x y) 0 (λ z. eqb-false x y e (sym (xor-twice x y) ∙ rw z (xor-zero-l y)))))
 
 -- a turn of the loop: d is what was gathered
 pub same-next : (xs ys : List ℕ) (i d : ℕ) → i < length xs → i < length ys

@@ -1,6 +1,6 @@
 -- What an opening comes to: a text that is its tag shorter, and none where the tag is another.
 use mathlib.Core.Path.{_≡_, refl, sym, ap, ap₂, _∙_}
-use mathlib.Core.Bool.{Bool, true, false, cond, _&&_, true≢false}
+use mathlib.Core.Bool.{Bool, true, false, cond, _&&_, and-false}
 use mathlib.Core.List.{List, [], _∷_, _++_}
 use Prim.Native.Nat.{ℕ, _-_}
 use native.Mathlib.Omega.{arith}
@@ -8,11 +8,11 @@ use borrow.Author.Tests.{eqb-true}
 use lib.Dec.{leb, eqb}
 use lib.ListN.{length, take, length-append}
 use lib.Seq.{take-at, drop-at, length-take-le}
-use Rattle.refusal.proofs.Booleans.{both-left, both-right}
+use Rattle.refusal.proofs.Booleans.{by-test, wrong, both-left, both-right}
 use Rattle.aes.specs.Aes.{State}
 use Rattle.aes.specs.Counter.{gctr}
 use Rattle.aes.proofs.Counters.{gctr-length}
-use Rattle.gcm.specs.Gcm.{Opened, plain, fail, tagOf, sameAs, tagFits, openedBy}
+use Rattle.gcm.specs.Gcm.{plain, fail, tagOf, sameAs, tagFits, openedBy}
 
 text-of : (b : Bool) (x text : List ℕ) → cond b (plain x) fail ≡ plain text → x ≡ text
 text-of true x text e = cc
@@ -26,30 +26,18 @@ text-length w nonce s text e =
     ∙ gctr-length w nonce 0 (take (length s - 16) s)
     ∙ length-take-le (length s - 16) s (omega arith)
 
-same-bytes : (xs ys : List ℕ) → sameAs xs ys ≡ true → ys ≡ xs
+pub same-bytes : (xs ys : List ℕ) → sameAs xs ys ≡ true → ys ≡ xs
 unfolding sameAs
 same-bytes [] [] e = refl
-same-bytes [] (y ∷ ys) e = absurd (true≢false (sym e))
-same-bytes (x ∷ xs) [] e = absurd (true≢false (sym e))
+same-bytes [] (y ∷ ys) e = wrong e
+same-bytes (x ∷ xs) [] e = wrong e
 same-bytes (x ∷ xs) (y ∷ ys) e = ap₂ _∷_ (sym (eqb-true x y (both-left (eqb x y) (sameAs xs ys) e))) (same-bytes xs ys (both-right (eqb x y) (sameAs xs ys) e))
-
-neither : (x : Bool) (o : Opened) → cond (x && false) o fail ≡ fail
-neither true o = refl
-neither false o = refl
 
 -- a ciphertext with another tag does not open
 pub not-opened : (w : List State) (nonce text tag : List ℕ) → length tag ≡ 16 → (tag ≡ tagOf w nonce (gctr w nonce text) → ⊥) → openedBy w nonce (gctr w nonce text ++ tag) ≡ fail
 unfolding openedBy tagFits
-not-opened w nonce text tag k differs = go (sameAs (tagOf w nonce (gctr w nonce text)) tag) refl
-  where
-    go : (b : Bool) → sameAs (tagOf w nonce (gctr w nonce text)) tag ≡ b → openedBy w nonce (gctr w nonce text ++ tag) ≡ fail
-    go true e = absurd (differs (same-bytes (tagOf w nonce (gctr w nonce text)) tag e))
-    go false e =
-        let m = gctr w nonce text in
-        let l : length (m ++ tag) - 16 ≡ length m = (let h = length-append m tag in omega (arith, h)) in
-        let t : tagFits w nonce (length (m ++ tag) - 16) (m ++ tag) ≡ false =
-        ap (λ (n : ℕ). tagFits w nonce n (m ++ tag)) l
-        ∙ ap₂ (λ (x y : List ℕ). sameAs (tagOf w nonce x) y) (take-at m tag (length m) refl) (drop-at m tag (length m) refl)
-        ∙ e in
-        ap (λ (b : Bool). cond (leb 16 (length (m ++ tag)) && b) (plain (gctr w nonce (take (length (m ++ tag) - 16) (m ++ tag)))) fail) t
-        ∙ neither (leb 16 (length (m ++ tag))) (plain (gctr w nonce (take (length (m ++ tag) - 16) (m ++ tag))))
+not-opened w nonce text tag k differs =
+    let m = gctr w nonce text in
+    let l : length (m ++ tag) - 16 ≡ length m = omega (arith, length-append m tag) in
+    let t : tagFits w nonce (length (m ++ tag) - 16) (m ++ tag) ≡ sameAs (tagOf w nonce m) tag = rw (l, take-at m tag (length m) refl, drop-at m tag (length m) refl) in
+    by-test (sameAs (tagOf w nonce m) tag) (λ e. absurd (differs (same-bytes (tagOf w nonce m) tag e))) (λ e. rw (t, e, and-false))

@@ -1,14 +1,14 @@
 -- The round trip: opening what was sealed.
-use mathlib.Core.Bool.{Bool, true, false, cond, _&&_}
+use mathlib.Core.Bool.{Bool, true, cond, _&&_}
 use mathlib.Core.List.{List}
-use mathlib.Core.Path.{_≡_, refl, ap, ap₂, _∙_}
+use mathlib.Core.Path.{_≡_, ap, ap₂, _∙_}
 use Prim.Native.Nat.{ℕ, _+_, _-_, _≤_}
 use native.Mathlib.Omega.{arith}
-use borrow.Author.Tests.{le-leb, leb-true, leb-false}
-use lib.Dec.{leb}
+use borrow.Author.Tests.{le-leb}
 use lib.ListN.{length, take, drop}
 use lib.Seq.{take-at, drop-at}
 use Rattle.buffer.specs.Splice.{replaceFront}
+use Rattle.refusal.proofs.Booleans.{by-less, wrong}
 use Rattle.aes.specs.Aes.{State}
 use Rattle.aes.specs.Counter.{gctr}
 use Rattle.aes.proofs.Counters.{gctr-length, gctr-twice}
@@ -78,21 +78,10 @@ module _ (w : List State) (nonce text : List ℕ) where
   -- a call that wrote has left the sealed bytes
   module _ (buf after : List ℕ) (r : WriteResult) (sealing : Sealing w nonce text buf r after) (wrote-it : outcomeOf r ≡ wrote (length text + 16)) where
     pub sealed-after : (length text ≤ limit) × (after ≡ replaceFront (sealedBy w nonce text) buf)
-    sealed-after = go (leb (length text) limit) refl (leb (length text + 16) (length buf)) refl
-      where
-        go : (x : Bool) → leb (length text) limit ≡ x → (y : Bool) → leb (length text + 16) (length buf) ≡ y
-            → (length text ≤ limit) × (after ≡ replaceFront (sealedBy w nonce text) buf)
-        go true e true f =
-            let h : length text ≤ limit = leb-true (length text) limit e in
-            (h, ap (λ (d : Done). d .buffer) (sealing .is ∙ seal-fits w nonce text buf h (leb-true (length text + 16) (length buf) f)))
-        go true e false f =
-            let q = sealing .is ∙ seal-short w nonce text buf (leb-true (length text) limit e) (leb-false (length text + 16) (length buf) f) in
-            let p = ap (λ (d : Done). d .outcome) q in
-            let z : _≡_ {A = ℕ} 0 1 = cc in absurd (omega arith)
-        go false e y f =
-            let q = sealing .is ∙ seal-long w nonce text buf (leb-false (length text) limit e) in
-            let p = ap (λ (d : Done). d .outcome) q in
-            let z : _≡_ {A = ℕ} 0 1 = cc in absurd (omega arith)
+    sealed-after =
+        by-less limit (length text) (λ h. let q = ap (λ (d : Done). d .outcome) (sealing .is ∙ seal-long w nonce text buf h) in wrong cc) (λ h.
+        by-less (length buf) (length text + 16) (λ k. let q = ap (λ (d : Done). d .outcome) (sealing .is ∙ seal-short w nonce text buf h k) in wrong cc)
+        (λ k. (h, ap (λ (d : Done). d .buffer) (sealing .is ∙ seal-fits w nonce text buf h k))))
 
     pub calls : (back again : List ℕ) (q : WriteResult) → length text ≤ length back → Opening w nonce (take (length text + 16) after) back q again
         → (outcomeOf q ≡ wrote (length text)) × (again ≡ replaceFront text back)

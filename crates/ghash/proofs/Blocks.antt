@@ -1,27 +1,20 @@
 -- GHASH block by block, and the block at the end of a text.
-use mathlib.Core.List.{List, _++_}
-use mathlib.Core.Path.{_≡_, refl, sym, ap, ap₂, _∙_}
-use Prim.Native.Nat.{ℕ, zero, suc, _+_, _-_, _*_, _%_, _^_, _<_, _≤_}
+use mathlib.Core.List.{List, [], _∷_, _++_}
+use mathlib.Core.Path.{_≡_, refl, ap, ap₂, _∙_}
+use Prim.Native.Nat.{ℕ, zero, suc, _+_, _-_, _*_, _%_, _^_, _<_}
 use native.Mathlib.Numerals.{add-one}
 use native.Mathlib.Omega.{arith}
 use lib.Bits.{bitXor}
-use lib.Dec.{ltb}
-use borrow.Author.Tests.{ltb-true, ltb-false}
-use mathlib.Core.Bool.{Bool, true, false}
 use Rattle.buffer.specs.Splice.{overwrite}
 use Rattle.buffer.proofs.Parts.{rest, rest-is}
-use lib.ListN.{length, getD, take, drop, replicate, length-drop, List·getD-eq-default, List·getD-append}
-use lib.Seq.{getD-append-add, getD-drop, getD-take}
+use lib.ListN.{length, getD, drop, replicate}
+use lib.Seq.{getD-drop, getD-take}
 use Rattle.ghash.specs.Ghash.{pair, product, quadAt, blockAt, ghashFrom}
 
 -- a block, and the rest
 pub ghash-next : (h : ℕ) (bs : List ℕ) (n i y : ℕ) → ghashFrom h bs (n + 1) i y ≡ ghashFrom h bs n (i + 16) (product (bitXor y (blockAt bs i)) h)
 unfolding ghashFrom
 ghash-next h bs n i y = rw (add-one n)
-
-pub ghash-none : (h : ℕ) (bs : List ℕ) (i y : ℕ) → ghashFrom h bs 0 i y ≡ y
-unfolding ghashFrom
-ghash-none h bs i y = refl
 
 -- ---- the same bytes make the same block
 
@@ -51,26 +44,18 @@ zeros-at zero j = refl
 zeros-at (suc n) zero = refl
 zeros-at (suc n) (suc j) = zeros-at n j
 
+-- zeros behind a list are what it has there without them
+zeros-behind : (xs zs : List ℕ) → ((j : ℕ) → getD zs j 0 ≡ 0) → (k : ℕ) → getD (xs ++ zs) k 0 ≡ getD xs k 0
+zeros-behind [] zs z k = z k
+zeros-behind (x ∷ xs) zs z zero = refl
+zeros-behind (x ∷ xs) zs z (suc k) = zeros-behind xs zs z k
+
 padded : (s : List ℕ) (i k : ℕ) → k < 16 → getD (overwrite (rest s i) (replicate 16 0)) k 0 ≡ getD s (i + k) 0
 unfolding overwrite
 padded s i k h =
-    ap (λ (l : List ℕ). getD (take 16 (l ++ drop (length l) (replicate 16 0))) k 0) (rest-is s i)
-    ∙ getD-take 16 (drop i s ++ drop (length (drop i s)) (replicate 16 0)) k 0 h
-    ∙ go (ltb k (length (drop i s))) refl
-  where
-    go : (b : Bool) → ltb k (length (drop i s)) ≡ b → getD (drop i s ++ drop (length (drop i s)) (replicate 16 0)) k 0 ≡ getD s (i + k) 0
-    go true t =
-        List·getD-append (drop i s) (drop (length (drop i s)) (replicate 16 0)) 0 k (ltb-true k (length (drop i s)) t) ∙ getD-drop i s k 0
-    go false t =
-        let l : length (drop i s) ≤ k = ltb-false k (length (drop i s)) t in
-        let e : length (drop i s) + (k - length (drop i s)) ≡ k = omega arith in
-        let d : length (drop i s) ≡ length s - i = length-drop i s in
-        let z : length s ≤ i + k = omega arith in
-        ap (λ (n : ℕ). getD (drop i s ++ drop (length (drop i s)) (replicate 16 0)) n 0) (sym e)
-        ∙ getD-append-add (drop i s) (drop (length (drop i s)) (replicate 16 0)) (k - length (drop i s)) 0
-        ∙ getD-drop (length (drop i s)) (replicate 16 0) (k - length (drop i s)) 0
-        ∙ zeros-at 16 (length (drop i s) + (k - length (drop i s)))
-        ∙ sym (List·getD-eq-default s 0 {n = i + k} z)
+    let n = length (drop i s) in
+    rw (rest-is s i, getD-take 16 (drop i s ++ drop n (replicate 16 0)) k 0 h)
+    (zeros-behind (drop i s) (drop n (replicate 16 0)) (λ j. getD-drop n (replicate 16 0) j 0 ∙ zeros-at 16 (n + j)) k ∙ getD-drop i s k 0)
 
 pub last-is : (s b : List ℕ) (i : ℕ) → b ≡ overwrite (rest s i) (replicate 16 0) → blockAt b 0 ≡ blockAt s i
 last-is s b i e = ap (λ (l : List ℕ). blockAt l 0) e ∙ same-block (overwrite (rest s i) (replicate 16 0)) s i (padded s i)

@@ -5,6 +5,7 @@ use mathlib.Core.Path.{_≡_, refl, sym, ap, ap₂, _∙_}
 use Prim.Native.Nat.{ℕ, _+_, _-_, _*_, _/_, _%_, _^_, _<_, _≤_}
 use native.Mathlib.Omega.{arith}
 use borrow.Author.Tests.{eqb-true, eqb-false}
+use lib.Arith.{lt-of-le-ne}
 use lib.Bits.{bitXor}
 use lib.Dec.{eqb}
 use lib.ListN.{getD, length, set, length-set}
@@ -19,16 +20,14 @@ unfolding steps
 first-entry v k h =
     let p : k % 16 ≡ k = omega arith in
     let q : 4 * (k / 16) ≡ 0 = omega arith in
-    sym (ap₂ (λ (x y : ℕ). mulFrom 4 x 0 (steps y v)) p q)
+    rw (p, q)
 
 -- each entry from the one at the place before
 pub next-entry : (v i : ℕ) → 16 ≤ i → steps 4 (entry v (i - 16)) ≡ entry v i
 next-entry v i h =
     let p : (i - 16) % 16 ≡ i % 16 = omega arith in
-    let q : 4 * ((i - 16) / 16) + 4 ≡ 4 * (i / 16) = omega arith in
-    ap (λ (x : ℕ). steps 4 (mulFrom 4 x 0 (steps (4 * ((i - 16) / 16)) v))) p
-    ∙ sym (mul-steps 4 4 (i % 16) (steps (4 * ((i - 16) / 16)) v))
-    ∙ ap (mulFrom 4 (i % 16) 0) (sym (steps-plus (4 * ((i - 16) / 16)) 4 v) ∙ ap (λ (n : ℕ). steps n v) q)
+    let q : 4 * (i / 16) ≡ 4 * ((i - 16) / 16) + 4 = omega arith in
+    rw (p, q, steps-plus (4 * ((i - 16) / 16)) 4 v) (sym (mul-steps 4 4 (i % 16) (steps (4 * ((i - 16) / 16)) v)))
 
 -- ---- two words more
 
@@ -36,40 +35,17 @@ module _ (v a b k : ℕ) (m : List ℕ) (room : 2 * k + 1 < length m) (e : pair 
   put : (j : ℕ) → j < k + 1 → (t : Bool) → eqb j k ≡ t
       → pair (getD (set (set m (2 * k) a) (2 * k + 1) b) (2 * j) 0) (getD (set (set m (2 * k) a) (2 * k + 1) b) (2 * j + 1) 0) ≡ entry v j
   put j q true d =
-      let s : j ≡ k = eqb-true j k d in
-      let n : (2 * k ≡ 2 * k + 1 → ⊥) = λ z. omega arith in
-      let h : 2 * k < length m = omega arith in
-      let h′ : 2 * k + 1 < length (set m (2 * k) a) = omega (arith, length-set m (2 * k) a) in
-      ap (λ (i : ℕ). pair (getD (set (set m (2 * k) a) (2 * k + 1) b) (2 * i) 0) (getD (set (set m (2 * k) a) (2 * k + 1) b) (2 * i + 1) 0)) s
-      ∙ ap₂ pair (getD-set-other (set m (2 * k) a) (2 * k + 1) (2 * k) b 0 n ∙ getD-set-same m (2 * k) a 0 h) (getD-set-same (set m (2 * k) a) (2 * k + 1) b 0 h′)
-      ∙ e
-      ∙ ap (entry v) (sym s)
+      let h : 2 * k + 1 < length (set m (2 * k) a) = omega (arith, length-set m (2 * k) a) in
+      rw (eqb-true j k d, getD-set-other (set m (2 * k) a) (2 * k + 1) (2 * k) b 0 (λ z. omega arith), getD-set-same m (2 * k) a 0 (omega arith), getD-set-same (set m (2 * k) a) (2 * k + 1) b 0 h) e
   put j q false d =
-      let s : (j ≡ k → ⊥) = eqb-false j k d in
-      let n₁ : (2 * j ≡ 2 * k + 1 → ⊥) = λ z. omega arith in
-      let n₂ : (2 * j ≡ 2 * k → ⊥) = λ z. s (omega arith) in
-      let n₃ : (2 * j + 1 ≡ 2 * k + 1 → ⊥) = λ z. s (omega arith) in
-      let n₄ : (2 * j + 1 ≡ 2 * k → ⊥) = λ z. omega arith in
-      let l : (j < k + 1 → j < k) = λ z. lesser j k z s in
-      ap₂ pair (getD-set-other (set m (2 * k) a) (2 * k + 1) (2 * j) b 0 n₁ ∙ getD-set-other m (2 * k) (2 * j) a 0 n₂)
-      (getD-set-other (set m (2 * k) a) (2 * k + 1) (2 * j + 1) b 0 n₃ ∙ getD-set-other m (2 * k) (2 * j + 1) a 0 n₄)
-      ∙ f .at j (l q)
-    where
-      lesser : (j k : ℕ) → j < k + 1 → (j ≡ k → ⊥) → j < k
-      lesser j k h n = omega arith
+      let n = eqb-false j k d in
+      let other : (i : ℕ) → (i ≡ 2 * k → ⊥) → (i ≡ 2 * k + 1 → ⊥) → getD (set (set m (2 * k) a) (2 * k + 1) b) i 0 ≡ getD m i 0 = λ i x y. getD-set-other (set m (2 * k) a) (2 * k + 1) i b 0 y ∙ getD-set-other m (2 * k) i a 0 x in
+      rw (other (2 * j) (λ z. n (omega arith)) (λ z. omega arith), other (2 * j + 1) (λ z. omega arith) (λ z. n (omega arith))) (f .at j (lt-of-le-ne (omega arith) n))
 
   pub filled-more : Filled v (k + 1) (set (set m (2 * k) a) (2 * k + 1) b)
   filled-more = record { at = λ j q. put j q (eqb j k) refl }
 
 -- ---- half a word: x is the half of y whose lowest bit is bit n of y
-
-none-left : (x z v : ℕ) → mulFrom 0 x z v ≡ z
-unfolding mulFrom
-none-left x z v = refl
-
-no-steps : (v : ℕ) → steps 0 v ≡ v
-unfolding steps
-no-steps v = refl
 
 -- four bits of it
 pub turn-four : (v y n at j k c : ℕ) (m : List ℕ) (z : ℕ) → Filled v c m → 16 * (at + 8) ≤ c → j < 8 → k < 16
@@ -93,16 +69,14 @@ turn-four v y n at j k c m z f room hj hk e =
 -- by a table of 32 places
 pub four-halves : (v y a b c d : ℕ) → mulFrom 128 y 0 (steps 0 v) ≡ mulFrom 96 y a (steps 32 v) → mulFrom 96 y a (steps 32 v) ≡ mulFrom 64 y b (steps 64 v)
     → mulFrom 64 y b (steps 64 v) ≡ mulFrom 32 y c (steps 96 v) → mulFrom 32 y c (steps 96 v) ≡ mulFrom 0 y d (steps 128 v) → d ≡ product y v
-four-halves v y a b c d p q r s = sym (ap (mulFrom 128 y 0) (sym (no-steps v)) ∙ p ∙ q ∙ r ∙ s ∙ none-left y d (steps 128 v))
+unfolding mulFrom steps
+four-halves v y a b c d p q r s = sym (p ∙ q ∙ r ∙ s)
 
 -- by a table of 8 places: r is x by v with z added, and z what the n bits below x gave, 32 steps on
 pub next-half : (v y n x z r : ℕ) → y / 2 ^ n % 2 ^ 32 ≡ x → z ≡ steps 32 (mulFrom n y 0 v) → mulFrom 32 x z (steps 0 v) ≡ mulFrom 0 x r (steps 32 v)
     → r ≡ mulFrom (n + 32) y 0 v
-next-half v y n x z r a b e =
-    sym (ap (mulFrom 32 x z) (sym (no-steps v)) ∙ e ∙ none-left x r (steps 32 v))
-    ∙ gathered 32 x z v
-    ∙ ap₂ bitXor b (ap (λ (i : ℕ). mulFrom 32 i 0 v) (sym a))
-    ∙ sym (horner n 32 y v)
+unfolding mulFrom steps
+next-half v y n x z r a b e = sym e ∙ gathered 32 x z v ∙ rw (b, ← a) (sym (horner n 32 y v))
 
 pub first-half : (v y : ℕ) → 0 ≡ steps 32 (mulFrom 0 y 0 v)
 unfolding mulFrom steps step

@@ -14,9 +14,7 @@ use Rattle.ghash.specs.Tables.{steps}
 
 interchange : (a b c d : ℕ) → bitXor (bitXor a b) (bitXor c d) ≡ bitXor (bitXor a c) (bitXor b d)
 interchange a b c d =
-    xor-assoc a b (bitXor c d)
-    ∙ ap (bitXor a) (sym (xor-assoc b c d) ∙ ap (λ (x : ℕ). bitXor x d) (xor-comm b c) ∙ xor-assoc c b d)
-    ∙ sym (xor-assoc a c (bitXor b d))
+    rw (xor-assoc a b (bitXor c d), ← (xor-assoc b c d), xor-comm b c, xor-assoc c b d, ← (xor-assoc a c (bitXor b d)))
 
 -- ---- the steps are linear
 
@@ -60,9 +58,7 @@ pub gathered : (n x z v : ℕ) → mulFrom n x z v ≡ bitXor z (mulFrom n x 0 v
 unfolding mulFrom
 gathered zero x z v = sym (xor-zero-r z)
 gathered (suc n) x z v =
-    gathered n x (bitXor z (x / 2 ^ n % 2 * v)) (step v)
-    ∙ xor-assoc z (x / 2 ^ n % 2 * v) (mulFrom n x 0 (step v))
-    ∙ ap (bitXor z) (sym (gathered n x (x / 2 ^ n % 2 * v) (step v)))
+    rw (gathered n x (bitXor z (x / 2 ^ n % 2 * v)) (step v), gathered n x (x / 2 ^ n % 2 * v) (step v)) (xor-assoc z (x / 2 ^ n % 2 * v) (mulFrom n x 0 (step v)))
 
 picked-step : (d v : ℕ) → d % 2 * step v ≡ step (d % 2 * v)
 unfolding step
@@ -111,10 +107,7 @@ lowest k (suc n) x z v h =
 
 -- the four highest of n + 4 bits, and the rest
 pub top-four : (n x z v : ℕ) → mulFrom (n + 4) x z v ≡ mulFrom n x (bitXor z (mulFrom 4 (x / 2 ^ n % 16) 0 v)) (steps 4 v)
-top-four n x z v =
-    above n 4 x z v
-    ∙ ap (λ (y : ℕ). mulFrom n x y (steps 4 v))
-    (gathered 4 (x / 2 ^ n) z v ∙ ap (bitXor z) (lowest 4 4 (x / 2 ^ n) 0 v (omega arith)))
+top-four n x z v = rw (above n 4 x z v, gathered 4 (x / 2 ^ n) z v, lowest 4 4 (x / 2 ^ n) 0 v (omega arith))
 
 pub steps-plus : (a b v : ℕ) → steps (a + b) v ≡ steps b (steps a v)
 unfolding steps
@@ -124,10 +117,8 @@ steps-plus (suc a) b v = ap (λ (n : ℕ). steps n v) (suc-add a b) ∙ steps-pl
 -- the product by the n lowest bits, and by the m above them
 pub horner : (n m x v : ℕ) → mulFrom (n + m) x 0 v ≡ bitXor (steps m (mulFrom n x 0 v)) (mulFrom m (x / 2 ^ n % 2 ^ m) 0 v)
 horner n m x v =
-    above n m x 0 v
-    ∙ gathered n x (mulFrom m (x / 2 ^ n) 0 v) (steps m v)
-    ∙ ap₂ bitXor (lowest m m (x / 2 ^ n) 0 v (omega arith)) (mul-steps m n x v)
-    ∙ xor-comm (mulFrom m (x / 2 ^ n % 2 ^ m) 0 v) (steps m (mulFrom n x 0 v))
+    rw (above n m x 0 v, gathered n x (mulFrom m (x / 2 ^ n) 0 v) (steps m v), lowest m m (x / 2 ^ n) 0 v (omega arith), mul-steps m n x v)
+    (xor-comm (mulFrom m (x / 2 ^ n % 2 ^ m) 0 v) (steps m (mulFrom n x 0 v)))
 
 -- ---- what falls out of n steps: its product with 11100001, without carries, set in place
 
@@ -135,11 +126,7 @@ abbrev pub spread : ℕ → ℕ
 spread m = bitXor (bitXor (bitXor (m * 128) (m * 64)) (m * 32)) m
 
 scaled : (e a b : ℕ) → bitXor a b * 2 ^ e ≡ bitXor (a * 2 ^ e) (b * 2 ^ e)
-scaled e a b =
-    sym
-    (ap₂ bitXor (sym (add-zero (a * 2 ^ e))) (sym (add-zero (b * 2 ^ e)))
-    ∙ xor-block e a b 0 0 (pow-pos e) (pow-pos e)
-    ∙ add-zero (bitXor a b * 2 ^ e))
+scaled e a b = sym (simp add-zero at (xor-block e a b 0 0 (pow-pos e) (pow-pos e)))
 
 spread-xor : (a b : ℕ) → spread (bitXor a b) ≡ bitXor (spread a) (spread b)
 spread-xor a b =

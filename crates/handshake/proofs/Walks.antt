@@ -1,17 +1,16 @@
 -- Every run is a walk in its table, and is past a good signature where it reaches ready.
-use mathlib.Core.Path.{_≡_, refl, sym, ap, subst, _∙_}
+use mathlib.Core.Path.{_≡_, refl, sym, ap, _∙_}
 use mathlib.Core.Bool.{Bool, true, false, cond, not, _&&_, _||_}
 use mathlib.Core.List.{List, [], _∷_}
-use Prim.Native.Nat.{ℕ, zero, suc}
+use Prim.Native.Nat.{ℕ, suc}
 use native.Mathlib.Omega.{arith}
 use lib.Dec.{eqb}
-use lib.ListN.{length}
+use lib.ListN.{length, getD}
 use borrow.Author.Tests.{eqb-true, eq-eqb}
-use Rattle.refusal.proofs.Booleans.{wrong, each-true}
+use Rattle.refusal.proofs.Booleans.{by-test, wrong, each-true}
 use Rattle.handshake.specs.declared.State.{State}
 use Rattle.handshake.specs.declared.State.the-variants.{Hello, Auth, More, Signature, Session, Ready, Standby, Wait, Closed}
 use Rattle.handshake.specs.declared.Verdict.{Verdict}
-use Rattle.handshake.specs.declared.Step.{Step}
 use Rattle.handshake.specs.declared.Next.{Next}
 use Rattle.handshake.specs.declared.Next.the-variants.{To, Unexpected}
 use Rattle.handshake.specs.Table.{Asked, nothing, auth, signatureGood, featuresThere, featuresMissing, reconnectAccepted, reconnectTurnedDown, Row, stateNumber, holds, leads, find}
@@ -22,15 +21,7 @@ use Rattle.handshake.specs.Runs as runs
 -- ---- a state by its number
 
 stateOf : ℕ → State
-stateOf zero = Hello
-stateOf (suc zero) = Auth
-stateOf (suc (suc zero)) = More
-stateOf (suc (suc (suc zero))) = Signature
-stateOf (suc (suc (suc (suc zero)))) = Session
-stateOf (suc (suc (suc (suc (suc zero))))) = Ready
-stateOf (suc (suc (suc (suc (suc (suc zero)))))) = Standby
-stateOf (suc (suc (suc (suc (suc (suc (suc zero))))))) = Wait
-stateOf (suc (suc (suc (suc (suc (suc (suc (suc n)))))))) = Closed
+stateOf n = getD (Hello ∷ Auth ∷ More ∷ Signature ∷ Session ∷ Ready ∷ Standby ∷ Wait ∷ []) n Closed
 
 state-of : (s : State) → stateOf (stateNumber s) ≡ s
 unfolding stateOf
@@ -55,13 +46,9 @@ meets r s tag v h =
     let b = each-true (holds (r .asked) v) (eqb tag (r .tag)) (a .1) in
     record { from = same-state (r .from) s (a .0); tag = sym (eqb-true tag (r .tag) (b .1)); asked = b .0 }
 
-all-three : (a b c : Bool) → a ≡ true → b ≡ true → c ≡ true → (a && (b && c)) ≡ true
-all-three a b c x y z = rw (x, y, z)
-
 meets-leads : (r : Row) (s : State) (tag : ℕ) (v : Verdict) → Meets r s tag v → leads r s tag v ≡ true
 meets-leads r s tag v m =
-    all-three (eqb (stateNumber (r .from)) (stateNumber s)) (holds (r .asked) v) (eqb tag (r .tag))
-    (eq-eqb (stateNumber (r .from)) (stateNumber s) (ap stateNumber (m .from))) (m .asked) (eq-eqb tag (r .tag) (sym (m .tag)))
+    rw (eq-eqb (stateNumber (r .from)) (stateNumber s) (ap stateNumber (m .from)), m .asked, eq-eqb tag (r .tag) (sym (m .tag)))
 
 data Sought (rs : List Row) (s : State) (tag : ℕ) (v : Verdict) : Next → Type 0 where
   at : (r : Row) → In r rs → Meets r s tag v → Sought rs s tag v (To (r .to))
@@ -88,8 +75,8 @@ look (r ∷ rs) s tag v = go (leads r s tag v) (find rs s tag v) refl (look rs s
 -- ---- walks
 
 walk-on : (rs : List Row) (s u : State) (e : Entry) (es : List Entry) (n : Next) → Sought rs s (e .tag) (e .verdict) n → e .step ≡ stepBy n (e .tag) → Walk rs (e .step .state) es u → Walk rs s (e ∷ es) u
-walk-on rs s u e es n (at r i m) h w = along r i m h (subst (λ (x : State). Walk rs x es u) (ap (λ (t : Step). t .state) h) w)
-walk-on rs s u e es n (missing f) h w = off f h (subst (λ (x : State). Walk rs x es u) (ap (λ (t : Step). t .state) h) w)
+walk-on rs s u e es n (at r i m) h w = along r i m h (rw h at w)
+walk-on rs s u e es n (missing f) h w = off f h (rw h at w)
 
 walks : (rs : List Row) (s : State) (es : List Entry) → Chained rs s es → Walk rs s es (stateBy s es)
 walks rs s [] c = end
@@ -98,16 +85,9 @@ walks rs s (e ∷ es) c =
 
 -- ---- past a good signature
 
+-- the states Session and Ready
 signed : State → Bool
-signed Hello = false
-signed Auth = false
-signed More = false
-signed Signature = false
-signed Session = true
-signed Ready = true
-signed Standby = false
-signed Wait = false
-signed Closed = false
+signed s = eqb (stateNumber s) 4 || eqb (stateNumber s) 5
 
 asksSignature : Asked → Bool
 asksSignature nothing = false
@@ -146,28 +126,19 @@ unfolding everyRow rowSigned signed asksSignature
 both-tables client = refl
 both-tables server = refl
 
-third : (a b : Bool) {c : Bool} → a ≡ true → b ≡ false → (not a || (b || c)) ≡ true → c ≡ true
-third true false x y h = h
-third true true x y h = wrong (sym y)
-third false b x y h = wrong x
-
 good-row : (r : Row) (e : Entry) (es : List Entry) (s : State) → rowSigned r ≡ true → signed s ≡ false → signed (r .to) ≡ true → Meets r s (e .tag) (e .verdict) → e .step ≡ taken (r .to) → PastSignature (e ∷ es)
 unfolding rowSigned
 good-row r e es s ok u t m h =
     let f : signed (r .from) ≡ false = ap signed (m .from) ∙ u in
-    let a = third (signed (r .to)) (signed (r .from)) t f ok in
-    let b = each-true (eqb (r .tag) 7) (asksSignature (r .asked) && eqb (stateNumber (r .to)) 4) a in
+    let b = each-true (eqb (r .tag) 7) (asksSignature (r .asked) && eqb (stateNumber (r .to)) 4) (rw (t, f) at ok) in
     let d = each-true (asksSignature (r .asked)) (eqb (stateNumber (r .to)) 4) (b .1) in
     runs.here (sym (m .tag) ∙ eqb-true (r .tag) 7 (b .0)) (signature-good (r .asked) (e .verdict) (d .0) (m .asked)) (h ∙ ap taken (same-state (r .to) Session (d .1)))
 
 past : {rs : List Row} {s u : State} {es : List Entry} → everyRow rs ≡ true → Walk rs s es u → signed s ≡ false → signed u ≡ true → PastSignature es
 unfolding signed
 past ok end h k = wrong (sym h ∙ k)
-past {rs} {s} {u} ok (along {e = e} {es = es} r i m t w) h k = go (signed (r .to)) refl (past ok w)
-  where
-    go : (b : Bool) → signed (r .to) ≡ b → (signed (r .to) ≡ false → signed u ≡ true → PastSignature es) → PastSignature (e ∷ es)
-    go true q ih = good-row r e es s (every-row ok i) h q m t
-    go false q ih = runs.later (ih q k)
+past {s = s} ok (along {e = e} {es = es} r i m t w) h k =
+    by-test (signed (r .to)) (λ q. good-row r e es s (every-row ok i) h q m t) (λ q. runs.later (past ok w q k))
 past ok (off f t w) h k = runs.later (past ok w refl k)
 
 reaches : (side : Side) (es : List Entry) → Chained (rowsOf side) Hello es → stateBy Hello es ≡ Ready → PastSignature es
@@ -188,20 +159,17 @@ takes-nothing server s tag v standby = refl
 refused-step : (side : Side) (s : State) (e : Entry) → Final s → Stepped (rowsOf side) s (e .tag) (e .verdict) (e .step) → e .step ≡ refusedAt (e .tag)
 refused-step side s e f h = h .step ∙ ap (λ (n : Next). stepBy n (e .tag)) (takes-nothing side s (e .tag) (e .verdict) f)
 
-from-closed : (side : Side) (e : Entry) (es : List Entry) → e .step ≡ refusedAt (e .tag) → Chained (rowsOf side) (e .step .state) es → Chained (rowsOf side) Closed es
-from-closed side e es h c = subst (λ (x : State). Chained (rowsOf side) x es) (ap (λ (t : Step). t .state) h) c
-
 all-refused : (side : Side) (s : State) (es : List Entry) → Final s → Chained (rowsOf side) s es → AllRefused es
 all-refused side s [] f c = tt
 all-refused side s (e ∷ es) f c =
     let h = refused-step side s e f (c .0) in
-    (h, all-refused side Closed es closed (from-closed side e es h (c .1)))
+    (h, all-refused side Closed es closed (rw h at (c .1)))
 
 stays-closed : (side : Side) (es : List Entry) → Chained (rowsOf side) Closed es → stateBy Closed es ≡ Closed
 stays-closed side [] c = refl
 stays-closed side (e ∷ es) c =
     let h = refused-step side Closed e closed (c .0) in
-    ap (λ (x : State). stateBy x es) (ap (λ (t : Step). t .state) h) ∙ stays-closed side es (from-closed side e es h (c .1))
+    rw h (stays-closed side es (rw h at (c .1)))
 
 -- THE CLAIM
 pub every-run : EveryRun

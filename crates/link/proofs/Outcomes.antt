@@ -8,8 +8,8 @@ use native.Mathlib.Omega.{arith}
 use lib.Dec.{leb, ltb, eqb}
 use lib.ListN.{length, take, drop, length-take}
 use lib.Seq.{drop-drop}
-use borrow.Author.Tests.{lt-ltb, le-ltb, le-leb, lt-leb, eq-eqb, ne-eqb, leb-true, ltb-false, not-true}
-use Rattle.refusal.proofs.Booleans.{each-true}
+use borrow.Author.Tests.{leb-true, ltb-false, not-true}
+use Rattle.refusal.proofs.Booleans.{at-test, each-true}
 use Rattle.buffer.specs.Le.{numberAt}
 use Rattle.buffer.proofs.Numbers.{number-drop}
 use Rattle.link.specs.declared.Walk.{Walk}
@@ -22,50 +22,12 @@ use Rattle.link.specs.File.{sumOf}
 use Rattle.link.specs.Reads.{wantedBy, wantedOf, linkAfter, countOutcome, tableOutcome, bodiesOutcome, filledTo, linkAt, ready, WalkRead, ReadBy, ReadOn}
 use Rattle.link.specs.Walks.{Fits}
 
-module _ (b : List ℕ) where
-  pub count-short : length b < 2 → Ends true ≡ countOutcome b
-  count-short h = rw (lt-ltb (length b) 2 h)
-
-  module _ (h : 2 ≤ length b) (n : ℕ) (e : n ≡ numberAt 2 0 b) where
-    pub count-many : 512 < n → Ends true ≡ countOutcome b
-    count-many g = rw (le-ltb (length b) 2 h, ← e, lt-ltb 512 n g)
-
-    pub count-none : n ≤ 512 → n ≡ 0 → Ends false ≡ countOutcome b
-    count-none g z = rw (le-ltb (length b) 2 h, ← e, le-ltb 512 n g, eq-eqb n 0 z)
-
-    pub count-some : n ≤ 512 → (n ≡ 0 → ⊥) → Next Table n ≡ countOutcome b
-    count-some g z = rw (le-ltb (length b) 2 h, ← e, le-ltb 512 n g, ne-eqb n 0 z)
-
-  module _ (n : ℕ) where
-    pub table-short : length b < 4 * n → Ends true ≡ tableOutcome n b
-    table-short h = rw (lt-ltb (length b) (4 * n) h)
-
-    pub table-none : 4 * n ≤ length b → (k : ℕ) → k ≡ sumOf n b → k ≡ 0 → Ends false ≡ tableOutcome n b
-    table-none h k e z = rw (le-ltb (length b) (4 * n) h, ← e, eq-eqb k 0 z)
-
-    pub table-some : 4 * n ≤ length b → (k : ℕ) → k ≡ sumOf n b → (k ≡ 0 → ⊥) → Next Bodies k ≡ tableOutcome n b
-    table-some h k e z = rw (le-ltb (length b) (4 * n) h, ← e, ne-eqb k 0 z)
-
-module _ (left n : ℕ) (refused : Bool) (live : refused ≡ false) where
-  pub bodies-short : n < min left 16384 → Ends true ≡ bodiesOutcome left n refused
-  bodies-short h = rw (live, lt-ltb n (min left 16384) h)
-
-  pub bodies-all : min left 16384 ≤ n → left ≤ n → Ends false ≡ bodiesOutcome left n refused
-  bodies-all h g = rw (live, le-ltb n (min left 16384) h, le-leb left n g)
-
-  pub bodies-more : min left 16384 ≤ n → n < left → Next Bodies (left - n) ≡ bodiesOutcome left n refused
-  bodies-more h g = rw (live, le-ltb n (min left 16384) h, lt-leb left n g)
-
 -- one more length of a table
 pub sum-more : (m i : ℕ) (table : List ℕ) → sumOf (suc m) (drop (4 * i) table) ≡ numberAt 4 (4 * i) table + sumOf m (drop (4 * (i + 1)) table)
 unfolding sumOf
 sum-more m i table =
     let k : 4 * i + 4 ≡ 4 * (i + 1) = omega arith in
     rw (drop-drop 4 (4 * i) table, number-drop 4 0 (4 * i) table, add-zero, k)
-
-pub sum-none : (table : List ℕ) → sumOf 0 table ≡ 0
-unfolding sumOf
-sum-none table = refl
 
 -- a walk that can go on, and at most 16,384 bytes
 pub ready-fits : (w : Walk) (n : ℕ) → ready w ≡ true → n ≤ 16384 → Fits w n
@@ -119,13 +81,10 @@ after-falls m (Next p left) w r h e f z =
 after-falls m (Ends bad) w r h e f z = rw e z
 
 three : (a b c : Bool) (q p : Part) (n left : ℕ) → cond a (Ends true) (cond b (Ends true) (cond c (Ends false) (Next q n))) ≡ Next p left → q ≡ p
-three true b c q p n left e = absurd (let z : _≡_ {A = ℕ} 0 1 = cc in omega arith)
-three false true c q p n left e = absurd (let z : _≡_ {A = ℕ} 0 1 = cc in omega arith)
-three false false true q p n left e = absurd (let z : _≡_ {A = ℕ} 0 1 = cc in omega arith)
+three true b c q p n left e = cc
+three false true c q p n left e = cc
+three false false true q p n left e = cc
 three false false false q p n left e = cc
-
-two : (b c : Bool) (q p : Part) (n left : ℕ) → cond b (Ends true) (cond c (Ends false) (Next q n)) ≡ Next p left → q ≡ p
-two b c q p n left e = three false b c q p n left e
 
 bodies-fall : (left n : ℕ) (a b c : Bool) (p : Part) (m : ℕ) → ltb n (min left 16384) ≡ b → leb left n ≡ c → 0 < left
     → cond a (Ends false) (cond b (Ends true) (cond c (Ends false) (Next Bodies (left - n)))) ≡ Next p m → remainingBy p m < left
@@ -142,14 +101,14 @@ falls-by Count left w s bytes text r s′ text′ x h f =
     after-falls _ (countOutcome bytes) _ r f (x .settled .link) (λ p n e g. rw (← (three (ltb (length bytes) 2) (ltb 512 (numberAt 2 0 bytes)) (eqb (numberAt 2 0 bytes) 0) Table p (numberAt 2 0 bytes) n e)) (omega arith)) (omega arith)
 falls-by Table left w s bytes text r s′ text′ x h f =
     let k = min left 512 in
-    after-falls _ (tableOutcome k bytes) _ r f (x .settled .link) (λ p n e g. rw (← (two (ltb (length bytes) (4 * k)) (eqb (sumOf k bytes) 0) Bodies p (sumOf k bytes) n e)) g) (omega arith)
-falls-by Bodies left w s bytes text r s′ text′ x h f = go (ready w) x
-  where
-    go : (b : Bool) → WalkRead b left w s bytes text r s′ text′ → remaining r < left
-    go true y =
-        after-falls left (bodiesOutcome left (length bytes) (y .walk .refused)) _ r f (y .settled .link)
-        (λ p n e g. bodies-fall left (length bytes) (y .walk .refused) (ltb (length bytes) (min left 16384)) (leb left (length bytes)) p n refl refl (omega arith) e) (omega arith)
-    go false y = rw (y .link) (omega arith)
+    after-falls _ (tableOutcome k bytes) _ r f (x .settled .link) (λ p n e g. rw (← (three false (ltb (length bytes) (4 * k)) (eqb (sumOf k bytes) 0) Bodies p (sumOf k bytes) n e)) g) (omega arith)
+falls-by Bodies left w s bytes text r s′ text′ x h f =
+    at-test (λ b. WalkRead b left w s bytes text r s′ text′ → remaining r < left) (ready w)
+    (λ e y.
+    after-falls left (bodiesOutcome left (length bytes) (y .walk .refused)) _ r f (y .settled .link)
+    (λ p n e g. bodies-fall left (length bytes) (y .walk .refused) (ltb (length bytes) (min left 16384)) (leb left (length bytes)) p n refl refl (omega arith) e) (omega arith))
+    (λ e y. rw (y .link) (omega arith))
+    x
 falls-by Ended left w s bytes text r s′ text′ x h f = absurd (omega arith)
 
 pub falls : (l : Link) (s bytes text : List ℕ) (r : Link) (s′ text′ : List ℕ) → ReadOn l s bytes text r s′ text′ → 0 < wantedOf l → r .left < 18446744073709551616 → remaining r < remaining l

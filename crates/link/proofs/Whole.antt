@@ -14,7 +14,7 @@ use Rattle.buffer.proofs.Numbers.{number-take, number-few, bytes-take, bytes-dr
 use Rattle.buffer.proofs.CopyLoop.{take-min}
 use Rattle.buffer.proofs.Parts.{drop-take}
 use Rattle.refusal.specs.Refusals.{Judged, fine}
-use Rattle.refusal.proofs.Booleans.{either-left, either-right}
+use Rattle.refusal.proofs.Booleans.{by-test, either-left, either-right}
 use Rattle.banner.specs.Bits.{missing}
 use Rattle.banner.specs.Banner.{judgeOwn}
 use Rattle.stream.specs.Stream.{Entry, streamTrace, traceOf, refusedIn}
@@ -34,7 +34,7 @@ use Rattle.link.specs.declared.Outcome.{Outcome}
 use Rattle.link.specs.declared.Outcome.the-variants.{Next, Ends}
 use Rattle.link.specs.declared.Link.{Link}
 use Rattle.link.specs.Lines.{linesOf, End, ok, badFile, openEnd, endLine, endOf}
-use Rattle.link.specs.File.{countOf, sumOf, tableOf, lengthOf, behindTable, noTable, bodiesOf, isBad, ours, entriesOf, linkText}
+use Rattle.link.specs.File.{countOf, sumOf, tableOf, lengthOf, behindTable, noTable, bodiesOf, isBad, ours, linkText}
 use Rattle.link.specs.Walks.{lastOf, framesOf, endAt}
 use Rattle.link.specs.Reads.{newWalk, begun, wantedBy, wantedOf, countOutcome, tableOutcome, bodiesOutcome, filledTo, linkAfter, lastPieces, Settled, ready, BodiesRead, TableRead, WalkRead, ReadBy, ReadOn}
 use Rattle.link.specs.Links.{Read, Reading, linkBy, writtenBy, askedBy, Checked, EveryLink}
@@ -83,11 +83,7 @@ module _ (law : EveryLine) (demand3 : Demand3) (file store : List ℕ) (bytes : 
 
   text-by : (body : List ℕ) (bad : Bool) (es : List Entry) → bodiesOf file ≡ body → isBad file ≡ bad → traceOf ours body store .entries ≡ es → textOf (linesOf 0 es ++ endLine (endOf bad (length body) 0 es)) ≡ linkText file store
   unfolding linkText
-  text-by body bad es e f g =
-      let h : entriesOf file store ≡ es = ap (λ (b : List ℕ). traceOf ours b store .entries) e ∙ g in
-      sym (ap (λ (x : List Entry). textOf (linesOf 0 x ++ endLine (endOf (isBad file) (length (bodiesOf file)) 0 x))) h
-      ∙ ap (λ (b : Bool). textOf (linesOf 0 es ++ endLine (endOf b (length (bodiesOf file)) 0 es))) f
-      ∙ ap (λ (b : List ℕ). textOf (linesOf 0 es ++ endLine (endOf bad (length b) 0 es))) e)
+  text-by body bad es e f g = rw (← g, ← e, ← f)
 
   bodies-by : (b : Bool) → noTable file ≡ b → bodiesOf file ≡ cond b [] stream
   bodies-by b e = ap (λ (k : Bool). cond k [] stream) e
@@ -109,7 +105,7 @@ module _ (law : EveryLine) (demand3 : Demand3) (file store : List ℕ) (bytes : 
 
   -- or not
   no-count : length file < 2 → noTable file ≡ true
-  no-count h = either-left (ltb (length file) 2) (ltb 512 (countOf file) || ltb (length (drop 2 file)) (4 * countOf file)) (lt-ltb (length file) 2 h)
+  no-count h = rw (lt-ltb (length file) 2 h)
 
   many-lengths : 512 < countOf file → noTable file ≡ true
   many-lengths h =
@@ -467,13 +463,10 @@ module _ (law : EveryLine) (demand3 : Demand3) (file store : List ℕ) (bytes : 
             })
 
       walk-next : Stands (t + m) s′ out r
-      walk-next = by-tests (w′ .refused) refl (ltb (length b) m) refl (leb left (length b)) refl
-        where
-          by-tests : (p : Bool) → w′ .refused ≡ p → (q : Bool) → ltb (length b) m ≡ q → (z : Bool) → leb left (length b) ≡ z → Stands (t + m) s′ out r
-          by-tests true ep q eq z ez = refused-over ep
-          by-tests false ep true eq z ez = short-over ep eq
-          by-tests false ep false eq true ez = all-over ep eq ez
-          by-tests false ep false eq false ez = more ep eq ez
+      walk-next =
+          by-test (w′ .refused) refused-over (λ er.
+          by-test (ltb (length b) m) (short-over er) (λ e.
+          by-test (leb left (length b)) (all-over er e) (more er e)))
 
     bodies-next : (left : ℕ) (b : List ℕ) → Walking t left w₀ s written → b ≡ take (min left 16384) (drop t file) → WalkRead (ready w₀) left w₀ s b lent r s′ text′ → Stands (t + min left 16384) s′ out r
     bodies-next left b k eb x =

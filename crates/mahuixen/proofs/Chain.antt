@@ -6,12 +6,13 @@ use Prim.Native.Nat.{ℕ, _+_}
 use Rattle.refusal.specs.declared.Refusal.the-variants as refusal
 use Rattle.refusal.specs.declared.Judgement.{Judgement}
 use Rattle.refusal.specs.declared.Judgement.the-variants as judgement
-use Rattle.refusal.specs.Refusals.{Judged, fine, refused, judgedBy, firstOf, unless, contradiction}
+use Rattle.refusal.specs.Refusals.{Judged, fine, refused, judgedBy, contradiction}
 use Rattle.stream.specs.declared.Event.the-variants as event
 use Rattle.receiver.specs.declared.State as crc-state
 use Rattle.receiver.specs.declared.Report.the-variants as report
 use Rattle.receiver.specs.Calls.{pieceAt}
 use Rattle.sealed_receiver.specs.declared.State as secure-state
+use Rattle.refusal.proofs.Booleans.{by-test}
 use Rattle.connection.specs.declared.Mode.{Mode}
 use Rattle.connection.specs.declared.Mode.the-variants as mode
 use Rattle.connection.specs.declared.State.{State}
@@ -52,35 +53,30 @@ module _ (st : State) (p : AbiConnection) (s piece : List ℕ) (o : AbiReceived)
   abbrev k : connectionOf p ≡ st
   k = w .stands .state
 
-  record AnswerGiven : Type 0 where
-    received : o ≡ abiReceived (answer st s piece .received)
-    store : s′ ≡ answer st s piece .store
-
-  answer-given : (b : Bool) → readyRule st ≡ b → AnswerGiven
-  answer-given true q =
+  answer-given : (o ≡ abiReceived (answer st s piece .received)) × (s′ ≡ answer st s piece .store)
+  answer-given =
+      by-test (readyRule st)
+      (λ q.
       let e = answered-by p s piece st k (w .stands .fit) q in
       let f : next p (answer st s piece .received .state) ≡ abiOf (answer st s piece .received .state) =
-      ap (λ (x : AbiConnection). next x (answer st s piece .received .state)) (w .words) ∙ next-words st s piece q in
-      record {
-        received = h .received ∙ ap (λ (x : AbiAnswer). x .received) e ∙ ap (λ (x : AbiConnection). handed x (crc.reportWords (answer st s piece .received .taken) (answer st s piece .received .report))) f;
-        store = h .store ∙ ap (λ (x : AbiAnswer). x .store) e;
-      }
-  answer-given false q =
+      ap (λ (x : AbiConnection). next x (answer st s piece .received .state)) (w .words) ∙ next-words st s piece q in (
+        h .received ∙ ap (λ (x : AbiAnswer). x .received) e ∙ ap (λ (x : AbiConnection). handed x (crc.reportWords (answer st s piece .received .taken) (answer st s piece .received .report))) f,
+        h .store ∙ ap (λ (x : AbiAnswer). x .store) e,
+      ))
+      (λ q.
       let e = answer-by p s piece false (rw (w .stands .fit, k, q)) in
-      let a = contradicted st s piece contradiction q refl in
-      record {
-        received = h .received ∙ ap (λ (x : AbiAnswer). x .received) e ∙ ap (λ (x : AbiConnection). handed x (crc.reportWords 0 (report.Event (event.Refused contradiction)))) (w .words) ∙ ap abiReceived (a .received);
-        store = h .store ∙ ap (λ (x : AbiAnswer). x .store) e ∙ a .store;
-      }
+      let a = contradicted st s piece contradiction q refl in (
+        h .received ∙ ap (λ (x : AbiAnswer). x .received) e ∙ ap (λ (x : AbiConnection). handed x (crc.reportWords 0 (report.Event (event.Refused contradiction)))) (w .words) ∙ ap abiReceived (a .received),
+        h .store ∙ ap (λ (x : AbiAnswer). x .store) e ∙ a .store,
+      ))
 
   pub abi-form : AbiForm st s piece o s′
   abi-form =
-      let t = answer-given (readyRule st) refl in
       record {
-        received = t .received;
-        store = t .store;
+        received = answer-given .0;
+        store = answer-given .1;
         next = record {
-          words = ap (λ (x : AbiReceived). x .state) (t .received);
+          words = ap (λ (x : AbiReceived). x .state) (answer-given .0);
           stands = subst (λ (x : State). StandsFor (answer x s piece .received .state) (o .state)) k (h .back (w .stands .fit));
         };
       }
@@ -93,14 +89,7 @@ judgementOf st = cond (agrees st) (cond (mayBeSwitched st) judgement.Fine (judge
 
 pub judged : (st : State) → judgedBy (judgementOf st) ≡ judgeSwitch st
 unfolding judgeSwitch
-judged st = go (agrees st) (mayBeSwitched st)
-  where
-    go : (a b : Bool)
-        → judgedBy (cond a (cond b judgement.Fine (judgement.Refused refusal.SwitchRefused)) (judgement.Refused refusal.StateContradicts))
-        ≡ firstOf (unless a refusal.StateContradicts ∷ unless b refusal.SwitchRefused ∷ [])
-    go true true = refl
-    go true false = refl
-    go false b = refl
+judged st = by-test (agrees st) (λ a. by-test (mayBeSwitched st) (λ b. rw (a, b)) (λ b. rw (a, b))) (λ a. rw a)
 
 module _ (st : State) (key receiving sending : List ℕ) where
   abbrev pub answered : Switched

@@ -1,19 +1,16 @@
 -- Calls on a crc link are calls of the receiver.
 use mathlib.Core.Path.{_≡_, _∙_, refl, sym, ap, subst}
 use mathlib.Core.List.{List, [], _∷_}
-use mathlib.Core.Bool.{Bool, true, false, cond, and-true}
+use mathlib.Core.Bool.{true, false, cond, and-true}
 use Prim.Native.Nat.{ℕ, _+_}
 use native.Mathlib.Omega.{arith}
-use lib.Dec.{eqb, ltb}
 use lib.ListN.{length}
-use borrow.Author.Tests.{eqb-true, ltb-true, ltb-false}
+use borrow.Author.Tests.{lt-ltb}
 use Rattle.refusal.specs.declared.Numbers.{Numbers}
-use Rattle.refusal.proofs.Booleans.{both-left}
-use Rattle.receiver.specs.declared.Known.{Known}
-use Rattle.receiver.specs.declared.Stage.{Stage}
+use Rattle.refusal.proofs.Booleans.{by-test, at-test, by-less}
 use Rattle.receiver.specs.declared.State as crc-state
 use Rattle.receiver.specs.State as crc-states
-use Rattle.receiver.specs.State.{rank, isRefused, needed}
+use Rattle.receiver.specs.State.{isRefused}
 use Rattle.refusal.specs.Refusals.{contradiction}
 use Rattle.receiver.specs.Step as crc
 use Rattle.receiver.specs.Calls.{pieceAt}
@@ -25,6 +22,7 @@ use Rattle.connection.specs.Step.{isSecure, readyRule, Answer, byCrc, answer}
 use Rattle.connection.specs.Calls.{Piece}
 use Rattle.connection.proofs.Laws.{mode-is}
 use Rattle.connection.proofs.Machines.{before, crcSide}
+use Rattle.connection.proofs.SplitAtSwitch.{ready-so}
 use Rattle.receiver.proofs.Machine.{Stands, runs, refuses, next-stands}
 use Rattle.abi_connection.specs.Words.{AbiConnection, AbiOf, AbiReceived, kindIn, takenIn}
 use Rattle.abi_connection.proofs.Calls.{taken-word}
@@ -34,10 +32,6 @@ use Rattle.mahuixen.proofs.Chain.{AbiForm, abi-form}
 
 -- ---- a call keeps the rule of the mark
 
--- before a preamble nothing of the store is needed
-needs-none : (k : Stage) (v : Known) → eqb (rank k) 4 ≡ true → needed k v ≡ 0
-needs-none k v e = rw (eqb-true (rank k) 4 e)
-
 stood : {st : State} {s : List ℕ} → Stands crcSide st s → readyRule st ≡ true
 stood (runs r) = r .rule
 stood (refuses n g) = g .rule
@@ -45,11 +39,7 @@ stood (refuses n g) = g .rule
 -- a refusal that takes nothing leaves the mark as it was
 rule-refused : (st : State) (n : Numbers) (x : crc-state.State) (s : List ℕ) → st .mode ≡ mode.Crc → (st .ready ≡ true → before x ≡ true)
     → readyRule (byCrc st (crc.refuseUnchanged x n s) .received .state) ≡ true
-rule-refused st n x s m h = rw (m, and-true (st .ready)) (go (st .ready) refl)
-  where
-    go : (b : Bool) → st .ready ≡ b → cond (st .ready) (before x) true ≡ true
-    go true e = rw e (h e)
-    go false e = rw e
+rule-refused st n x s m h = rw (m, and-true (st .ready)) (at-test (λ b. cond b (before x) true ≡ true) (st .ready) h (λ _. refl))
 
 module _ (st : State) (s piece : List ℕ) (m : st .mode ≡ mode.Crc) (q : readyRule st ≡ true) where
   abbrev inner : crc.Answer
@@ -64,25 +54,22 @@ module _ (st : State) (s piece : List ℕ) (m : st .mode ≡ mode.Crc) (q : read
   refusing : (n : Numbers) (x : crc-state.State) → inner ≡ crc.refuseUnchanged x n s → (st .ready ≡ true → before x ≡ true) → readyRule (byCrc st inner .received .state) ≡ true
   refusing n x e h = subst (λ (a : crc.Answer). readyRule (byCrc st a .received .state) ≡ true) (sym e) (rule-refused st n x s m h)
 
-  inner-by : (a r t : Bool) → crc-states.agrees (st .crc) ≡ a → isRefused (st .crc .position .stage) ≡ r → ltb (length s) (crc.neededBy (st .crc)) ≡ t
-      → readyRule (byCrc st inner .received .state) ≡ true
-  unfolding crc.answer
-  inner-by false r t ea er et = refusing contradiction (st .crc) (rw ea) was-before
-  inner-by true true t ea er et = refusing (st .crc .known .refusal) (st .crc) (rw (ea, er)) was-before
-  inner-by true false true ea er et =
-      refusing (crc.shortStore (st .crc)) (crc.refusedState (st .crc .known) (crc.shortStore (st .crc))) (rw (ea, er, et))
-      (λ e. absurd
-      (let z = needs-none (st .crc .position .stage) (st .crc .known) (both-left (eqb (rank (st .crc .position .stage)) 4) (eqb (st .crc .position .got) 0) (was-before e)) in
-      let l = ltb-true (length s) (crc.neededBy (st .crc)) et in
-      omega arith))
-  inner-by true false false ea er et =
-      let l : crc.Running (st .crc) s = record { agree = ea; live = er; fits = ltb-false (length s) (crc.neededBy (st .crc)) et } in
+  running : crc.Running (st .crc) s → readyRule (byCrc st inner .received .state) ≡ true
+  running l =
       let c : Piece = record { size = length piece; received = answer st s piece .received; store = answer st s piece .store } in
       subst (λ (a : Answer). readyRule (a .received .state) ≡ true) by-crc
       (stood (next-stands crcSide st s piece c (runs (record { mode = m; rule = q; live = l })) (record { received = refl; store = refl })))
 
   pub rule-kept : readyRule (byCrc st inner .received .state) ≡ true
-  rule-kept = inner-by (crc-states.agrees (st .crc)) (isRefused (st .crc .position .stage)) (ltb (length s) (crc.neededBy (st .crc))) refl refl refl
+  unfolding crc.answer
+  rule-kept =
+      by-test (crc-states.agrees (st .crc))
+      (λ ea. by-test (isRefused (st .crc .position .stage)) (λ er. refusing (st .crc .known .refusal) (st .crc) (rw (ea, er)) was-before)
+      (λ er. by-less (length s) (crc.neededBy (st .crc))
+      (λ l. refusing (crc.shortStore (st .crc)) (crc.refusedState (st .crc .known) (crc.shortStore (st .crc))) (rw (ea, er, lt-ltb (length s) (crc.neededBy (st .crc)) l))
+      (λ e. let z : crc.neededBy (st .crc) ≡ 0 = rw (ready-so st q e .stage) in absurd (omega arith)))
+      (λ l. running (record { agree = ea; live = er; fits = l }))))
+      (λ ea. refusing contradiction (st .crc) (rw ea) was-before)
 
   -- ---- what a call on the words of such a state is
   pub record CrcForm (n : ℕ) (o : AbiReceived) (s′ : List ℕ) : Type 0 where

@@ -1,13 +1,13 @@
 -- Demands 1 and 2 of calls by C, from those of the calls that they are.
 use mathlib.Core.Path.{_≡_, refl, sym, ap, ap₂, subst, _∙_}
 use mathlib.Core.List.{List, [], _∷_, _++_}
-use mathlib.Core.Bool.{Bool, true, false, _&&_}
+use mathlib.Core.Bool.{Bool, true, false, _&&_, and-false}
 use Prim.Native.Nat.{ℕ, _+_, _<_}
 use native.Mathlib.Omega.{arith}
 use Rattle.refusal.specs.declared.Numbers.{Numbers}
 use Rattle.refusal.specs.declared.Refusal.the-variants.{StateContradicts}
 use Rattle.refusal.specs.Refusals.{numbersOf, contradiction}
-use Rattle.refusal.proofs.Booleans.{and-false}
+use Rattle.refusal.proofs.Booleans.{by-test}
 use Rattle.banner.specs.declared.Features.{Features}
 use Rattle.refusal.specs.declared.WriteResult.the-variants as built
 use Rattle.refusal.specs.Writes as writes
@@ -153,14 +153,12 @@ within-fields : (revision : ℕ) (ws : List ℕ) (abort : Bool) (source buf : Li
     → abiDone b l ≡ abiFrame revision ws abort source buf queued → 0 < b .written
     → abiDone b l ≡ inAbi (frameDone (revisionByNumber revision) (headerAt 0 ws) abort source buf queued)
 unfolding abiFrame
-within-fields revision ws abort source buf queued b l e z = go (within headerLimits 0 ws) refl
-  where
-    go : (t : Bool) → within headerLimits 0 ws ≡ t → abiDone b l ≡ inAbi (frameDone (revisionByNumber revision) (headerAt 0 ws) abort source buf queued)
-    go true k = e ∙ rw k
-    go false k =
-        let p : abiDone b l ≡ abiDone (abiRefused (numbersOf StateContradicts)) buf = e ∙ rw k in
-        let m : b .written ≡ 0 = ap (λ (x : AbiDone). x .answer .written) p in
-        absurd (omega arith)
+within-fields revision ws abort source buf queued b l e z =
+    by-test (within headerLimits 0 ws) (λ k. e ∙ rw k)
+    (λ k.
+    let p : abiDone b l ≡ abiDone (abiRefused (numbersOf StateContradicts)) buf = e ∙ rw k in
+    let m : b .written ≡ 0 = ap (λ (x : AbiDone). x .answer .written) p in
+    absurd (omega arith))
 
 accepts : (revision : ℕ) (buf : List ℕ) (queued : ℕ) (b : Build) → AbiAccepts revision buf queued b → Accepts (revisionByNumber revision) buf queued b
 accepts revision buf queued b a =

@@ -11,6 +11,8 @@ use borrow.Author.Tests.{eqb-true, eqb-false, ne-eqb, lt-leb}
 use Rattle.refusal.specs.declared.Refusal.the-variants.{StateContradicts, SwitchRefused, NoncesSpent}
 use Rattle.refusal.specs.declared.Numbers.{Numbers}
 use Rattle.refusal.specs.Refusals.{Judged, fine, refused, row, numbersOf, unless, firstOf, contradiction}
+use Rattle.refusal.proofs.Booleans.{by-test}
+use Rattle.refusal.proofs.Judgements.{by-judgement}
 use Rattle.preamble.specs.declared.Header.{Header}
 use Rattle.aes.specs.Aes.{keyExpansion}
 use Rattle.refusal.specs.declared.WriteResult.the-variants as built
@@ -68,28 +70,25 @@ module _ (x : AbiSending) (b : AbiBuild) (h : AbiMeets x b) where
   unfolding sealedDone
   fine-done f = ap outcomeBy (sym f)
 
-  sent-by : (t : Bool) (j : Judged) → inFields x b ≡ t → judgement ≡ j → 0 < writtenBy b → Meets (sendingIn x) (buildOf (x .key) b)
-  sent-by true fine e f z = record {
-    promise = ap doneBy (answered-so true fine e f) ∙ ap (λ (s : Sending). done (wrote (sealedLength fields)) s (outcomeBy fine .buffer)) more-back ∙ fine-done f;
-  }
-  sent-by true (refused n) e f z = absurd (let m : writtenBy b ≡ 0 = ap (λ (r : AbiSealed). r .answer .written) (answered-so true (refused n) e f) in omega arith)
-  sent-by false j e f z = absurd (let m : writtenBy b ≡ 0 = ap (λ (r : AbiSealed). r .answer .written) (answered-so false j e f) in omega arith)
+  -- by what it comes to: written, refused, or refused for its words
+  by-answer : {A : Type 0} → (inFields x b ≡ true → judgement ≡ fine → A) → (inFields x b ≡ true → (n : Numbers) → judgement ≡ refused n → A) → (inFields x b ≡ false → A) → A
+  by-answer w r o = by-test (inFields x b) (λ e. by-judgement judgement (w e) (r e)) o
 
   pub sent : 0 < writtenBy b → Meets (sendingIn x) (buildOf (x .key) b)
-  sent z = sent-by (inFields x b) judgement refl refl z
-
-  unspent-by : (t : Bool) (j : Judged) → inFields x b ≡ t → judgement ≡ j → writtenBy b ≡ 0 → (sendingIn (sendingBehind x b) ≡ sendingIn x) × (b .sealed .buffer ≡ b .buffer)
-  unspent-by true fine e f z =
-      absurd (let m : writtenBy b ≡ sealedLength fields = ap (λ (r : AbiSealed). r .answer .written) (answered-so true fine e f) in let l = positive fields in omega arith)
-  unspent-by true (refused n) e f z =
-      let q = answered-so true (refused n) e f in
-      (ap (λ (r : AbiSealed). sendingOf (r .numbers) (x .key) (r .nonce)) q ∙ sending-back (sendingIn x), ap (λ (r : AbiSealed). r .buffer) q)
-  unspent-by false j e f z =
-      let q = answered-so false j e f in
-      (ap (λ (r : AbiSealed). sendingOf (r .numbers) (x .key) (r .nonce)) q, ap (λ (r : AbiSealed). r .buffer) q)
+  sent z =
+      by-answer
+      (λ e f. record { promise = ap doneBy (answered-so true fine e f) ∙ ap (λ (s : Sending). done (wrote (sealedLength fields)) s (outcomeBy fine .buffer)) more-back ∙ fine-done f })
+      (λ e n f. absurd (let m : writtenBy b ≡ 0 = ap (λ (r : AbiSealed). r .answer .written) (answered-so true (refused n) e f) in omega arith))
+      (λ e. absurd (let m : writtenBy b ≡ 0 = ap (λ (r : AbiSealed). r .answer .written) (answered-so false judgement e refl) in omega arith))
 
   pub unspent : writtenBy b ≡ 0 → (sendingIn (sendingBehind x b) ≡ sendingIn x) × (b .sealed .buffer ≡ b .buffer)
-  unspent z = unspent-by (inFields x b) judgement refl refl z
+  unspent z =
+      by-answer
+      (λ e f. absurd (let m : writtenBy b ≡ sealedLength fields = ap (λ (r : AbiSealed). r .answer .written) (answered-so true fine e f) in let l = positive fields in omega arith))
+      (λ e n f.
+      let q = answered-so true (refused n) e f in
+      (ap (λ (r : AbiSealed). sendingOf (r .numbers) (x .key) (r .nonce)) q ∙ sending-back (sendingIn x), ap (λ (r : AbiSealed). r .buffer) q))
+      (λ e. let q = answered-so false judgement e refl in (ap (λ (r : AbiSealed). sendingOf (r .numbers) (x .key) (r .nonce)) q, ap (λ (r : AbiSealed). r .buffer) q))
 
   -- 18: it is the build that was refused so
   abbrev spentBuild : Build
@@ -107,15 +106,15 @@ module _ (x : AbiSending) (b : AbiBuild) (h : AbiMeets x b) where
   unfolding sealedDone
   spent-done n f e = record { promise = ap (λ (i : Numbers). outcomeBy (refused i)) (sym e) ∙ ap outcomeBy (sym f) }
 
-  given-by : NoNonceTwice → (t : Bool) (j : Judged) → inFields x b ≡ t → judgement ≡ j → b .sealed .answer ≡ abiRefused (numbersOf NoncesSpent) → TooFew x b
-  given-by nonces true fine e f z =
-      absurd (let m : sealedLength fields ≡ 0 = sym (ap (λ (r : AbiSealed). r .answer .written) (answered-so true fine e f)) ∙ ap (λ (w : Written). w .written) z in let l = positive fields in omega arith)
-  given-by nonces true (refused n) e f z =
+  given-by : NoNonceTwice → b .sealed .answer ≡ abiRefused (numbersOf NoncesSpent) → TooFew x b
+  given-by nonces z =
+      by-answer
+      (λ e f. absurd (let m : sealedLength fields ≡ 0 = sym (ap (λ (r : AbiSealed). r .answer .written) (answered-so true fine e f)) ∙ ap (λ (w : Written). w .written) z in let l = positive fields in omega arith))
+      (λ e n f.
       let q : abiRefused n ≡ abiRefused (numbersOf NoncesSpent) = sym (ap (λ (r : AbiSealed). r .answer) (answered-so true (refused n) e f)) ∙ z in
       let g = nonces .eighteen (sendingIn x) spentBuild (spent-done n f (same-numbers q)) .given refl in
-      record { words = e; earlier = g .0; few = g .1 }
-  given-by nonces false j e f z =
-      absurd (let m : 26 ≡ 18 = sym (ap (λ (r : AbiSealed). getD (r .answer .refusal) 0 0) (answered-so false j e f)) ∙ ap (λ (w : Written). getD (w .refusal) 0 0) z in omega arith)
+      record { words = e; earlier = g .0; few = g .1 })
+      (λ e. absurd (let m : 26 ≡ 18 = sym (ap (λ (r : AbiSealed). getD (r .answer .refusal) 0 0) (answered-so false judgement e refl)) ∙ ap (λ (w : Written). getD (w .refusal) 0 0) z in omega arith))
 
   judged-spent : TooFew x b → judgement ≡ refused (numbersOf NoncesSpent)
   unfolding judgeSealed
@@ -125,7 +124,7 @@ module _ (x : AbiSending) (b : AbiBuild) (h : AbiMeets x b) where
 
   pub eighteen : NoNonceTwice → (b .sealed .answer ≡ abiRefused (numbersOf NoncesSpent)) ↔ TooFew x b
   eighteen nonces =
-      (given-by nonces (inFields x b) judgement refl refl, (λ k. ap (λ (r : AbiSealed). r .answer) (answered-so true (refused (numbersOf NoncesSpent)) (k .words) (judged-spent k))))
+      (given-by nonces, (λ k. ap (λ (r : AbiSealed). r .answer) (answered-so true (refused (numbersOf NoncesSpent)) (k .words) (judged-spent k))))
 
 -- ---- lists: the builds that wrote something are a list of builds, since the others spend nothing
 
@@ -135,27 +134,25 @@ record BuildsThatWrote (x : AbiSending) (bs : List AbiBuild) : Type 0 where
   uses : builder.used (sendingIn x) builds ≡ used x bs
   after : builder.sendingAfter (sendingIn x) builds ≡ sendingIn (sendingAfter x bs)
 
-wrote-one : (x : AbiSending) (b : AbiBuild) (bs : List AbiBuild) → AbiMeets x b → BuildsThatWrote (sendingBehind x b) bs → (t : Bool) → eqb (writtenBy b) 0 ≡ t → BuildsThatWrote x (b ∷ bs)
-wrote-one x b bs h on true e =
-    let k = unspent x b h (eqb-true (writtenBy b) 0 e) .0 in
+builds-that-wrote : (x : AbiSending) (bs : List AbiBuild) → AbiBuilds x bs → BuildsThatWrote x bs
+builds-that-wrote x [] h = record { builds = []; chained = tt; uses = refl; after = refl }
+builds-that-wrote x (b ∷ bs) h =
+    let on = builds-that-wrote (sendingBehind x b) bs (h .1) in
+    by-test (eqb (writtenBy b) 0)
+    (λ e.
+    let k = unspent x b (h .0) (eqb-true (writtenBy b) 0 e) .0 in
     record {
       builds = on .builds;
       chained = subst (λ (s : Sending). Chained s (on .builds)) k (on .chained);
       uses = rw e (ap (λ (s : Sending). builder.used s (on .builds)) (sym k) ∙ on .uses);
       after = ap (λ (s : Sending). builder.sendingAfter s (on .builds)) (sym k) ∙ on .after;
-    }
-wrote-one x b bs h on false e =
-    let z : 0 < writtenBy b = omega (arith, eqb-false (writtenBy b) 0 e) in
-    record {
+    })
+    (λ e. record {
       builds = buildOf (x .key) b ∷ on .builds;
-      chained = (sent x b h z, on .chained);
+      chained = (sent x b (h .0) (omega (arith, eqb-false (writtenBy b) 0 e)), on .chained);
       uses = rw e (ap (λ (l : List (List ℕ)). noncesOf (partsOf x b) ++ l) (on .uses));
       after = on .after;
-    }
-
-builds-that-wrote : (x : AbiSending) (bs : List AbiBuild) → AbiBuilds x bs → BuildsThatWrote x bs
-builds-that-wrote x [] h = record { builds = []; chained = tt; uses = refl; after = refl }
-builds-that-wrote x (b ∷ bs) h = wrote-one x b bs (h .0) (builds-that-wrote (sendingBehind x b) bs (h .1)) (eqb (writtenBy b) 0) refl
+    })
 
 -- ---- what a switch hands out
 
@@ -173,9 +170,10 @@ module _ (p : AbiConnection) (key receiving sending : List ℕ) (r : AbiSwitched
   pub made-sends : r .number ≡ 0 → r .sending ≡ sendingWords (freshSending key sending)
   made-sends z = ap (λ (y : AbiSwitched). y .sending) (by-words h) ∙ ap (λ (j : Judged). sendingWords (switchedSending j key sending)) (made-fine z)
 
-  refused-sends : (j : Judged) → judgeWords p ≡ j → (r .number ≡ 0 → ⊥) → r .sending ≡ sendingWords refusedSending
-  refused-sends fine e no-zero = absurd (no-zero (ap (λ (y : AbiSwitched). y .number) (by-words h) ∙ ap numberOf e))
-  refused-sends (refused n) e no-zero = ap (λ (y : AbiSwitched). y .sending) (by-words h) ∙ ap (λ (j : Judged). sendingWords (switchedSending j key sending)) e
+  refused-sends : (r .number ≡ 0 → ⊥) → r .sending ≡ sendingWords refusedSending
+  refused-sends no-zero =
+      by-judgement (judgeWords p) (λ e. absurd (no-zero (ap (λ (y : AbiSwitched). y .number) (by-words h) ∙ ap numberOf e)))
+      (λ n e. ap (λ (y : AbiSwitched). y .sending) (by-words h) ∙ ap (λ (j : Judged). sendingWords (switchedSending j key sending)) e)
 
 -- nothing is built with what a refused try hands back
 refused-judged : (h : Header) (abort : Bool) (source space queued : ℕ) → judgeSealed refusedSending h abort source space queued ≡ refused (numbersOf SwitchRefused)
@@ -223,5 +221,5 @@ nonces-in-c nonces = record {
   unspent = λ x b h z. unspent x b h z;
   none = λ p key receiving sending r h no-zero b.
       (subst (λ (y : AbiSending). AbiMeets y b → b .sealed .answer ≡ abiRefused (numbersOf (cond (within headerLimits 0 (b .header)) SwitchRefused StateContradicts)))
-      (sym (refused-sends p key receiving sending r h (judgeWords p) refl no-zero)) (none-built b (within headerLimits 0 (b .header)) refl));
+      (sym (refused-sends p key receiving sending r h no-zero)) (none-built b (within headerLimits 0 (b .header)) refl));
 }

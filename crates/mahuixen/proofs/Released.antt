@@ -1,13 +1,14 @@
 -- A list of connections by C is a list of connections of `delivery`.
 use mathlib.Core.Path.{_≡_, _∙_, refl, sym, ap, ap₂}
 use mathlib.Core.List.{List, [], _∷_}
-use mathlib.Core.Bool.{Bool, true, false, cond, _&&_}
+use mathlib.Core.Bool.{Bool, cond, _&&_}
 use Prim.Native.Nat.{ℕ, _+_}
 use lib.Dec.{ltb, eqb}
 use Rattle.refusal.specs.Refusals.{judgedBy, isFine, unless, contradiction}
 use Rattle.refusal.specs.declared.Refusal.the-variants as refusal
 use Rattle.refusal.specs.declared.Judgement.{Judgement}
 use Rattle.refusal.specs.declared.Judgement.the-variants as judgement
+use Rattle.refusal.proofs.Booleans.{at-test}
 use Rattle.banner.specs.declared.Features.{Features}
 use Rattle.banner.specs.Bits.{missing}
 use Rattle.banner.specs.Banner.{judgeOwn}
@@ -29,12 +30,12 @@ use Rattle.delivery.specs.Requests.{requestByReport, doneTo, sessionCalledBy}
 use Rattle.delivery.specs.Calls as delivery
 use Rattle.delivery.specs.Calls.{Connection, Chained, Connects, sessionAfter, EveryRelease}
 use Rattle.abi_receiver.specs.Words.{numberOf}
-use Rattle.abi_connection.specs.Words.{AbiConnection, connectionOf, AbiOf, AbiReceived, kindIn, takenIn, reportBy}
+use Rattle.abi_connection.specs.Words.{AbiConnection, connectionOf, AbiOf, takenIn, reportBy}
 use Rattle.abi_connection.proofs.Calls.{taken-word}
 use Rattle.abi_session.specs.Words as words
 use Rattle.abi_session.specs.Words.{AbiSession, sessionOf, AbiOutcome, abiOutcome, AbiCalled}
 use Rattle.abi_delivery.specs.Words.{AbiApplied, abiApplied}
-use Rattle.mahuixen.specs.Releases.{AbiDeliveryCall, piece, tried, accepted, handed, AbiDeliveryChained, abiSessionAfter, AbiDeliveryConnection, AbiConnects, answerKind, abiDeliveryCalls, abiDeliveryConnections, AbiEveryRelease}
+use Rattle.mahuixen.specs.Releases.{AbiDeliveryCall, piece, tried, accepted, handed, AbiDeliveryChained, abiSessionAfter, AbiDeliveryConnection, AbiConnects, abiDeliveryCalls, abiDeliveryConnections, AbiEveryRelease}
 use Rattle.mahuixen.proofs.Chain.{abi-form, judgementOf, judged, answered, switch-form}
 
 -- ---- a call for a piece
@@ -88,15 +89,6 @@ record AsDeliveryCalls (stream : List ℕ) (st : State) (x : Session) (q : AbiSe
   chained : Chained stream (promises.delivery st x) s t calls
   left : abiSessionAfter q ps ≡ words.abiOf (sessionAfter x calls)
 
-same-piece : (size n : ℕ) {o o′ : AbiReceived} {d d′ : AbiApplied} {s s′ : List ℕ} → n ≡ kindIn o → o ≡ o′ → d ≡ d′ → s ≡ s′ → piece size n o d s ≡ piece size (kindIn o′) o′ d′ s′
-same-piece size n c e f g = rw (c, e, f, g)
-
-same-accepted : (h n : ℕ) {o o′ : AbiOutcome} → n ≡ answerKind o → o ≡ o′ → accepted h n o ≡ accepted h (answerKind o′) o′
-same-accepted h n c e = rw (c, e)
-
-same-handed : (i n : ℕ) {o o′ : AbiOutcome} → n ≡ answerKind o → o ≡ o′ → handed i n o ≡ handed i (answerKind o′) o′
-same-handed i n c e = rw (c, e)
-
 as-delivery-calls : (stream : List ℕ) (st : State) (p : AbiConnection) (x : Session) (q : AbiSession) (s : List ℕ) (t : ℕ) (ps : List AbiDeliveryCall)
     → AbiOf st p → q ≡ words.abiOf x → AbiDeliveryChained stream p q s t ps → AsDeliveryCalls stream st x q s t ps
 as-delivery-calls stream st p x q s t [] w e h = record { calls = []; abi = refl; chained = tt; left = e }
@@ -111,7 +103,7 @@ as-delivery-calls stream st p x q s t (piece size k o d s′ ∷ ps) w e h =
     (ap (λ (y : AbiApplied). y .session) g) (rw (n, f .store) at (h .1)) in
     record {
       calls = delivery.piece size r (a .store) ∷ on .calls;
-      abi = ap₂ _∷_ (same-piece size k (h .0 .received .kind) (f .received) g (f .store)) (on .abi);
+      abi = cc (h .0 .received .kind, f .received, g, f .store, on .abi);
       chained = (record { received = record { received = refl; store = refl }; done = refl }, on .chained);
       left = on .left;
     }
@@ -131,7 +123,7 @@ as-delivery-calls stream st p x q s t (accepted n k o ∷ ps) w e h =
     let on = as-delivery-calls stream st p (c .session) (o .session) s t ps w (ap (λ (y : AbiOutcome). y .session) f) (h .1) in
     record {
       calls = delivery.accepted n (sessionCalledBy (promises.delivery st x) c) ∷ on .calls;
-      abi = ap₂ _∷_ (same-accepted n k (h .0 .kind) f) (on .abi);
+      abi = cc (h .0 .kind, f, on .abi);
       chained = (record { state = refl; answer = refl }, on .chained);
       left = on .left;
     }
@@ -141,7 +133,7 @@ as-delivery-calls stream st p x q s t (handed n k o ∷ ps) w e h =
     let on = as-delivery-calls stream st p (c .session) (o .session) s t ps w (ap (λ (y : AbiOutcome). y .session) f) (h .1) in
     record {
       calls = delivery.handed n (sessionCalledBy (promises.delivery st x) c) ∷ on .calls;
-      abi = ap₂ _∷_ (same-handed n k (h .0 .kind) f) (on .abi);
+      abi = cc (h .0 .kind, f, on .abi);
       chained = (record { state = refl; answer = refl }, on .chained);
       left = on .left;
     }
@@ -152,11 +144,9 @@ abbrev ownJudgement : Features → Judgement
 ownJudgement own = cond (isFine (judgeOwn (own .supported) (own .required))) judgement.Fine (judgement.Refused refusal.OwnFeatures)
 
 own-judged : (own : Features) → judgedBy (ownJudgement own) ≡ judgeOwn (own .supported) (own .required)
-own-judged own = go (ltb (own .supported) 2 && ltb (own .required) 2 && eqb (missing 64 (own .required) (own .supported)) 0)
-  where
-    go : (b : Bool) → judgedBy (cond (isFine (unless b refusal.OwnFeatures)) judgement.Fine (judgement.Refused refusal.OwnFeatures)) ≡ unless b refusal.OwnFeatures
-    go true = refl
-    go false = refl
+own-judged own =
+    at-test (λ b. judgedBy (cond (isFine (unless b refusal.OwnFeatures)) judgement.Fine (judgement.Refused refusal.OwnFeatures)) ≡ unless b refusal.OwnFeatures)
+    (ltb (own .supported) 2 && ltb (own .required) 2 && eqb (missing 64 (own .required) (own .supported)) 0) (λ _. refl) (λ _. refl)
 
 -- ---- connections
 

@@ -16,44 +16,23 @@ use Rattle.preamble.specs.Reading.{HeaderFits, ReadsBack, builtPreamble}
 use Rattle.preamble.proofs.Laws.{header-back, front-crc-lt}
 use Rattle.preamble.specs.declared.Preamble.{Preamble}
 
-whole : (h : Header) (rest : List ℕ) → preambleBytes h ++ rest ≡ preambleFront h ++ (le 4 (crcOf 0 (preambleFront h)) ++ rest)
-unfolding preambleBytes
-whole h rest = append-assoc (preambleFront h) (le 4 (crcOf 0 (preambleFront h))) rest
-
-zero-26 : (h : Header) (rest : List ℕ) → getD (preambleFront h ++ rest) 26 0 ≡ 0
+-- what stands in the front, and behind it
+parts : (h : Header) (rest : List ℕ)
+    → (getD (preambleFront h ++ rest) 26 0 ≡ 0) × (getD (preambleFront h ++ rest) 27 0 ≡ 0) × (take 28 (preambleFront h ++ rest) ≡ preambleFront h) × (drop 28 (preambleFront h ++ rest) ≡ rest)
 unfolding preambleFront
-zero-26 h rest = refl
-
-zero-27 : (h : Header) (rest : List ℕ) → getD (preambleFront h ++ rest) 27 0 ≡ 0
-unfolding preambleFront
-zero-27 h rest = refl
-
-front-28 : (h : Header) (rest : List ℕ) → take 28 (preambleFront h ++ rest) ≡ preambleFront h
-unfolding preambleFront
-front-28 h rest = refl
-
-behind-28 : (h : Header) (rest : List ℕ) → drop 28 (preambleFront h ++ rest) ≡ rest
-unfolding preambleFront
-behind-28 h rest = refl
-
-module _ (h : Header) (rest : List ℕ) (f : HeaderFits h) where
-  sum-back : numberAt 4 28 (preambleFront h ++ (le 4 (crcOf 0 (preambleFront h)) ++ rest)) ≡ crcOf 0 (preambleFront h)
-  unfolding numberAt
-  sum-back = rw behind-28 (leOf-le 4 (crcOf 0 (preambleFront h)) (front-crc-lt h f))
-
-  fields : preambleOf (preambleFront h ++ (le 4 (crcOf 0 (preambleFront h)) ++ rest)) ≡ builtPreamble h
-  fields =
-      let tail : List ℕ = le 4 (crcOf 0 (preambleFront h)) ++ rest in
-      simp (header-back h tail f, zero-26 h tail, zero-27 h tail, sum-back)
-
-  checked : judgeChecksum (preambleFront h ++ (le 4 (crcOf 0 (preambleFront h)) ++ rest)) ≡ fine
-  checked =
-      let tail : List ℕ = le 4 (crcOf 0 (preambleFront h)) ++ rest in
-      simp (front-28 h tail, sum-back, eq-eqb (crcOf 0 (preambleFront h)) (crcOf 0 (preambleFront h)) refl)
+parts h rest = (refl, refl, refl, refl)
 
 pub reads-back : ReadsBack
-unfolding ReadsBack
-reads-back h rest f = record { fields = ap preambleOf (whole h rest) ∙ fields h rest f; checked = ap judgeChecksum (whole h rest) ∙ checked h rest f }
+unfolding ReadsBack preambleBytes numberAt
+reads-back h rest f =
+    let tail : List ℕ = le 4 (crcOf 0 (preambleFront h)) ++ rest in
+    let p = parts h tail in
+    let whole = append-assoc (preambleFront h) (le 4 (crcOf 0 (preambleFront h))) rest in
+    let sum : numberAt 4 28 (preambleFront h ++ tail) ≡ crcOf 0 (preambleFront h) = rw (p .3) (leOf-le 4 (crcOf 0 (preambleFront h)) (front-crc-lt h f)) in
+    record {
+      fields = rw whole (simp (header-back h tail f, p .0, p .1, sum));
+      checked = rw whole (simp (p .2, sum, eq-eqb (crcOf 0 (preambleFront h)) (crcOf 0 (preambleFront h)) refl));
+    }
 
 -- ---- a preamble that was built is accepted
 

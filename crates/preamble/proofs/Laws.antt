@@ -1,6 +1,6 @@
 -- Laws of the preamble: its length, its fields read back, and what is known of one that is accepted.
-use mathlib.Core.Path.{_≡_, refl, ap, ap₂, _∙_}
-use mathlib.Core.Bool.{Bool, _&&_}
+use mathlib.Core.Path.{_≡_, refl, ap, _∙_}
+use mathlib.Core.Bool.{Bool, _&&_, and-true}
 use mathlib.Core.List.{List, [], _∷_, _++_}
 use Prim.Native.Nat.{ℕ, _+_, _^_, _<_, _≤_}
 use borrow.Author.Tests.{leb-true, eqb-true, eq-eqb}
@@ -11,8 +11,8 @@ use Rattle.buffer.proofs.Numbers.{leOf-le, bytes-nil, bytes-cons, bytes-append,
 use Rattle.crc32c.specs.Crc.{crcOf}
 use Rattle.crc32c.proofs.Laws.{crc-lt}
 use Rattle.refusal.specs.declared.Refusal.the-variants as refusal
-use Rattle.refusal.specs.Refusals.{Judged, fine, isFine, orElse, firstOf, unless}
-use Rattle.refusal.proofs.Judgements.{AllFine, all-fine, fine-all, fine-or, fine-unless, or-else-last, passed}
+use Rattle.refusal.specs.Refusals.{Judged, fine, isFine, firstOf, unless}
+use Rattle.refusal.proofs.Judgements.{AllFine, all-fine, fine-all, fine-or, fine-unless, passed}
 use Rattle.preamble.specs.declared.Segment.{Segment}
 use Rattle.preamble.specs.declared.Header.{Header}
 use Rattle.preamble.specs.Layout.{total, frontList, preambleFront, preambleBytes, segmentFields}
@@ -111,12 +111,4 @@ store-fits {needed} {room} e = leb-true needed room (passed (leb needed room) (r
 -- what is asked of a header, as one test
 pub header-fine : (h : Header) → isFine (judgeHeader h) ≡ (eqb (shapeFault h) 0 && ((leb 1 (h .tag) && leb (h .tag) 20) && eqb (limitFault h) 0))
 unfolding judgeHeader
-header-fine h =
-    let a : Judged = judgeShape h in
-    let b : Judged = judgeTag (h .tag) in
-    let c : Judged = judgeLimits h in
-    fine-or a (orElse b (orElse c fine))
-    ∙ ap₂ _&&_ (fine-unless (eqb (shapeFault h) 0) (refusal.Shape (shapeFault h)))
-    (fine-or b (orElse c fine)
-    ∙ ap₂ _&&_ (fine-unless (leb 1 (h .tag) && leb (h .tag) 20) (refusal.Tag (h .tag)))
-    (ap isFine (or-else-last c) ∙ fine-unless (eqb (limitFault h) 0) (refusal.Limit (limitFault h))))
+header-fine h = simp (fine-or, fine-unless, and-true)

@@ -11,10 +11,13 @@ use mir.Syntax.{tyStruct, tcons, tnil, tyRef, tyInt, erased, imm, named, w8, w64
 use mir.Val.{Val, WT, hasTy, vint}
 use base.Logic.{SProp, ent, sep, emp, via, fst∗, snd∗, exE, id⊢}
 use base.Fml.{Lft, Share, Fml, ftrue, flft}
-use prog.Wp.{Heap, Calls, Loops, WpFn, Tables}
+use prog.Model.{Model}
+use prog.Routine.{Routine, Env}
+use prog.Wp.{Heap, Calls, Loops, WpFn, Tables, Closed}
 use ghost.Atoms.{Atoms, sem}
 use contract.Lifetimes.{Lfts}
 use contract.Monad.{fact}
+use contract.Running.{Running, GhostRules, givenOf, tables, tablesOf}
 use types.Kit.{Given, ‵, raw, _⊛_, given, ⋆, some, later, _$_, _∵_, !, qed, by, move, drop, use1, use2, split, join, learn, pick, fsplit, fjoin, suffices, frame, await, done}
 use types.Part.{whole, sub, look-in}
 use types.Run.{look, init, forget, stop, fld, from, load, of-opd, and-then, no-more, assigns, land, returns, enter, alloc1, alloc0, params1, pass1, pass0, free1, free0}
@@ -37,6 +40,7 @@ use denote.Triple.Call.{calls-at}
 use denote.Triple.Clauses.{Ended, Clauses, ensured, closing, lasts}
 use denote.Triple.Entry.{Vals, onEntry}
 use denote.Triple.Spec.{Meets, tripleOf}
+use denote.Triple.Table.{entered, cited}
 use denote.Triple.Walked.{says, Stays, stay-none, walkOf, goes-none, Walks, ends-at, walked, walk-meets}
 use denote.Exit.{yes}
 use Rattle.reader.specs.FieldRead.{Shown, shown}
@@ -176,6 +180,15 @@ module _ (answer : List ℕ → ℕ → Shown) {M : Type 1} (𝓤 : URA M) (H : 
         (λ κs qs bounds a g are. via 𝓤 _ (fst∗ 𝓤 _ (emp 𝓤)) (walk W (κs .0) (qs .0) (a .0) f C Λ fm known (LL.lawful (T.the-type (namedLft 1 0 tt κs)) (T′.the-laws (namedLft 1 0 tt κs)) 𝓤 H A W .typed (a .0) _ (are .0) .0)))
 
     -- where the function on the slice meets its contract, so does the reader's call
-    pub reader-meets : (𝓣 : Tables 𝓤 H) → Triple 𝓤 (𝓣 .C f) Callee → Meets 𝓤 H A (on-reader .signature) (WpFn 𝓤 H (𝓣 .C) (𝓣 .Λ) (thin f)) (closing 𝓤 H A on-reader AnswersReader)
+    reader-meets : (𝓣 : Tables 𝓤 H) → Triple 𝓤 (𝓣 .C f) Callee → Meets 𝓤 H A (on-reader .signature) (WpFn 𝓤 H (𝓣 .C) (𝓣 .Λ) (thin f)) (closing 𝓤 H A on-reader AnswersReader)
     reader-meets 𝓣 known = walk-meets 𝓤 H A on-reader stayed W (goes-none 𝓤 H A W 1 B yes (λ κs x f. refl), tt) AnswersReader (WpFn 𝓤 H (𝓣 .C) (𝓣 .Λ) (thin f)) (WpFn-mono 𝓤 H (W .laws) 𝓣 (thin f))
         (walks (𝓣 .C) (𝓣 .Λ) (fmOf 𝓤 H (W .laws) 𝓣) known)
+
+-- and so does its routine, from the theorem of that function
+pub reader-call : (answer : List ℕ → ℕ → Shown) {M : Type 1} (𝓤 : URA M) (H : Heap 𝓤) (𝓜 : Model 𝓤 H) (𝓖 : GhostRules 𝓤 H) (𝓡 : Running 𝓤 H 𝓜) (γ : Env) (k f : Name) (r : Routine)
+    → Closed 𝓤 H (tables 𝓤 H 𝓜 𝓡 γ .C) (tables 𝓤 H 𝓜 𝓡 γ .Λ) k (thin f) → γ f ≡ r → Triple 𝓤 (𝓡 .run r) (Callee answer 𝓤 H (𝓖 .A))
+    → Triple 𝓤 (𝓡 .run (γ k)) (tripleOf 𝓤 H (𝓖 .A) (on-reader .signature) (closing 𝓤 H (𝓖 .A) on-reader (AnswersReader answer 𝓤 H (𝓖 .A))))
+unfolding tablesOf
+reader-call answer 𝓤 H 𝓜 𝓖 𝓡 γ k f r closed calls met =
+    entered 𝓤 H _ (tables 𝓤 H 𝓜 𝓡 γ .C) (tables 𝓤 H 𝓜 𝓡 γ .Λ) k (thin f) closed
+    (reader-meets answer 𝓤 H (𝓖 .A) (givenOf 𝓤 H 𝓜 𝓖) f (tablesOf 𝓤 H 𝓜 (tables 𝓤 H 𝓜 𝓡 γ)) (cited 𝓤 H (Callee answer 𝓤 H (𝓖 .A)) 𝓜 𝓡 γ f r calls met))

@@ -14,6 +14,7 @@ use Rattle.stream.proofs.Events.{by-event, by-adds}
 use Rattle.receiver.specs.declared.State.{State}
 use Rattle.receiver.specs.declared.Report.{Report}
 use Rattle.receiver.specs.declared.Report.the-variants as report
+use Rattle.receiver.proofs.Entries.{at-report}
 use Rattle.receiver.specs.Calls.{Call, Chained, takenBy, stateBy, storeBy, entered, reportedBy}
 
 -- ---- events
@@ -75,10 +76,9 @@ chained-append stream st s t (c ∷ cs) ds a b = (a .0, chained-append stream (c
 
 pub entered-append : (r : Report) (at : ℕ) (s : List ℕ) (xs es fs : List Entry) → refusedIn (entered r at s es) ≡ false → (refusedIn es ≡ false → xs ≡ es ++ fs) → entered r at s xs ≡ entered r at s es ++ fs
 entered-append report.More at s xs es fs h f = f h
-entered-append (report.Event w) at s xs es fs h f = by-event C (λ v p c. rw (p, f (rw p at c))) (λ n c. absurd (true≢false c)) w h
-  where
-    C : Event → Type 0
-    C v = refusedIn (entered (report.Event v) at s es) ≡ false → entered (report.Event v) at s xs ≡ entered (report.Event v) at s es ++ fs
+entered-append (report.Event w) at s xs es fs h f =
+    by-event (λ v. refusedIn (entered (report.Event v) at s es) ≡ false → entered (report.Event v) at s xs ≡ entered (report.Event v) at s es ++ fs)
+    (λ v p c. rw (p, f (rw p at c))) (λ n c. absurd (true≢false c)) w h
 
 pub reported-append : (t : ℕ) (cs ds : List Call) → refusedIn (reportedBy t cs) ≡ false → reportedBy t (cs ++ ds) ≡ reportedBy t cs ++ reportedBy (takenBy t cs) ds
 reported-append t [] ds h = refl
@@ -94,8 +94,6 @@ pub reported-between : (t : ℕ) (cs : List Call) → Between t (takenBy t cs) (
 reported-between t [] = tt
 reported-between t (c ∷ cs) =
     let u = t + c .received .taken in
-    go (c .received .report) (takenBy u cs) (reportedBy u cs) (taken-more u cs) (between-later t u (takenBy u cs) (reportedBy u cs) (omega arith) (reported-between u cs))
-  where
-    go : (r : Report) (E : ℕ) (es : List Entry) → t + c .received .taken ≤ E → Between t E es → Between t E (entered r (t + c .received .taken) (c .store) es)
-    go report.More E es h b = b
-    go (report.Event w) E es h b = (omega arith, h, by-event (λ v. Between t E (passing v es (λ n. []))) (λ v p. rw p b) (λ n. tt) w)
+    let b = between-later t u (takenBy u cs) (reportedBy u cs) (omega arith) (reported-between u cs) in
+    at-report (λ (r : Report). Between t (takenBy u cs) (entered r u (c .store) (reportedBy u cs))) (c .received .report) (λ _. b)
+    (λ w _. (omega arith, taken-more u cs, by-event (λ v. Between t (takenBy u cs) (passing v (reportedBy u cs) (λ n. []))) (λ v p. rw p b) (λ n. tt) w))

@@ -1,7 +1,7 @@
 -- Where the bytes of a stage go, and that there is room for them.
 use Prim.Native.Nat.{ℕ, _≤_, zero-le}
 use mathlib.Core.Path.{_≡_}
-use mathlib.Core.Bool.{Bool, true, false, cond}
+use Rattle.refusal.proofs.Booleans.{at-cond}
 use native.Mathlib.Omega.{arith}
 use native.Mathlib.Nat.{le-refl}
 use lib.Dec.{leb}
@@ -18,11 +18,7 @@ use Rattle.receiver.specs.State.{sizeOf, placeOf, needed}
 
 least-epilogue : (revision : Revision) (h : Header) → epilogueLength revision h ≤ 32
 least-epilogue Msgr20 h = omega arith
-least-epilogue Msgr21 h = go (leb (h .count) 1)
-  where
-    go : (b : Bool) → cond b 0 13 ≤ 32
-    go true = zero-le
-    go false = omega arith
+least-epilogue Msgr21 h = at-cond (λ (n : ℕ). n ≤ 32) (leb (h .count) 1) zero-le (omega arith)
 
 -- what a stage reads fits its place
 abbrev Room : Place → ℕ → ℕ → Type 0

@@ -1,8 +1,9 @@
 -- Demand 3: the receiver is a machine, and what every list of calls on a machine comes to (Lists) is what the definition over whole streams says.
 use Prim.Native.Nat.{ℕ, zero-le}
 use mathlib.Core.List.{List, []}
-use mathlib.Core.Path.{_≡_, refl, sym, ap, _∙_}
+use mathlib.Core.Path.{_≡_, sym, ap, _∙_}
 use mathlib.Core.Bool.{true, false}
+use native.Mathlib.Omega.{arith}
 use native.Mathlib.Nat.{sub-zero}
 use lib.ListN.{take}
 use Rattle.refusal.specs.declared.Numbers.{Numbers}
@@ -11,18 +12,18 @@ use Rattle.banner.specs.declared.Features.{Features}
 use Rattle.banner.specs.Banner.{judgeOwn}
 use Rattle.stream.specs.Stream.{Entry, Trace, traceOf}
 use Rattle.stream.proofs.Laws.{trace-refused}
-use Rattle.stream.specs.Adds.{AddsUp, AllAddUp}
+use Rattle.stream.specs.Adds.{AllAddUp}
 use Rattle.stream.proofs.Sums.{all-add-up}
 use Rattle.receiver.specs.declared.Stage.the-variants as stage
 use Rattle.receiver.specs.declared.State.{State}
 use Rattle.receiver.specs.declared.Received.{Received}
 use Rattle.receiver.specs.State.{isRefused, agrees}
-use Rattle.receiver.specs.Step.{at, onlyOwn, started, answer, Answered, Running}
+use Rattle.receiver.specs.Step.{at, onlyOwn, started, startedBy, answer, Answered, Running}
 use Rattle.receiver.specs.Every.{unfinished, EveryCall}
 use Rattle.receiver.specs.Calls.{Call, Chained, takenBy, storeBy, reportedBy, AsDefined, Demand3}
 use Rattle.refusal.proofs.Booleans.{wrong}
-use Rattle.receiver.proofs.Machine.{Machine, refusedAgain}
-use Rattle.receiver.proofs.Machine as machine
+use Rattle.refusal.proofs.Judgements.{by-judgement}
+use Rattle.receiver.proofs.Machine.{Machine}
 use Rattle.receiver.proofs.Lists.{Comes, Standing, running, hasRefused, stays, every-list, uncut, same-end}
 use Rattle.receiver.proofs.Scan.{byteStep, scan, machineAnswer, machine-feed}
 use Rattle.receiver.proofs.Gathers.{traceBy}
@@ -30,7 +31,7 @@ use Rattle.receiver.proofs.Stages as stages
 use Rattle.receiver.proofs.Streams.{stream-trace}
 use Rattle.receiver.proofs.Live.{RefusedFor, byte-after, start-running, start-refused}
 use Rattle.receiver.proofs.Every.{feeding, refused-answer, sound}
-use Rattle.receiver.proofs.Adds.{bytes-add-up}
+use Rattle.receiver.proofs.Adds.{add-up}
 
 -- ---- the receiver as a machine
 
@@ -38,17 +39,6 @@ use Rattle.receiver.proofs.Adds.{bytes-add-up}
 answer-given : {st : State} {s piece : List ℕ} {r : Received} {s′ : List ℕ} → Answered st s piece r s′
     → record { received = r; store = s′ } ≡ answer st s piece
 answer-given a = rw (a .received, a .store)
-
-feeds : (st : State) (s piece : List ℕ) (c : Call) → Running st s → Answered st s piece (c .received) (c .store)
-    → machineAnswer (record { received = c .received; store = c .store }) ≡ machine.feed byteStep st s piece
-feeds st s piece c l a = ap machineAnswer (answer-given a ∙ feeding st s piece l) ∙ machine-feed st s piece
-
-repeats : (n : Numbers) (st : State) (s piece : List ℕ) (c : Call) → RefusedFor n st → Answered st s piece (c .received) (c .store)
-    → machineAnswer (record { received = c .received; store = c .store }) ≡ refusedAgain n st s
-repeats n st s piece c g a = ap machineAnswer (answer-given a ∙ refused-answer st s piece g)
-
-silent : (n : Numbers) (st : State) (s : List ℕ) (P : ℕ) (bs : List ℕ) → RefusedFor n st → (scan st s P bs .entries ≡ []) × (scan st s P bs .store ≡ s)
-silent n st s P bs g = let z = stages.refused-ends st s P bs (g .stage) in (ap (λ (t : Trace). t .entries) z, ap (λ (t : Trace). t .store) z)
 
 abbrev receiver : Machine
 receiver = record {
@@ -61,9 +51,9 @@ receiver = record {
   answer = λ c. machineAnswer (record { received = c .received; store = c .store });
   Answered = λ st s piece c. Answered st s piece (c .received) (c .store);
   keeps = byte-after;
-  silent = silent;
-  feeds = feeds;
-  repeats = repeats;
+  silent = λ n st s P bs g. (let z = stages.refused-ends st s P bs (g .stage) in (ap (λ (t : Trace). t .entries) z, ap (λ (t : Trace). t .store) z));
+  feeds = λ st s piece c l a. ap machineAnswer (answer-given a ∙ feeding st s piece l) ∙ machine-feed st s piece;
+  repeats = λ n st s piece c g a. ap machineAnswer (answer-given a ∙ refused-answer st s piece g);
 }
 
 standing-agrees : {st : State} {s : List ℕ} {es : List Entry} → Standing receiver st s es → agrees st ≡ true
@@ -72,17 +62,9 @@ standing-agrees (hasRefused n g) = g .agree
 
 -- ---- a start that is not refused
 
-started-fine : (own : Features) → judgeOwn (own .supported) (own .required) ≡ fine → started own ≡ at stage.Magic 0 (onlyOwn own noRefusal)
+started-by : (own : Features) {j : Judged} → judgeOwn (own .supported) (own .required) ≡ j → started own ≡ startedBy j own
 unfolding started
-started-fine own e = rw e
-
-started-refused : (own : Features) (n : Numbers) → judgeOwn (own .supported) (own .required) ≡ refused n → started own ≡ at stage.Refused 0 (onlyOwn own n)
-unfolding started
-started-refused own n e = rw e
-
-adding : (own : Features) (stream store : List ℕ) → AddsUp (traceOf own stream store .entries)
-unfolding AllAddUp
-adding own stream store = all-add-up own stream store
+started-by own e = rw e
 
 module _ (own : Features) (store : List ℕ) (ok : judgeOwn (own .supported) (own .required) ≡ fine) where
   abbrev start : State
@@ -90,7 +72,7 @@ module _ (own : Features) (store : List ℕ) (ok : judgeOwn (own .supported) (ow
 
   runs : (stream : List ℕ) (cs : List Call) → Chained stream (started own) store 0 cs
       → Comes receiver stream start store 0 0 start store cs (reportedBy 0 cs)
-  runs stream cs ch = every-list receiver stream start store 0 cs zero-le (start-running own store ok) (rw (started-fine own ok) at ch)
+  runs stream cs ch = every-list receiver stream start store 0 cs zero-le (start-running own store ok) (rw (started-by own ok) at ch)
 
   traced : (bytes : List ℕ) → traceBy (scan start store 0 bytes) ≡ traceOf own bytes store
   unfolding traceOf
@@ -102,8 +84,9 @@ module _ (own : Features) (store : List ℕ) (ok : judgeOwn (own .supported) (ow
   defines stream cs r = ap traceBy (sym (rw (sub-zero (takenBy 0 cs)) at (r .reached .scanned))) ∙ traced (take (takenBy 0 cs) stream)
 
   defined-live : (stream : List ℕ) (cs : List Call) → Chained stream (started own) store 0 cs → AsDefined own stream store cs
+  unfolding AllAddUp
   defined-live stream cs ch =
-      let s₀ = started-fine own ok in
+      let s₀ = started-by own ok in
       let r = runs stream cs ch in
       let d = defines stream cs r in
       let w = traced stream in
@@ -118,14 +101,14 @@ module _ (own : Features) (store : List ℕ) (ok : judgeOwn (own .supported) (ow
         same = λ stream′ cs′ ch′ e.
             let z = same-end receiver cs cs′ r (runs stream′ cs′ ch′) (rw (sub-zero (takenBy 0 cs), sub-zero (takenBy 0 cs′)) e) in
             (rw s₀ (z .0), z .1);
-        adds = rw (ok, ap (λ (t : Trace). t .entries) d) (adding own (take (takenBy 0 cs) stream) store);
+        adds = rw (ok, ap (λ (t : Trace). t .entries) d) (all-add-up own (take (takenBy 0 cs) stream) store);
         agreeing = rw s₀ (standing-agrees (r .standing));
       }
 
 -- ---- a start that is refused
 
 refused-start : (own : Features) (n : Numbers) → judgeOwn (own .supported) (own .required) ≡ refused n → RefusedFor n (started own)
-refused-start own n e = rw (started-refused own n e) (start-refused own n e)
+refused-start own n e = rw (started-by own e) (start-refused own n e)
 
 defined-refused : (own : Features) (stream store : List ℕ) (cs : List Call) (n : Numbers)
     → judgeOwn (own .supported) (own .required) ≡ refused n → Chained stream (started own) store 0 cs → AsDefined own stream store cs
@@ -148,30 +131,22 @@ defined-refused own stream store cs n not16 ch =
 
 -- the state of a start agrees with itself
 pub start-agrees : (own : Features) → agrees (started own) ≡ true
-start-agrees own = go (judgeOwn (own .supported) (own .required)) refl
-  where
-    go : (j : Judged) → judgeOwn (own .supported) (own .required) ≡ j → agrees (started own) ≡ true
-    go fine e = rw (started-fine own e) (start-running own [] e .agree)
-    go (refused n) e = refused-start own n e .agree
+start-agrees own =
+    by-judgement (judgeOwn (own .supported) (own .required)) (λ e. rw (started-by own e) (start-running own [] e .agree)) (λ n e. refused-start own n e .agree)
 
 -- and no byte is unfinished
 start-nothing : (own : Features) → isRefused (started own .position .stage) ≡ false → _≡_ {A = ℕ} 0 (unfinished (started own))
-start-nothing own = go (judgeOwn (own .supported) (own .required)) refl
-  where
-    go : (j : Judged) → judgeOwn (own .supported) (own .required) ≡ j → isRefused (started own .position .stage) ≡ false → _≡_ {A = ℕ} 0 (unfinished (started own))
-    go fine e l = rw (started-fine own e)
-    go (refused n) e l = rw (started-refused own n e)
+start-nothing own l =
+    by-judgement (judgeOwn (own .supported) (own .required)) (λ e. rw (started-by own e)) (λ n e. rw (started-by own e))
 
 -- DEMAND 3
 pub demand3 : Demand3
 unfolding Demand3
-demand3 own stream store cs ch = go (judgeOwn (own .supported) (own .required)) refl
-  where
-    go : (j : Judged) → judgeOwn (own .supported) (own .required) ≡ j → AsDefined own stream store cs
-    go fine e = defined-live own store e stream cs ch
-    go (refused n) e = defined-refused own stream store cs n e ch
+demand3 own stream store cs ch =
+    by-judgement (judgeOwn (own .supported) (own .required)) (λ e. defined-live own store e stream cs ch) (λ n e. defined-refused own stream store cs n e ch)
 
 -- WHAT HOLDS OF EVERY CALL
 pub every-call : EveryCall
 unfolding EveryCall
-every-call = (start-agrees, sound, λ own cs h. bytes-add-up own cs (start-agrees own) (start-nothing own) h)
+every-call =
+    (start-agrees, sound, λ own cs h. (let a = add-up 0 (started own) cs (record { agree = start-agrees own; counts = start-nothing own }) h in omega arith))

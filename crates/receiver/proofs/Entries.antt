@@ -7,6 +7,7 @@ use native.Mathlib.Omega.{arith}
 use borrow.Author.Tests.{le-leb, lt-leb}
 use Rattle.refusal.specs.declared.Numbers.{Numbers}
 use Rattle.refusal.specs.Refusals.{fine}
+use Rattle.stream.specs.declared.Event.{Event}
 use Rattle.stream.specs.declared.Event.the-variants as event
 use Rattle.stream.specs.Events.{judgeEvent, passing}
 use Rattle.stream.specs.Stream.{Entry, entry, refusedIn}
@@ -14,6 +15,11 @@ use Rattle.stream.proofs.Events.{by-event}
 use Rattle.receiver.specs.declared.Report.{Report}
 use Rattle.receiver.specs.declared.Report.the-variants as report
 use Rattle.receiver.specs.Calls.{entered, dueTaken, dueReport}
+
+-- a claim that names a report, by what it is
+pub at-report : (C : Report → Type 0) (r : Report) → (r ≡ report.More → C report.More) → ((e : Event) → r ≡ report.Event e → C (report.Event e)) → C r
+at-report C report.More m f = m refl
+at-report C (report.Event e) m f = f e refl
 
 -- the entries of a report, before later ones
 abbrev pub noted : Report → ℕ → List ℕ → List Entry → List Entry
@@ -71,14 +77,11 @@ abbrev pub Passes : Report → Type 0
 Passes report.More = Unit {0}
 Passes (report.Event w) = judgeEvent w ≡ fine
 
--- a report is a refusal, or is passed
-pub data Kind (r : Report) : Type 0 where
-  goesOn : Passes r → Kind r
-  ends : (n : Numbers) → r ≡ report.Event (event.Refused n) → Kind r
-
-pub kind : (r : Report) → Kind r
-kind report.More = goesOn tt
-kind (report.Event w) = by-event (λ v. Kind (report.Event v)) (λ v p. goesOn p) (λ n. ends n refl) w
+-- a report is passed, or is a refusal
+pub by-report : {C : Type 0} (r : Report) → (Passes r → C) → ((n : Numbers) → r ≡ report.Event (event.Refused n) → C) → C
+by-report report.More passed refusal = passed tt
+by-report {C} (report.Event w) passed refusal =
+    by-event (λ v. (Passes (report.Event v) → C) → ((n : Numbers) → report.Event v ≡ report.Event (event.Refused n) → C) → C) (λ v p f g. f p) (λ n f g. g n refl) w passed refusal
 
 pub enters : (r : Report) (t : ℕ) (s : List ℕ) (es : List Entry) → Passes r → entered r t s es ≡ noted r t s [] ++ es
 enters report.More t s es p = refl

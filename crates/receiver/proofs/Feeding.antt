@@ -1,7 +1,7 @@
 -- A machine that gathers (Gathers), fed with a piece: chunk after chunk gives what its bytes give one after the other.
 use Prim.Native.Nat.{ℕ, suc, _+_, _-_, _≤_, _<_, zero-le, min}
 use mathlib.Core.List.{List, [], _∷_, _++_}
-use mathlib.Core.Path.{_≡_, refl, sym, ap, ap₂, subst, _∙_}
+use mathlib.Core.Path.{_≡_, refl, sym, ap, _∙_}
 use mathlib.Core.Bool.{true, false}
 use native.Mathlib.Omega.{arith}
 use native.Mathlib.Numerals.{one-add}
@@ -31,10 +31,8 @@ onward-one report.More y a = refl
 onward-one (report.Event e) y a = refl
 
 one-more : {State : Type 0} (r : Report) (k : ℕ) (y : Stepped State) (a : Answer State) → behind 1 (onwards r k y a) ≡ onwards r (suc k) y a
-one-more {State} report.More k y a =
-    let e : 1 + (k + a .taken) ≡ suc k + a .taken = omega arith in
-    ap (λ (n : ℕ). record { state = a .state; taken = n; report = a .report; store = a .store }) e
-one-more {State} (report.Event v) k y a = ap (λ (n : ℕ). record { state = y .state; taken = n; report = report.Event v; store = y .store }) (one-add k)
+one-more report.More k y a = let e : 1 + (k + a .taken) ≡ suc k + a .taken = omega arith in rw e
+one-more (report.Event v) k y a = rw (one-add k)
 
 onwards-report : {State : Type 0} (r : Report) (k : ℕ) (y : Stepped State) (a : Answer State) → isMore r ≡ false
     → onwards r k y a ≡ record { state = y .state; taken = k; report = r; store = y .store }
@@ -52,14 +50,10 @@ module _ (g : Gathering) where
   abbrev then : ℕ → Stepped (g .State) → List ℕ → Answer (g .State)
   then k y ys = onwards (y .report) k y (feed (byteStep g) (y .state) (y .store) ys)
 
-  feed-one : (x : g .State) (s : List ℕ) (b : ℕ) (bs : List ℕ)
-      → feed (byteStep g) x s (b ∷ bs) ≡ (let y = byteStep g x s b in onward (y .report) y (feed (byteStep g) (y .state) (y .store) bs))
-  unfolding feed
-  feed-one x s b bs = refl
-
   feed-chunk : (x : g .State) (s : List ℕ) (b : ℕ) (bs ys : List ℕ) → g .got x + length (b ∷ bs) ≤ g .size x
       → feed (byteStep g) x s (b ∷ bs ++ ys) ≡ then (length (b ∷ bs)) (chunk g x s (b ∷ bs)) ys
-  feed-chunk x s b [] ys h = (let y = byteStep g x s b in feed-one x s b ys ∙ onward-one (y .report) y (feed (byteStep g) (y .state) (y .store) ys))
+  unfolding feed
+  feed-chunk x s b [] ys h = let y = byteStep g x s b in onward-one (y .report) y (feed (byteStep g) (y .state) (y .store) ys)
   feed-chunk x s b (c ∷ cs) ys h =
       let k : g .got x + 1 < g .size x = omega arith in
       let x′ = g .absorbed x (b ∷ []) in
@@ -71,10 +65,7 @@ module _ (g : Gathering) where
       let e : feed (byteStep g) x′ s′ (c ∷ cs ++ ys) ≡ then (length (c ∷ cs)) y ys =
       feed-chunk x′ s′ c cs ys z ∙ ap (λ (q : Stepped (g .State)). then (length (c ∷ cs)) q ys) (chunk-append g x s (b ∷ []) (c ∷ cs))
       in
-      feed-one x s b (c ∷ cs ++ ys)
-      ∙ ap (λ (q : Stepped (g .State)). onward (q .report) q (feed (byteStep g) (q .state) (q .store) (c ∷ cs ++ ys))) (inside g x s (b ∷ []) k)
-      ∙ ap (behind 1) e
-      ∙ one-more (y .report) (length (c ∷ cs)) y (feed (byteStep g) (y .state) (y .store) ys)
+      rw (inside g x s (b ∷ []) k, e) (one-more (y .report) (length (c ∷ cs)) y (feed (byteStep g) (y .state) (y .store) ys))
 
   -- a piece from its first m bytes on
   feed-step : (x : g .State) (s piece : List ℕ) (m : ℕ) → 0 < m → m ≤ length piece → g .got x + m ≤ g .size x
@@ -89,17 +80,11 @@ module _ (g : Gathering) where
   pub held : ((x : g .State) → g .absorbed x [] ≡ x) → (x : g .State) (s piece : List ℕ) → g .got x + length piece < g .size x
       → feed (byteStep g) x s piece ≡ record { state = g .absorbed x piece; taken = length piece; report = report.More; store = g .stored x s piece }
   unfolding feed
-  held none x s [] l = sym (ap₂ (λ (y : g .State) (t : List ℕ). record { state = y; taken = 0; report = report.More; store = t }) (none x) (g .stored-none x s))
+  held none x s [] l = rw (none x, g .stored-none x s)
   held none x s (b ∷ bs) l =
       let p : List ℕ = b ∷ bs in
       let n : ℕ = length p in
-      let x′ = g .absorbed x p in
-      let s′ = g .stored x s p in
-      feed-step x s p n (omega arith) (le-refl n) (omega arith)
-      ∙ ap (λ (xs : List ℕ). then n (chunk g x s xs) (drop n p)) (take-all n p (le-refl n))
-      ∙ ap (λ (y : Stepped (g .State)). then n y (drop n p)) (inside g x s p l)
-      ∙ ap (λ (q : List ℕ). behind n (feed (byteStep g) x′ s′ q)) (drop-of-length-le p {i = n} (le-refl n))
-      ∙ ap (λ (k : ℕ). record { state = x′; taken = k; report = report.More; store = s′ }) (add-zero n)
+      feed-step x s p n (omega arith) (le-refl n) (omega arith) ∙ rw (take-all n p (le-refl n), inside g x s p l, drop-of-length-le p {i = n} (le-refl n), add-zero n)
 
   -- as many bytes as are still to be gathered, or as the piece has
   abbrev pub fitting : g .State → List ℕ → ℕ
@@ -123,22 +108,12 @@ pub record Midway {g : Gathering} (w : Lasting g) (piece store₀ : List ℕ) (x
 
 module _ {g : Gathering} (w : Lasting g) where
   pub begin : (piece s : List ℕ) (x : g .State) → w .Running x s → Midway w piece s x s x 0
-  begin piece s x r =
-      let f = feed (byteStep g) x s piece in
-      record {
-        within = zero-le;
-        running = r;
-        fed = ap (λ (n : ℕ). record { state = f .state; taken = n; report = f .report; store = f .store }) (sym (zero-add (f .taken)));
-        same = refl;
-      }
+  begin piece s x r = record { within = zero-le; running = r; fed = rw zero-add; same = refl }
 
   pub finished : {piece store₀ : List ℕ} {x₀ : g .State} {store : List ℕ} {x : g .State} {at : ℕ} → Midway w piece store₀ x₀ store x at → length piece ≤ at
       → feed (byteStep g) x₀ store₀ piece ≡ record { state = x; taken = at; report = report.More; store = store }
   unfolding feed
-  finished {piece} {store₀} {x₀} {store} {x} {at} m l =
-      m .fed
-      ∙ ap (λ (p : List ℕ). behind at (feed (byteStep g) x store p)) (drop-of-length-le piece {i = at} l)
-      ∙ ap (λ (n : ℕ). record { state = x; taken = n; report = report.More; store = store }) (add-zero at)
+  finished {piece} {at = at} m l = m .fed ∙ rw (drop-of-length-le piece {i = at} l, add-zero at)
 
 -- one turn: a chunk of what is left of the piece, of n bytes, came to y, and the store is as long as it was
 pub record Turn {g : Gathering} (w : Lasting g) (piece store₀ : List ℕ) (x₀ : g .State) (store : List ℕ) (x : g .State) (at n : ℕ) (y : Stepped (g .State)) : Type 0 where
@@ -163,10 +138,7 @@ module _ {g : Gathering} {w : Lasting g} {piece store₀ : List ℕ} {x₀ : g .
   taken = t .taken ∙ ap (fitting g x) (rest-is piece at)
 
   chunked : y ≡ chunk g x store (take n left)
-  chunked =
-      t .step
-      ∙ ap (λ (p : List ℕ). chunk g x store (take (fitting g x p) p)) (rest-is piece at)
-      ∙ ap (λ (k : ℕ). chunk g x store (take k left)) (sym taken)
+  chunked = t .step ∙ rw (rest-is piece at, ← taken)
 
   pub progress : 0 < n
   progress = omega (arith, taken, left-is, unfilled, t .some)
@@ -175,28 +147,13 @@ module _ {g : Gathering} {w : Lasting g} {piece store₀ : List ℕ} {x₀ : g .
   within = omega (arith, taken, left-is, t .some)
 
   on : feed (byteStep g) x store left ≡ then g n y (drop (at + n) piece)
-  on =
-      feed-step g x store left n progress (omega (arith, taken, left-is)) (omega (arith, taken, unfilled))
-      ∙ ap (λ (q : Stepped (g .State)). then g n q (drop n left)) (sym chunked)
-      ∙ ap (then g n y) (drop-drop n at piece)
+  on = feed-step g x store left n progress (omega (arith, taken, left-is)) (omega (arith, taken, unfilled)) ∙ rw (← chunked, drop-drop n at piece)
 
   pub again : isMore (y .report) ≡ true → Midway w piece store₀ x₀ (y .store) (y .state) (at + n)
   again e =
       let q = is-more (y .report) e in
-      let f = feed (byteStep g) (y .state) (y .store) (drop (at + n) piece) in
-      let after : After (w .Running) (w .RefusedFor) (y .report) (y .state) (y .store) =
-      subst (λ (z : Stepped (g .State)). After (w .Running) (w .RefusedFor) (z .report) (z .state) (z .store)) (sym chunked)
-      (w .keeps x store (take n left) (t .midway .running))
-      in
-      record {
-        within = within;
-        running = rw q at after;
-        fed =
-            t .midway .fed
-            ∙ ap (behind at) (on ∙ ap (λ (r : Report). onwards r n y f) q)
-            ∙ ap (λ (i : ℕ). record { state = f .state; taken = i; report = f .report; store = f .store }) (sym (add-assoc at n (f .taken)));
-        same = t .kept ∙ t .midway .same;
-      }
+      let after : After (w .Running) (w .RefusedFor) (y .report) (y .state) (y .store) = rw chunked (w .keeps x store (take n left) (t .midway .running)) in
+      record { within = within; running = rw q at after; fed = t .midway .fed ∙ rw (on, q, add-assoc); same = t .kept ∙ t .midway .same }
 
   pub reported : isMore (y .report) ≡ false
       → feed (byteStep g) x₀ store₀ piece ≡ record { state = y .state; taken = at + n; report = y .report; store = y .store }

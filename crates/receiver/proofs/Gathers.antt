@@ -2,7 +2,7 @@
 -- within what is gathered, or fills it.
 use Prim.Native.Nat.{ℕ, suc, _+_, _-_, _≤_, _<_}
 use mathlib.Core.List.{List, [], _∷_, _++_, append-nil}
-use mathlib.Core.Path.{_≡_, refl, sym, ap, ap₂, _∙_}
+use mathlib.Core.Path.{_≡_, refl, sym, ap, _∙_}
 use mathlib.Core.Bool.{Bool, true, false}
 use native.Mathlib.Omega.{arith}
 use native.Mathlib.Numerals.{add-one}
@@ -11,10 +11,11 @@ use lib.ListN.{length, take, drop, length-append, take-append-drop}
 use lib.Seq.{length-take-le}
 use lib.Dec.{ltb}
 use borrow.Author.Tests.{lt-ltb, le-ltb}
+use Rattle.refusal.proofs.Booleans.{by-less}
 use Rattle.stream.specs.Stream.{Trace, ended, after}
 use Rattle.receiver.specs.declared.Report.{Report}
 use Rattle.receiver.specs.declared.Report.the-variants as report
-use Rattle.receiver.proofs.Machine.{Stepped, Scanned, with, scan, scan-none, scan-one}
+use Rattle.receiver.proofs.Machine.{Stepped, Scanned, with, scan, scan-none}
 
 -- so many bytes and more
 pub got-append : (got : ℕ) (xs ys : List ℕ) → (got + length xs) + length ys ≡ got + length (xs ++ ys)
@@ -56,30 +57,23 @@ module _ (g : Gathering) where
   byteStep x s b = chunk x s (b ∷ [])
 
   pub chunk-append : (x : g .State) (s xs ys : List ℕ) → chunk (g .absorbed x xs) (g .stored x s xs) ys ≡ chunk x s (xs ++ ys)
-  chunk-append x s xs ys =
-      let y = g .absorbed x xs in
-      ap₂ (λ (z : g .State) (t : List ℕ). g .reached z t (ltb (g .got y + length ys) (g .size y))) (g .absorbed-append x xs ys) (g .stored-append x s xs ys)
-      ∙ ap₂ (λ (n m : ℕ). g .reached (g .absorbed x (xs ++ ys)) (g .stored x s (xs ++ ys)) (ltb n m))
-      (ap (λ (n : ℕ). n + length ys) (g .got-absorbed x xs) ∙ got-append (g .got x) xs ys) (g .size-absorbed x xs)
+  chunk-append x s xs ys = rw (chunk, g .absorbed-append x xs ys, g .stored-append x s xs ys, g .got-absorbed x xs, got-append (g .got x) xs ys, g .size-absorbed x xs)
 
   -- bytes before the last one are silent
   pub inside : (x : g .State) (s xs : List ℕ) → g .got x + length xs < g .size x
       → chunk x s xs ≡ record { state = g .absorbed x xs; store = g .stored x s xs; report = report.More }
-  inside x s xs h =
-      ap (g .reached (g .absorbed x xs) (g .stored x s xs)) (lt-ltb (g .got x + length xs) (g .size x) h) ∙ g .silent (g .absorbed x xs) (g .stored x s xs)
+  inside x s xs h = rw (chunk, lt-ltb (g .got x + length xs) (g .size x) h) (g .silent (g .absorbed x xs) (g .stored x s xs))
 
   pub scan-chunk : (x : g .State) (s : List ℕ) (P b : ℕ) (bs ys : List ℕ) → g .got x + length (b ∷ bs) ≤ g .size x
       → scan byteStep x s P (b ∷ bs ++ ys) ≡ (let y = chunk x s (b ∷ bs) in with (y .report) (P + length (b ∷ bs)) (y .store) (scan byteStep (y .state) (y .store) (P + length (b ∷ bs)) ys))
-  scan-chunk x s P b [] ys h = scan-one byteStep x s P b ys ∙ rw (add-one P)
+  unfolding scan
+  scan-chunk x s P b [] ys h = rw (add-one P)
   scan-chunk x s P b (c ∷ cs) ys h =
       let k : g .got x + 1 < g .size x = omega arith in
       let z : g .got (g .absorbed x (b ∷ [])) + length (c ∷ cs) ≤ g .size (g .absorbed x (b ∷ [])) = rw (g .got-absorbed x (b ∷ []), g .size-absorbed x (b ∷ [])) (omega arith) in
       let ih = scan-chunk (g .absorbed x (b ∷ [])) (g .stored x s (b ∷ [])) (suc P) c cs ys z in
       let p : suc P + length (c ∷ cs) ≡ P + length (b ∷ c ∷ cs) = omega arith in
-      scan-one byteStep x s P b (c ∷ cs ++ ys)
-      ∙ ap (λ (y : Stepped (g .State)). with (y .report) (suc P) (y .store) (scan byteStep (y .state) (y .store) (suc P) (c ∷ cs ++ ys))) (inside x s (b ∷ []) k)
-      ∙ ih
-      ∙ ap₂ (λ (n : ℕ) (y : Stepped (g .State)). with (y .report) n (y .store) (scan byteStep (y .state) (y .store) n ys)) p (chunk-append x s (b ∷ []) (c ∷ cs))
+      rw (inside x s (b ∷ []) k) (ih ∙ rw (p, chunk-append x s (b ∷ []) (c ∷ cs)))
 
   -- what a step and the bytes behind it come to
   abbrev pub run : Stepped (g .State) → ℕ → List ℕ → Trace
@@ -98,21 +92,21 @@ module _ (g : Gathering) where
   short x s P (b ∷ bs) h =
       ap (λ (l : List ℕ). traceBy (scan byteStep x s P l)) (sym (append-nil (b ∷ bs)))
       ∙ chunk-trace x s P b bs [] (omega arith)
-      ∙ ap (λ (y : Stepped (g .State)). run y (P + length (b ∷ bs)) []) (inside x s (b ∷ bs) h)
-      ∙ ap traceBy (scan-none byteStep (g .absorbed x (b ∷ bs)) (g .stored x s (b ∷ bs)) (P + length (b ∷ bs)))
+      ∙ rw (inside x s (b ∷ bs) h, scan-none byteStep)
 
   -- n of them fill it
   filled : (x : g .State) (s : List ℕ) (P : ℕ) (xs ys : List ℕ) → 0 < length xs → g .got x + length xs ≡ g .size x
       → traceBy (scan byteStep x s P (xs ++ ys)) ≡ run (g .reached (g .absorbed x xs) (g .stored x s xs) false) (P + length xs) ys
   filled x s P [] ys h e = absurd (omega arith)
-  filled x s P (b ∷ bs) ys h e =
-      chunk-trace x s P b bs ys (omega arith)
-      ∙ ap (λ (t : Bool). run (g .reached (g .absorbed x (b ∷ bs)) (g .stored x s (b ∷ bs)) t) (P + length (b ∷ bs)) ys) (le-ltb (g .got x + length (b ∷ bs)) (g .size x) (omega arith))
+  filled x s P (b ∷ bs) ys h e = chunk-trace x s P b bs ys (omega arith) ∙ rw (chunk, le-ltb (g .got x + length (b ∷ bs)) (g .size x) (omega arith))
 
   pub full : (x : g .State) (s : List ℕ) (P n : ℕ) (ys : List ℕ) → 0 < n → g .got x + n ≡ g .size x → n ≤ length ys
       → traceBy (scan byteStep x s P ys) ≡ run (g .reached (g .absorbed x (take n ys)) (g .stored x s (take n ys)) false) (P + n) (drop n ys)
   full x s P n ys h e l =
       let k : length (take n ys) ≡ n = length-take-le n ys l in
-      ap (λ (t : List ℕ). traceBy (scan byteStep x s P t)) (sym (take-append-drop n ys))
-      ∙ filled x s P (take n ys) (drop n ys) (omega arith) (omega arith)
-      ∙ ap (λ (m : ℕ). run (g .reached (g .absorbed x (take n ys)) (g .stored x s (take n ys)) false) (P + m) (drop n ys)) k
+      ap (λ (t : List ℕ). traceBy (scan byteStep x s P t)) (sym (take-append-drop n ys)) ∙ filled x s P (take n ys) (drop n ys) (omega arith) (omega arith) ∙ rw k
+
+  -- both at once
+  pub staged : (x : g .State) (s : List ℕ) (P n : ℕ) (ys : List ℕ) {t : Trace} → 0 < n → g .got x + n ≡ g .size x → (length ys < n → ended (g .stored x s ys) ≡ t)
+      → (n ≤ length ys → run (g .reached (g .absorbed x (take n ys)) (g .stored x s (take n ys)) false) (P + n) (drop n ys) ≡ t) → traceBy (scan byteStep x s P ys) ≡ t
+  staged x s P n ys h e within past = by-less (length ys) n (λ l. short x s P ys (omega arith) ∙ within l) (λ l. full x s P n ys h e l ∙ past l)

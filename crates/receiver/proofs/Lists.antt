@@ -13,8 +13,8 @@ use Rattle.stream.specs.declared.Event.the-variants as event
 use Rattle.stream.specs.Stream.{Entry, refusedIn}
 use Rattle.receiver.specs.declared.Report.the-variants as report
 use Rattle.receiver.specs.Calls.{pieceAt, entered, dueTaken, dueReport}
-use Rattle.receiver.proofs.Entries.{noted, noted-append, next-due, Skips, Stops, skips-none, skips-noted, stops-refusal, Kind, goesOn, ends, kind, enters, clean-noted}
-use Rattle.receiver.proofs.Machine.{Machine, Answer, Scanned, before, feed, scan, scan-none, scan-append, scan-behind, AsScan, feed-scan, After, passed-running, feed-after}
+use Rattle.receiver.proofs.Entries.{noted, noted-append, next-due, Skips, Stops, skips-none, skips-noted, stops-refusal, by-report, enters, clean-noted}
+use Rattle.receiver.proofs.Machine.{Machine, Answer, Scanned, before, scan, scan-none, scan-append, scan-behind, AsScan, feed-scan, After, passed-running, fed-after}
 
 module _ (m : Machine) where
   -- ---- what a list of calls is, and what it comes to: clause by clause as of the receiver (Calls), whose own names so compute to these
@@ -69,17 +69,9 @@ module _ (m : Machine) where
       → m .RefusedFor n x → Chained stream x s t cs → Stays n t x s cs
   stays n stream t x s [] g ch = record { taken = refl; state = refl; store = refl; repeats = tt }
   stays n stream t x s (c ∷ cs) g ch =
-      let a = m .answer c in
       let e = m .repeats n x s (pieceAt stream t (m .size c)) c g (ch .0) in
-      let k : a .taken ≡ 0 = ap (λ (y : Answer (m .State)). y .taken) e in
-      let q : a .state ≡ x = ap (λ (y : Answer (m .State)). y .state) e in
-      let r = stays n stream (t + a .taken) (a .state) (a .store) cs (rw q g) (ch .1) in
-      record {
-        taken = r .taken ∙ rw k (add-zero t);
-        state = r .state ∙ q;
-        store = r .store ∙ ap (λ (y : Answer (m .State)). y .store) e;
-        repeats = (k, ap (λ (y : Answer (m .State)). y .report) e, r .repeats);
-      }
+      let r = stays n stream t x s cs g (rw (e, add-zero t) at (ch .1)) in
+      record { taken = rw (e, add-zero t) (r .taken); state = rw e (r .state); store = rw e (r .store); repeats = rw e (refl, refl, r .repeats) }
 
   each-repeats : (n : Numbers) (stream : List ℕ) (t : ℕ) (es fs : List Entry) (cs : List (m .Call))
       → Stops n t es → Repeats n cs → Each (es ++ fs) stream t cs
@@ -159,14 +151,11 @@ module _ (m : Machine) where
       abbrev es′ : List Entry
       es′ = es ++ noted (a .report) t′ (a .store) []
 
-      fed : a ≡ feed (m .onByte) x s piece
-      fed = m .feeds x s piece c live promise
-
       takes : AsScan (m .onByte) x s piece t a
-      takes = rw fed (feed-scan (m .onByte) x s piece t)
+      takes = rw (m .feeds x s piece c live promise) (feed-scan (m .onByte) x s piece t)
 
       after : After (m .Running) (m .RefusedFor) (a .report) (a .state) (a .store)
-      after = rw fed (feed-after (m .Running) (m .RefusedFor) (m .onByte) (m .keeps) x s piece live)
+      after = fed-after m x s piece c live promise
 
       next : Reached t′ (a .state) (a .store) es′
       next =
@@ -196,17 +185,17 @@ module _ (m : Machine) where
         joined : {gs : List Entry} {fs : List Entry} → gs ≡ fs → Comes t′ (a .state) (a .store) cs fs → Comes t x s (c ∷ cs) gs
         joined e r = rw e (record { reached = r .reached; each = (due .0, due .1, r .each); standing = r .standing })
 
-        by-kind : Kind (a .report) → refusedIn es ≡ false
+        next-comes : refusedIn es ≡ false
             → (m .Running (a .state) (a .store) → Skips t′ es′ → refusedIn es′ ≡ false → Comes t′ (a .state) (a .store) cs (es′ ++ reportedBy t′ cs))
             → Comes t x s (c ∷ cs) (es ++ entered (a .report) t′ (a .store) (reportedBy t′ cs))
-        by-kind (goesOn p) clean ih =
+        next-comes clean ih =
             let l : t ≤ t′ = omega arith in
+            by-report (a .report)
+            (λ p.
             let live′ = passed-running (m .Running) (m .RefusedFor) (a .report) (a .state) (a .store) p after in
             joined (rw (enters (a .report) t′ (a .store) (reportedBy t′ cs) p, ← append-assoc))
-            (ih live′ (skips-noted (a .report) t t′ (a .store) es p l sk) (clean-noted (a .report) t′ (a .store) es p clean))
-        by-kind (ends n q) clean ih =
-            let l : t ≤ t′ = omega arith in
-            joined (rw q) (after-refusal next n cs (rw q at after) (rw q (stops-refusal t t′ n (a .store) es l sk)) ch)
+            (ih live′ (skips-noted (a .report) t t′ (a .store) es p l sk) (clean-noted (a .report) t′ (a .store) es p clean)))
+            (λ n q. joined (rw q) (after-refusal next n cs (rw q at after) (rw q (stops-refusal t t′ n (a .store) es l sk)) ch))
 
     live-run : (t : ℕ) (x : m .State) (s : List ℕ) (es : List Entry) (cs : List (m .Call))
         → Reached t x s es → m .Running x s → Skips t es → refusedIn es ≡ false → Chained stream x s t cs → Comes t x s cs (es ++ reportedBy t cs)
@@ -215,7 +204,7 @@ module _ (m : Machine) where
         let a = m .answer c in
         let es′ = es ++ noted (a .report) (t + a .taken) (a .store) [] in
         let n = next h live sk c (ch .0) in
-        by-kind h live sk c (ch .0) cs (ch .1) (kind (a .report)) clean
+        next-comes h live sk c (ch .0) cs (ch .1) clean
         (λ live′ sk′ clean′. live-run (t + a .taken) (a .state) (a .store) es′ cs n live′ sk′ clean′ (ch .1))
 
     -- EVERY LIST OF CALLS

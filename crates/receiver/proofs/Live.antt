@@ -1,22 +1,22 @@
 -- What the step keeps: a receiver that is not refused has its fields in order, and a refusal leaves it refused.
 use Prim.Native.Nat.{ℕ, suc, _+_, _≤_, _<_, zero-le}
 use mathlib.Core.List.{List, [], _∷_}
-use mathlib.Core.Path.{_≡_, refl, ap, _∙_}
+use mathlib.Core.Path.{_≡_, refl, sym, ap, _∙_}
 use mathlib.Core.Bool.{Bool, true, false, not, cond, _&&_, _||_}
 use native.Mathlib.Omega.{arith}
+use native.Mathlib.Nat.{le-refl}
 use lib.ListN.{length, take, drop, getD}
 use lib.Seq.{length-sets}
 use lib.Dec.{lit<, leb, ltb, eqb}
 use borrow.Author.Tests.{eqb-true, lt-ltb, ltb-true, leb-true, leb-false, le-leb, not-true}
 use Rattle.buffer.specs.Le.{numberAt}
 use Rattle.refusal.specs.declared.Numbers.{Numbers}
-use Rattle.refusal.specs.declared.Refusal.the-variants as refusal
-use Rattle.refusal.specs.Refusals.{Judged, fine, refused, row, unless, isFine, noRefusal}
+use Rattle.refusal.specs.Refusals.{Judged, fine, refused, row, isFine, noRefusal}
 use Rattle.banner.specs.declared.Features.{Features}
 use Rattle.banner.specs.declared.Revision.{Revision}
 use Rattle.banner.specs.declared.Revision.the-variants.{Msgr20, Msgr21}
-use Rattle.banner.specs.Bits.{missing, lowestBit, bitCount}
-use Rattle.banner.specs.Banner.{magic, sameFrom, judgeOwn, judgeMagic, judgeLength, judgeMissing, judgeFeatures, revisionOf, featuresOf, sameRevision}
+use Rattle.banner.specs.Bits.{missing}
+use Rattle.banner.specs.Banner.{magic, sameFrom, judgeOwn, judgeMagic, judgeLength, judgeFeatures, revisionOf, featuresOf, sameRevision}
 use Rattle.preamble.specs.declared.Header.{Header}
 use Rattle.preamble.specs.Layout.{total}
 use Rattle.preamble.specs.Judge.{headerOf, judgeHeader, judgePreamble}
@@ -26,7 +26,7 @@ use Rattle.body.specs.declared.Late.{Late}
 use Rattle.body.specs.declared.Late.the-variants as late
 use Rattle.body.specs.Body.{segmentSum, segments, epilogueFrom, inEpilogue, noFirstSum, noEpilogue}
 use Rattle.body.specs.End as ended
-use Rattle.body.specs.End.{Ended, whole, dropped, refusedFor, compareFrom, compared, unusedFrom, judgeSpelling, byLate, endUnlessRefused, lateOf, ending}
+use Rattle.body.specs.End.{Ended, whole, dropped, refusedFor, compareFrom, unusedFrom, judgeSpelling, byLate, lateOf, ending}
 use Rattle.stream.specs.Stream.{zeroed}
 use Rattle.receiver.specs.declared.Stage.{Stage}
 use Rattle.receiver.specs.declared.Stage.the-variants as stage
@@ -36,9 +36,9 @@ use Rattle.receiver.specs.declared.Known.{Known}
 use Rattle.receiver.specs.declared.State.{State}
 use Rattle.receiver.specs.declared.Report.{Report}
 use Rattle.buffer.specs.Zeros.{allZero}
-use Rattle.receiver.specs.State.{rank, stageOf, sizeOf, placeOf, isRefused, inBody, needed, blank, hasFirstSum, given, ownRule, payloadRule, peerRule, revisionRule, headerRule, firstSumRule, firstRule, refusalRule, rules, leastOf, countRule, inBlock, blockRule, agreesAt, agrees}
-use Rattle.receiver.specs.Step.{at, onlyOwn, withPayload, withPeer, withRevision, withHeader, withFirst, nextFrame, refusedState, blockWith, storeWith, absorbed, stored, size, Stepped, silent, refuse, unlessRefused, endBanner, endFrame, beginEpilogue, beginRest, beginBody, reportFirst, behindFirstSum, reached, chunk, finish, onByte, feed, Running}
-use Rattle.refusal.proofs.Booleans.{wrong, both-left, both-right}
+use Rattle.receiver.specs.State.{stageOf, sizeOf, placeOf, isRefused, needed, blank, hasFirstSum, given, ownRule, payloadRule, peerRule, revisionRule, headerRule, firstSumRule, firstRule, refusalRule, rules, leastOf, countRule, inBlock, blockRule, agreesAt, agrees}
+use Rattle.receiver.specs.Step.{at, onlyOwn, withPayload, withPeer, withRevision, withHeader, withFirst, nextFrame, refusedState, blockWith, storeWith, absorbed, stored, size, Stepped, refuse, unlessRefused, endBanner, endFrame, beginEpilogue, beginRest, beginBody, reportFirst, behindFirstSum, reached, chunk, finish, onByte, feed, neededBy, Running}
+use Rattle.refusal.proofs.Booleans.{by-test, at-test, by-cond, at-cond, wrong, both-left, both-right, each-true, both-true}
 use Rattle.receiver.proofs.Ranks.{stage-at}
 use Rattle.buffer.proofs.Sets.{drop-sets}
 use Rattle.buffer.proofs.Zeros.{zeros-later}
@@ -61,9 +61,7 @@ Given = Allowed ofBytes
 given-features : (a b c d : ℕ) → Given (judgeFeatures a b c d)
 unfolding judgeFeatures
 given-features a b c d =
-    let k3 : Given (judgeMissing refusal.PeerRequires (missing 64 d a)) = allowed-cond ofBytes (eqb (missing 64 d a) 0) (row 3 (missing 64 d a) (lowestBit 64 (missing 64 d a)) (bitCount 64 (missing 64 d a))) refl in
-    let k4 : Given (judgeMissing refusal.PeerLacks (missing 64 b c)) = allowed-cond ofBytes (eqb (missing 64 b c) 0) (row 4 (missing 64 b c) (lowestBit 64 (missing 64 b c)) (bitCount 64 (missing 64 b c))) refl in
-    allowed-or ofBytes k3 (allowed-or ofBytes k4 (allowed-fine ofBytes))
+    allowed-or ofBytes (allowed-cond ofBytes (eqb (missing 64 d a) 0) _ refl) (allowed-or ofBytes (allowed-cond ofBytes (eqb (missing 64 b c) 0) _ refl) (allowed-fine ofBytes))
 
 given-preamble : (bs : List ℕ) (n : ℕ) → Given (judgePreamble bs n)
 unfolding judgePreamble
@@ -72,25 +70,15 @@ given-preamble bs n = allowed-preamble ofBytes refl (λ _. refl) (λ _. refl) (�
 given-compare : (count k : ℕ) (fs : List ℕ) (ss : List (List ℕ)) → Given (compareFrom count k fs ss)
 given-compare count k [] ss = allowed-fine ofBytes
 given-compare count k (f ∷ fs) ss =
-    let one : Given (unless (ltb count k || eqb f (segmentSum (getD ss 0 []))) (refusal.SegmentChecksum k)) = allowed-cond ofBytes (ltb count k || eqb f (segmentSum (getD ss 0 []))) (row 11 k 0 0) refl in
-    allowed-or ofBytes one (given-compare count (suc k) fs (drop 1 ss))
+    allowed-or ofBytes (allowed-cond ofBytes (ltb count k || eqb f (segmentSum (getD ss 0 []))) (row 11 k 0 0) refl) (given-compare count (suc k) fs (drop 1 ss))
 
 given-unused : (count k : ℕ) (fs : List ℕ) → Given (unusedFrom count k fs)
 given-unused count k [] = allowed-fine ofBytes
-given-unused count k (f ∷ fs) =
-    let one : Given (unless (leb k count || eqb f 0) (refusal.NonCanonical k)) = allowed-cond ofBytes (leb k count || eqb f 0) (row 24 k 0 0) refl in
-    allowed-or ofBytes one (given-unused count (suc k) fs)
+given-unused count k (f ∷ fs) = allowed-or ofBytes (allowed-cond ofBytes (leb k count || eqb f 0) (row 24 k 0 0) refl) (given-unused count (suc k) fs)
 
 given-flags : (revision : Revision) (b : ℕ) → Given (ended.judgeLateFlags revision b)
 given-flags Msgr20 b = allowed-cond ofBytes (ltb b 2) (row 24 0 0 0) refl
 given-flags Msgr21 b = allowed-fine ofBytes
-
-given-spelling : (revision : Revision) (h : Header) (e : List ℕ) → Given (judgeSpelling revision h e)
-given-spelling revision h e = allowed-or ofBytes (given-unused (h .count) (epilogueFrom revision) (ended.stored revision e)) (given-flags revision (getD e 0 0))
-
-given-compared : (revision : Revision) (h : Header) (e p : List ℕ) → Given (compared revision h e p)
-given-compared revision h e p =
-    given-compare (h .count) (epilogueFrom revision) (ended.stored revision e) (inEpilogue revision (segments h (take (h .s1 .len) p) (drop (h .s1 .len) p)))
 
 abbrev GivenEnd : Ended → Type 0
 GivenEnd = AllowedEnd ofBytes
@@ -102,11 +90,12 @@ end-of late.Complete b {j} k = end-by ofBytes j k
 
 given-ending : (revision : Revision) (h : Header) (e p : List ℕ) → GivenEnd (ending revision h e p)
 unfolding ending
-given-ending revision h e p = go (noEpilogue revision h)
-  where
-    go : (b : Bool) → GivenEnd (cond b whole (endUnlessRefused (judgeSpelling revision h e) (byLate (lateOf revision (getD e 0 0)) (getD e 0 0) (compared revision h e p))))
-    go true = end-whole ofBytes
-    go false = end-or ofBytes (judgeSpelling revision h e) (given-spelling revision h e) (end-of (lateOf revision (getD e 0 0)) (getD e 0 0) (given-compared revision h e p))
+given-ending revision h e p =
+    let b = getD e 0 0 in
+    let sums = ended.stored revision e in
+    at-cond GivenEnd (noEpilogue revision h) (end-whole ofBytes)
+    (end-or ofBytes (judgeSpelling revision h e) (allowed-or ofBytes (given-unused (h .count) (epilogueFrom revision) sums) (given-flags revision b))
+    (end-of (lateOf revision b) b (given-compare (h .count) (epilogueFrom revision) sums (inEpilogue revision (segments h (take (h .s1 .len) p) (drop (h .s1 .len) p))))))
 
 -- ---- the rules, one by one
 
@@ -121,23 +110,7 @@ pub record Rules (k : Stage) (v : Known) : Type 0 where
   pub refusal : refusalRule k v ≡ true
 
 pub rules-of : (k : Stage) (v : Known) → rules k v ≡ true → Rules k v
-rules-of k v e =
-    let a = both-left ((ownRule k v && payloadRule k v) && (peerRule k v && revisionRule k v)) ((headerRule k v && (firstSumRule k v && firstRule k v)) && refusalRule k v) e in
-    let b = both-right ((ownRule k v && payloadRule k v) && (peerRule k v && revisionRule k v)) ((headerRule k v && (firstSumRule k v && firstRule k v)) && refusalRule k v) e in
-    let op = both-left (ownRule k v && payloadRule k v) (peerRule k v && revisionRule k v) a in
-    let pr = both-right (ownRule k v && payloadRule k v) (peerRule k v && revisionRule k v) a in
-    let hf = both-left (headerRule k v && (firstSumRule k v && firstRule k v)) (refusalRule k v) b in
-    let fm = both-right (headerRule k v) (firstSumRule k v && firstRule k v) hf in
-    record {
-      own = both-left (ownRule k v) (payloadRule k v) op;
-      payload = both-right (ownRule k v) (payloadRule k v) op;
-      peer = both-left (peerRule k v) (revisionRule k v) pr;
-      revision = both-right (peerRule k v) (revisionRule k v) pr;
-      header = both-left (headerRule k v) (firstSumRule k v && firstRule k v) hf;
-      first = both-left (firstSumRule k v) (firstRule k v) fm;
-      mark = both-right (firstSumRule k v) (firstRule k v) fm;
-      refusal = both-right (headerRule k v && (firstSumRule k v && firstRule k v)) (refusalRule k v) b;
-    }
+rules-of k v e = search (both-left, both-right)
 
 rules-all : (k : Stage) (v : Known) → Rules k v → rules k v ≡ true
 rules-all k v r = rw (r .own, r .payload, r .peer, r .revision, r .header, r .first, r .mark, r .refusal)
@@ -158,14 +131,10 @@ agree-live k got b v o l =
 pub live-of : (k : Stage) (got : ℕ) (b : List ℕ) (v : Known) → isRefused k ≡ false → agreesAt k got b v ≡ true → Live k got b v
 unfolding agreesAt
 live-of k got b v o e =
-    let a = both-left (rules k v && countRule k v got) (blockRule k got b) e in
-    let n : (leb (leastOf k v) got && ltb got (sizeOf k v)) ≡ true = rw o at (both-right (rules k v) (countRule k v got) a) in
-    record {
-      rule = rules-of k v (both-left (rules k v) (countRule k v got) a);
-      least = leb-true (leastOf k v) got (both-left (leb (leastOf k v) got) (ltb got (sizeOf k v)) n);
-      inside = ltb-true got (sizeOf k v) (both-right (leb (leastOf k v) got) (ltb got (sizeOf k v)) n);
-      zeros = both-right (rules k v && countRule k v got) (blockRule k got b) e;
-    }
+    let a = each-true (rules k v && countRule k v got) (blockRule k got b) e in
+    let c = each-true (rules k v) (countRule k v got) (a .0) in
+    let n = each-true (leb (leastOf k v) got) (ltb got (sizeOf k v)) (rw o at (c .1)) in
+    record { rule = rules-of k v (c .0); least = leb-true (leastOf k v) got (n .0); inside = ltb-true got (sizeOf k v) (n .1); zeros = a .1 }
 
 pub live : {st : State} {s : List ℕ} → Running st s → Live (st .position .stage) (st .position .got) (st .position .block) (st .known)
 live {st} r = live-of (st .position .stage) (st .position .got) (st .position .block) (st .known) (r .live) (r .agree)
@@ -196,12 +165,8 @@ pub refused-at : (own : Features) (n : Numbers) → given n ≡ true → cond (e
 unfolding agreesAt
 refused-at own n g o = record { stage = refl; why = refl; agree = rw (o, g); gives = g }
 
-own-cond : (b : Bool) (c : Bool) → c ≡ true → cond b true c ≡ true
-own-cond true c e = refl
-own-cond false c e = e
-
 pub refused-after : (v : Known) (n : Numbers) (s : List ℕ) → OwnFine v → given n ≡ true → AfterStep (refuse v n s)
-refused-after v n s o g = refused-at (v .own) n g (own-cond (eqb (n .number) 16) (isFine (judgeOwn (v .own .supported) (v .own .required))) o)
+refused-after v n s o g = refused-at (v .own) n g (at-cond (λ (b : Bool). b ≡ true) (eqb (n .number) 16) refl o)
 
 judged-after : (j : Judged) (v : Known) (s : List ℕ) (x : Stepped) → OwnFine v → Given j → (j ≡ fine → AfterStep x) → AfterStep (unlessRefused j v s x)
 judged-after fine v s x o k f = f refl
@@ -228,18 +193,10 @@ fine-true e = ap isFine e
 
 banner-after : (v : Known) (s : List ℕ) → Rules stage.Skip v → AfterStep (endBanner v s)
 banner-after v s r =
+    let chosen = revisionOf (v .own .supported) (v .peer .supported) in
     judged-after (judgeFeatures (v .own .supported) (v .own .required) (v .peer .supported) (v .peer .required)) v s _ (r .own)
     (given-features (v .own .supported) (v .own .required) (v .peer .supported) (v .peer .required))
-    (λ e. between (withRevision v (revisionOf (v .own .supported) (v .peer .supported))) s (record {
-      own = r .own;
-      payload = r .payload;
-      peer = refl;
-      revision = rw (fine-true e) (same-revision (revisionOf (v .own .supported) (v .peer .supported)));
-      header = r .header;
-      first = refl;
-      mark = r .mark;
-      refusal = r .refusal;
-    }))
+    (λ e. between (withRevision v chosen) s (search (both-true _ _ (fine-true e) (same-revision chosen))))
 
 -- in a body, whatever its stage
 pub record Framed (v : Known) : Type 0 where
@@ -250,107 +207,70 @@ pub record Framed (v : Known) : Type 0 where
   pub refusal : refusalRule stage.Preamble v ≡ true
 
 next-after : (v : Known) (s : List ℕ) → Framed v → Running (nextFrame v) s
-next-after v s f =
-    between _ s (record { own = f .own; payload = f .payload; peer = refl; revision = f .revision; header = refl; first = refl; mark = refl; refusal = f .refusal })
+next-after v s f = between _ s (search)
 
 frame-after : (x : Ended) (v : Known) (s : List ℕ) → Framed v → GivenEnd x → AfterStep (endFrame x v s)
 frame-after whole v s f k = next-after v s f
 frame-after dropped v s f k = next-after v (zeroed (v .header) s) f
 frame-after (refusedFor n) v s f k = refused-after v n (zeroed (v .header) s) (f .own) (both-left (given n) (not (eqb (n .number) 16)) (k .gives n refl))
 
-least-other : (b : Bool) (n m : ℕ) → n ≤ m → cond b n 0 ≤ m
-least-other true n m h = h
-least-other false n m h = zero-le
-
 module _ (v : Known) (s : List ℕ) (f : Framed v) (m : firstRule stage.Rest v ≡ true) (fits : total (v .header) ≤ length s) where
   epilogue-after : AfterStep (beginEpilogue v s)
-  epilogue-after = go (noEpilogue (v .revision) (v .header)) refl
-    where
-      go : (b : Bool) → noEpilogue (v .revision) (v .header) ≡ b → AfterStep (cond b (endFrame whole v s) (silent (at stage.Epilogue 0 v) s))
-      go true e = frame-after whole v s f (end-whole ofBytes)
-      go false e =
-          running-at stage.Epilogue 0 v s refl (record { own = f .own; payload = f .payload; peer = refl; revision = f .revision; header = f .header; first = refl; mark = m; refusal = f .refusal }) zero-le (has-length (v .revision) (v .header) e .0) fits refl
+  epilogue-after =
+      by-cond AfterStep (noEpilogue (v .revision) (v .header)) (λ e. frame-after whole v s f (end-whole ofBytes))
+      (λ e. running-at stage.Epilogue 0 v s refl (search) zero-le (has-length (v .revision) (v .header) e .0) fits refl)
 
   rest-after : (got : ℕ) → leastOf stage.Rest v ≤ got → AfterStep (beginRest v got s)
-  rest-after got l = go (ltb got (total (v .header))) refl
-    where
-      go : (b : Bool) → ltb got (total (v .header)) ≡ b → AfterStep (cond b (silent (at stage.Rest got v) s) (beginEpilogue v s))
-      go true e =
-          running-at stage.Rest got v s refl (record { own = f .own; payload = f .payload; peer = refl; revision = f .revision; header = f .header; first = refl; mark = m; refusal = f .refusal }) l (ltb-true got (total (v .header)) e) fits refl
-      go false e = epilogue-after
+  rest-after got l =
+      by-cond AfterStep (ltb got (total (v .header)))
+      (λ e. running-at stage.Rest got v s refl (search) l (ltb-true got (total (v .header)) e) fits refl) (λ e. epilogue-after)
 
 -- behind an accepted preamble nothing of the frame is reported yet
 body-after : (v : Known) (s : List ℕ) → Framed v → v .first ≡ false → total (v .header) ≤ length s → AfterStep (beginBody v s)
-body-after v s f u fits = go (hasFirstSum v) refl
-  where
-    go : (b : Bool) → hasFirstSum v ≡ b → AfterStep (cond b (silent (at stage.First 0 v) s) (beginRest v 0 s))
-    go false e = rest-after v s f (rw (u, e)) fits 0 (rw e zero-le)
-    go true e =
-        running-at stage.First 0 v s refl (record { own = f .own; payload = f .payload; peer = refl; revision = f .revision; header = f .header; first = e; mark = rw u; refusal = f .refusal }) zero-le
-        (first-some (v .revision) (v .header) (not-true (noFirstSum (v .revision) (v .header)) e)) fits refl
+body-after v s f u fits =
+    by-cond AfterStep (hasFirstSum v)
+    (λ e.
+    let m : firstRule stage.First v ≡ true = rw u in
+    running-at stage.First 0 v s refl (search) zero-le (first-some (v .revision) (v .header) (not-true (noFirstSum (v .revision) (v .header)) e)) fits refl)
+    (λ e. rest-after v s f (rw (u, e)) fits 0 (rw e zero-le))
 
 -- segment 1 is reported early
 first-after : (v : Known) (s : List ℕ) → Framed v → hasFirstSum v ≡ true → total (v .header) ≤ length s → AfterStep (behindFirstSum v s)
-first-after v s f e fits = go (ltb 1 (v .header .count)) refl
-  where
-    x : AfterStep (beginRest (withFirst v) (v .header .s1 .len) s)
-    x = rest-after (withFirst v) s (record { own = f .own; payload = f .payload; revision = f .revision; header = f .header; refusal = f .refusal }) e fits (v .header .s1 .len) (least-other (hasFirstSum v) (v .header .s1 .len) (v .header .s1 .len) (omega arith))
-
-    go : (c : Bool) → ltb 1 (v .header .count) ≡ c → AfterStep (reportFirst c (v .header) (beginRest (withFirst v) (v .header .s1 .len) s))
-    go true c = rw (rest-silent (withFirst v) (v .header .s1 .len) s e c) at x
-    go false c = x
-
--- the rules of a stage in a body are those of the frame
-framed-by : (k : Stage) (v : Known) → inBody k ≡ true → Rules k v → Framed v
-framed-by stage.Magic v i r = wrong i
-framed-by stage.Length v i r = wrong i
-framed-by stage.Payload v i r = wrong i
-framed-by stage.Skip v i r = wrong i
-framed-by stage.Preamble v i r = wrong i
-framed-by stage.First v i r = record { own = r .own; payload = r .payload; revision = r .revision; header = r .header; refusal = r .refusal }
-framed-by stage.FirstSum v i r = record { own = r .own; payload = r .payload; revision = r .revision; header = r .header; refusal = r .refusal }
-framed-by stage.Rest v i r = record { own = r .own; payload = r .payload; revision = r .revision; header = r .header; refusal = r .refusal }
-framed-by stage.Epilogue v i r = record { own = r .own; payload = r .payload; revision = r .revision; header = r .header; refusal = r .refusal }
-framed-by stage.Refused v i r = wrong i
+first-after v s f e fits =
+    let n = v .header .s1 .len in
+    let x : AfterStep (beginRest (withFirst v) (v .header .s1 .len) s) = rest-after (withFirst v) s (search) e fits n (at-cond (λ (k : ℕ). k ≤ n) (hasFirstSum v) (le-refl n) zero-le) in
+    at-test (λ (c : Bool). AfterStep (reportFirst c (v .header) (beginRest (withFirst v) (v .header .s1 .len) s))) (ltb 1 (v .header .count))
+    (λ c. rw (rest-silent (withFirst v) n s e c) at x) (λ c. x)
 
 finish-after : (k : Stage) (b : List ℕ) (v : Known) (s : List ℕ) → Rules k v → isRefused k ≡ false → needed k v ≤ length s → AfterStep (finish k b v s)
 unfolding finish
 finish-after stage.Magic b v s r o f =
     judged-after (judgeMagic (take 8 b)) v s _ (r .own) (allowed-cond ofBytes (sameFrom 0 magic (take 8 b)) (row 1 0 0 0) refl)
-    (λ _. running-at stage.Length 0 v s refl (record { own = r .own; payload = r .payload; peer = r .peer; revision = r .revision; header = r .header; first = refl; mark = r .mark; refusal = r .refusal }) zero-le (lit< tt) zero-le refl)
+    (λ _. running-at stage.Length 0 v s refl (search) zero-le (lit< tt) zero-le refl)
 finish-after stage.Length b v s r o f =
-    judged-after (judgeLength (numberAt 2 0 b)) v s _ (r .own) (allowed-cond ofBytes (leb 16 (numberAt 2 0 b) && leb (numberAt 2 0 b) 1024) (row 2 (numberAt 2 0 b) 0 0) refl)
-    (λ e. running-at stage.Payload 0 (withPayload v (numberAt 2 0 b)) s refl (record { own = r .own; payload = fine-true e; peer = r .peer; revision = r .revision; header = r .header; first = refl; mark = r .mark; refusal = r .refusal }) zero-le (lit< tt) zero-le refl)
-finish-after stage.Payload b v s r o f = go (leb (v .payload) 16) refl
-  where
-    w : Known
-    w = withPeer v (featuresOf (take 16 b))
-
-    skip : Rules stage.Skip (withPeer v (featuresOf (take 16 b)))
-    skip = record { own = r .own; payload = r .payload; peer = refl; revision = r .revision; header = r .header; first = refl; mark = r .mark; refusal = r .refusal }
-
-    go : (c : Bool) → leb (v .payload) 16 ≡ c
-        → AfterStep (cond c (endBanner (withPeer v (featuresOf (take 16 b))) s) (silent (at stage.Skip 0 (withPeer v (featuresOf (take 16 b)))) s))
-    go true e = banner-after (withPeer v (featuresOf (take 16 b))) s skip
-    go false e = running-at stage.Skip 0 (withPeer v (featuresOf (take 16 b))) s refl skip zero-le (let z = leb-false (v .payload) 16 e in omega arith) zero-le refl
+    let n = numberAt 2 0 b in
+    judged-after (judgeLength n) v s _ (r .own) (allowed-cond ofBytes (leb 16 n && leb n 1024) (row 2 n 0 0) refl)
+    (λ e. running-at stage.Payload 0 (withPayload v n) s refl (search (fine-true e)) zero-le (lit< tt) zero-le refl)
+finish-after stage.Payload b v s r o f =
+    let w = withPeer v (featuresOf (take 16 b)) in
+    let skip : Rules stage.Skip (withPeer v (featuresOf (take 16 b))) = search in
+    by-cond AfterStep (leb (v .payload) 16) (λ e. banner-after w s skip)
+    (λ e. running-at stage.Skip 0 w s refl skip zero-le (let z = leb-false (v .payload) 16 e in omega arith) zero-le refl)
 finish-after stage.Skip b v s r o f = banner-after v s r
 finish-after stage.Preamble b v s r o f =
     judged-after (judgePreamble b (length s)) v s _ (r .own) (given-preamble b (length s))
     (λ e.
     let a = accepted-preamble b (length s) e in
-    body-after (withHeader v (headerOf b)) s (record { own = r .own; payload = r .payload; revision = r .revision; header = fine-true (checked-header (a .checked)); refusal = r .refusal }) refl (store-fits (a .store)))
-finish-after stage.First b v s r o f =
-    running-at stage.FirstSum 0 v s refl (record { own = r .own; payload = r .payload; peer = refl; revision = r .revision; header = r .header; first = r .first; mark = r .mark; refusal = r .refusal }) zero-le (lit< tt) f refl
-finish-after stage.FirstSum b v s r o f = go (eqb (numberAt 4 0 b) (segmentSum (take (v .header .s1 .len) s)))
-  where
-    go : (c : Bool) → AfterStep (cond c (behindFirstSum v s) (refuse v (row 11 1 0 0) (zeroed (v .header) s)))
-    go true = first-after v s (framed-by stage.FirstSum v refl r) (r .first) f
-    go false = refused-after v (row 11 1 0 0) (zeroed (v .header) s) (r .own) refl
-finish-after stage.Rest b v s r o f = epilogue-after v s (framed-by stage.Rest v refl r) (r .mark) f
+    body-after (withHeader v (headerOf b)) s (search (fine-true (checked-header (a .checked)))) refl (store-fits (a .store)))
+finish-after stage.First b v s r o f = running-at stage.FirstSum 0 v s refl (search) zero-le (lit< tt) f refl
+finish-after stage.FirstSum b v s r o f =
+    by-cond AfterStep (eqb (numberAt 4 0 b) (segmentSum (take (v .header .s1 .len) s))) (λ _. first-after v s (search) (r .first) f)
+    (λ _. refused-after v (row 11 1 0 0) (zeroed (v .header) s) (r .own) refl)
+finish-after stage.Rest b v s r o f = epilogue-after v s (search) (r .mark) f
 finish-after stage.Epilogue b v s r o f =
-    frame-after (ending (v .revision) (v .header) b (take (total (v .header)) s)) v s (framed-by stage.Epilogue v refl r)
-    (given-ending (v .revision) (v .header) b (take (total (v .header)) s))
-finish-after stage.Refused b v s r o f = absurd (let z : _≡_ {A = ℕ} 0 1 = cc in omega arith)
+    let p = take (total (v .header)) s in
+    frame-after (ending (v .revision) (v .header) b p) v s (search) (given-ending (v .revision) (v .header) b p)
+finish-after stage.Refused b v s r o f = wrong (sym o)
 
 -- ---- bytes of a stage leave the rest as it was
 
@@ -369,22 +289,23 @@ pub length-stored : (st : State) (s xs : List ℕ) → length (stored st s xs) �
 length-stored st s xs = length-with (placeOf (st .position .stage)) (st .position .got) s xs
 
 pub chunk-after : (st : State) (s xs : List ℕ) → Running st s → AfterStep (chunk st s xs)
-chunk-after st s xs r = go (ltb (st .position .got + length xs) (size st)) refl
-  where
-    go : (t : Bool) → ltb (st .position .got + length xs) (size st) ≡ t → AfterStep (reached (absorbed st xs) (stored st s xs) t)
-    go true e =
-        let l = live r in
-        record {
-          agree = agree-live (st .position .stage) (st .position .got + length xs) _ (st .known) (r .live) (record {
-            rule = l .rule;
-            least = omega (arith, l .least);
-            inside = ltb-true (st .position .got + length xs) (size st) e;
-            zeros = block-kept (placeOf (st .position .stage)) (st .position .got) (st .position .block) xs (l .zeros);
-          });
-          live = r .live;
-          fits = rw (length-stored st s xs) (r .fits);
-        }
-    go false e = finish-after (st .position .stage) _ (st .known) (stored st s xs) (live r .rule) (r .live) (rw (length-stored st s xs) (r .fits))
+chunk-after st s xs r =
+    let p = st .position in
+    let l = live r in
+    let fits : neededBy st ≤ length (stored st s xs) = rw (length-stored st s xs) (r .fits) in
+    at-test (λ (t : Bool). AfterStep (reached (absorbed st xs) (stored st s xs) t)) (ltb (p .got + length xs) (size st))
+    (λ e.
+    record {
+      agree = agree-live (p .stage) (p .got + length xs) _ (st .known) (r .live) (record {
+        rule = l .rule;
+        least = omega (arith, l .least);
+        inside = ltb-true (p .got + length xs) (size st) e;
+        zeros = block-kept (placeOf (p .stage)) (p .got) (p .block) xs (l .zeros);
+      });
+      live = r .live;
+      fits = fits;
+    })
+    (λ e. finish-after (p .stage) _ (st .known) (stored st s xs) (l .rule) (r .live) fits)
 
 pub byte-after : (st : State) (s : List ℕ) (b : ℕ) → Running st s → AfterStep (onByte st s b)
 unfolding onByte
@@ -400,10 +321,6 @@ after-agrees r st s = machine.by-after Running RefusedFor r st s (λ a. a .agree
 
 -- ---- refused states
 
-stage-refused : (k : Stage) → isRefused k ≡ true → k ≡ stage.Refused
-unfolding stageOf
-stage-refused k e = stage-at k 9 (eqb-true (rank k) 9 e)
-
 rules-agreed : (st : State) → agrees st ≡ true → Rules (st .position .stage) (st .known)
 unfolding agreesAt
 rules-agreed st e =
@@ -413,8 +330,8 @@ rules-agreed st e =
     rules-of k v (both-left (rules k v) (countRule k v (p .got)) (both-left (rules k v && countRule k v (p .got)) (blockRule k (p .got) (p .block)) e))
 
 pub refused-for : (st : State) → agrees st ≡ true → isRefused (st .position .stage) ≡ true → RefusedFor (st .known .refusal) st
-refused-for st e r =
-    record { stage = stage-refused (st .position .stage) r; why = refl; agree = e; gives = rw r at (rules-agreed st e .refusal) }
+unfolding stageOf
+refused-for st e r = record { stage = stage-at (st .position .stage) 9 (eqb-true _ 9 r); why = refl; agree = e; gives = rw r at (rules-agreed st e .refusal) }
 
 pub agree-own : (st : State) → agrees st ≡ true → isRefused (st .position .stage) ≡ false → (n : Numbers) → given n ≡ true → RefusedFor n (refusedState (st .known) n)
 agree-own st e r n g = refused-after (st .known) n [] (rw r at (rules-agreed st e .own)) g
@@ -422,12 +339,10 @@ agree-own st e r n g = refused-after (st .known) n [] (rw r at (rules-agreed st 
 -- ---- the start
 
 pub start-running : (own : Features) (s : List ℕ) → judgeOwn (own .supported) (own .required) ≡ fine → Running (at stage.Magic 0 (onlyOwn own noRefusal)) s
-start-running own s e =
-    running-at stage.Magic 0 (onlyOwn own noRefusal) s refl (record { own = fine-true e; payload = refl; peer = refl; revision = refl; header = refl; first = refl; mark = refl; refusal = refl }) zero-le (lit< tt) zero-le refl
+start-running own s e = running-at stage.Magic 0 (onlyOwn own noRefusal) s refl (search (fine-true e)) zero-le (lit< tt) zero-le refl
 
 pub start-refused : (own : Features) (n : Numbers) → judgeOwn (own .supported) (own .required) ≡ refused n → RefusedFor n (at stage.Refused 0 (onlyOwn own n))
-start-refused own n e = go (ltb (own .supported) 2 && ltb (own .required) 2 && eqb (missing 64 (own .required) (own .supported)) 0) e
-  where
-    go : (b : Bool) → cond b fine (refused (row 16 0 0 0)) ≡ refused n → RefusedFor n (at stage.Refused 0 (onlyOwn own n))
-    go true q = absurd (let z : _≡_ {A = ℕ} 0 1 = cc in omega arith)
-    go false q = (let k : row 16 0 0 0 ≡ n = cc in rw k at (refused-at own (row 16 0 0 0) refl refl))
+start-refused own n e =
+    by-test (ltb (own .supported) 2 && ltb (own .required) 2 && eqb (missing 64 (own .required) (own .supported)) 0)
+    (λ t. absurd (let z : _≡_ {A = ℕ} 0 1 = cc in omega arith))
+    (λ t. (let k : row 16 0 0 0 ≡ n = cc in rw k at (refused-at own (row 16 0 0 0) refl refl)))

@@ -1,7 +1,7 @@
 -- A machine that takes bytes, of any state and any step: the step run over a list of bytes, and what a piece takes of it.
 use Prim.Native.Nat.{ℕ, suc, _+_, _≤_, _<_, zero-le, suc-le-suc}
 use mathlib.Core.List.{List, [], _∷_, _++_}
-use mathlib.Core.Path.{_≡_, refl, sym, ap, subst, _∙_}
+use mathlib.Core.Path.{_≡_, refl, ap, _∙_}
 use native.Mathlib.Omega.{arith}
 use native.Mathlib.Numerals.{add-one, one-add}
 use native.Mathlib.Nat.{add-zero, add-suc, suc-add}
@@ -13,7 +13,7 @@ use Rattle.stream.proofs.Events.{by-event}
 use Rattle.receiver.specs.declared.Report.{Report}
 use Rattle.receiver.specs.declared.Report.the-variants as report
 use Rattle.stream.specs.Events.{passing}
-use Rattle.receiver.proofs.Entries.{noted, noted-append, Behind, behind-noted, Fills, Passes}
+use Rattle.receiver.proofs.Entries.{at-report, noted, noted-append, Behind, behind-noted, Fills, Passes}
 
 -- what a byte comes to
 pub record Stepped (State : Type 0) : Type 0 where
@@ -68,11 +68,6 @@ module _ {State : Type 0} (onByte : State → List ℕ → ℕ → Stepped State
   unfolding scan
   scan-none x s P = refl
 
-  pub scan-one : (x : State) (s : List ℕ) (P b : ℕ) (bs : List ℕ)
-      → scan x s P (b ∷ bs) ≡ with (onByte x s b .report) (suc P) (onByte x s b .store) (scan (onByte x s b .state) (onByte x s b .store) (suc P) bs)
-  unfolding scan
-  scan-one x s P b bs = refl
-
   pub scan-append : (x : State) (s : List ℕ) (P : ℕ) (xs ys : List ℕ)
       → scan x s P (xs ++ ys) ≡ before (scan x s P xs .entries) (scan (scan x s P xs .state) (scan x s P xs .store) (P + length xs) ys)
   unfolding scan
@@ -108,23 +103,17 @@ module _ {State : Type 0} (onByte : State → List ℕ → ℕ → Stepped State
   pub feed-scan : (x : State) (s piece : List ℕ) (P : ℕ) → AsScan x s piece P (feed x s piece)
   unfolding feed scan
   feed-scan x s [] P = record { le = zero-le; fills = refl; scanned = refl }
-  feed-scan x s (b ∷ bs) P = go (onByte x s b .report) refl (feed-scan (onByte x s b .state) (onByte x s b .store) bs (suc P))
-    where
-      more : (r : Report) (k n : ℕ) → Fills r k n → Fills r (suc k) (suc n)
-      more report.More k n f = ap suc f
-      more (report.Event e) k n f = omega arith
-
-      go : (r : Report) → onByte x s b .report ≡ r
-          → AsScan (onByte x s b .state) (onByte x s b .store) bs (suc P) (feed (onByte x s b .state) (onByte x s b .store) bs)
-          → AsScan x s (b ∷ bs) P (onward r (onByte x s b) (feed (onByte x s b .state) (onByte x s b .store) bs))
-      go report.More e ih =
-          let f = feed (onByte x s b .state) (onByte x s b .store) bs in
-          rw (one-add (f .taken)) (record {
-            le = suc-le-suc (ih .le);
-            fills = more (f .report) (f .taken) (length bs) (ih .fills);
-            scanned = rw e (ih .scanned ∙ rw (add-suc P (f .taken), ← (suc-add P (f .taken))));
-          })
-      go (report.Event v) e ih = record { le = suc-le-suc zero-le; fills = suc-le-suc zero-le; scanned = rw (e, add-one) }
+  feed-scan x s (b ∷ bs) P =
+      let y = onByte x s b in
+      let f = feed (y .state) (y .store) bs in
+      let ih = feed-scan (y .state) (y .store) bs (suc P) in
+      at-report (λ (r : Report). AsScan x s (b ∷ bs) P (onward r y f)) (y .report)
+      (λ e. rw (one-add (f .taken)) (record {
+        le = suc-le-suc (ih .le);
+        fills = at-report (λ (r : Report). Fills r (f .taken) (length bs) → Fills r (suc (f .taken)) (suc (length bs))) (f .report) (λ _ h. ap suc h) (λ _ _ h. omega arith) (ih .fills);
+        scanned = rw e (ih .scanned ∙ rw (add-suc P (f .taken), ← (suc-add P (f .taken))));
+      }))
+      (λ v e. record { le = suc-le-suc zero-le; fills = suc-le-suc zero-le; scanned = rw (e, add-one) })
 
 -- ---- a machine that runs, until it is refused
 
@@ -148,13 +137,10 @@ module _ {State : Type 0} (Running : State → List ℕ → Type 0) (RefusedFor 
         → After (feed onByte x s piece .report) (feed onByte x s piece .state) (feed onByte x s piece .store)
     unfolding feed
     feed-after x s [] r = r
-    feed-after x s (b ∷ bs) r = go (onByte x s b .report) (onByte x s b) (keeps x s b r) (feed-after (onByte x s b .state) (onByte x s b .store) bs)
-      where
-        go : (r : Report) (y : Stepped State) → After r (y .state) (y .store)
-            → (Running (y .state) (y .store) → (let f = feed onByte (y .state) (y .store) bs in After (f .report) (f .state) (f .store)))
-            → (let a = onward r y (feed onByte (y .state) (y .store) bs) in After (a .report) (a .state) (a .store))
-        go report.More y a ih = ih a
-        go (report.Event e) y a ih = a
+    feed-after x s (b ∷ bs) r =
+        let y = onByte x s b in
+        at-report (λ (w : Report). let a = onward w y (feed onByte (y .state) (y .store) bs) in After (a .report) (a .state) (a .store)) (y .report)
+        (λ e. feed-after (y .state) (y .store) bs (rw e at (keeps x s b r))) (λ v e. rw e at (keeps x s b r))
 
 -- what holds behind a report of one machine, of another
 pub after-map : {A B : Type 0} (R : A → List ℕ → Type 0) (G : Numbers → A → Type 0) (R′ : B → List ℕ → Type 0) (G′ : Numbers → B → Type 0) (r : Report) (x : A) (y : B) (s : List ℕ)
@@ -193,33 +179,25 @@ pub data Stands (m : Machine) (x : m .State) (s : List ℕ) : Type 0 where
   runs : m .Running x s → Stands m x s
   refuses : (n : Numbers) → m .RefusedFor n x → Stands m x s
 
-after-stands : (m : Machine) (r : Report) (x : m .State) (s : List ℕ) → After (m .Running) (m .RefusedFor) r x s → Stands m x s
-after-stands m r x s = by-after (m .Running) (m .RefusedFor) r x s (λ a. runs a) (λ n a. refuses n a)
-
-pub next-stands : (m : Machine) (x : m .State) (s piece : List ℕ) (c : m .Call) → Stands m x s → m .Answered x s piece c → Stands m (m .answer c .state) (m .answer c .store)
-next-stands m x s piece c (runs r) a =
-    let f = feed (m .onByte) x s piece in
-    subst (λ (y : Answer (m .State)). Stands m (y .state) (y .store)) (sym (m .feeds x s piece c r a))
-    (after-stands m (f .report) (f .state) (f .store) (feed-after (m .Running) (m .RefusedFor) (m .onByte) (m .keeps) x s piece r))
-next-stands m x s piece c (refuses n g) a =
-    subst (λ (y : Answer (m .State)). Stands m (y .state) (y .store)) (sym (m .repeats n x s piece c g a)) (refuses n g)
-
 -- ---- a machine that stands, and one call on it
 
 module _ (m : Machine) (x : m .State) (s piece : List ℕ) (c : m .Call) where
   pub fed-after : m .Running x s → m .Answered x s piece c → (let a = m .answer c in After (m .Running) (m .RefusedFor) (a .report) (a .state) (a .store))
-  fed-after r a =
-      subst (λ (y : Answer (m .State)). After (m .Running) (m .RefusedFor) (y .report) (y .state) (y .store)) (sym (m .feeds x s piece c r a))
-      (feed-after (m .Running) (m .RefusedFor) (m .onByte) (m .keeps) x s piece r)
+  fed-after r a = rw (m .feeds x s piece c r a) (feed-after (m .Running) (m .RefusedFor) (m .onByte) (m .keeps) x s piece r)
+
+  pub next-stands : Stands m x s → m .Answered x s piece c → Stands m (m .answer c .state) (m .answer c .store)
+  next-stands (runs r) a =
+      by-after (m .Running) (m .RefusedFor) (m .answer c .report) (m .answer c .state) (m .answer c .store) (λ b. runs b) (λ n b. refuses n b) (fed-after r a)
+  next-stands (refuses n g) a = rw (m .repeats n x s piece c g a) (refuses n g)
 
   -- behind a refusal it is refused
   pub refuses-next : Stands m x s → m .Answered x s piece c → (n : Numbers) → m .answer c .report ≡ report.Event (event.Refused n) → m .RefusedFor n (m .answer c .state)
   refuses-next (runs r) a n q = rw q at (fed-after r a)
   refuses-next (refuses k g) a n q =
       let e = m .repeats k x s piece c g a in
-      let w : report.Event (event.Refused k) ≡ report.Event (event.Refused n) = sym (ap (λ (y : Answer (m .State)). y .report) e) ∙ q in
+      let w : report.Event (event.Refused k) ≡ report.Event (event.Refused n) = rw e at q in
       let i : k ≡ n = cc in
-      subst (m .RefusedFor n) (sym (ap (λ (y : Answer (m .State)). y .state) e)) (subst (λ (j : Numbers). m .RefusedFor j x) i g)
+      rw (e, ← i) g
 
 -- a piece is begun
 module _ {A : Type 0} (onByte : A → List ℕ → ℕ → Stepped A) where

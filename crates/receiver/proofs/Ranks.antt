@@ -1,10 +1,11 @@
 -- Stages and their ranks: what holds of a stage is read off its rank.
 use mathlib.Core.Path.{_≡_, refl, sym, ap, _∙_}
-use mathlib.Core.Bool.{Bool, true, false}
+use mathlib.Core.Bool.{true, false}
 use Prim.Native.Nat.{ℕ, zero, suc, _<_, _≤_, min}
 use native.Mathlib.Omega.{arith}
-use lib.Dec.{eqb, leb}
-use borrow.Author.Tests.{ne-eqb, leb-true, leb-false}
+use lib.Dec.{lit<, eqb, leb}
+use borrow.Author.Tests.{ne-eqb, leb-true, le-leb}
+use Rattle.refusal.proofs.Booleans.{by-less}
 use Rattle.receiver.specs.declared.Stage.{Stage}
 use Rattle.receiver.specs.declared.Stage.the-variants as stage
 use Rattle.receiver.specs.State.{rank, stageOf}
@@ -26,24 +27,13 @@ stage-back stage.Refused = refl
 pub stage-at : (k : Stage) (n : ℕ) → rank k ≡ n → k ≡ stageOf n
 stage-at k n e = sym (stage-back k) ∙ ap stageOf e
 
--- a number behind another one is not that one
-other : (n k : ℕ) → k < n → eqb n k ≡ false
-other n k h = ne-eqb n k (λ e. absurd (omega arith))
+-- a number past every rank below 9 is none of them
+other : (n k : ℕ) → leb k 8 ≡ true → 8 < n → eqb n k ≡ false
+other n k h l = ne-eqb n k (λ e. absurd (omega (arith, leb-true k 8 h)))
 
 beyond : (n : ℕ) → 8 < n → rank (stageOf n) ≡ 9
 unfolding stageOf
-beyond n h =
-    simp (
-      other n 0 (omega arith),
-      other n 1 (omega arith),
-      other n 2 (omega arith),
-      other n 3 (omega arith),
-      other n 4 (omega arith),
-      other n 5 (omega arith),
-      other n 6 (omega arith),
-      other n 7 (omega arith),
-      other n 8 (omega arith),
-    )
+beyond n h = simp (other n)
 
 -- a rank read back
 pub rank-back : (n : ℕ) → rank (stageOf n) ≡ min n 9
@@ -67,8 +57,7 @@ rank-known k = omega (arith, rank-back (rank k), ap rank (stage-back k))
 
 -- a test of a rank below 9 is a test of the number that it was read from
 pub rank-is : (n k : ℕ) → k < 9 → eqb (rank (stageOf n)) k ≡ eqb n k
-rank-is n k h = ap (λ (m : ℕ). eqb m k) (rank-back n) ∙ go (leb n 9) refl
-  where
-    go : (b : Bool) → leb n 9 ≡ b → eqb (min n 9) k ≡ eqb n k
-    go true e = let l = leb-true n 9 e in let m : min n 9 ≡ n = omega arith in ap (λ (i : ℕ). eqb i k) m
-    go false e = let l = leb-false n 9 e in let m : min n 9 ≡ 9 = omega arith in ap (λ (i : ℕ). eqb i k) m ∙ other 9 k h ∙ sym (other n k (omega arith))
+rank-is n k h =
+    let l = le-leb k 8 (omega arith) in
+    rw (rank-back n)
+    (by-less 9 n (λ m. let e : min n 9 ≡ 9 = omega arith in rw e (other 9 k l (lit< tt) ∙ sym (other n k l (omega arith)))) (λ m. let e : min n 9 ≡ n = omega arith in rw e))

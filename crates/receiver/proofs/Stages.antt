@@ -22,16 +22,11 @@ finishing st s = finish (st .position .stage) (st .position .block) (st .known) 
 abbrev pub run : Stepped → ℕ → List ℕ → Trace
 run x P ys = noteTrace (x .report) P (x .store) (traceBy (scan (x .state) (x .store) P ys))
 
--- the stream ends within the stage
-pub short : (st : State) (s : List ℕ) (P : ℕ) (ys : List ℕ) → st .position .got + length ys < size st → traceBy (scan st s P ys) ≡ ended (stored st s ys)
+-- the stream ends within the stage, or n bytes fill it
+pub staged : (st : State) (s : List ℕ) (P n : ℕ) (ys : List ℕ) {t : Trace} → 0 < n → st .position .got + n ≡ size st → (length ys < n → ended (stored st s ys) ≡ t)
+    → (n ≤ length ys → run (finishing (absorbed st (take n ys)) (stored st s (take n ys))) (P + n) (drop n ys) ≡ t) → traceBy (scan st s P ys) ≡ t
 unfolding onByte
-short = gathers.short stages
-
--- the stage is filled by n bytes
-pub full : (st : State) (s : List ℕ) (P n : ℕ) (ys : List ℕ) → 0 < n → st .position .got + n ≡ size st → n ≤ length ys
-    → traceBy (scan st s P ys) ≡ run (finishing (absorbed st (take n ys)) (stored st s (take n ys))) (P + n) (drop n ys)
-unfolding onByte
-full = gathers.full stages
+staged = gathers.staged stages
 
 -- a refused receiver is silent
 refused-byte : (st : State) (s : List ℕ) (b : ℕ) → st .position .stage ≡ stage.Refused → Silent (λ st. st .position .stage ≡ stage.Refused) s (byteStep st s b)

@@ -1,31 +1,25 @@
 -- Laws of records: lines, buffers that count up, steps, records that are run as they are read, and lists of numbers.
 use mathlib.Core.Path.{_≡_, refl, sym, ap, _∙_}
-use mathlib.Core.Bool.{Bool, true, false}
+use mathlib.Core.Bool.{Bool, true, false, not}
 use mathlib.Core.List.{List, [], _∷_, _++_, append-assoc}
 use Prim.Native.Nat.{ℕ, zero, suc, _+_, _%_, _≤_, _<_}
 use native.Mathlib.Nat.{not-suc-le-zero, le-of-suc-le-suc}
 use native.Mathlib.Numerals.{add-one}
 use native.Mathlib.Omega.{arith}
-use borrow.Author.Tests.{leb-true}
+use borrow.Author.Tests.{leb-true, not-true, not-false}
 use lib.Dec.{ltb, leb}
 use lib.ListN.{length, take, drop, getD, set, length-append}
 use lib.Seq.{drop-cons, set-at, take-suc, take-suc-set}
 use Rattle.refusal.proofs.Booleans.{both-right}
 use Rattle.buffer.specs.Le.{leOf}
 use Rattle.crc32c.specs.Crc.{crcOf}
-use Rattle.refusal.specs.declared.WriteResult.{WriteResult}
-use Rattle.refusal.specs.Writes.{Done, done, outcomeOf}
+use Rattle.refusal.specs.Writes.{WriteOutcome, Done, done}
 use Rattle.fields.specs.Field.{wordsOf}
+use Rattle.fields.proofs.Skips.{length-words}
 use Rattle.text.specs.Line.{Piece}
 use Rattle.text.specs.Page.{Page, page}
 use Rattle.records.specs.declared.Step.{Step}
 use Rattle.records.specs.Records.{outcomeLine, doneLine, Record, Did, sized, whole, isWhole, badRecord, lineThen, readAll, print, prints, counted}
-
--- ---- lines
-
--- what a call that writes comes to, as code comes to it
-pub done-line : (o : WriteResult) (sum : ℕ) (buf : List ℕ) (d : Done) → done (outcomeOf o) buf ≡ d → sum ≡ crcOf 4294967295 buf → outcomeLine (outcomeOf o) sum ≡ doneLine d
-done-line o sum buf d e k = ap (outcomeLine (outcomeOf o)) k ∙ ap doneLine e
 
 -- ---- buffers
 
@@ -46,22 +40,39 @@ counted-more l first i h =
 pub whole-within : (n : ℕ) (s : List ℕ) → isWhole n s ≡ true → n ≤ length s
 whole-within n s e = leb-true n (length s) (both-right (ltb 0 n) (leb n (length s)) e)
 
-pub did-is : {d e : Record} {s before : List ℕ} {at : ℕ} {after : List ℕ} {r : Step} → d ≡ e → Did e s before at after r → Did d s before at after r
-did-is k d = rw k d
+module _ {s before : List ℕ} {at : ℕ} {after : List ℕ} {r : Step} where
+  pub did-none : (r .taken ≡ 0) × (page after (r .filled) ≡ prints (badRecord .lines) (page before at)) → Did badRecord s before at after r
+  did-none d = record { taken = d .0; printed = d .1; within = omega arith }
 
-pub did-none : {s before : List ℕ} {at : ℕ} {after : List ℕ} {r : Step} → r .taken ≡ 0 → page after (r .filled) ≡ prints (badRecord .lines) (page before at) → Did badRecord s before at after r
-did-none t p = record { taken = t; printed = p; within = omega arith }
-
-module _ (n : ℕ) (lines : List (List Piece)) {s before : List ℕ} {at : ℕ} {after : List ℕ} {r : Step} where
-  -- a bad record
-  pub did-bad : isWhole n s ≡ false → r .taken ≡ 0 → page after (r .filled) ≡ prints (badRecord .lines) (page before at) → Did (whole n s lines) s before at after r
+  -- code that found a record of m bytes bad, or whole
+  pub did-bad : (lines : List (List Piece)) {n m : ℕ} {b : Bool} → m ≡ n → b ≡ isWhole m s → not b ≡ true
+      → (r .taken ≡ 0) × (page after (r .filled) ≡ prints (badRecord .lines) (page before at))
+      → Did (whole n s lines) s before at after r
   unfolding whole
-  did-bad e t p = record { taken = rw e t; printed = rw e p; within = omega arith }
+  did-bad lines {b = b} k e h d = rw (← k, ← e, not-true b h) (did-none d)
 
-  -- one that is whole
-  pub did-whole : isWhole n s ≡ true → r .taken ≡ n → page after (r .filled) ≡ prints lines (page before at) → Did (whole n s lines) s before at after r
+  pub did-whole : (lines : List (List Piece)) {n m : ℕ} {b : Bool} → m ≡ n → b ≡ isWhole m s → not b ≡ false
+      → r .taken ≡ m
+      → page after (r .filled) ≡ prints lines (page before at)
+      → Did (whole n s lines) s before at after r
   unfolding whole
-  did-whole e t p = record { taken = rw e t; printed = rw e p; within = let h = whole-within n s e in omega arith }
+  did-whole lines {m = m} {b} k e h t p =
+      let w = whole-within m s (sym e ∙ not-false b h) in
+      rw (← k, ← e, not-false b h) (record { taken = t; printed = p; within = omega arith })
+
+-- one that is whole, of a call that writes: what it came to and its buffer's checksum are printed
+pub did-done : (w : WriteOutcome) (buf : List ℕ) {d : Done} {n m sum : ℕ} {b : Bool} {s before : List ℕ} {at : ℕ} {after : List ℕ} {r : Step}
+    → m ≡ n → b ≡ isWhole m s → not b ≡ false
+    → r .taken ≡ m
+    → done w buf ≡ d
+    → sum ≡ crcOf 4294967295 buf
+    → page after (r .filled) ≡ print (outcomeLine w sum) (page before at)
+    → Did (whole n s (doneLine d ∷ [])) s before at after r
+unfolding prints
+did-done w buf k e h t f g p = did-whole _ k e h t (p ∙ rw (g, ← f))
+
+pub seen-whole : (s : List ℕ) {n m : ℕ} {b : Bool} → m ≡ n → b ≡ isWhole m s → not b ≡ false → isWhole n s ≡ true
+seen-whole s {b = b} k e h = rw (← k, ← e) (not-false b h)
 
 -- a size of 0 is no record
 pub sized-good : (good : Bool) (n : ℕ) (s : List ℕ) → isWhole (sized good n) s ≡ true → good ≡ true
@@ -88,8 +99,8 @@ module _ {all : Record} {s before : List ℕ} {at : ℕ} {after : List ℕ} {r :
   unfolding prints
   did-all n l t h = record { taken = t ∙ l .size; printed = l .lines; within = omega arith }
 
-  pub did-broken : {q : Page} → Left all badRecord (page before at) q → r .taken ≡ 0 → page after (r .filled) ≡ prints (badRecord .lines) q → Did all s before at after r
-  did-broken l t p = record { taken = t ∙ l .size; printed = p ∙ l .lines; within = omega arith }
+  pub did-broken : {q : Page} → Left all badRecord (page before at) q → (r .taken ≡ 0) × (page after (r .filled) ≡ prints (badRecord .lines) q) → Did all s before at after r
+  did-broken l d = record { taken = d .0 ∙ l .size; printed = d .1 ∙ l .lines; within = omega arith }
 
 -- ---- lists
 
@@ -98,6 +109,10 @@ unfolding wordsOf
 words-take zero m t h = refl
 words-take (suc n) zero t h = absurd (not-suc-le-zero h)
 words-take (suc n) (suc m) t h = ap (λ (l : List ℕ). leOf (take 4 t) ∷ l) (words-take n m (drop 4 t) (le-of-suc-le-suc h))
+
+-- 64 numbers hold any list
+pub words-room : (t : List ℕ) {n : ℕ} {xs : List ℕ} → xs ≡ wordsOf 64 t → n ≤ 64 → n ≤ length xs
+words-room t e h = rw (e, length-words 64 t) h
 
 -- one more number is stored
 pub stored-more : (xs l : List ℕ) (i v : ℕ) → i < length l → i < length xs → take i l ≡ take i xs → v ≡ getD xs i 0 → take (i + 1) (set l i v) ≡ take (i + 1) xs

@@ -1,29 +1,35 @@
 -- Laws of tests.
-use mathlib.Core.Path.{_≡_, refl, sym}
+use mathlib.Core.Path.{_≡_, refl, sym, _∙_}
 use mathlib.Core.Bool.{Bool, true, false, cond, _&&_, _||_, true≢false}
 use Prim.Native.Nat.{ℕ, _≤_, _<_}
 use lib.Dec.{ltb}
-use borrow.Author.Tests.{ltb-true, ltb-false}
+use borrow.Author.Tests.{lt-ltb, le-ltb, ltb-true, ltb-false}
 
--- by whether a test holds
-pub by-test : {A : Type 0} (b : Bool) → (b ≡ true → A) → (b ≡ false → A) → A
-by-test true t f = t refl
-by-test false t f = f refl
-
--- the same of a claim that names the test
+-- by whether a test holds, of a claim that names the test
 pub at-test : (P : Bool → Type 0) (b : Bool) → (b ≡ true → P true) → (b ≡ false → P false) → P b
 at-test P true t f = t refl
 at-test P false t f = f refl
+
+-- the same of a claim that does not
+pub by-test : {A : Type 0} (b : Bool) → (b ≡ true → A) → (b ≡ false → A) → A
+by-test {A} = at-test (λ _. A)
 
 -- by which of two numbers is less
 pub by-less : {A : Type 0} (a b : ℕ) → (a < b → A) → (b ≤ a → A) → A
 by-less a b l g = by-test (ltb a b) (λ e. l (ltb-true a b e)) (λ e. g (ltb-false a b e))
 
--- what holds of both answers holds of the one that a test picks
-module _ {ℓ} {A : Type ℓ} where
-  pub at-cond : (P : A → Type 0) (b : Bool) {x y : A} → P x → P y → P (cond b x y)
-  at-cond P true p q = p
-  at-cond P false p q = q
+-- two tests that say the same
+pub same-less : (a b c d : ℕ) → (a < b → c < d) → (b ≤ a → d ≤ c) → ltb a b ≡ ltb c d
+same-less a b c d f g = by-less a b (λ l. lt-ltb a b l ∙ sym (lt-ltb c d (f l))) (λ l. le-ltb a b l ∙ sym (le-ltb c d (g l)))
+
+module _ {ℓ} {A : Type ℓ} (P : A → Type 0) (b : Bool) {x y : A} where
+  -- the answer that a test picks
+  pub by-cond : (b ≡ true → P x) → (b ≡ false → P y) → P (cond b x y)
+  by-cond = at-test (λ c. P (cond c x y)) b
+
+  -- of both answers
+  pub at-cond : P x → P y → P (cond b x y)
+  at-cond p q = by-cond (λ _. p) (λ _. q)
 
 -- a test that cannot hold
 pub wrong : {A : Type 0} → false ≡ true → A
@@ -43,10 +49,6 @@ each-true a b e = (both-left a b e, both-right a b e)
 pub both-true : (a b : Bool) → a ≡ true → b ≡ true → (a && b) ≡ true
 both-true true b p q = q
 both-true false b p q = p
-
-pub and-false : (a : Bool) → (a && false) ≡ false
-and-false true = refl
-and-false false = refl
 
 -- of two that do not both hold, the second where the first does
 pub second-false : (a b : Bool) → (a && b) ≡ false → a ≡ true → b ≡ false

@@ -1,6 +1,6 @@
 -- Laws of judgements: all of a list are fine exactly when their first refusal is none, and what a test or a case tells.
 use mathlib.Core.Path.{_≡_, refl}
-use mathlib.Core.Bool.{Bool, true, false, _&&_}
+use mathlib.Core.Bool.{Bool, true, false, cond, _&&_}
 use mathlib.Core.List.{List, [], _∷_, _++_}
 use Rattle.refusal.specs.declared.Numbers.{Numbers}
 use Rattle.refusal.specs.declared.Refusal.{Refusal}
@@ -51,9 +51,9 @@ pub fine-or : (a b : Judged) → isFine (orElse a b) ≡ (isFine a && isFine b)
 fine-or fine b = refl
 fine-or (refused n) b = refl
 
-pub fine-unless : (ok : Bool) (r : Refusal) → isFine (unless ok r) ≡ ok
-fine-unless true r = refl
-fine-unless false r = refl
+pub fine-unless : (ok : Bool) (n : Numbers) → isFine (cond ok fine (refused n)) ≡ ok
+fine-unless true n = refl
+fine-unless false n = refl
 
 -- a test that was not refused held
 pub passed : (ok : Bool) (r : Refusal) → unless ok r ≡ fine → ok ≡ true

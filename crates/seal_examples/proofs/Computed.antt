@@ -10,7 +10,7 @@ use Rattle.aes.specs.Aes.{State, columnAt, stateOf, subColumn, subBytes, shiftR
 use Rattle.aes.specs.Counter.{counterBlock, keystreamBlock, byteOf, keystreamByte, gctrFrom, gctr}
 use Rattle.aes.proofs.Computed.{sub, mix, cipherBy, keysBy, cipher-is, keys-are}
 use Rattle.ghash.specs.Ghash.{step, mulFrom, quadAt, blockAt, ghashFrom, ghash}
-use Rattle.gcm.specs.Gcm.{plain, fail, columnNumber, blockNumber, blockBytes, hashKey, tagOf, sealedBy, sealed, sameAs, tagFits, openedBy, opened}
+use Rattle.gcm.specs.Gcm.{plain, fail, columnNumber, blockNumber, blockBytes, hashKey, tagOf, sealedBy, sameAs, tagFits, openedBy}
 use Rattle.seal_examples.specs.Examples.{key, input, output, lastKey, zeros, emptySealed, blockSealed, emptyWrong, Fips197, Gcm, Orders}
 
 -- the round keys of a key, and a block by them, in the form that computes fast
@@ -91,28 +91,16 @@ block-tag : tagOf w (zeros 12) second ≡ drop 16 blockSealed
 unfolding tagged first second columnAt stateOf step mulFrom quadAt blockAt ghashFrom ghash columnNumber blockNumber blockBytes
 block-tag = tag-is second ∙ refl
 
-empty : sealed (zeros 16) (zeros 12) [] ≡ emptySealed
-unfolding w sealedBy gctrFrom
-empty = empty-tag
-
-one-block : sealed (zeros 16) (zeros 12) (zeros 16) ≡ blockSealed
-unfolding w sealedBy second
-one-block = ap (λ (c : List ℕ). c ++ tagOf w (zeros 12) c) masked-is ∙ ap (λ (t : List ℕ). second ++ t) block-tag
-
-right : opened (zeros 16) (zeros 12) emptySealed ≡ plain []
-unfolding w sameAs tagFits openedBy gctrFrom
-right = ap (λ (t : List ℕ). cond (sameAs t emptySealed) (plain []) fail) empty-tag
-
-wrong : opened (zeros 16) (zeros 12) emptyWrong ≡ fail
-unfolding w sameAs tagFits openedBy gctrFrom
-wrong = ap (λ (t : List ℕ). cond (sameAs t emptyWrong) (plain []) fail) empty-tag
-
-short : opened (zeros 16) (zeros 12) (zeros 15) ≡ fail
-unfolding openedBy
-short = refl
-
 pub gcm : Gcm
-gcm = record { empty = empty; block = one-block; right = right; wrong = wrong; short = short }
+unfolding w second sealedBy gctrFrom sameAs tagFits openedBy
+gcm =
+    record {
+      empty = empty-tag;
+      block = ap (λ (c : List ℕ). c ++ tagOf w (zeros 12) c) masked-is ∙ ap (λ (t : List ℕ). second ++ t) block-tag;
+      right = ap (λ (t : List ℕ). cond (sameAs t emptySealed) (plain []) fail) empty-tag;
+      wrong = ap (λ (t : List ℕ). cond (sameAs t emptyWrong) (plain []) fail) empty-tag;
+      short = refl;
+    }
 
 pub orders : Orders
 orders =

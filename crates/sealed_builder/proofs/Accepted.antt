@@ -1,12 +1,13 @@
 -- What is known of a request that nothing is wrong with.
-use mathlib.Core.Path.{_≡_, refl, ap}
-use mathlib.Core.Bool.{Bool, true, false, cond}
+use mathlib.Core.Path.{_≡_}
+use mathlib.Core.Bool.{Bool}
 use Prim.Native.Nat.{ℕ, _+_, _≤_}
 use native.Mathlib.Omega.{arith}
 use borrow.Author.Tests.{leb-true, eqb-true}
 use lib.Dec.{leb, eqb}
 use Rattle.refusal.specs.declared.Refusal.the-variants.{SourceLength, NoRoom, NoncesSpent}
 use Rattle.refusal.specs.Refusals.{fine}
+use Rattle.refusal.proofs.Booleans.{by-test}
 use Rattle.refusal.proofs.Judgements.{all-fine, passed, both-fine}
 use Rattle.preamble.specs.declared.Header.{Header}
 use Rattle.preamble.specs.Layout.{total}
@@ -39,8 +40,5 @@ accepted s h abort source space queued e =
 
 -- where nonces are left, the count is that of the spent ones
 pub counted : (s : Sending) (k : ℕ) → 1 ≤ k → spentOf s + k ≤ allNonces → s .spent + k ≤ allNonces
-counted s k h l = go (s .exhausted) refl
-  where
-    go : (b : Bool) → s .exhausted ≡ b → s .spent + k ≤ allNonces
-    go true e = let z : spentOf s ≡ allNonces = ap (λ (b : Bool). cond b allNonces (s .spent)) e in omega arith
-    go false e = let z : spentOf s ≡ s .spent = ap (λ (b : Bool). cond b allNonces (s .spent)) e in omega arith
+counted s k h l =
+    by-test (s .exhausted) (λ e. let z : spentOf s ≡ allNonces = rw e in omega arith) (λ e. let z : spentOf s ≡ s .spent = rw e in omega arith)

@@ -1,6 +1,6 @@
 -- No nonce twice: the builds of a chain use nonces one behind the other.
 use mathlib.Core.Path.{_≡_, refl, sym, ap, ap₂, _∙_}
-use mathlib.Core.Bool.{Bool, true, false, cond}
+use mathlib.Core.Bool.{Bool, cond}
 use mathlib.Core.List.{List, [], _∷_, _++_}
 use Prim.Native.Nat.{ℕ, _+_, _-_, _%_, _^_, _≤_}
 use native.Mathlib.Nat.{mod-eq-of-lt}
@@ -10,11 +10,12 @@ use lib.Dec.{leb}
 use lib.ListN.{length, length-append}
 use Rattle.refusal.specs.declared.Numbers.{Numbers}
 use Rattle.refusal.specs.Refusals.{Judged, fine, refused}
+use Rattle.refusal.proofs.Booleans.{by-test, at-test}
 use Rattle.refusal.proofs.Judgements.{by-judgement}
 use Rattle.refusal.specs.Writes.{WriteOutcome, wrote, refusedFor, outcomeOf}
 use Rattle.preamble.specs.declared.Header.{Header}
 use Rattle.aes.specs.Aes.{keyExpansion}
-use Rattle.secure.specs.Layout.{allNonces, noncesOf, sealedParts, sealedLength, partCount, texts}
+use Rattle.secure.specs.Layout.{allNonces, nonceAfter, noncesOf, sealedParts, sealedLength, partCount, texts}
 use Rattle.sealed_builder.specs.declared.Sending.{Sending}
 use Rattle.sealed_builder.specs.Build.{Done, done, spentOf, freshSending, sentMore, sentParts, judgeSealed, outcome, sealedDone}
 use Rattle.sealed_builder.specs.Nonces.{Build, Meets, Chained, usedIn, usedBy, used, sendingAfter, left, AllDifferent, SealedWith}
@@ -71,17 +72,11 @@ pub spent-more : (s : Sending) (k : ℕ) → 1 ≤ k → spentOf s + k ≤ allNo
 unfolding sentMore
 spent-more s k h l =
     let n : s .spent + k ≤ allNonces = counted s k h l in
-    now-known (s .exhausted) refl n
-  where
-    by-end : (b : Bool) → leb allNonces (s .spent + k) ≡ b → s .spent + k ≤ allNonces → cond b allNonces ((s .spent + k) % 2 ^ 64) ≡ s .spent + k
-    by-end true e n = let g = leb-true allNonces (s .spent + k) e in omega arith
-    by-end false e n = mod-eq-of-lt (leb-false allNonces (s .spent + k) e)
-
-    now-known : (b : Bool) → s .exhausted ≡ b → s .spent + k ≤ allNonces → spentOf (sentMore s k) ≡ spentOf s + k
-    now-known true e n = let z : spentOf s ≡ allNonces = ap (λ (b : Bool). cond b allNonces (s .spent)) e in absurd (omega arith)
-    now-known false e n =
-        let z : spentOf s ≡ s .spent = ap (λ (b : Bool). cond b allNonces (s .spent)) e in
-        by-end (leb allNonces (s .spent + k)) refl n ∙ sym (ap (λ (i : ℕ). i + k) z)
+    let now : spentOf (sentMore s k) ≡ s .spent + k =
+    at-test (λ b. cond b allNonces ((s .spent + k) % 2 ^ 64) ≡ s .spent + k) (leb allNonces (s .spent + k))
+    (λ e. let g = leb-true allNonces (s .spent + k) e in omega arith) (λ e. mod-eq-of-lt (leb-false allNonces (s .spent + k) e))
+    in
+    by-test (s .exhausted) (λ e. let z : spentOf s ≡ allNonces = rw e in absurd (omega arith)) (λ e. let z : spentOf s ≡ s .spent = rw e in now ∙ sym (ap (λ (i : ℕ). i + k) z))
 
 -- ---- a chain uses nonces one behind the other
 
@@ -90,43 +85,48 @@ pub record Line (s : Sending) (nonces : List (List ℕ)) : Type 0 where
   pub is : nonces ≡ run count (s .nonce)
   pub fits : spentOf s + count ≤ allNonces
 
-module _ (s : Sending) (b : Build) (m : Meets s b) (later : List (List ℕ)) where
-  on-refused : (r : Numbers) → judged s b ≡ refused r → Line (b .answer .sending) later → Line s (usedBy s b ++ later)
-  on-refused r e l =
-      let w = when-refused s b m r e in
-      record {
-        count = l .count;
-        is = ap (λ (a : WriteOutcome). usedIn a (sentParts s (b .header) (b .abort) (b .source)) ++ later) (w .0) ∙ l .is ∙ ap (λ (t : Sending). run (l .count) (t .nonce)) (w .1);
-        fits = rw (sym (ap spentOf (w .1))) (l .fits);
-      }
+-- how many one build takes, none where it is refused
+record Takes (s : Sending) (b : Build) : Type 0 where
+  count : ℕ
+  is : usedBy s b ≡ run count (s .nonce)
+  spent : spentOf (b .answer .sending) ≡ spentOf s + count
+  fits : spentOf s + count ≤ allNonces
+  nonce : b .answer .sending .nonce ≡ nonceAfter count (s .nonce)
 
-  on-fine : judged s b ≡ fine → spentOf s + partCount (b .header) ≤ allNonces → Line (b .answer .sending) later → Line s (usedBy s b ++ later)
-  unfolding sentMore
-  on-fine e h l =
-      let w = when-fine s b m e in
-      let k : ℕ = partCount (b .header) in
-      let spent : spentOf (b .answer .sending) ≡ spentOf s + k = ap spentOf (w .1) ∙ spent-more s k (some (b .header)) h in
-      record {
-        count = k + l .count;
-        is =
-            ap (λ (a : WriteOutcome). usedIn a (sentParts s (b .header) (b .abort) (b .source)) ++ later) (w .0)
-            ∙ ap₂ _++_ (sent-run s (b .header) (b .abort) (b .source)) (l .is ∙ ap (λ (t : Sending). run (l .count) (t .nonce)) (w .1))
-            ∙ run-on k (l .count) (s .nonce);
-        fits = omega (arith, spent, l .fits);
-      }
+takes : (s : Sending) (b : Build) → Meets s b → spentOf s ≤ allNonces → Takes s b
+unfolding sentMore nonceAfter
+takes s b m h =
+    by-judgement (judged s b)
+    (λ e.
+    let f = accepted s (b .header) (b .abort) (length (b .source)) (length (b .buffer)) (b .queued) e in
+    let w = when-fine s b m e in
+    record {
+      count = partCount (b .header);
+      is = ap (λ (a : WriteOutcome). usedIn a (sentParts s (b .header) (b .abort) (b .source))) (w .0) ∙ sent-run s (b .header) (b .abort) (b .source);
+      spent = ap spentOf (w .1) ∙ spent-more s (partCount (b .header)) (some (b .header)) (f .left);
+      fits = f .left;
+      nonce = ap (λ (t : Sending). t .nonce) (w .1);
+    })
+    (λ r e.
+    let w = when-refused s b m r e in
+    record {
+      count = 0;
+      is = ap (λ (a : WriteOutcome). usedIn a (sentParts s (b .header) (b .abort) (b .source))) (w .0);
+      spent = ap spentOf (w .1) ∙ omega arith;
+      fits = omega arith;
+      nonce = ap (λ (t : Sending). t .nonce) (w .1);
+    })
 
 pub line : (s : Sending) (bs : List Build) → Chained s bs → spentOf s ≤ allNonces → Line s (used s bs)
 line s [] c h = record { count = 0; is = refl; fits = omega arith }
 line s (b ∷ bs) c h =
-    by-judgement (judged s b)
-    (λ e.
-    let f = accepted s (b .header) (b .abort) (length (b .source)) (length (b .buffer)) (b .queued) e in
-    let n : spentOf (b .answer .sending) ≤ allNonces =
-    rw (ap spentOf (when-fine s b (c .0) e .1) ∙ spent-more s (partCount (b .header)) (some (b .header)) (f .left)) (f .left) in
-    on-fine s b (c .0) (used (b .answer .sending) bs) e (f .left) (line (b .answer .sending) bs (c .1) n))
-    (λ r e.
-    on-refused s b (c .0) (used (b .answer .sending) bs) r e
-    (line (b .answer .sending) bs (c .1) (rw (ap spentOf (when-refused s b (c .0) r e .1)) h)))
+    let t = takes s b (c .0) h in
+    let l = line (b .answer .sending) bs (c .1) (omega (arith, t .spent, t .fits)) in
+    record {
+      count = t .count + l .count;
+      is = ap₂ _++_ (t .is) (l .is ∙ ap (run (l .count)) (t .nonce)) ∙ run-on (t .count) (l .count) (s .nonce);
+      fits = omega (arith, t .spent, l .fits);
+    }
 
 pub different : (key nonce : List ℕ) (bs : List Build) → Chained (freshSending key nonce) bs → AllDifferent (used (freshSending key nonce) bs)
 unfolding freshSending
@@ -140,23 +140,10 @@ different key nonce bs c =
 counts : (s : Sending) (bs : List Build) → Chained s bs → spentOf s ≤ allNonces → spentOf (sendingAfter s bs) ≡ spentOf s + length (used s bs)
 counts s [] c h = omega arith
 counts s (b ∷ bs) c h =
-    let later = used (b .answer .sending) bs in
-    let both : length (usedBy s b ++ later) ≡ length (usedBy s b) + length later = length-append (usedBy s b) later in
-    by-judgement (judged s b)
-    (λ e.
-    let f = accepted s (b .header) (b .abort) (length (b .source)) (length (b .buffer)) (b .queued) e in
-    let w = when-fine s b (c .0) e in
-    let k : ℕ = partCount (b .header) in
-    let spent : spentOf (b .answer .sending) ≡ spentOf s + k = ap spentOf (w .1) ∙ spent-more s k (some (b .header)) (f .left) in
-    let here : length (usedBy s b) ≡ k = ap (λ (a : WriteOutcome). length (usedIn a (sentParts s (b .header) (b .abort) (b .source)))) (w .0) ∙ needs s (b .header) (b .abort) (b .source) in
-    let rest = counts (b .answer .sending) bs (c .1) (rw spent (f .left)) in
-    omega (arith, both, spent, here, rest))
-    (λ r e.
-    let w = when-refused s b (c .0) r e in
-    let here : length (usedBy s b) ≡ 0 = ap (λ (a : WriteOutcome). length (usedIn a (sentParts s (b .header) (b .abort) (b .source)))) (w .0) in
-    let spent : spentOf (b .answer .sending) ≡ spentOf s = ap spentOf (w .1) in
-    let rest = counts (b .answer .sending) bs (c .1) (rw spent h) in
-    omega (arith, both, spent, here, rest))
+    let t = takes s b (c .0) h in
+    let both = length-append (usedBy s b) (used (b .answer .sending) bs) in
+    let here : length (usedBy s b) ≡ t .count = ap length (t .is) ∙ length-run (t .count) (s .nonce) in
+    omega (arith, both, here, t .spent, counts (b .answer .sending) bs (c .1) (omega (arith, t .spent, t .fits)))
 
 pub counted-all : (key nonce : List ℕ) (bs : List Build) → Chained (freshSending key nonce) bs
     → spentOf (sendingAfter (freshSending key nonce) bs) ≡ length (used (freshSending key nonce) bs)

@@ -1,17 +1,18 @@
 -- 18 is given exactly when nothing earlier applies and too few nonces are left, and 26 exactly for a state that contradicts itself.
 use mathlib.Core.Path.{_≡_, refl, sym, ap, ap₂, _∙_}
-use mathlib.Core.Bool.{Bool, true, false, not, _&&_, _||_}
+use mathlib.Core.Bool.{Bool, true, false, not, _&&_, _||_, not-or-self}
 use mathlib.Core.List.{List, [], _∷_}
-use Prim.Native.Nat.{ℕ, _+_, _-_, _%_, _^_, _≤_, _<_}
+use Prim.Native.Nat.{ℕ, _+_, _-_, _≤_, _<_}
 use native.Mathlib.Omega.{arith}
-use borrow.Author.Tests.{leb-false, lt-leb}
+use borrow.Author.Tests.{le-leb, lt-leb, not-true}
 use lib.Dec.{leb, eqb}
 use lib.ListN.{length}
 use Rattle.refusal.specs.declared.Numbers.{Numbers}
 use Rattle.refusal.specs.declared.Refusal.{Refusal}
 use Rattle.refusal.specs.declared.Refusal.the-variants as refusal
 use Rattle.refusal.specs.Refusals.{Judged, fine, refused, numbersOf, row, orElse, firstOf, unless}
-use Rattle.refusal.proofs.Judgements.{by-judgement, AllFine, all-fine, passed, both-fine}
+use Rattle.refusal.proofs.Booleans.{by-less}
+use Rattle.refusal.proofs.Judgements.{by-judgement, all-fine, passed, both-fine}
 use Rattle.refusal.specs.Writes.{refusedFor, outcomeOf}
 use Rattle.banner.specs.declared.Revision.the-variants.{Msgr21}
 use Rattle.preamble.specs.declared.Header.{Header}
@@ -80,14 +81,9 @@ not-earlier s h abort source space queued =
 -- ---- and the last one does where nonces are missing
 
 short : (s : Sending) (k : ℕ) → 1 ≤ k → judgeNonces s k ≡ refused (row 18 0 0 0) → left s < k
-short s k h e = go (leb (spentOf s + k) allNonces) refl
-  where
-    go : (b : Bool) → leb (spentOf s + k) allNonces ≡ b → left s < k
-    go true t =
-        let j : judgeNonces s k ≡ fine = ap (λ (b : Bool). unless b refusal.NoncesSpent) t in
-        let z : _≡_ {A = ℕ} 0 1 = cc in
-        absurd (omega arith)
-    go false t = omega (arith, leb-false (spentOf s + k) allNonces t)
+short s k h e =
+    by-less allNonces (spentOf s + k) (λ l. omega arith)
+    (λ l. let j : judgeNonces s k ≡ fine = rw (le-leb (spentOf s + k) allNonces l) in let z : _≡_ {A = ℕ} 0 1 = cc in absurd (omega arith))
 
 missing : (s : Sending) (k : ℕ) → left s < k → judgeNonces s k ≡ refused (row 18 0 0 0)
 missing s k h = ap (λ (b : Bool). unless b refusal.NoncesSpent) (lt-leb (spentOf s + k) allNonces (omega arith))
@@ -100,10 +96,7 @@ module _ (s : Sending) (b : Build) (m : Meets s b) where
   said k a =
       by-judgement (judged s b)
       (λ e. let w = when-fine s b m e .0 in let z : _≡_ {A = ℕ} 0 1 = cc in absurd (omega arith))
-      (λ r e. let w = when-refused s b m r e .0 in e ∙ ap refused (same r (sym w ∙ a)))
-    where
-      same : (r : Numbers) → refusedFor r ≡ refusedFor (row k 0 0 0) → r ≡ row k 0 0 0
-      same r e = cc
+      (λ r e. let w = when-refused s b m r e .0 in cc)
 
   last-one : (j : Judged) → earlier ≡ j → orElse j (judgeNonces s (partCount (b .header))) ≡ refused (row 18 0 0 0) → (earlier ≡ fine) × (left s < partCount (b .header))
   last-one fine e a = (e, short s (partCount (b .header)) (some (b .header)) a)
@@ -142,14 +135,9 @@ module _ (s : Sending) (b : Build) (m : Meets s b) where
   -- a build that writes has a state that no refused switch handed back
   not-marked : judged s b ≡ fine → s .refused ≡ false
   unfolding judgeSealed judgeEarlier
-  not-marked e = unmarked (s .refused) refl
-    where
-      f : AllFine (judgements s (b .header) (b .abort) (length (b .source)) (length (b .buffer)) (b .queued))
-      f = all-fine (judgements s (b .header) (b .abort) (length (b .source)) (length (b .buffer)) (b .queued)) (both-fine earlier (judgeNonces s (partCount (b .header))) e .0)
-
-      unmarked : (x : Bool) → s .refused ≡ x → s .refused ≡ false
-      unmarked true t = let z = passed (not (s .refused)) refusal.SwitchRefused (f .1 .0) in cc
-      unmarked false t = t
+  not-marked e =
+      let f = all-fine (judgements s (b .header) (b .abort) (length (b .source)) (length (b .buffer)) (b .queued)) (both-fine earlier (judgeNonces s (partCount (b .header))) e .0) in
+      not-true (s .refused) (passed (not (s .refused)) refusal.SwitchRefused (f .1 .0))
 
   still-agrees : judged s b ≡ fine → agrees (sentMore s (partCount (b .header))) ≡ true
   unfolding agrees sentMore
@@ -158,12 +146,9 @@ module _ (s : Sending) (b : Build) (m : Meets s b) where
       let k : ℕ = partCount (b .header) in
       let n : s .spent + k ≤ allNonces = counted s k (some (b .header)) (c .left) in
       let t : Sending = sentMore s k in
-      ap₂ _&&_ (round (leb allNonces (s .spent + k)) (came-round (s .spent) k (some (b .header)) n))
+      let r = leb allNonces (s .spent + k) in
+      ap₂ _&&_ (ap (λ (x : Bool). not r || x) (came-round (s .spent) k (some (b .header)) n) ∙ not-or-self r)
       (ap (λ (x : Bool). not x || (allZero (t .key) && (allZero (t .nonce) && (eqb (t .spent) 0 && not (t .exhausted))))) (not-marked e))
-    where
-      round : (x : Bool) → eqb ((s .spent + partCount (b .header)) % 2 ^ 64) 0 ≡ x → (not x || eqb ((s .spent + partCount (b .header)) % 2 ^ 64) 0) ≡ true
-      round true t = t
-      round false t = refl
 
   pub sound : Sound s b
   sound =

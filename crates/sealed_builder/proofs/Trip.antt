@@ -1,10 +1,10 @@
 -- What is built comes back.
-use mathlib.Core.Path.{_≡_, refl, sym, ap, ap₂, _∙_}
+use mathlib.Core.Path.{_≡_, sym, ap, ap₂, _∙_}
 use mathlib.Core.Bool.{Bool, true, false, not}
 use mathlib.Core.List.{List, _++_}
 use Prim.Native.Nat.{ℕ, suc, _+_, _≤_, _<_}
 use native.Mathlib.Omega.{arith}
-use borrow.Author.Tests.{eqb-false}
+use borrow.Author.Tests.{eqb-false, not-true}
 use lib.Dec.{eqb}
 use lib.ListN.{length, take, drop}
 use Rattle.buffer.proofs.Splices.{splice-at}
@@ -34,14 +34,7 @@ use Rattle.sealed_builder.proofs.NoNonceTwice.{judged, came, when-fine,
 
 -- an aborted frame that a builder accepts has more than one segment
 several : (h : Header) → judgeHeader h ≡ fine → judgeAbort Msgr21 (h .count) true ≡ fine → 1 < h .count
-several h j e = go (eqb (h .count) 1) refl
-  where
-    go : (b : Bool) → eqb (h .count) 1 ≡ b → 1 < h .count
-    go true t = absurd (never (sym (ap not t) ∙ passed (not (eqb (h .count) 1)) refusal.AbortOneSegment e))
-      where
-        never : false ≡ true → ⊥
-        never e = let z : _≡_ {A = ℕ} 0 1 = cc in omega arith
-    go false t = omega (arith, some-segment h j, eqb-false (h .count) 1 t)
+several h j e = omega (arith, some-segment h j, eqb-false (h .count) 1 (not-true (eqb (h .count) 1) (passed (not (eqb (h .count) 1)) refusal.AbortOneSegment e)))
 
 module _ (s : Sending) (b : Build) (n f P : ℕ) (tail store : List ℕ) (m : Meets s b) (fits : HeaderFits (b .header))
     (l : n + partCount (b .header) ≤ allNonces) (r : needed (b .header) ≤ length store) where
@@ -67,16 +60,13 @@ module _ (s : Sending) (b : Build) (n f P : ℕ) (tail store : List ℕ) (m : Me
       let v = when-fine s b m e in
       let bytes : List ℕ = sealedFrame w (s .nonce) h (b .abort) (b .source) in
       let size : length bytes ≡ sealedLength h = length-frame w (s .nonce) h (b .abort) (b .source) (c .whole) in
-      let count : k ≡ sealedLength h = same k (sealedLength h) (sym a ∙ v .0) in
+      let count : k ≡ sealedLength h = cc in
       let after : b .after ≡ splice (b .buffer) (b .queued) bytes = ap (λ (d : Done). d .buffer) (came s b m fine e) in
       let there : take k (drop (b .queued) (b .after)) ≡ bytes = ap (λ (x : List ℕ). take k (drop (b .queued) x)) after ∙ splice-at (b .buffer) (b .queued) bytes (omega (arith, c .fits)) k (size ∙ sym count) in
       let t : Sent n h (b .source) store = record { fits = fits; header = c .header; whole = c .whole; nonces = l; room = r } in
       ap (λ (x : List ℕ). frames (suc f) w (s .nonce) n P (x ++ tail) store) there
       ∙ read-as (b .abort) t (c .header) (c .late)
       ∙ ap₂ (λ (i : ℕ) (x : List ℕ). reported (b .abort) h (P + i) (b .source) store (frames f w x (n + partCount h) (P + i) tail)) (sym count) (sym (ap (λ (x : Sending). x .nonce) (v .1)))
-    where
-      same : (k j : ℕ) → wrote k ≡ wrote j → k ≡ j
-      same k j e = cc
 
 pub sent-back : SentBack
 unfolding SentBack

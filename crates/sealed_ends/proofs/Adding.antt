@@ -1,20 +1,21 @@
 -- Bytes add up on a switched link.
 use mathlib.Core.List.{List, [], _∷_, _++_}
 use mathlib.Core.Path.{_≡_, refl}
-use mathlib.Core.Bool.{Bool, true, false, cond, _&&_}
+use mathlib.Core.Bool.{cond, _&&_}
 use Prim.Native.Nat.{ℕ, zero, suc, _+_, _-_, _<_}
 use native.Mathlib.Omega.{arith}
 use lib.ListN.{length, take, drop, replicate}
 use lib.Dec.{ltb, eqb}
-use Rattle.buffer.specs.Splice.{replaceFront, splice}
+use Rattle.buffer.specs.Splice.{replaceFront}
 use Rattle.refusal.specs.Refusals.{Judged, fine, refused}
+use Rattle.refusal.proofs.Booleans.{by-test, at-cond}
 use Rattle.banner.specs.declared.Features.{Features}
 use Rattle.banner.specs.declared.Revision.{Revision}
 use Rattle.preamble.specs.declared.Header.{Header}
 use Rattle.preamble.specs.Judge.{headerOf}
 use Rattle.body.specs.End.{Ended, whole, dropped, refusedFor}
 use Rattle.stream.specs.Events.{Role, bannerEnd, firstEnd, frameEnd, streamEnd, roleOf, isFrameEnd}
-use Rattle.stream.specs.Stream.{Entry, Trace, ended, unlessRefused, traceOf}
+use Rattle.stream.specs.Stream.{Entry, Trace, unlessRefused, traceOf}
 use Rattle.stream.specs.Adds.{AddsAt, Adds, AddsUp, AllAddUp}
 use Rattle.stream.proofs.Sums.{all-add-up}
 use Rattle.stream.proofs.Events.{by-front}
@@ -22,6 +23,7 @@ use Rattle.aes.specs.Aes.{State, keyExpansion}
 use Rattle.gcm.specs.Gcm.{Opened, plain, fail, openedBy}
 use Rattle.secure.specs.Layout.{nextNonce, padding, inlineLength, lastLengths, firstLength, noSecondPart, noLastPart, secondPart, secondPartLength, lastPart, lastPartLength, sealedLength}
 use Rattle.secure.specs.Reading.{judgeNonce, judgePadding, judgeFirst, unpadded, lastEnded, zeroed, byOpening, partTrace, Continuation, atEnd, lastTrace, secondTrace, frames, sealedTrace}
+use Rattle.secure.proofs.Bounds.{rest-size, last-size}
 use Rattle.connection.specs.Switched.{Switch, none, behind, spliced, traceWith}
 use Rattle.connection.specs.Calls.{takenBy, switchBy, SwitchedDemand3}
 use Rattle.connection.proofs.Chain.{switched-demand3}
@@ -57,64 +59,45 @@ finished (refusedFor n) h P at payload s next e l g = l
 module _ (w : List State) (h : Header) (P : ℕ) (next : Continuation) (g : Later next) where
   last-adds : (nonce : List ℕ) (n Q : ℕ) (rest first s : List ℕ) → Q + lastPartLength h ≡ P + sealedLength h → P < Q
       → Good P (lastTrace w h nonce n Q rest first s next)
-  last-adds nonce n Q rest first s e l = go (noLastPart h) (ltb (length rest) (lastPart h)) refl
-    where
-      go : (b c : Bool) → noLastPart h ≡ b → Good P
-          (cond b (atEnd whole h Q first s (next nonce n Q rest))
-          (cond c (ended (splice s (h .s1 .len) rest))
-          (partTrace w nonce n (take (lastPart h) rest) (Q + lastPart h) (zeroed h s)
-          (λ text. atEnd (lastEnded h text) h (Q + lastPart h) (first ++ unpadded (lastLengths h) text) s
-          (next (nextNonce nonce) (suc n) (Q + lastPart h) (drop (lastPart h) rest))))))
-      go true c z =
-          let k : lastPartLength h ≡ 0 = rw z refl in
-          finished whole h P Q first s (next nonce n Q rest) (omega (arith, e, k)) l (λ t. g nonce n Q rest t)
-      go false true z = tt
-      go false false z =
-          let k : lastPartLength h ≡ lastPart h = rw z refl in
-          part P w nonce n (take (lastPart h) rest) (Q + lastPart h) (zeroed h s) _ (omega arith)
-          (λ text. finished (lastEnded h text) h P (Q + lastPart h) (first ++ unpadded (lastLengths h) text) s
-          (next (nextNonce nonce) (suc n) (Q + lastPart h) (drop (lastPart h) rest)) (omega (arith, e, k)) (omega arith)
-          (λ t. g (nextNonce nonce) (suc n) (Q + lastPart h) (drop (lastPart h) rest) t))
+  last-adds nonce n Q rest first s e l =
+      by-test (noLastPart h)
+      (λ z.
+      let k : lastPartLength h ≡ 0 = rw z refl in
+      rw z (finished whole h P Q first s (next nonce n Q rest) (omega (arith, e, k)) l (λ t. g nonce n Q rest t)))
+      (λ z.
+      let k = last-size h z in
+      rw z
+      (at-cond (Good P) (ltb (length rest) (lastPart h)) tt
+      (part P w nonce n (take (lastPart h) rest) (Q + lastPart h) (zeroed h s) _ (omega arith)
+      (λ text. finished (lastEnded h text) h P (Q + lastPart h) (first ++ unpadded (lastLengths h) text) s
+      (next (nextNonce nonce) (suc n) (Q + lastPart h) (drop (lastPart h) rest)) (omega (arith, e, k)) (omega arith)
+      (λ t. g (nextNonce nonce) (suc n) (Q + lastPart h) (drop (lastPart h) rest) t)))))
 
   rest-adds : (nonce : List ℕ) (n : ℕ) (rest first s : List ℕ) → Good P (secondTrace w h nonce n (P + firstLength) rest first s next)
   unfolding sealedLength
-  rest-adds nonce n rest first s = go (noSecondPart h) (ltb (length rest) (secondPart h)) refl
-    where
-      go : (b c : Bool) → noSecondPart h ≡ b → Good P
-          (cond b (lastTrace w h nonce n (P + firstLength) rest first (replaceFront first s) next)
-          (cond c (ended (splice (replaceFront first s) inlineLength rest))
-          (partTrace w nonce n (take (secondPart h) rest) (P + firstLength + secondPart h) (zeroed h s)
-          (λ text. unlessRefused (judgePadding (drop (h .s1 .len - inlineLength) text)) (P + firstLength + secondPart h) (zeroed h s)
-          (lastTrace w h (nextNonce nonce) (suc n) (P + firstLength + secondPart h) (drop (secondPart h) rest)
-          (first ++ take (h .s1 .len - inlineLength) text)
-          (replaceFront (first ++ take (h .s1 .len - inlineLength) text ++ replicate (padding (h .s1 .len - inlineLength) + 16) 0) s)
-          next)))))
-      go true c z =
-          let k : secondPartLength h ≡ 0 = rw z refl in
-          last-adds nonce n (P + firstLength) rest first (replaceFront first s) (omega (arith, k)) (omega arith)
-      go false true z = tt
-      go false false z =
-          let k : secondPartLength h ≡ secondPart h = rw z refl in
-          part P w nonce n (take (secondPart h) rest) (P + firstLength + secondPart h) (zeroed h s) _ (omega arith)
-          (λ text. judged P (P + firstLength + secondPart h) (judgePadding (drop (h .s1 .len - inlineLength) text)) (zeroed h s) _ (omega arith)
-          (last-adds (nextNonce nonce) (suc n) (P + firstLength + secondPart h) (drop (secondPart h) rest) (first ++ take (h .s1 .len - inlineLength) text)
-          (replaceFront (first ++ take (h .s1 .len - inlineLength) text ++ replicate (padding (h .s1 .len - inlineLength) + 16) 0) s) (omega (arith, k)) (omega arith)))
+  rest-adds nonce n rest first s =
+      let m : ℕ = h .s1 .len - inlineLength in
+      by-test (noSecondPart h)
+      (λ z.
+      let k : secondPartLength h ≡ 0 = rw z refl in
+      rw z (last-adds nonce n (P + firstLength) rest first (replaceFront first s) (omega (arith, k)) (omega arith)))
+      (λ z.
+      let k = rest-size h z in
+      rw z
+      (at-cond (Good P) (ltb (length rest) (secondPart h)) tt
+      (part P w nonce n (take (secondPart h) rest) (P + firstLength + secondPart h) (zeroed h s) _ (omega arith)
+      (λ text. judged P (P + firstLength + secondPart h) (judgePadding (drop m text)) (zeroed h s) _ (omega arith)
+      (last-adds (nextNonce nonce) (suc n) (P + firstLength + secondPart h) (drop (secondPart h) rest) (first ++ take m text)
+      (replaceFront (first ++ take m text ++ replicate (padding m + 16) 0) s) (omega (arith, k)) (omega arith))))))
 
 frames-add : (f : ℕ) (w : List State) → Later (frames f w)
 unfolding frames
 frames-add zero w nonce n P rest s = tt
-frames-add (suc f) w nonce n P rest s = go (ltb (length rest) firstLength) (frames-add f w)
-  where
-    go : (c : Bool) → Later (frames f w) → Good P
-        (cond c (ended s)
-        (partTrace w nonce n (take firstLength rest) (P + firstLength) s
-        (λ text. unlessRefused (judgeFirst text (length s)) (P + firstLength) s
-        (secondTrace w (headerOf text) (nextNonce nonce) (suc n) (P + firstLength) (drop firstLength rest) (take (headerOf text .s1 .len) (drop 32 text)) s (frames f w)))))
-    go true g = tt
-    go false g =
-        part P w nonce n (take firstLength rest) (P + firstLength) s _ (omega arith)
-        (λ text. judged P (P + firstLength) (judgeFirst text (length s)) s _ (omega arith)
-        (rest-adds w (headerOf text) P (frames f w) g (nextNonce nonce) (suc n) (drop firstLength rest) (take (headerOf text .s1 .len) (drop 32 text)) s))
+frames-add (suc f) w nonce n P rest s =
+    at-cond (Good P) (ltb (length rest) firstLength) tt
+    (part P w nonce n (take firstLength rest) (P + firstLength) s _ (omega arith)
+    (λ text. judged P (P + firstLength) (judgeFirst text (length s)) s _ (omega arith)
+    (rest-adds w (headerOf text) P (frames f w) (frames-add f w) (nextNonce nonce) (suc n) (drop firstLength rest) (take (headerOf text .s1 .len) (drop 32 text)) s)))
 
 sealed-add : (key nonce : List ℕ) (at : ℕ) (rest s : List ℕ) → Good at (sealedTrace key nonce 0 at rest s)
 unfolding sealedTrace
@@ -135,11 +118,7 @@ module _ (next : ℕ → List ℕ → Trace) (store : List ℕ) (g : (at : ℕ) 
           (AddsBehind (cond (isFrameEnd v) (n - 1) n) revision Q (cond (isFrameEnd v && eqb n 1) (next at s) (spliced (cond (isFrameEnd v) (n - 1) n) next es store) .entries)))
       go (bannerEnd p r) at s ih a = absurd a
       go (firstEnd h) at s ih a = (a .0, ih n P (a .1))
-      go (frameEnd h) at s ih a = (a .0, by (eqb n 1))
-        where
-          by : (b : Bool) → either b (SealedAdds at (cond b (next at s) (spliced (n - 1) next es store) .entries)) (AddsBehind (n - 1) revision at (cond b (next at s) (spliced (n - 1) next es store) .entries))
-          by true = g at s
-          by false = ih (n - 1) at (a .1)
+      go (frameEnd h) at s ih a = (a .0, by-test (eqb n 1) (λ c. rw c (g at s)) (λ c. rw c (ih (n - 1) at (a .1))))
       go (streamEnd m) at s ih a = a
 
   all-behind : (n : ℕ) (es : List Entry) → AddsUp es → AllBehind n (spliced n next es store .entries)

@@ -1,12 +1,11 @@
 -- What a sealed build that was not refused leaves: its bytes behind the queued ones; and builds one behind the other.
 use mathlib.Core.Path.{_≡_, sym, ap, ap₂, _∙_}
-use mathlib.Core.List.{List, [], _∷_, _++_, append-nil}
+use mathlib.Core.List.{List, [], _∷_, _++_}
 use Prim.Native.Nat.{ℕ, _+_, _-_, _≤_}
-use native.Mathlib.Nat.{add-zero}
 use native.Mathlib.Omega.{arith}
-use lib.ListN.{length, take, drop, length-append, take-append-drop}
+use lib.ListN.{length, take, drop}
 use Rattle.buffer.specs.Splice.{splice}
-use Rattle.buffer.proofs.Parts.{length-splice, splice-next, written}
+use Rattle.buffer.proofs.Parts.{written}
 use Rattle.refusal.specs.Refusals.{fine}
 use Rattle.refusal.proofs.Judgements.{by-judgement}
 use Rattle.refusal.specs.Writes.{wrote}
@@ -18,6 +17,7 @@ use Rattle.sealed_builder.specs.Build.{Done, sentMore}
 use Rattle.sealed_builder.specs.Nonces.{Build}
 use Rattle.sealed_builder.proofs.Accepted.{Accepted, accepted}
 use Rattle.sealed_builder.proofs.NoNonceTwice.{judged, came, when-fine, when-refused}
+use Rattle.ends.proofs.Builds.{Queue, queue-none, queue-more}
 use Rattle.sealed_ends.specs.Trip.{writtenBy, bytesOf, Accepts}
 use Rattle.sealed_ends.specs.Ends.{Queued, bufferBy, queuedBy}
 
@@ -64,31 +64,8 @@ abbrev pub allBytes : List Build → List ℕ
 allBytes [] = []
 allBytes (b ∷ bs) = bytesOf b ++ allBytes bs
 
-pub record Queue (buf : List ℕ) (queued : ℕ) (bs : List Build) : Type 0 where
-  pub buffer : bufferBy buf bs ≡ splice buf queued (allBytes bs)
-  pub queue : queuedBy queued bs ≡ queued + length (allBytes bs)
-  pub room : queued + length (allBytes bs) ≤ length buf
-
-pub queued-up : (s : Sending) (buf : List ℕ) (queued : ℕ) (bs : List Build) → queued ≤ length buf → Queued s buf queued bs → Queue buf queued bs
-queued-up s buf queued [] l q = record {
-  buffer = sym (ap₂ (λ (x : List ℕ) (k : ℕ). x ++ drop k buf) (append-nil (take queued buf)) (add-zero queued) ∙ take-append-drop queued buf);
-  queue = sym (add-zero queued);
-  room = omega arith;
-}
+pub queued-up : (s : Sending) (buf : List ℕ) (queued : ℕ) (bs : List Build) → queued ≤ length buf → Queued s buf queued bs → Queue buf queued (allBytes bs) (bufferBy buf bs) (queuedBy queued bs)
+queued-up s buf queued [] l q = queue-none buf queued l
 queued-up s buf queued (b ∷ bs) l q =
     let a = appended s b (q .0) in
-    let xs : List ℕ = bytesOf b in
-    let ys : List ℕ = allBytes bs in
-    let after : b .after ≡ splice buf queued xs = a .buffer ∙ ap₂ (λ (x : List ℕ) (k : ℕ). splice x k xs) (q .1) (q .2) in
-    let room : queued + writtenBy b ≤ length buf = rw (q .1, q .2) at (a .room) in
-    let n : length (splice buf queued xs) ≡ length buf = length-splice buf queued xs (omega (arith, a .length-bytes)) in
-    let na : length (b .after) ≡ length buf = ap length after ∙ n in
-    let r = queued-up (b .answer .sending) (b .after) (queued + writtenBy b) bs (omega arith) (q .3) in
-    let j = length-append xs ys in
-    record {
-      buffer = r .buffer
-          ∙ ap₂ (λ (x : List ℕ) (k : ℕ). splice x k ys) after (ap (λ (k : ℕ). queued + k) (sym (a .length-bytes)))
-          ∙ splice-next buf queued xs ys l;
-      queue = r .queue ∙ omega (arith, a .length-bytes);
-      room = omega (arith, a .length-bytes, r .room);
-    }
+    queue-more (bytesOf b) (a .buffer ∙ ap₂ (λ (x : List ℕ) (k : ℕ). splice x k (bytesOf b)) (q .1) (q .2)) (a .length-bytes) (rw (q .1, q .2) at (a .room)) (λ k. queued-up (b .answer .sending) (b .after) (queued + writtenBy b) bs k (q .3))

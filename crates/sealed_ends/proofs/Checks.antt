@@ -1,5 +1,6 @@
 -- The judgements of a sealed frame, one after the other, hold exactly when its checks do.
 use mathlib.Core.Path.{_≡_, refl, sym, ap, _∙_}
+use mathlib.Core.Logic.{_↔_}
 use mathlib.Core.Bool.{Bool, true, false, cond, _&&_}
 use mathlib.Core.List.{List, [], _∷_}
 use Prim.Native.Nat.{ℕ, zero, suc, _+_, _-_, _≤_, _<_}
@@ -13,11 +14,11 @@ use lib.Seq.{getD-drop, getD-take, length-take-le}
 use Rattle.buffer.proofs.Zeros.{zeros-each, each-zeros}
 use Rattle.refusal.specs.declared.Refusal.the-variants as refusal
 use Rattle.refusal.specs.Refusals.{Judged, fine, refused, unless}
-use Rattle.refusal.proofs.Booleans.{wrong, both-left, both-right, both-true}
+use Rattle.refusal.proofs.Booleans.{wrong, each-true, both-true}
 use Rattle.refusal.proofs.Judgements.{passed}
 use Rattle.banner.specs.declared.Revision.the-variants.{Msgr21}
 use Rattle.preamble.specs.declared.Header.{Header}
-use Rattle.preamble.specs.Judge.{headerOf, judgeStore}
+use Rattle.preamble.specs.Judge.{judgeStore}
 use Rattle.preamble.specs.Checked.{CheckedPreamble}
 use Rattle.preamble.proofs.Laws.{checked-preamble, preamble-checked}
 use Rattle.body.specs.declared.Late.{Late}
@@ -26,16 +27,20 @@ use Rattle.body.specs.End.{Ended, whole, dropped, lateOf}
 use Rattle.aes.specs.Aes.{State}
 use Rattle.gcm.specs.Gcm.{plain, openedBy}
 use Rattle.gcm.proofs.Opened.{text-length}
-use Rattle.secure.specs.Layout.{allNonces, nextNonce, roundUp, padding, inlineLength, lastLengths, firstLength, noSecondPart, noLastPart, secondPart, secondPartLength, lastPart, lastPartLength, sealedLength, partCount, needed}
+use Rattle.secure.specs.Layout.{allNonces, nextNonce, roundUp, padding, inlineLength, lastLengths, firstLength, noSecondPart, noLastPart, secondPartLength, lastPartLength, sealedLength, partCount, needed}
 use Rattle.buffer.specs.Zeros.{allZero}
 use Rattle.secure.specs.Reading.{judgeNonce, judgePadding, judgeFirst, paddingOf, lateByteIn, byLateStatus, lastEnded}
 use Rattle.secure.proofs.LastText.{late-at, padded-at}
 use Rattle.secure.proofs.Trip.{no-padding}
 use Rattle.sealed_receiver.specs.Step.{textOf}
+use Rattle.sealed_ends.specs.Handed as handed
 use Rattle.secure.proofs.Counts.{not-spent}
-use Rattle.sealed_ends.specs.Handed.{textIn, Opens, firstBytes, firstIn, headerIn, secondBytes, secondIn, lastBytes, lastNonce, lastIn, lengthAt, placeAt, lateBy, ZerosAt, CheckedSealed}
-use Rattle.secure.proofs.Bounds.{least}
-use Rattle.sealed_ends.proofs.Judging.{PartReads, JudgesAt, first-length}
+use Rattle.sealed_ends.specs.Handed.{textIn, firstBytes, firstIn, headerIn, secondBytes, secondIn, lastBytes, lastNonce, lastIn, lengthAt, placeAt, lateBy, ZerosAt, CheckedSealed}
+use Rattle.secure.proofs.Bounds.{least, rest-size, last-size}
+use Rattle.secure.proofs.Parts.{PartOpens, first-length}
+use Rattle.ends.proofs.Locality.{endsAs}
+use Rattle.ends.proofs.Checks.{lateAs}
+use Rattle.sealed_ends.proofs.Judging.{JudgesAt, header-is}
 
 -- ---- zeros
 
@@ -70,31 +75,6 @@ module _ (n r p : ℕ) (l : List ℕ) (fits : p + r ≤ length l) where
 padding-fine : (bytes : List ℕ) → judgePadding bytes ≡ fine → allZero bytes ≡ true
 padding-fine bytes e = passed (allZero bytes) refusal.Padding e
 
--- ---- the first part
-
-module _ (text : List ℕ) (store : ℕ) (size : length text ≡ 80) where
-  abbrev h₁ : Header
-  h₁ = headerOf text
-
-  abbrev room : Judged
-  room = judgeStore (needed h₁) store
-
-  abbrev padded : Judged
-  padded = judgePadding (drop (32 + h₁ .s1 .len) text)
-
-  first-checks : judgeFirst text store ≡ fine → CheckedPreamble text × ((judgeStore (needed (headerOf text)) store ≡ fine) × ZerosAt (32 + headerOf text .s1 .len) (32 + inlineLength) text)
-  unfolding judgeFirst
-  first-checks e =
-      let c = checked-preamble text (room ∷ padded ∷ []) e in
-      (c .0, (c .1 .0, λ j a b. zeros-from (32 + h₁ .s1 .len) text (padding-fine (drop (32 + h₁ .s1 .len) text) (c .1 .1 .0)) j a (omega arith)))
-
-  checks-first : CheckedPreamble text → judgeStore (needed (headerOf text)) store ≡ fine → ZerosAt (32 + headerOf text .s1 .len) (32 + inlineLength) text → judgeFirst text store ≡ fine
-  unfolding judgeFirst
-  checks-first c r z =
-      let pad : padded ≡ fine =
-      no-padding (drop (32 + h₁ .s1 .len) text) (from-zeros (32 + h₁ .s1 .len) text (λ j a b. z j a (omega arith))) in
-      preamble-checked text (room ∷ padded ∷ []) c (r, (pad, tt))
-
 -- ---- the last part
 
 -- its segments' places, as they are read one behind the other
@@ -119,23 +99,26 @@ module _ (h : Header) (text : List ℕ) where
     within (suc (suc zero)) l = omega arith
     within (suc (suc (suc k))) l = absurd (omega arith)
 
-    segments-padded : allZero (paddingOf (lastLengths h) text) ≡ true → (k : ℕ) → k < 3 → ZerosAt (placeAt h k + lengthAt h k) (placeAt h (suc k)) text
-    segments-padded e k l = zeros-piece (lengthAt h k) (roundUp (lengthAt h k)) (placeAt h k) text (within k l) (one k l)
-      where
-        a : (allZero (pads 1) && (allZero (pads 2) && allZero behindLate)) ≡ true
-        a = both-right (allZero (pads 0)) (allZero (pads 1) && (allZero (pads 2) && allZero behindLate)) (sym paddings-zero ∙ e)
+    -- each of them
+    module _ (e : allZero (paddingOf (lastLengths h) text) ≡ true) where
+      each : (allZero (pads 0) ≡ true) × (allZero (pads 1) ≡ true) × (allZero (pads 2) ≡ true) × (allZero behindLate ≡ true)
+      each =
+          let a = each-true (allZero (pads 0)) (allZero (pads 1) && (allZero (pads 2) && allZero behindLate)) (sym paddings-zero ∙ e) in
+          let b = each-true (allZero (pads 1)) (allZero (pads 2) && allZero behindLate) (a .1) in
+          let c = each-true (allZero (pads 2)) (allZero behindLate) (b .1) in
+          (a .0, b .0, c .0, c .1)
 
-        one : (k : ℕ) → k < 3 → allZero (pads k) ≡ true
-        one zero l = both-left (allZero (pads 0)) (allZero (pads 1) && (allZero (pads 2) && allZero behindLate)) (sym paddings-zero ∙ e)
-        one (suc zero) l = both-left (allZero (pads 1)) (allZero (pads 2) && allZero behindLate) a
-        one (suc (suc zero)) l = both-left (allZero (pads 2)) (allZero behindLate) (both-right (allZero (pads 1)) (allZero (pads 2) && allZero behindLate) a)
-        one (suc (suc (suc k))) l = absurd (omega arith)
+      segments-padded : (k : ℕ) → k < 3 → ZerosAt (placeAt h k + lengthAt h k) (placeAt h (suc k)) text
+      segments-padded k l = zeros-piece (lengthAt h k) (roundUp (lengthAt h k)) (placeAt h k) text (within k l) (one k l)
+        where
+          one : (k : ℕ) → k < 3 → allZero (pads k) ≡ true
+          one zero l = each .0
+          one (suc zero) l = each .1
+          one (suc (suc zero)) l = each .2
+          one (suc (suc (suc k))) l = absurd (omega arith)
 
-    late-padded : allZero (paddingOf (lastLengths h) text) ≡ true → ZerosAt (placeAt h 3 + 1) (placeAt h 3 + 16) text
-    late-padded e j x y =
-        let a = both-right (allZero (pads 0)) (allZero (pads 1) && (allZero (pads 2) && allZero behindLate)) (sym paddings-zero ∙ e) in
-        let b = both-right (allZero (pads 2)) (allZero behindLate) (both-right (allZero (pads 1)) (allZero (pads 2) && allZero behindLate) a) in
-        zeros-from (placeAt h 3 + 1) text b j x (omega arith)
+      late-padded : ZerosAt (placeAt h 3 + 1) (placeAt h 3 + 16) text
+      late-padded j x y = zeros-from (placeAt h 3 + 1) text (each .3) j x (omega arith)
 
     padded-back : ((k : ℕ) → k < 3 → ZerosAt (placeAt h k + lengthAt h k) (placeAt h (suc k)) text) → ZerosAt (placeAt h 3 + 1) (placeAt h 3 + 16) text
         → allZero (paddingOf (lastLengths h) text) ≡ true
@@ -203,33 +186,37 @@ module _ (w : List State) (nonce : List ℕ) (n : ℕ) (X : List ℕ) (store : �
   last = lastIn w nonce h X
 
   -- lengths of texts
+  part-length : (o text : List ℕ) (i k : ℕ) → i + k ≤ length X → openedBy w o (take k (drop i X)) ≡ plain text → length text ≡ k - 16
+  part-length o text i k l e = text-length w o (take k (drop i X)) text e ∙ ap (λ (j : ℕ). j - 16) (length-take-le k (drop i X) (let d = length-drop i X in omega arith))
+
   rest-length : sealedLength h ≤ length X → noSecondPart h ≡ false → openedBy w (nextNonce nonce) (secondBytes h X) ≡ plain rest → length rest ≡ roundUp (h .s1 .len - inlineLength)
   unfolding sealedLength
-  rest-length l e o =
-      let d = length-drop firstLength X in
-      let t : length (secondBytes h X) ≡ secondPartLength h = length-take-le (secondPartLength h) (drop firstLength X) (omega arith) in
-      let z : secondPartLength h ≡ secondPart h = ap (λ (b : Bool). cond b 0 (secondPart h)) e in
-      text-length w (nextNonce nonce) (secondBytes h X) rest o ∙ omega arith
+  rest-length l e o = (let z = rest-size h e in part-length (nextNonce nonce) rest firstLength (secondPartLength h) (omega arith) o ∙ omega arith)
 
   last-length : sealedLength h ≤ length X → noLastPart h ≡ false → openedBy w (lastNonce h nonce) (lastBytes h X) ≡ plain last → length last ≡ placeAt h 3 + 16
   unfolding sealedLength
-  last-length l e o =
-      let k : ℕ = firstLength + secondPartLength h in
-      let d = length-drop k X in
-      let t : length (lastBytes h X) ≡ lastPartLength h = length-take-le (lastPartLength h) (drop k X) (omega arith) in
-      let z : lastPartLength h ≡ lastPart h = ap (λ (b : Bool). cond b 0 (lastPart h)) e in
-      text-length w (lastNonce h nonce) (lastBytes h X) last o ∙ omega arith
+  last-length l e o = (let z = last-size h e in part-length (lastNonce h nonce) last (firstLength + secondPartLength h) (lastPartLength h) (omega arith) o ∙ omega arith)
 
-  opened-text : (o bytes : List ℕ) → Opens w o bytes → openedBy w o bytes ≡ plain (textIn w o bytes)
+  opened-text : (o bytes : List ℕ) → handed.Opens w o bytes → openedBy w o bytes ≡ plain (textIn w o bytes)
   opened-text o bytes e = e .1 ∙ ap plain (sym (ap textOf (e .1)))
 
-  first-parts : length first ≡ 80 → judgeFirst first store ≡ fine → CheckedPreamble first × ((judgeStore (needed h) store ≡ fine) × ZerosAt (32 + h .s1 .len) (32 + inlineLength) first)
-  unfolding headerIn
-  first-parts l e = first-checks first store l e
+  -- the first part
+  abbrev room : Judged
+  room = judgeStore (needed h) store
 
-  parts-first : length first ≡ 80 → CheckedPreamble first → judgeStore (needed h) store ≡ fine → ZerosAt (32 + h .s1 .len) (32 + inlineLength) first → judgeFirst first store ≡ fine
-  unfolding headerIn
-  parts-first l c r z = checks-first first store l c r z
+  abbrev padded : Judged
+  padded = judgePadding (drop (32 + h .s1 .len) first)
+
+  first-checks : length first ≡ 80 → judgeFirst first store ≡ fine → CheckedPreamble first × (room ≡ fine) × ZerosAt (32 + h .s1 .len) (32 + inlineLength) first
+  unfolding headerIn judgeFirst
+  first-checks l e =
+      let c = checked-preamble first (room ∷ padded ∷ []) e in
+      (c .0, c .1 .0, λ j a b. zeros-from (32 + h .s1 .len) first (padding-fine (drop (32 + h .s1 .len) first) (c .1 .1 .0)) j a (omega arith))
+
+  checks-first : length first ≡ 80 → CheckedPreamble first → room ≡ fine → ZerosAt (32 + h .s1 .len) (32 + inlineLength) first → judgeFirst first store ≡ fine
+  unfolding headerIn judgeFirst
+  checks-first l c r z =
+      preamble-checked first (room ∷ padded ∷ []) c (r, (no-padding (drop (32 + h .s1 .len) first) (from-zeros (32 + h .s1 .len) first (λ j a b. z j a (omega arith))), tt))
 
   -- what is judged of the padding and the late status
   abbrev pads₃ : List ℕ
@@ -253,73 +240,62 @@ module _ (w : List State) (nonce : List ℕ) (n : ℕ) (X : List ℕ) (store : �
   unfolding partCount
   judged-checked x kind j said pad =
       let g = j .judges in
-      let l₁ : firstLength ≤ length X = (let m = least h in omega (arith, j .long)) in
-      let p = first-parts (first-length w nonce n X l₁ (g .first)) (g .judged) in
+      let b = g .begins in
+      let m = least h in
+      let p = first-checks (first-length X (omega (arith, j .long)) (b .first)) (b .judged) in
       record {
         arrived = j .long;
-        nonces = λ k l. each-unspent n k (noSecondPart h) (noLastPart h) l (not-spent n (g .first .fresh)) (λ e. not-spent (suc n) (g .rest e .fresh)) (λ e. not-spent (n + (1 + cond (noSecondPart h) 0 1)) (g .last e .fresh));
-        first = (first, g .first .opens);
-        second = λ e. (rest, g .rest e .opens);
+        nonces = λ k l. each-unspent n k (noSecondPart h) (noLastPart h) l (not-spent n (b .first .fresh)) (λ e. not-spent (suc n) (b .second e .fresh)) (λ e. not-spent (n + (1 + cond (noSecondPart h) 0 1)) (g .last e .fresh));
+        first = (first, b .first .opens);
+        second = λ e. (rest, b .second e .opens);
         last = λ e. (last, g .last e .opens);
         preamble = p .0;
-        room = p .1 .0;
+        room = p .1;
         padding = record {
-          inline = p .1 .1;
-          second = λ e. rest-zeros e (rest-length (j .long) e (g .rest e .opens)) (g .padded e);
+          inline = p .2;
+          second = λ e i u v.
+              let l = rest-length (j .long) e (b .second e .opens) in
+              zeros-from (h .s1 .len - inlineLength) rest (padding-fine (drop (h .s1 .len - inlineLength) rest) (b .padded e)) i u (omega arith);
           segments = λ e. segments-padded h last (last-length (j .long) e (g .last e .opens)) (padding-fine pads₃ (pad e));
           epilogue = λ e. late-padded h last (last-length (j .long) e (g .last e .opens)) (padding-fine pads₃ (pad e));
         };
         late = sym late-said ∙ said;
       }
-    where
-      rest-zeros : noSecondPart h ≡ false → length rest ≡ roundUp (h .s1 .len - inlineLength) → judgePadding (drop (h .s1 .len - inlineLength) rest) ≡ fine
-          → ZerosAt (h .s1 .len - inlineLength) (roundUp (h .s1 .len - inlineLength)) rest
-      rest-zeros e l q i a b = zeros-from (h .s1 .len - inlineLength) rest (padding-fine (drop (h .s1 .len - inlineLength) rest) q) i a (omega arith)
 
   checked-judged : (x : Ended) (kind : Late) → CheckedSealed kind w nonce n X store
       → ((noLastPart h ≡ false → judgePadding pads₃ ≡ fine) → cond (noLastPart h) late.Complete (lateOf Msgr21 late₃) ≡ kind → ending ≡ x)
       → JudgesAt x w nonce n X store
   unfolding partCount
   checked-judged x kind c ends =
-      let l₁ : firstLength ≤ length X = (let m = least h in omega (arith, c .arrived)) in
-      let o₁ = opened-text nonce (firstBytes X) (c .first) in
-      let f : PartReads w nonce n (firstBytes X) = record { fresh = judged-unspent n (rw (add-zero n) at (c .nonces 0 (omega arith))); opens = o₁ } in
+      let m = least h in
+      let f : PartOpens w nonce n (firstBytes X) first = record { fresh = judged-unspent n (rw (add-zero n) at (c .nonces 0 (omega arith))); opens = opened-text nonce (firstBytes X) (c .first) } in
       record {
         long = c .arrived;
         judges = record {
-          first = f;
-          judged = parts-first (first-length w nonce n X l₁ f) (c .preamble) (c .room) (c .padding .inline);
-          rest = λ e. record { fresh = judged-unspent (suc n) (rest-unspent e (c .nonces)); opens = opened-text (nextNonce nonce) (secondBytes h X) (c .second e) };
-          padded = λ e. no-padding (drop (h .s1 .len - inlineLength) rest)
-              (from-zeros (h .s1 .len - inlineLength) rest (λ i a b. let z = rest-length (c .arrived) e (opened-text (nextNonce nonce) (secondBytes h X) (c .second e)) in c .padding .second e i a (omega arith)));
-          last = λ e. record { fresh = judged-unspent (n + (1 + cond (noSecondPart h) 0 1)) (last-unspent e (c .nonces)); opens = opened-text (lastNonce h nonce) (lastBytes h X) (c .last e) };
+          begins = record {
+            first = f;
+            header = header-is w nonce X;
+            judged = checks-first (first-length X (omega (arith, c .arrived)) f) (c .preamble) (c .room) (c .padding .inline);
+            second = λ e. record { fresh = judged-unspent (suc n) (rw (add-one n) at (c .nonces 1 (rw e (omega arith)))); opens = opened-text (nextNonce nonce) (secondBytes h X) (c .second e) };
+            padded = λ e. no-padding (drop (h .s1 .len - inlineLength) rest)
+                (from-zeros (h .s1 .len - inlineLength) rest (λ i a b. let z = rest-length (c .arrived) e (opened-text (nextNonce nonce) (secondBytes h X) (c .second e)) in c .padding .second e i a (omega arith)));
+          };
+          last = λ e. record { fresh = judged-unspent (n + (1 + cond (noSecondPart h) 0 1)) (c .nonces (1 + cond (noSecondPart h) 0 1) (rw e (omega arith))); opens = opened-text (lastNonce h nonce) (lastBytes h X) (c .last e) };
           end = end-is ∙ ends pads-fine (late-said ∙ c .late);
         };
       }
     where
-      rest-unspent : noSecondPart h ≡ false → ((k : ℕ) → k < 1 + cond (noSecondPart h) 0 1 + cond (noLastPart h) 0 1 → n + k < allNonces) → suc n < allNonces
-      rest-unspent e u = rw (add-one n) at (u 1 (rw e (omega arith)))
-
-      last-unspent : noLastPart h ≡ false → ((k : ℕ) → k < 1 + cond (noSecondPart h) 0 1 + cond (noLastPart h) 0 1 → n + k < allNonces) → n + (1 + cond (noSecondPart h) 0 1) < allNonces
-      last-unspent e u = u (1 + cond (noSecondPart h) 0 1) (rw e (omega arith))
-
       pads-fine : noLastPart h ≡ false → judgePadding pads₃ ≡ fine
       pads-fine e =
           no-padding pads₃
           (padded-back h last (last-length (c .arrived) e (opened-text (lastNonce h nonce) (lastBytes h X) (c .last e))) (c .padding .segments e) (c .padding .epilogue e))
 
-  pub whole-checked : JudgesAt whole w nonce n X store → CheckedSealed late.Complete w nonce n X store
-  whole-checked j =
-      let e = end-whole (noLastPart h) (lateOf Msgr21 late₃) late₃ (judgePadding pads₃) (sym end-is ∙ j .judges .end) in
-      judged-checked whole late.Complete j (e .0) (e .1)
-
-  pub dropped-checked : JudgesAt dropped w nonce n X store → CheckedSealed late.Aborted w nonce n X store
-  dropped-checked j =
-      let e = end-dropped (noLastPart h) (lateOf Msgr21 late₃) late₃ (judgePadding pads₃) (sym end-is ∙ j .judges .end) in
-      judged-checked dropped late.Aborted j (e .0) (e .1)
-
-  pub checked-whole : CheckedSealed late.Complete w nonce n X store → JudgesAt whole w nonce n X store
-  checked-whole c = checked-judged whole late.Complete c (λ f e. whole-end (noLastPart h) (lateOf Msgr21 late₃) late₃ (judgePadding pads₃) e f)
-
-  pub checked-dropped : CheckedSealed late.Aborted w nonce n X store → JudgesAt dropped w nonce n X store
-  checked-dropped c = checked-judged dropped late.Aborted c (λ f e. dropped-end (noLastPart h) (lateOf Msgr21 late₃) late₃ (judgePadding pads₃) e f)
+  pub checks : (abort : Bool) → JudgesAt (endsAs abort) w nonce n X store ↔ CheckedSealed (lateAs abort) w nonce n X store
+  checks false = (
+    λ j. let e = end-whole (noLastPart h) (lateOf Msgr21 late₃) late₃ (judgePadding pads₃) (sym end-is ∙ j .judges .end) in judged-checked whole late.Complete j (e .0) (e .1),
+    λ c. checked-judged whole late.Complete c (λ f e. whole-end (noLastPart h) (lateOf Msgr21 late₃) late₃ (judgePadding pads₃) e f),
+  )
+  checks true = (
+    λ j. let e = end-dropped (noLastPart h) (lateOf Msgr21 late₃) late₃ (judgePadding pads₃) (sym end-is ∙ j .judges .end) in judged-checked dropped late.Aborted j (e .0) (e .1),
+    λ c. checked-judged dropped late.Aborted c (λ f e. dropped-end (noLastPart h) (lateOf Msgr21 late₃) late₃ (judgePadding pads₃) e f),
+  )

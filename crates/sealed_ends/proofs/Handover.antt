@@ -1,20 +1,23 @@
 -- A sealed frame is handed over exactly when its checks hold.
-use mathlib.Core.Path.{_≡_, refl, sym, ap, ap₂, subst, _∙_}
-use mathlib.Core.Bool.{true, true≢false}
-use mathlib.Core.List.{List, _++_}
-use Prim.Native.Nat.{ℕ, suc, _-_, _≤_}
+use mathlib.Core.Path.{_≡_, refl, sym, ap, subst, _∙_}
+use mathlib.Core.Logic.{_↔_, Iff·trans}
+use mathlib.Core.Bool.{Bool, true, false}
+use mathlib.Core.List.{List, _∷_, _++_}
+use Prim.Native.Nat.{ℕ, suc, _+_, _-_, _≤_}
 use native.Mathlib.Nat.{le-refl}
 use native.Mathlib.Omega.{arith}
 use lib.ListN.{length, take, drop, length-append, take-append-drop}
 use lib.Seq.{take-all, take-take, length-take-le}
+use Rattle.refusal.proofs.Booleans.{wrong}
 use Rattle.banner.specs.declared.Features.{Features}
 use Rattle.banner.specs.declared.Revision.{Revision}
 use Rattle.banner.specs.Banner.{judgeOwn}
+use Rattle.preamble.specs.declared.Header.{Header}
 use Rattle.preamble.specs.Judge.{headerOf}
 use Rattle.body.specs.End.{whole, dropped}
-use Rattle.stream.specs.Stream.{Entry, Trace}
+use Rattle.stream.specs.Stream.{Entry, entry, Trace}
 use Rattle.aes.specs.Aes.{State, keyExpansion}
-use Rattle.secure.specs.Layout.{firstLength, sealedLength}
+use Rattle.secure.specs.Layout.{nonceAfter, firstLength, sealedLength, partCount}
 use Rattle.secure.specs.Reading.{frames, sealedTrace}
 use Rattle.ends.specs.Handed.{isFrame, isDrop, firstIs}
 use Rattle.connection.specs.Switched.{Switch, traceWith}
@@ -22,13 +25,18 @@ use Rattle.connection.specs.Step.{begun}
 use Rattle.connection.specs.Calls.{Call, Chained, takenBy, listOf, switchBy, SwitchedDemand3}
 use Rattle.connection.proofs.Chain.{switched-demand3}
 use Rattle.sealed_ends.specs.Fronts.{Front, bytesIn, sealedIn, switchIn, spentIn, nextIn, Begins}
-use Rattle.sealed_ends.specs.Handed.{textIn, headerIn, ExactlySealed, SealedBehind, headerBehind, Through, frame-taken, all-taken, refused, SealedHandedOver}
+use Rattle.sealed_ends.specs.Handed.{textIn, headerIn, CheckedSealed, segmentsIn, ExactlySealed, SealedBehind, headerBehind, Through, frame-taken, all-taken, refused, SealedHandedOver}
 use Rattle.secure.proofs.Bounds.{least}
-use Rattle.sealed_ends.proofs.Judging.{JudgesAt, frame-trace}
-use Rattle.sealed_ends.proofs.Locality.{header-own, segments-own, extends, restricts, Seen, nothing, refuses, hands, drops, seen}
-use Rattle.sealed_ends.proofs.Concatenation.{fuel}
+use Rattle.ends.proofs.Locality.{endsAs}
+use Rattle.ends.proofs.FrameReader.{fuel}
+use Rattle.ends.proofs.Concatenation.{eventAs}
+use Rattle.ends.proofs.Checks.{lateAs}
+use Rattle.ends.proofs.Handover.{stopped-none}
+use Rattle.sealed_ends.proofs.Judging.{JudgesAt, frame-trace, header-own, segments-own, extends, restricts}
+use Rattle.sealed_ends.proofs.Locality.{Seen, stops, ends, seen}
+use Rattle.sealed_ends.proofs.Concatenation.{sealedStoreAs, sealedReader}
 use Rattle.sealed_ends.proofs.Fronts.{follows, reported}
-use Rattle.sealed_ends.proofs.Checks.{whole-checked, dropped-checked, checked-whole, checked-dropped}
+use Rattle.sealed_ends.proofs.Checks.{checks}
 
 -- ---- the entries of the definition
 
@@ -36,57 +44,62 @@ module _ (f : ℕ) (w : List State) (nonce : List ℕ) (n P : ℕ) (X s : List �
   abbrev es : List Entry
   es = frames (suc f) w nonce n P X s .entries
 
-  frame-judges : Seen w nonce n P X s → firstIs isFrame (frames (suc f) w nonce n P X s .entries) ≡ true → JudgesAt whole w nonce n X (length s)
-  frame-judges (nothing t e) u = absurd (true≢false (sym u ∙ ap (λ (t : Trace). firstIs isFrame (t .entries)) (e f)))
-  frame-judges (refuses m at t e) u = absurd (true≢false (sym u ∙ ap (λ (t : Trace). firstIs isFrame (t .entries)) (e f)))
-  frame-judges (hands j) u = j
-  frame-judges (drops j) u = absurd (true≢false (sym u ∙ ap (λ (t : Trace). firstIs isFrame (t .entries)) (frame-trace w nonce n P X s f j)))
+  abbrev h : Header
+  h = headerIn w nonce X
 
-  drop-judges : Seen w nonce n P X s → firstIs isDrop (frames (suc f) w nonce n P X s .entries) ≡ true → JudgesAt dropped w nonce n X (length s)
-  drop-judges (nothing t e) u = absurd (true≢false (sym u ∙ ap (λ (t : Trace). firstIs isDrop (t .entries)) (e f)))
-  drop-judges (refuses m at t e) u = absurd (true≢false (sym u ∙ ap (λ (t : Trace). firstIs isDrop (t .entries)) (e f)))
-  drop-judges (hands j) u = absurd (true≢false (sym u ∙ ap (λ (t : Trace). firstIs isDrop (t .entries)) (frame-trace w nonce n P X s f j)))
-  drop-judges (drops j) u = j
+  abbrev p : List ℕ
+  p = segmentsIn w nonce h X
+
+  at-end : (abort : Bool) → JudgesAt (endsAs abort) w nonce n X (length s)
+      → es
+      ≡ entry (eventAs abort h) (P + sealedLength h) (sealedStoreAs abort h p s)
+      ∷ frames f w (nonceAfter (partCount h) nonce) (n + partCount h) (P + sealedLength h) (drop (sealedLength h) X) (sealedStoreAs abort h p s) .entries
+  at-end true j = ap (λ (t : Trace). t .entries) (frame-trace w nonce n P X s f j)
+  at-end false j = ap (λ (t : Trace). t .entries) (frame-trace w nonce n P X s f j)
+
+  frame-judges : Seen w nonce n P X s → firstIs isFrame es ≡ true → JudgesAt whole w nonce n X (length s)
+  frame-judges (stops j at t e) u = wrong (sym (ap (λ (t : Trace). firstIs isFrame (t .entries)) (e f) ∙ stopped-none isFrame (λ n. refl) j at t) ∙ u)
+  frame-judges (ends false j) u = j
+  frame-judges (ends true j) u = wrong (sym (ap (firstIs isFrame) (at-end true j)) ∙ u)
+
+  drop-judges : Seen w nonce n P X s → firstIs isDrop es ≡ true → JudgesAt dropped w nonce n X (length s)
+  drop-judges (stops j at t e) u = wrong (sym (ap (λ (t : Trace). firstIs isDrop (t .entries)) (e f) ∙ stopped-none isDrop (λ n. refl) j at t) ∙ u)
+  drop-judges (ends false j) u = wrong (sym (ap (firstIs isDrop) (at-end false j)) ∙ u)
+  drop-judges (ends true j) u = j
 
   exactly : ExactlySealed w nonce n P X s (frames (suc f) w nonce n P X s .entries)
-  exactly = record {
-    handed = (
-      λ u. whole-checked w nonce n X (length s) (frame-judges (seen w nonce n P X s) u),
-      λ c. ap (λ (t : Trace). firstIs isFrame (t .entries)) (frame-trace w nonce n P X s f (checked-whole w nonce n X (length s) c)),
-    );
-    frames = λ u. (_, ap (λ (t : Trace). t .entries) (frame-trace w nonce n P X s f (frame-judges (seen w nonce n P X s) u)));
-    dropped = (
-      λ u. dropped-checked w nonce n X (length s) (drop-judges (seen w nonce n P X s) u),
-      λ c. ap (λ (t : Trace). firstIs isDrop (t .entries)) (frame-trace w nonce n P X s f (checked-dropped w nonce n X (length s) c)),
-    );
-    drops = λ u. (_, ap (λ (t : Trace). t .entries) (frame-trace w nonce n P X s f (drop-judges (seen w nonce n P X s) u)));
-  }
+  exactly =
+      let c : (abort : Bool) → JudgesAt (endsAs abort) w nonce n X (length s) ↔ CheckedSealed (lateAs abort) w nonce n X (length s) = checks w nonce n X (length s) in
+      record {
+        handed = (λ u. c false .0 (frame-judges (seen w nonce n P X s) u), λ k. ap (firstIs isFrame) (at-end false (c false .1 k)));
+        frames = λ u. (_, at-end false (frame-judges (seen w nonce n P X s) u));
+        dropped = (λ u. c true .0 (drop-judges (seen w nonce n P X s) u), λ k. ap (firstIs isDrop) (at-end true (c true .1 k)));
+        drops = λ u. (_, at-end true (drop-judges (seen w nonce n P X s) u));
+      }
 
 anywhere : (key nonce : List ℕ) (n P : ℕ) (X s : List ℕ) → ExactlySealed (keyExpansion key) nonce n P X s (sealedTrace key nonce n P X s .entries)
 unfolding sealedTrace
 anywhere key nonce n P X s =
     let w : List State = keyExpansion key in
-    let e : frames (suc (length X)) w nonce n P X s ≡ frames (length X) w nonce n P X s = fuel w (suc (length X)) (length X) nonce n P X s (omega arith) (le-refl (length X)) in
+    let e : frames (suc (length X)) w nonce n P X s ≡ frames (length X) w nonce n P X s = fuel (sealedReader w) (suc (length X)) (length X) (nonce, n) P X s (omega arith) (le-refl (length X)) in
     subst (λ (t : Trace). ExactlySealed w nonce n P X s (t .entries)) e (exactly (length X) w nonce n P X s)
 
 -- the same entries are exactly those of X with more bytes behind it, where all of its frame is there
 exactly-more : (w : List State) (nonce : List ℕ) (n P : ℕ) (X Y s : List ℕ) (es : List Entry) → sealedLength (headerIn w nonce X) ≤ length X
     → ExactlySealed w nonce n P X s es → ExactlySealed w nonce n P (X ++ Y) s es
 exactly-more w nonce n P X Y s es l x =
-    let k = length s in
-    let hd = header-own w nonce X Y l in
     record {
-      handed = (
-        λ u. whole-checked w nonce n (X ++ Y) k (extends w nonce X Y l (checked-whole w nonce n X k (x .handed .0 u))),
-        λ c. x .handed .1 (whole-checked w nonce n X k (restricts w nonce X Y l (checked-whole w nonce n (X ++ Y) k c))),
-      );
-      frames = rw (hd, segments-own w nonce X Y l) (x .frames);
-      dropped = (
-        λ u. dropped-checked w nonce n (X ++ Y) k (extends w nonce X Y l (checked-dropped w nonce n X k (x .dropped .0 u))),
-        λ c. x .dropped .1 (dropped-checked w nonce n X k (restricts w nonce X Y l (checked-dropped w nonce n (X ++ Y) k c))),
-      );
-      drops = rw hd (x .drops);
+      handed = Iff·trans (x .handed) (more false);
+      frames = rw (header-own w nonce X Y l, segments-own w nonce X Y l) (x .frames);
+      dropped = Iff·trans (x .dropped) (more true);
+      drops = rw (header-own w nonce X Y l) (x .drops);
     }
+  where
+    more : (abort : Bool) → CheckedSealed (lateAs abort) w nonce n X (length s) ↔ CheckedSealed (lateAs abort) w nonce n (X ++ Y) (length s)
+    more abort = (
+      λ c. checks w nonce n (X ++ Y) (length s) abort .0 (extends w nonce X Y l (checks w nonce n X (length s) abort .1 c)),
+      λ c. checks w nonce n X (length s) abort .0 (restricts w nonce X Y l (checks w nonce n (X ++ Y) (length s) abort .1 c)),
+    )
 
 header-front : (w : List State) (nonce : List ℕ) (m : ℕ) (X : List ℕ) → firstLength ≤ m → headerIn w nonce (take m X) ≡ headerIn w nonce X
 unfolding headerIn
@@ -140,10 +153,8 @@ module _ (own : Features) (store : List ℕ) (r : Revision) (F : Front) (X : Lis
       let i = switched-demand3 own (bytesIn F ++ X) store cs ch .within in
       by-frame-taken (takenBy 0 cs - P) _ (omega arith) (omega arith) (by-taken cs ch q (omega arith))
   through cs ch q (all-taken e) =
-      entries-behind X _
-      (switched-demand3 own (bytesIn F ++ X) store cs ch .reports
-      ∙ ap₂ (λ (x : Switch) (l : List ℕ). traceWith x own l store .entries) q
-      (ap (λ (k : ℕ). take k (bytesIn F ++ X)) e ∙ take-all (length (bytesIn F ++ X)) (bytesIn F ++ X) (le-refl (length (bytesIn F ++ X)))))
+      let a = length-append (bytesIn F) X in
+      rw (take-all (takenBy 0 cs - P) X (omega arith)) at (by-taken cs ch q (omega arith))
   through cs ch q (refused e) =
       entries-behind X _ (switched-demand3 own (bytesIn F ++ X) store cs ch .whole e .0 ∙ ap (λ (x : Switch). traceWith x own (bytesIn F ++ X) store .entries) q)
 

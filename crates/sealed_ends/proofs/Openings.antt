@@ -1,28 +1,26 @@
 -- The parts that calls open have nonces one behind the other.
 use mathlib.Core.Path.{_≡_, refl, sym, ap, ap₂, subst, _∙_}
-use mathlib.Core.Bool.{Bool, true, false, cond, _&&_}
-use mathlib.Core.List.{List, [], _∷_, _++_, append-nil}
+use mathlib.Core.Bool.{Bool, true, false}
+use mathlib.Core.List.{List, [], _∷_, _++_, append-assoc, append-nil}
 use Prim.Native.Nat.{ℕ, suc, _+_, _-_, _≤_}
 use native.Mathlib.Nat.{add-zero}
 use native.Mathlib.Numerals.{add-one}
 use native.Mathlib.Omega.{arith}
 use borrow.Author.Tests.{ltb-true}
 use lib.Dec.{ltb}
-use lib.ListN.{length, take, drop, replicate}
-use Rattle.buffer.specs.Splice.{replaceFront, splice}
+use lib.ListN.{length, take, drop}
 use Rattle.refusal.specs.declared.Numbers.{Numbers}
 use Rattle.refusal.specs.declared.Refusal.the-variants as refusal
-use Rattle.refusal.specs.Refusals.{Judged, fine, refused, numbersOf, orElse, firstOf, unless}
-use Rattle.refusal.proofs.Booleans.{wrong}
+use Rattle.refusal.specs.Refusals.{Judged, fine, refused, numbersOf, orElse}
+use Rattle.refusal.proofs.Booleans.{by-test, at-cond, wrong}
 use Rattle.refusal.proofs.Judgements.{passed}
 use Rattle.preamble.specs.Judge.{headerOf}
 use Rattle.body.specs.End.{Ended, whole, dropped, refusedFor}
 use Rattle.receiver.specs.declared.Report.{Report}
 use Rattle.receiver.specs.declared.Report.the-variants as report
-use Rattle.banner.specs.Banner.{isMsgr21}
 use Rattle.gcm.specs.Gcm.{Opened, plain, fail, opened}
-use Rattle.secure.specs.Layout.{allNonces, nonceAfter, padding, inlineLength, noSecondPart, noLastPart, lastLengths}
-use Rattle.secure.specs.Reading.{judgeNonce, judgePadding, judgeFirst, unpadded, lastEnded, zeroed}
+use Rattle.secure.specs.Layout.{allNonces, nonceAfter, inlineLength, noSecondPart, noLastPart}
+use Rattle.secure.specs.Reading.{judgeNonce, judgePadding, judgeFirst, lastEnded, zeroed}
 use Rattle.sealed_receiver.specs.declared.Stage.{Stage}
 use Rattle.sealed_receiver.specs.declared.Stage.the-variants as stage
 use Rattle.sealed_receiver.specs.declared.Receiving.{Receiving}
@@ -31,7 +29,7 @@ use Rattle.sealed_receiver.specs.declared.State as sealed
 use Rattle.sealed_receiver.specs.State.{isRefused, openedOf, freshReceiving, openedMore}
 use Rattle.sealed_receiver.specs.State as sealed-states
 use Rattle.sealed_receiver.specs.Step as step
-use Rattle.sealed_receiver.specs.Step.{at, withOpened, withHeader, switched, Stepped, silent, refuse, unlessRefused, judgeOpened, textOf, judgePart, partText, endFrame, beginLast, beginSecondPart, afterFirstPart, afterSecondPart, afterLastPart, finish, absorbed, stored, reached, size, onByte, neededBy, feed}
+use Rattle.sealed_receiver.specs.Step.{at, withOpened, withHeader, switched, Stepped, refuse, unlessRefused, judgeOpened, textOf, judgePart, partText, endFrame, beginLast, beginSecondPart, afterFirstPart, afterSecondPart, afterLastPart, finish, absorbed, stored, reached, size, onByte, neededBy, feed}
 use Rattle.sealed_receiver.proofs.Openings.{opened-next}
 use Rattle.sealed_builder.specs.Nonces.{AllDifferent}
 use Rattle.secure.proofs.Runs.{run, length-run, run-on, after-add}
@@ -59,30 +57,17 @@ keeps-end whole v p s = kept refl refl
 keeps-end dropped v p s = kept refl refl
 keeps-end (refusedFor n) v p s = refusing n (zeroed (v .header) s) refl
 
-keeps-either : {r : Receiving} (b : Bool) (x y : Stepped) → Keeps r x → Keeps r y → Keeps r (cond b x y)
-keeps-either true x y k l = k
-keeps-either false x y k l = l
-
 keeps-last : (v : Known) (s : List ℕ) → Keeps (v .receiving) (beginLast v s)
-keeps-last v s =
-    let p : List ℕ = take (v .header .s1 .len) s in
-    keeps-either (noLastPart (v .header)) (endFrame whole v p s) (silent (at stage.Last v) s) (keeps-end whole v p s) (kept refl refl)
+keeps-last v s = at-cond (Keeps (v .receiving)) (noLastPart (v .header)) (keeps-end whole v (take (v .header .s1 .len) s) s) (kept refl refl)
 
 keeps-rest : (v : Known) (s : List ℕ) → Keeps (v .receiving) (beginSecondPart v s)
-keeps-rest v s = keeps-either (noSecondPart (v .header)) (beginLast v s) (silent (at stage.Second v) s) (keeps-last v s) (kept refl refl)
+keeps-rest v s = at-cond (Keeps (v .receiving)) (noSecondPart (v .header)) (keeps-last v s) (kept refl refl)
 
 keeps-behind : (k : Stage) (v : Known) (text s : List ℕ) → Keeps (v .receiving) (behindBy k v text s)
 unfolding afterFirstPart afterSecondPart afterLastPart
-keeps-behind stage.First v text s =
-    let w : Known = withHeader v (headerOf text) in
-    let t : List ℕ = replaceFront (take (headerOf text .s1 .len) (drop 32 text)) s in
-    keeps-unless (judgeFirst text (length s)) s (beginSecondPart w t) (keeps-rest w t)
-keeps-behind stage.Second v text s =
-    let m : ℕ = v .header .s1 .len - inlineLength in
-    let t : List ℕ = splice s inlineLength (take m text ++ replicate (padding m + 16) 0) in
-    keeps-unless (judgePadding (drop m text)) (zeroed (v .header) s) (beginLast v t) (keeps-last v t)
-keeps-behind stage.Last v text s =
-    keeps-end (lastEnded (v .header) text) v (take (v .header .s1 .len) s ++ unpadded (lastLengths (v .header)) text) s
+keeps-behind stage.First v text s = keeps-unless (judgeFirst text (length s)) s _ (keeps-rest (withHeader v (headerOf text)) _)
+keeps-behind stage.Second v text s = keeps-unless (judgePadding (drop (v .header .s1 .len - inlineLength) text)) (zeroed (v .header) s) _ (keeps-last v _)
+keeps-behind stage.Last v text s = keeps-end (lastEnded (v .header) text) v _ s
 keeps-behind stage.Refused v text s = refusing (numbersOf refusal.NoncesSpent) s refl
 
 -- ---- openings one behind the other, from what r opens on
@@ -179,12 +164,9 @@ reached-byte : (c : Bool) (y : sealed.State) (s : List ℕ) → isRefused (y .po
 unfolding ran-none
 reached-byte true y s e l = stays-live (ran-none (y .known .receiving) l) (on-none y e)
 reached-byte false y s e l =
-    let r = y .known .receiving in
-    let h = y .known .header in
-    let k = y .position .stage in
-    let bytes : List ℕ = partBytes k (y .position .block) h s in
-    subst (Byte r (openingBy (judgeNonce (openedOf r)) r bytes)) (sym (finish-is k (y .position .block) (y .known) s e))
-    (part-byte r bytes (storeLeftBy k h s) (λ text. behindBy k (withOpened (y .known)) text s) (λ text. keeps-behind k (withOpened (y .known)) text s) l)
+    rw (finish-is (y .position .stage) (y .position .block) (y .known) s e)
+    (part-byte (y .known .receiving) (partBytes (y .position .stage) (y .position .block) (y .known .header) s) (storeLeftBy (y .position .stage) (y .known .header) s) _
+    (λ text. keeps-behind (y .position .stage) (withOpened (y .known)) text s) l)
 
 byte-opens : (st : sealed.State) (s : List ℕ) (b : ℕ) → isRefused (st .position .stage) ≡ false → openedOf (st .known .receiving) ≤ allNonces
     → Byte (st .known .receiving) (openingsOf st s b) (onByte st s b)
@@ -196,13 +178,8 @@ part-only : (r : Receiving) (bytes left : List ℕ) (next : List ℕ → Stepped
     → by [] ≡ refuse (numbersOf refusal.NoncesSpent) left → ((o : Opened) → by (o ∷ []) ≡ unlessRefused (judgeOpened o) left (next (textOf o)))
     → unlessRefused (judgePart r bytes) left (next (partText r bytes)) ≡ by (results (openingBy (judgeNonce (openedOf r)) r bytes))
 unfolding judgePart partText
-part-only r bytes left next by none one = go (ltb (openedOf r) allNonces)
-  where
-    go : (c : Bool)
-        → unlessRefused (orElse (unless c refusal.NoncesSpent) (judgeOpened (opened (r .key) (r .nonce) bytes))) left (next (textOf (opened (r .key) (r .nonce) bytes)))
-        ≡ by (results (openingBy (unless c refusal.NoncesSpent) r bytes))
-    go true = sym (one (opened (r .key) (r .nonce) bytes))
-    go false = sym none
+part-only r bytes left next by none one =
+    by-test (ltb (openedOf r) allNonces) (λ c. rw c (sym (one (opened (r .key) (r .nonce) bytes)))) (λ c. rw c (sym none))
 
 reached-only : (c : Bool) (y : sealed.State) (s : List ℕ) → isRefused (y .position .stage) ≡ false → reached y s c ≡ reachedBy (results (openingAt c y s)) c y s
 reached-only true y s e = refl
@@ -243,14 +220,12 @@ module _ (r : Receiving) (os : List Opening) (later : sealed.State → List ℕ 
       → AfterOpenings r (os ++ unlessReported p (later (x .state) (x .store))) (step.onward p 1 x (rest (x .state) (x .store)) .received .state)
   by-report report.More x a o =
       after-more r os (later (x .state) (x .store)) (x .state) (rest (x .state) (x .store) .received .state) a o (ih (x .state) (x .store) (o .live) (fewer r os (x .state) a o))
-  by-report (report.Event e) x a o = subst (λ (l : List Opening). AfterOpenings r l (x .state)) (sym (append-nil os)) (further a o)
+  by-report (report.Event e) x a o = rw (append-nil os) (further a o)
 
   by-byte : (x : Stepped) → Byte r os x
       → AfterOpenings r (os ++ unlessReported (x .report) (later (x .state) (x .store))) (step.onward (x .report) 1 x (rest (x .state) (x .store)) .received .state)
   by-byte x (stays-live a o) = by-report (x .report) x a o
-  by-byte x (stops a n t q) =
-      subst (λ (z : Stepped). AfterOpenings r (os ++ unlessReported (z .report) (later (z .state) (z .store))) (step.onward (z .report) 1 z (rest (z .state) (z .store)) .received .state)) (sym q)
-      (subst (λ (l : List Opening). AfterOpenings r l (step.refusedState n)) (sym (append-nil os)) (over a refl))
+  by-byte x (stops a n t q) = rw (q, append-nil os) (over a refl)
 
 after-feed : (st : sealed.State) (s bs : List ℕ) → isRefused (st .position .stage) ≡ false → openedOf (st .known .receiving) ≤ allNonces
     → AfterOpenings (st .known .receiving) (openingsIn st s bs) (feed st s bs .received .state)
@@ -262,44 +237,17 @@ after-feed st s (b ∷ bs) e l =
 -- ---- a call
 
 module _ (st : sealed.State) (s piece : List ℕ) where
-  -- by the tests of a call, in their order
-  abbrev answers : Bool → Bool → Bool → step.Answer
-  answers a r t =
-      cond a
-      (cond r (step.refuseUnchanged st (st .known .refusal) s)
-      (cond t (step.refuseUnchanged (step.refusedState (step.shortStore st)) (step.shortStore st) s) (feed st s piece)))
-      (step.refuseUnchanged st (numbersOf refusal.StateContradicts) s)
-
-  abbrev opens : Bool → Bool → Bool → List Opening
-  opens a r t = cond a (cond r [] (cond t [] (openingsIn st s piece))) []
-
   after-call : isRefused (st .position .stage) ≡ false → openedOf (st .known .receiving) ≤ allNonces
       → AfterOpenings (st .known .receiving) (openingsOn st s piece) (step.answer st s piece .received .state)
   unfolding step.answer
   after-call e l =
-      subst (λ (r : Bool). AfterOpenings (st .known .receiving) (opens (sealed-states.agrees st) r short) (answers (sealed-states.agrees st) r short .received .state)) (sym e)
-      (go (sealed-states.agrees st) short)
-    where
-      short : Bool
-      short = ltb (length s) (neededBy st)
-
-      go : (a t : Bool) → AfterOpenings (st .known .receiving) (opens a false t) (answers a false t .received .state)
-      go false t = after-none st e l
-      go true true = over (ran-none (st .known .receiving) l) refl
-      go true false = after-feed st s piece e l
+      by-test (sealed-states.agrees st)
+      (λ a. by-test (ltb (length s) (neededBy st)) (λ t. rw (a, t, e) (over (ran-none (st .known .receiving) l) refl)) (λ t. rw (a, t, e) (after-feed st s piece e l)))
+      (λ a. rw a (after-none st e l))
 
   call-refused : isRefused (st .position .stage) ≡ true → (openingsOn st s piece ≡ []) × (isRefused (step.answer st s piece .received .state .position .stage) ≡ true)
   unfolding step.answer
-  call-refused e =
-      subst (λ (r : Bool). (opens (sealed-states.agrees st) r short ≡ []) × (isRefused (answers (sealed-states.agrees st) r short .received .state .position .stage) ≡ true)) (sym e)
-      (go (sealed-states.agrees st) short)
-    where
-      short : Bool
-      short = ltb (length s) (neededBy st)
-
-      go : (a t : Bool) → (opens a true t ≡ []) × (isRefused (answers a true t .received .state .position .stage) ≡ true)
-      go false t = (refl, e)
-      go true t = (refl, e)
+  call-refused e = by-test (sealed-states.agrees st) (λ a. rw (a, e) (refl, e)) (λ a. rw a (refl, e))
 
 -- ---- a connection behind its switch
 
@@ -315,14 +263,7 @@ secure-answer st s piece z = (rw (z .ready, z .mode), rw (z .ready, z .mode))
 -- a try to switch is refused and leaves everything as it is
 switch-refused : (st : State) → st .ready ≡ false → (n : Numbers) × (judgeSwitch st ≡ refused n)
 unfolding judgeSwitch
-switch-refused st e = go (agrees st) refl
-  where
-    tests : Bool → Bool → Judged
-    tests a q = firstOf (unless a refusal.StateContradicts ∷ unless (q && isMsgr21 (st .crc .known .revision)) refusal.SwitchRefused ∷ [])
-
-    go : (a : Bool) → agrees st ≡ a → (n : Numbers) × (tests (agrees st) (st .ready) ≡ refused n)
-    go true q = (numbersOf refusal.SwitchRefused, ap₂ tests q e)
-    go false q = (numbersOf refusal.StateContradicts, ap₂ tests q e)
+switch-refused st e = by-test (agrees st) (λ a. (numbersOf refusal.SwitchRefused, rw (a, e))) (λ a. (numbersOf refusal.StateContradicts, rw a))
 
 still : (st : State) (c : Try) → st .ready ≡ false → SwitchedWith st (c .key) (c .receiving) (c .sending) (c .switched) → c .switched .state ≡ st
 still st c e w = (let d = switch-refused st e in w .state ∙ ap (λ (j : Judged). switchedState j st (c .key) (c .receiving)) (d .1))
@@ -337,10 +278,7 @@ module _ (st : State) (c : Lent) (z : Secured st) (a : Answered st (c .store) (c
 
   after-secured : isRefused (st .sealed .position .stage) ≡ false → openedOf (st .sealed .known .receiving) ≤ allNonces
       → AfterOpenings (st .sealed .known .receiving) (openingsBy st (c .store) (c .piece)) (c .received .state .sealed)
-  after-secured e l =
-      subst (λ (y : sealed.State). AfterOpenings (st .sealed .known .receiving) (openingsBy st (c .store) (c .piece)) y) (sym (ap (λ (y : State). y .sealed) handed-back))
-      (subst (λ (os : List Opening). AfterOpenings (st .sealed .known .receiving) os (step.answer (st .sealed) (c .store) (c .piece) .received .state)) (sym (secure-answer st (c .store) (c .piece) z .1))
-      (after-call (st .sealed) (c .store) (c .piece) e l))
+  after-secured e l = rw (handed-back, secure-answer st (c .store) (c .piece) z .1) (after-call (st .sealed) (c .store) (c .piece) e l)
 
   secured-refused : isRefused (st .sealed .position .stage) ≡ true → (openingsBy st (c .store) (c .piece) ≡ []) × (isRefused (c .received .state .sealed .position .stage) ≡ true)
   secured-refused e =
@@ -349,36 +287,21 @@ module _ (st : State) (c : Lent) (z : Secured st) (a : Answered st (c .store) (c
 
 -- ---- lists of calls
 
-refused-list : (st : State) (cs : List AnyCall) → Secured st → Handed st cs → isRefused (st .sealed .position .stage) ≡ true
-    → (openings st cs ≡ []) × (isRefused (stateAfter st cs .sealed .position .stage) ≡ true)
-refused-list st [] z ch e = (refl, e)
-refused-list st (taking c ∷ cs) z ch e =
-    let g = secured-refused st c z (ch .0) e in
-    let rest = refused-list (c .received .state) cs (still-secured st c z (ch .0)) (ch .1) (g .1) in
-    (ap₂ (λ (os ps : List Opening). os ++ ps) (g .0) (rest .0), rest .1)
-refused-list st (switching c ∷ cs) z ch e =
-    let q = still st c (z .ready) (ch .0) in
-    subst (λ (y : State). (openings y cs ≡ []) × (isRefused (stateAfter y cs .sealed .position .stage) ≡ true)) (sym q)
-    (refused-list st cs z (subst (λ (y : State). Handed y cs) q (ch .1)) e)
-
 by-after : (r : Receiving) (os ps : List Opening) (x y : sealed.State)
     → (isRefused (x .position .stage) ≡ false → openedOf (x .known .receiving) ≤ allNonces → AfterOpenings (x .known .receiving) ps y)
     → (isRefused (x .position .stage) ≡ true → (ps ≡ []) × (isRefused (y .position .stage) ≡ true)) → AfterOpenings r os x → AfterOpenings r (os ++ ps) y
 by-after r os ps x y live hasRefused (further a o) = after-more r os ps x y a o (live (o .live) (fewer r os x a o))
-by-after r os ps x y live hasRefused (over a e) =
-    let g = hasRefused e in
-    over (subst (Ran r) (sym (ap (λ (l : List Opening). os ++ l) (g .0) ∙ append-nil os)) a) (g .1)
+by-after r os ps x y live hasRefused (over a e) = (let g = hasRefused e in rw (g .0, append-nil os) (over a (g .1)))
 
-after-list : (st : State) (cs : List AnyCall) → Secured st → Handed st cs → isRefused (st .sealed .position .stage) ≡ false → openedOf (st .sealed .known .receiving) ≤ allNonces
-    → AfterOpenings (st .sealed .known .receiving) (openings st cs) (stateAfter st cs .sealed)
-after-list st [] z ch e l = after-none (st .sealed) e l
-after-list st (taking c ∷ cs) z ch e l =
-    let z′ = still-secured st c z (ch .0) in
-    by-after (st .sealed .known .receiving) (openingsBy st (c .store) (c .piece)) (openings (c .received .state) cs) (c .received .state .sealed) (stateAfter (c .received .state) cs .sealed)
-    (λ u v. after-list (c .received .state) cs z′ (ch .1) u v) (λ u. refused-list (c .received .state) cs z′ (ch .1) u) (after-secured st c z (ch .0) e l)
-after-list st (switching c ∷ cs) z ch e l =
-    let q = still st c (z .ready) (ch .0) in
-    subst (λ (y : State). AfterOpenings (st .sealed .known .receiving) (openings y cs) (stateAfter y cs .sealed)) (sym q) (after-list st cs z (subst (λ (y : State). Handed y cs) q (ch .1)) e l)
+after-list : (r : Receiving) (os : List Opening) (st : State) (cs : List AnyCall) → Secured st → Handed st cs → AfterOpenings r os (st .sealed)
+    → AfterOpenings r (os ++ openings st cs) (stateAfter st cs .sealed)
+after-list r os st [] z ch a = rw (append-nil os) a
+after-list r os st (taking c ∷ cs) z ch a =
+    let ps : List Opening = openingsBy st (c .store) (c .piece) in
+    rw (← (append-assoc os ps (openings (c .received .state) cs)))
+    (after-list r (os ++ ps) (c .received .state) cs (still-secured st c z (ch .0)) (ch .1)
+    (by-after r os ps (st .sealed) (c .received .state .sealed) (after-secured st c z (ch .0)) (secured-refused st c z (ch .0)) a))
+after-list r os st (switching c ∷ cs) z ch a = (let q = still st c (z .ready) (ch .0) in rw q (after-list r os st cs z (rw q at (ch .1)) a))
 
 -- from the switch on
 after-switch : (st : State) (c : Try) (cs : List AnyCall) → Made st c → Handed (c .switched .state) cs
@@ -389,8 +312,7 @@ after-switch st c cs m ch =
     let w = m .switched in
     let q : c .switched .state ≡ S = w .state ∙ ap (λ (j : Judged). switchedState j st (c .key) (c .receiving)) (sym (w .judgement) ∙ m .judgement) in
     let z : Secured S = record { mode = refl; ready = refl } in
-    subst (λ (y : State). AfterOpenings (freshReceiving (c .key) (c .receiving)) (openings y cs) (stateAfter y cs .sealed)) (sym q)
-    (after-list S cs z (subst (λ (y : State). Handed y cs) q ch) refl (omega arith))
+    rw q (after-list (freshReceiving (c .key) (c .receiving)) [] S cs z (rw q at ch) (after-none (S .sealed) refl (omega arith)))
 
 ran-of : {r : Receiving} {os : List Opening} {y : sealed.State} → AfterOpenings r os y → Ran r os
 ran-of (further a o) = a

@@ -2,27 +2,23 @@
 use mathlib.Core.Path.{_≡_, refl, sym, ap, ap₂, subst, _∙_}
 use mathlib.Core.Bool.{Bool, true, false, cond}
 use mathlib.Core.List.{List, [], _∷_, _++_, append-assoc, append-nil}
-use Prim.Native.Nat.{ℕ, zero, suc, _+_, _-_, _≤_, _<_}
+use Prim.Native.Nat.{ℕ, suc, _+_, _-_, _≤_, _<_}
 use native.Mathlib.Nat.{zero-add, add-zero, le-refl}
 use native.Mathlib.Omega.{arith}
-use lib.ListN.{length, take, drop, replicate, length-append, length-replicate}
-use lib.Seq.{drop-at}
-use Rattle.buffer.specs.Splice.{replaceFront}
-use Rattle.buffer.proofs.Parts.{length-replaceFront, put-behind}
+use lib.ListN.{length, take, drop, length-append}
+use Rattle.buffer.proofs.Parts.{put-behind}
 use Rattle.refusal.specs.Refusals.{Judged, fine}
+use Rattle.refusal.proofs.Booleans.{by-test, at-cond}
 use Rattle.banner.specs.declared.Features.{Features}
 use Rattle.banner.specs.declared.Revision.{Revision}
 use Rattle.banner.specs.Banner.{bannerBytes, judgeOwn, judgeFeatures, revisionOf}
-use Rattle.preamble.specs.declared.Header.{Header}
-use Rattle.preamble.specs.Layout.{total}
 use Rattle.body.specs.Body.{frameBytes, wireLength}
 use Rattle.builder.specs.Build.{bannerLength}
-use Rattle.stream.specs.declared.Event.the-variants.{Banner, First, Frame, Dropped}
-use Rattle.stream.specs.Stream.{Entry, entry, Trace, traceOf}
-use Rattle.stream.specs.Stream as crc
-use Rattle.aes.specs.Aes.{State, keyExpansion}
+use Rattle.stream.specs.declared.Event.the-variants.{Banner}
+use Rattle.stream.specs.Stream.{Entry, entry, Trace}
+use Rattle.aes.specs.Aes.{keyExpansion}
 use Rattle.secure.specs.Layout.{allNonces, partCount, needed}
-use Rattle.secure.specs.Reading.{zeroed, holding, frames, sealedTrace}
+use Rattle.secure.specs.Reading.{frames, sealedTrace}
 use Rattle.secure.proofs.Lengths.{some}
 use Rattle.sealed_builder.specs.declared.Sending.{Sending}
 use Rattle.sealed_builder.specs.Build.{spentOf, freshSending, sentMore}
@@ -36,39 +32,37 @@ use Rattle.ends.specs.Trip as crc-trip
 use Rattle.ends.specs.Ends as crc-ends
 use Rattle.ends.specs.Ends.{Fitting, allEntries, storeAfterAll}
 use Rattle.ends.proofs.Builds as crc-builds
-use Rattle.ends.proofs.Trips.{kept-length, sent-is, sent-length, sent-entries}
-use Rattle.connection.specs.Switched.{Switch, behind, endsFrame, spliced, traceWith, framesIn}
+use Rattle.ends.proofs.Trips.{sent-is, sent-length, sent-entries}
+use Rattle.ends.proofs.FrameReader as reader
+use Rattle.ends.proofs.Concatenation as crc-frames
+use Rattle.ends.proofs.Concatenation.{eventAs, frame-as}
+use Rattle.connection.specs.Switched.{Switch, behind, endsFrame, traceWith, framesIn}
 use Rattle.connection.specs.Step.{switchedSending}
 use Rattle.connection.specs.Calls.{takenBy}
 use Rattle.connection.proofs.Scans.{LastEndsFrame}
-use Rattle.connection.proofs.Splices.{spliced-there}
-use Rattle.sealed_ends.specs.Fronts.{bytesIn, sealedIn, switchIn, traceIn, spentIn, nextIn}
+use Rattle.sealed_ends.specs.Fronts.{bytesIn, sealedIn, switchIn, traceIn, spentIn}
 use Rattle.sealed_ends.specs.Trip.{writtenBy, bytesOf, Accepts, eventOf, storeAfter, SealedRoundTrip}
 use Rattle.sealed_ends.specs.Ends.{Queued, bufferBy, queuedBy, partsBy, FittingSealed, sealedEntries, storeAfterSealed, SwitchedLink, bufferAt, queuedAt, SwitchedLinked, sentBy, switchedAt, storeAt, SealedTwoEnds}
-use Rattle.secure.proofs.Bounds.{least}
-use Rattle.sealed_ends.proofs.Concatenation.{fuel}
-use Rattle.sealed_ends.proofs.Fronts.{last-cons, follows, same, reported}
+use Rattle.secure.proofs.Bounds.{segments-fit, least}
+use Rattle.sealed_ends.proofs.Concatenation as readers
+use Rattle.sealed_ends.proofs.Concatenation.{sealedStoreAs, kept-length, NonceAndCount}
+use Rattle.sealed_ends.proofs.Fronts.{last-cons, last-two, behind-frames, follows, same, reported}
 use Rattle.sealed_ends.proofs.Builds.{appended, allBytes, queued-up}
 
 -- one build, and what follows it
-build-entries : (f k : ℕ) (s : Sending) (b : Build) (n P : ℕ) (Y store : List ℕ) → Accepts s b → n + partCount (b .header) ≤ allNonces → needed (b .header) ≤ length store
-    → length Y ≤ f → length Y ≤ k
-    → frames (suc f) (keyExpansion (s .key)) (s .nonce) n P (bytesOf b ++ Y) store .entries
-    ≡ entry (eventOf b) (P + writtenBy b) (storeAfter b store)
-    ∷ frames k (keyExpansion (s .key)) (b .answer .sending .nonce) (n + partCount (b .header)) (P + writtenBy b) Y (storeAfter b store) .entries
+build-trace : (f : ℕ) (s : Sending) (key : List ℕ) (b : Build) (n P : ℕ) (Y store : List ℕ) → s .key ≡ key → Accepts s b → n + partCount (b .header) ≤ allNonces → needed (b .header) ≤ length store
+    → frames (suc f) (keyExpansion key) (s .nonce) n P (bytesOf b ++ Y) store
+    ≡ reader.behind (entry (eventOf b) (P + writtenBy b) (storeAfter b store) ∷ [])
+    (frames f (keyExpansion key) (b .answer .sending .nonce) (n + partCount (b .header)) (P + writtenBy b) Y (storeAfter b store))
 unfolding SentBack
-build-entries f k s b n P Y store p l r hf hk =
-    let w : List State = keyExpansion (s .key) in
-    let c : ℕ = n + partCount (b .header) in
-    let Q : ℕ = P + writtenBy b in
-    ap (λ (t : Trace). t .entries) (sent-back s b (writtenBy b) n f P Y store (p .promised) (p .wrote) (p .header) l r)
-    ∙ as-entry (b .abort) (frames f w (b .answer .sending .nonce) c Q Y)
-    ∙ ap (λ (t : Trace). entry (eventOf b) Q (storeAfter b store) ∷ t .entries) (fuel w f k (b .answer .sending .nonce) c Q Y (storeAfter b store) hf hk)
+build-trace f s key b n P Y store e p l r =
+    rw (← e)
+    (sent-back s b (writtenBy b) n f P Y store (p .promised) (p .wrote) (p .header) l r
+    ∙ as-entry (b .abort) (frames f (keyExpansion (s .key)) (b .answer .sending .nonce) (n + partCount (b .header)) (P + writtenBy b) Y))
   where
     as-entry : (a : Bool) (next : List ℕ → Trace)
-        → sealed.reported a (b .header) (P + writtenBy b) (b .source) store next .entries
-        ≡ entry (cond a (Dropped (b .header)) (Frame (b .header))) (P + writtenBy b) (cond a (zeroed (b .header) store) (holding (b .header) (b .source) store))
-        ∷ next (cond a (zeroed (b .header) store) (holding (b .header) (b .source) store)) .entries
+        → sealed.reported a (b .header) (P + writtenBy b) (b .source) store next
+        ≡ reader.behind (entry (eventAs a (b .header)) (P + writtenBy b) (sealedStoreAs a (b .header) (b .source) store) ∷ []) (next (sealedStoreAs a (b .header) (b .source) store))
     as-entry true next = refl
     as-entry false next = refl
 
@@ -86,31 +80,19 @@ round-trip own store r F g s b p key nonce l room later cs ch q t =
     let a = appended s b p in
     let e : P + writtenBy b ≡ length A = (let m = length-append (bytesIn F) X in omega (arith, a .length-bytes)) in
     let j = length-append X Y in
-    let i : frames (suc (length (X ++ Y))) (keyExpansion (F .key)) (nextIn own store F) n P (X ++ Y) S
-    ≡ frames (suc (length (X ++ Y))) (keyExpansion (s .key)) (s .nonce) n P (X ++ Y) S =
-    ap₂ (λ (k o : List ℕ). frames (suc (length (X ++ Y))) (keyExpansion k) o n P (X ++ Y) S) (sym key) (sym nonce) in
     let fit : needed (b .header) ≤ length S = rw (same own store r F g) room in
     reported own A later store cs (switchIn own store F) ch q t
     ∙ ap (λ (x : List ℕ). traceWith (switchIn own store F) own x store .entries) (append-assoc (bytesIn F) X Y)
     ∙ ap (λ (u : Trace). u .entries) (follows own store r F g (X ++ Y) (suc (length (X ++ Y))) (omega arith))
     ∙ ap (λ (es : List Entry). traceIn own store F .entries ++ es)
-    (ap (λ (u : Trace). u .entries) i
-    ∙ build-entries (length (X ++ Y)) (length Y) s b n P Y S p l fit (omega arith) (le-refl (length Y))
-    ∙ ap₂ (λ (o : ℕ) (k : List ℕ). entry (eventOf b) o (storeAfter b S) ∷ frames (length Y) (keyExpansion k) (b .answer .sending .nonce) (n + partCount (b .header)) o Y (storeAfter b S) .entries) e key)
+    (rw (← nonce)
+    (ap (λ (u : Trace). u .entries)
+    (rw e at
+    (build-trace (length (X ++ Y)) s (F .key) b n P Y S key p l fit
+    ∙ ap (reader.behind (entry (eventOf b) (P + writtenBy b) (storeAfter b S) ∷ []))
+    (reader.fuel (readers.sealedReader (keyExpansion (F .key))) (length (X ++ Y)) (length Y) (b .answer .sending .nonce, n + partCount (b .header)) (P + writtenBy b) Y (storeAfter b S) (omega arith) (le-refl (length Y)))))))
 
 -- ---- many builds
-
-stays-long : (b : Build) (s : List ℕ) → length (b .source) ≡ total (b .header) → needed (b .header) ≤ length s → length (storeAfter b s) ≡ length s
-unfolding needed
-stays-long b s e l = go (b .abort)
-  where
-    go : (c : Bool) → length (cond c (zeroed (b .header) s) (holding (b .header) (b .source) s)) ≡ length s
-    go true = (let z = length-replicate {A = ℕ} (needed (b .header)) 0 in length-replaceFront (replicate (needed (b .header)) 0) s (omega arith))
-    go false =
-        let zs : List ℕ = replicate (needed (b .header) - length (b .source)) 0 in
-        let z = length-replicate {A = ℕ} (needed (b .header) - length (b .source)) 0 in
-        let a = length-append (b .source) zs in
-        length-replaceFront (b .source ++ zs) s (omega arith)
 
 -- the key stays, and the count of spent nonces goes on
 key-stays : (s : Sending) (b : Build) → Accepts s b → b .answer .sending .key ≡ s .key
@@ -122,62 +104,33 @@ spent-on s b p =
     let a = appended s b p in
     ap spentOf (a .sending) ∙ spent-more s (partCount (b .header)) (some (b .header)) (a .request .left)
 
-builds-entries : (f k : ℕ) (s : Sending) (buf : List ℕ) (queued P : ℕ) (bs : List Build) (Y store : List ℕ) → Queued s buf queued bs → FittingSealed (length store) bs
-    → length (allBytes bs ++ Y) ≤ f → length Y ≤ k
-    → frames f (keyExpansion (s .key)) (s .nonce) (spentOf s) P (allBytes bs ++ Y) store .entries
-    ≡ sealedEntries P store bs
-    ++ frames k (keyExpansion (s .key)) (sendingAfter s bs .nonce) (spentOf s + partsBy bs) (P + length (allBytes bs)) Y (storeAfterSealed bs store) .entries
-builds-entries f k s buf queued P [] Y store q fit hf hk =
-    ap (λ (t : Trace). t .entries) (fuel (keyExpansion (s .key)) f k (s .nonce) (spentOf s) P Y store hf hk)
-    ∙ ap₂ (λ (n Q : ℕ). frames k (keyExpansion (s .key)) (s .nonce) n Q Y store .entries) (sym (add-zero (spentOf s))) (sym (add-zero P))
-builds-entries zero k s buf queued P (b ∷ bs) Y store q fit hf hk =
-    let a = appended s b (q .0) in
-    let i = length-append (bytesOf b) (allBytes bs) in
-    let j = length-append (bytesOf b ++ allBytes bs) Y in
-    let m = least (b .header) in
-    absurd (omega (arith, a .length-bytes, a .wire))
-builds-entries (suc f) k s buf queued P (b ∷ bs) Y store q fit hf hk =
+builds-read : (s : Sending) (key buf : List ℕ) (queued P : ℕ) (bs : List Build) (store : List ℕ) → s .key ≡ key → Queued s buf queued bs → FittingSealed (length store) bs
+    → reader.Reads (λ f (c : NonceAndCount). frames f (keyExpansion key) (c .0) (c .1)) (s .nonce, spentOf s) P (allBytes bs) store (sealedEntries P store bs)
+    (sendingAfter s bs .nonce, spentOf s + partsBy bs) (storeAfterSealed bs store)
+builds-read s key buf queued P [] store k q fit = rw (add-zero (spentOf s)) (reader.reads-none (readers.sealedReader (keyExpansion key)) (s .nonce, spentOf s) P store)
+builds-read s key buf queued P (b ∷ bs) store k q fit =
     let a = appended s b (q .0) in
     let X : List ℕ = bytesOf b in
     let A : List ℕ = allBytes bs in
-    let w : List State = keyExpansion (s .key) in
     let s′ : Sending = b .answer .sending in
-    let Q : ℕ = P + writtenBy b in
-    let c : ℕ = partCount (b .header) in
     let i = length-append X A in
-    let j = length-append (X ++ A) Y in
-    let j′ = length-append A Y in
     let m = least (b .header) in
-    let l : length (A ++ Y) ≤ f = omega (arith, a .length-bytes, a .wire) in
-    let kept = stays-long b store (a .request .whole) (fit .0) in
+    let w = a .wire in
+    let e = a .length-bytes in
+    let kept = kept-length (b .abort) (b .header) (b .source) store (omega (arith, segments-fit (b .header), a .request .whole)) (fit .0) in
     let spent = spent-on s b (q .0) in
-    let kw : keyExpansion (s′ .key) ≡ w = ap keyExpansion (key-stays s b (q .0)) in
-    let place : Q + length A ≡ P + length (X ++ A) = omega (arith, a .length-bytes) in
-    let count : spentOf s′ + partsBy bs ≡ spentOf s + (c + partsBy bs) = omega arith in
-    let tail : ℕ → ℕ → List Entry = λ n i. frames k w (sendingAfter s′ bs .nonce) n i Y (storeAfterSealed bs (storeAfter b store)) .entries in
-    ap (λ (x : List ℕ). frames (suc f) w (s .nonce) (spentOf s) P x store .entries) (append-assoc X A Y)
-    ∙ build-entries f f s b (spentOf s) P (A ++ Y) store (q .0) (a .request .left) (fit .0) l l
-    ∙ ap (λ (es : List Entry). entry (eventOf b) Q (storeAfter b store) ∷ es)
-    (ap₂ (λ (n : ℕ) (u : List State). frames f u (s′ .nonce) n Q (A ++ Y) (storeAfter b store) .entries) (sym spent) (sym kw)
-    ∙ builds-entries f k s′ (b .after) (queued + writtenBy b) Q bs Y (storeAfter b store) (q .3) (rw kept (fit .1)) l hk
-    ∙ ap (λ (u : List State). sealedEntries Q (storeAfter b store) bs ++ frames k u (sendingAfter s′ bs .nonce) (spentOf s′ + partsBy bs) (Q + length A) Y (storeAfterSealed bs (storeAfter b store)) .entries) kw
-    ∙ ap₂ (λ (n i : ℕ). sealedEntries Q (storeAfter b store) bs ++ tail n i) count place)
-    ∙ ap (λ (i : ℕ). entry (eventOf b) (P + i) (storeAfter b store) ∷ (sealedEntries (P + i) (storeAfter b store) bs ++ tail (spentOf s + (c + partsBy bs)) (P + length (X ++ A)))) (a .wire)
+    let count : spentOf s′ + partsBy bs ≡ spentOf s + (partCount (b .header) + partsBy bs) = omega arith in
+    let r = builds-read s′ key (b .after) (queued + writtenBy b) (P + writtenBy b) bs (storeAfter b store) (key-stays s b (q .0) ∙ k) (q .3) (rw kept (fit .1)) in
+    rw (← w)
+    (reader.reads-step (readers.sealedReader (keyExpansion key)) (entry (eventOf b) (P + writtenBy b) (storeAfter b store) ∷ [])
+    (λ f Y. rw (append-assoc X A Y) (build-trace f s key b (spentOf s) P (A ++ Y) store k (q .0) (a .request .left) (fit .0)))
+    (omega arith) (omega arith) (rw (count, spent) at r))
 
 -- ---- the crc builds of a link: their last entry, and how many there are
 
 frame-ends-two : (es fs : List Entry) → framesIn (es ++ fs) ≡ framesIn es + framesIn fs
 frame-ends-two [] fs = sym (zero-add (framesIn fs))
-frame-ends-two (e ∷ es) fs = go (endsFrame (e .event)) (frame-ends-two es fs)
-  where
-    go : (c : Bool) → framesIn (es ++ fs) ≡ framesIn es + framesIn fs
-        → cond c (suc (framesIn (es ++ fs))) (framesIn (es ++ fs)) ≡ cond c (suc (framesIn es)) (framesIn es) + framesIn fs
-    go true e = omega arith
-    go false e = e
-
-last-two : (es fs : List Entry) (t : ℕ) (s : List ℕ) → LastEndsFrame fs t s → LastEndsFrame (es ++ fs) t s
-last-two [] fs t s l = l
-last-two (e ∷ es) fs t s l = last-cons e (es ++ fs) t s (last-two es fs t s l)
+frame-ends-two (e ∷ es) fs = (let i = frame-ends-two es fs in by-test (endsFrame (e .event)) (λ c. rw c (omega arith)) (λ c. rw c i))
 
 module _ (r : Revision) where
   -- where the last one ends
@@ -185,18 +138,10 @@ module _ (r : Revision) where
   placeBy P [] = P
   placeBy P (b ∷ bs) = placeBy (P + wireLength r (b .header)) bs
 
-  build-ends : (a : Bool) (h : Header) → endsFrame (cond a (Dropped h) (Frame h)) ≡ true
-  build-ends true h = refl
-  build-ends false h = refl
-
   one-frame-end : (P : ℕ) (s : List ℕ) (b : crc-trip.Build) → framesIn (crc-trip.entriesOf r P s b) ≡ 1
   one-frame-end P s b =
       frame-ends-two (crc-trip.earlyEntry r P s b) (entry (crc-trip.eventOf b) (P + wireLength r (b .header)) (crc-trip.storeAfter b s) ∷ [])
-      ∙ ap₂ _+_ (early (isEarly r (b .header))) (ap (λ (c : Bool). cond c 1 0) (build-ends (b .abort) (b .header)))
-    where
-      early : (c : Bool) → framesIn (cond c (entry (First (b .header)) (P + 36 + b .header .s1 .len) (replaceFront (take (b .header .s1 .len) (b .source)) s) ∷ []) []) ≡ 0
-      early true = refl
-      early false = refl
+      ∙ ap₂ _+_ (at-cond (λ es. framesIn es ≡ 0) (isEarly r (b .header)) refl refl) (ap (λ (c : Bool). cond c 1 0) (frame-as (b .abort) (b .header)))
 
   all-frame-ends : (P : ℕ) (s : List ℕ) (bs : List crc-trip.Build) → framesIn (allEntries r P s bs) ≡ length bs
   all-frame-ends P s [] = refl
@@ -209,7 +154,7 @@ module _ (r : Revision) where
   all-last P s [] l = absurd (omega arith)
   all-last P s (b ∷ []) l =
       let x : List Entry = entry (crc-trip.eventOf b) (P + wireLength r (b .header)) (crc-trip.storeAfter b s) ∷ [] in
-      rw (append-nil (crc-trip.earlyEntry r P s b ++ x)) (last-two (crc-trip.earlyEntry r P s b) x _ _ (build-ends (b .abort) (b .header), refl, refl))
+      rw (append-nil (crc-trip.earlyEntry r P s b ++ x)) (last-two (crc-trip.earlyEntry r P s b) x _ _ (frame-as (b .abort) (b .header), refl, refl))
   all-last P s (b ∷ c ∷ bs) l =
       last-two (crc-trip.entriesOf r P s b) (allEntries r (P + wireLength r (b .header)) (crc-trip.storeAfter b s) (c ∷ bs)) _ _
       (all-last (P + wireLength r (b .header)) (crc-trip.storeAfter b s) (c ∷ bs) (omega arith))
@@ -225,7 +170,7 @@ module _ (r : Revision) where
   all-long : (buf : List ℕ) (queued : ℕ) (bs : List crc-trip.Build) (s : List ℕ) → crc-ends.Queued r buf queued bs → Fitting (length s) bs → length (storeAfterAll bs s) ≡ length s
   all-long buf queued [] s q fit = refl
   all-long buf queued (b ∷ bs) s q fit =
-      let k = kept-length b s (crc-builds.appended r buf queued b (q .0) .request .whole) (fit .0) in
+      let k = crc-frames.kept-length (b .abort) (b .header) (b .source) s (crc-builds.appended r buf queued b (q .0) .request .whole) (fit .0) in
       all-long (b .buffer) (queued + b .written) bs (crc-trip.storeAfter b s) (q .1) (rw k (fit .1)) ∙ k
 
 queued-grows : (q : ℕ) (bs : List crc-trip.Build) → q ≤ crc-ends.queuedBy q bs
@@ -291,13 +236,9 @@ module _ (own : Features) (store : List ℕ) (l : SwitchedLink) (k : SwitchedLin
   switched-entries : (Z : List ℕ)
       → traceWith sw own (clear ++ Z) store .entries ≡ before ++ sealedTrace (l .switch .key) (l .switch .sending) 0 (length clear) Z (storeAt l store) .entries
   switched-entries Z =
-      let next : ℕ → List ℕ → Trace = λ at s. sealedTrace (l .switch .key) (l .switch .sending) 0 at (drop at (clear ++ Z)) s in
-      let later : List Entry = crc.frames (length Z) r (length clear) Z (storeAt l store) .entries in
-      let last : List ℕ = traceOf own (clear ++ Z) store .store in
       ap (λ (t : Trace). t .entries)
-      (ap₂ (λ (n : ℕ) (es : List Entry). spliced n next es last) (sym (all-frame-ends r bannerLength store (l .crc .builds))) (sent-entries own store (l .crc) (k .crc) ours fit fits Z)
-      ∙ spliced-there next later last before (length clear) (storeAt l store) last-before)
-      ∙ ap (λ (x : List ℕ). before ++ sealedTrace (l .switch .key) (l .switch .sending) 0 (length clear) x (storeAt l store) .entries) (drop-at clear Z (length clear) refl)
+      (rw (all-frame-ends r bannerLength store (l .crc .builds)) at
+      (behind-frames own clear Z store (l .switch .key) (l .switch .sending) (storeAt l store) before _ last-before (sent-entries own store (l .crc) (k .crc) ours fit fits Z)))
 
   -- and where they are those of the builds
   sealed-entries : FittingSealed (length store) (l .builds) → (Y : List ℕ)
@@ -313,14 +254,15 @@ module _ (own : Features) (store : List ℕ) (l : SwitchedLink) (k : SwitchedLin
       let A : List ℕ = allBytes bs in
       let S : List ℕ = storeAt l store in
       let kept : length S ≡ length store = all-long r (l .crc .buffer) (l .crc .queued + l .crc .written) (l .crc .builds) store (k .crc .builds) fits in
-      let u : spentOf s₀ + partsBy bs ≡ partsBy bs = ap (λ (x : Sending). spentOf x + partsBy bs) new ∙ zero-add (partsBy bs) in
-      let key : s₀ .key ≡ l .switch .key = ap (λ (x : Sending). x .key) new in
+      let spent : spentOf s₀ ≡ 0 = ap spentOf new in
       let place : length clear + length A ≡ length (sentBy l) = sym (ap length (sent-split r l k) ∙ length-append clear A) in
-      let tail : List ℕ → ℕ → ℕ → List Entry = λ c n i. frames (length Y) (keyExpansion c) (sendingAfter s₀ bs .nonce) n i Y (storeAfterSealed bs S) .entries in
-      ap (λ (x : Sending). frames (length (A ++ Y)) (keyExpansion (x .key)) (x .nonce) (spentOf x) (length clear) (A ++ Y) S .entries) (sym new)
-      ∙ builds-entries (length (A ++ Y)) (length Y) s₀ (bufferAt l) (queuedAt l) (length clear) bs Y S (k .builds) (rw kept long) (le-refl (length (A ++ Y))) (le-refl (length Y))
-      ∙ ap₂ (λ (n i : ℕ). sealedEntries (length clear) S bs ++ tail (s₀ .key) n i) u place
-      ∙ ap₂ (λ (P : ℕ) (c : List ℕ). sealedEntries P S bs ++ tail c (partsBy bs) (length (sentBy l))) (sent-length r (l .crc) (k .crc)) key
+      let tail : List Entry = frames (length Y) (keyExpansion (l .switch .key)) (sendingAfter s₀ bs .nonce) (partsBy bs) (length (sentBy l)) Y (storeAfterSealed bs S) .entries in
+      ap (λ (x : Sending). frames (length (A ++ Y)) (keyExpansion (l .switch .key)) (x .nonce) 0 (length clear) (A ++ Y) S .entries) (sym new)
+      ∙ ap (λ (u : Trace). u .entries)
+      (rw (spent, zero-add (partsBy bs), place) at
+      (builds-read s₀ (l .switch .key) (bufferAt l) (queuedAt l) (length clear) bs S (ap (λ (x : Sending). x .key) new) (k .builds) (rw kept long) .reads
+      (length (A ++ Y)) (length Y) Y (le-refl (length (A ++ Y))) (le-refl (length Y))))
+      ∙ ap (λ (P : ℕ). sealedEntries P S bs ++ tail) (sent-length r (l .crc) (k .crc))
 
 pub two-ends : SealedTwoEnds
 unfolding SealedTwoEnds

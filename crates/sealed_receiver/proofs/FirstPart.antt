@@ -11,8 +11,7 @@ use Rattle.refusal.specs.declared.Numbers.{Numbers}
 use Rattle.refusal.specs.Refusals.{Judged, fine, refused, orElse, firstOf}
 use Rattle.refusal.proofs.Judgements.{or-else-last, first-append}
 use Rattle.preamble.specs.declared.Header.{Header}
-use Rattle.preamble.specs.Judge.{headerOf, preambleOf, preambleJudgements, judgeStore, judgeHeader}
-use Rattle.preamble.proofs.Laws.{checked-preamble, checked-header, store-fits}
+use Rattle.preamble.specs.Judge.{headerOf, preambleOf, preambleJudgements, judgeStore}
 use Rattle.secure.specs.Layout.{needed}
 use Rattle.secure.specs.Reading.{judgePadding, judgeFirst}
 use Rattle.sealed_receiver.specs.declared.Stage.the-variants as stage
@@ -21,6 +20,7 @@ use Rattle.sealed_receiver.specs.declared.Known.{Known}
 use Rattle.sealed_receiver.specs.Step.{Stepped, refuse, unlessRefused, withHeader, withOpened, judgePart, partText, beginSecondPart, afterFirstPart, finish}
 use Rattle.sealed_receiver.proofs.Openings.{part-text-length}
 use Rattle.secure.proofs.Bounds.{segments-fit}
+use Rattle.secure.proofs.Parts.{first-fits}
 
 -- ---- its judgements
 
@@ -39,16 +39,6 @@ module _ (text : List ℕ) (store : ℕ) where
   judged-first =
       ap (λ (j : Judged). orElse (firstOf (preambleJudgements (preambleOf text) text)) (orElse room j)) (sym (or-else-last padded))
       ∙ first-append (preambleJudgements (preambleOf text) text) (room ∷ padded ∷ [])
-
-  -- what is known of a first part that is accepted
-  module _ (e : judgeFirst text store ≡ fine) where
-    pub first-fits : needed (headerOf text) ≤ store
-    unfolding judgeFirst
-    first-fits = store-fits (checked-preamble text (room ∷ padded ∷ []) e .1 .0)
-
-    pub first-header : judgeHeader (headerOf text) ≡ fine
-    unfolding judgeFirst
-    first-header = checked-header (checked-preamble text (room ∷ padded ∷ []) e .0)
 
 -- ---- behind it
 

@@ -1,8 +1,8 @@
 -- The last part: its segments and what pads them, its end, and its segments one behind the other.
 use mathlib.Core.Path.{_≡_, sym, ap, ap₂, _∙_}
 use mathlib.Core.List.{List, [], _++_, append-assoc, append-nil}
-use mathlib.Core.Bool.{Bool, false, _&&_, and-assoc}
-use Prim.Native.Nat.{ℕ, _+_, _-_, _≤_}
+use mathlib.Core.Bool.{Bool, _&&_, and-assoc}
+use Prim.Native.Nat.{ℕ, _+_, _-_, _≤_, _<_}
 use native.Mathlib.Nat.{zero-add}
 use native.Mathlib.Omega.{arith}
 use lib.ListN.{length, take, drop, getD, length-append, length-take, length-drop}
@@ -20,13 +20,12 @@ use Rattle.secure.specs.Layout.{padding, roundUp, noLastPart, lastLengths, last
 use Rattle.buffer.specs.Zeros.{allZero}
 use Rattle.secure.specs.Reading.{unpadded, paddingOf, lateByteIn, byLateStatus, lastEnded, zeroed}
 use Rattle.sealed_receiver.specs.declared.Stage.the-variants as stage
-use Rattle.sealed_receiver.specs.declared.Receiving.{Receiving}
 use Rattle.sealed_receiver.specs.declared.Known.{Known}
-use Rattle.sealed_receiver.specs.Step.{Stepped, refuse, withOpened, judgePart, partText, endFrame, afterLastPart, finish, ClosedUp}
+use Rattle.sealed_receiver.specs.Step.{refuse, withOpened, judgePart, partText, endFrame, afterLastPart, finish, ClosedUp}
 use Rattle.buffer.proofs.Splices.{splice-upto, splice-behind}
-use Rattle.sealed_receiver.proofs.Regions.{end-same, after, after-length, after-before, after-behind, part-refused, part-opened}
+use Rattle.sealed_receiver.proofs.Regions.{end-same, Region, bytes, left, left-before, left-behind, part-refused, part-opened}
 use Rattle.secure.proofs.LastText.{behindAll, late-at, padded-at, unpadded-at, unpadded-short, rounds, unpadded-front}
-use Rattle.secure.proofs.Bounds.{segments-fit, moves-fit, round-up, last-size, last-fits}
+use Rattle.secure.proofs.Bounds.{there, segments-fit, moves-fit, round-up, last-size, last-fits}
 
 -- ---- padded segments
 
@@ -171,14 +170,14 @@ module _ (v : Known) (s : List ℕ) where
 
   -- ---- the frame's end: the text stands in the store, behind segment 1
 
-  module _ (m : ℕ) (em : m ≡ lastPart g - 16) where
+  module _ {m : ℕ} (em : m ≡ lastPart g - 16) where
     abbrev text : List ℕ
     text = take (lastPart g - 16) (drop (g .s1 .len) s)
 
     read-is : take m (drop (g .s1 .len) s) ≡ text
     read-is = ap (λ (k : ℕ). take k (drop (g .s1 .len) s)) em
 
-    module _ (o : Ended) (eo : o ≡ lastEnded g (take m (drop (g .s1 .len) s))) where
+    module _ {o : Ended} (eo : o ≡ lastEnded g (take m (drop (g .s1 .len) s))) where
       pub last-ends : (x : Ended) → o ≡ x → endFrame x v (payload g s text) s ≡ afterLastPart v text s
       unfolding afterLastPart
       last-ends x e = ap (λ (y : Ended). endFrame y v (payload g s text) s) (sym e ∙ eo ∙ ap (lastEnded g) read-is)
@@ -194,42 +193,24 @@ module _ (v : Known) (s : List ℕ) where
 
   -- ---- opened where it stands
 
-  module _ (ys : List ℕ) (m : ℕ) (em : m ≡ lastPartLength g) (e : noLastPart g ≡ false)
-      (room : needed g ≤ length s) (kept : length ys ≡ length (take m (drop (g .s1 .len) s))) where
-    abbrev r : Receiving
-    r = v .receiving
+  abbrev Last : ℕ → Type 0
+  Last n = Region g s (g .s1 .len) n (lastPartLength g) (lastPart g - 16)
 
-    abbrev place : ℕ
-    place = v .header .s1 .len
+  pub last-region : {n : ℕ} → n ≡ lastPartLength g → 0 < lastPartLength g → needed g ≤ length s → Last n
+  last-region e some room =
+      let z = last-size g (there (noLastPart g) (lastPart g) some) in
+      record { is = e; size = z ∙ omega arith; fits = omega (arith, z, last-fits g); room = room }
 
-    abbrev left : List ℕ
-    left = after s place m ys
-
-    abbrev next : List ℕ → List ℕ → Stepped
-    next = afterLastPart (withOpened v)
-
-    size : m ≡ lastPart g - 16 + 16
-    size = em ∙ last-size g e ∙ omega arith
-
-    inside : place + m ≤ needed g
-    inside = omega (arith, last-fits g, size)
-
-    pub last-left : needed g ≤ length left
-    last-left = omega (arith, after-length g s ys place m inside room kept)
-
-    last-same : (text : List ℕ) → length text ≡ lastPart g - 16 → next text left ≡ next text s
-    unfolding afterLastPart
-    last-same text l =
-        ap (λ (t : List ℕ). endFrame (lastEnded g text) (withOpened v) (t ++ unpadded (lastLengths g) text) left)
-        (after-before g s ys place m inside room kept)
-        ∙ end-same (withOpened v) s left (after-behind g s ys place m inside room kept) (lastEnded g text) (payload g s text) (payload-fits g s text)
-
-    pub last-refused : (b : List ℕ) (n : Numbers) → judgePart r (take m (drop place s)) ≡ refused n → refuse n (zeroed g left) ≡ finish stage.Last b v s
+  module _ {n : ℕ} (l : Last n) (ys : List ℕ) (kept : length ys ≡ length (bytes l)) (b : List ℕ) where
+    pub last-refused : (m : Numbers) → judgePart (v .receiving) (bytes l) ≡ refused m → refuse m (zeroed g (left l ys kept)) ≡ finish stage.Last b v s
     unfolding finish
-    last-refused b n j = part-refused g s ys place m inside room kept r (lastPartLength g) em next n j
+    last-refused m j = part-refused l ys kept (v .receiving) (afterLastPart (withOpened v)) m j
 
-    pub last-opened : (b : List ℕ) → judgePart r (take m (drop place s)) ≡ fine
-        → ys ≡ partText r (take m (drop place s)) ++ drop (length (take m (drop place s)) - 16) (take m (drop place s))
-        → next (take (lastPart g - 16) (drop place left)) left ≡ finish stage.Last b v s
-    unfolding finish
-    last-opened b j t = part-opened g s ys place m inside room kept r (lastPartLength g) em next (lastPart g - 16) size last-same j t
+    pub last-opened : judgePart (v .receiving) (bytes l) ≡ fine → ys ≡ partText (v .receiving) (bytes l) ++ drop (length (bytes l) - 16) (bytes l)
+        → afterLastPart (withOpened v) (take (lastPart g - 16) (drop (g .s1 .len) (left l ys kept))) (left l ys kept) ≡ finish stage.Last b v s
+    unfolding finish afterLastPart
+    last-opened j t =
+        part-opened l ys kept (v .receiving) (afterLastPart (withOpened v))
+        (λ text _.
+        ap (λ (p : List ℕ). endFrame (lastEnded g text) (withOpened v) (p ++ unpadded (lastLengths g) text) (left l ys kept)) (left-before l ys kept)
+        ∙ end-same (withOpened v) s (left l ys kept) (left-behind l ys kept) (lastEnded g text) (payload g s text) (payload-fits g s text)) j t

@@ -13,8 +13,8 @@ use Rattle.buffer.proofs.Parts.{length-replaceFront, length-splice}
 use Rattle.refusal.specs.declared.Numbers.{Numbers}
 use Rattle.refusal.specs.declared.Refusal.the-variants as refusal
 use Rattle.refusal.specs.Refusals.{Judged, fine, refused, row, isFine, isNoRefusal}
-use Rattle.refusal.proofs.Booleans.{wrong, both-left, both-right}
-use Rattle.refusal.proofs.Judgements.{both-fine, passed}
+use Rattle.refusal.proofs.Booleans.{at-test, wrong, each-true}
+use Rattle.refusal.proofs.Judgements.{by-judgement, both-fine, passed}
 use Rattle.preamble.specs.declared.Header.{Header}
 use Rattle.preamble.proofs.Allowed.{allowed-preamble}
 use Rattle.preamble.specs.Judge.{headerOf, judgeHeader}
@@ -30,10 +30,10 @@ use Rattle.refusal.proofs.Allowed.{Allowed, allowed-fine, allowed-refused, allo
 use Rattle.body.proofs.Allowed.{AllowedEnd, end-whole, end-dropped, end-turned, end-by}
 use Rattle.receiver.proofs.Machine as machine
 use Rattle.gcm.specs.Gcm.{Opened, plain, fail, opened}
-use Rattle.secure.specs.Layout.{allNonces, padding, noSecondPart, noLastPart, lastLengths, secondPart, lastPart}
+use Rattle.secure.specs.Layout.{allNonces, padding, noSecondPart, noLastPart, lastLengths, secondPart}
 use Rattle.secure.specs.Layout as layout
 use Rattle.buffer.specs.Zeros.{allZero}
-use Rattle.secure.specs.Reading.{judgeNonce, judgePadding, judgeFirst, unpadded, paddingOf, lateByteIn, byLateStatus, droppedBy, lastEnded, zeroed, holding}
+use Rattle.secure.specs.Reading.{judgeNonce, judgePadding, judgeFirst, unpadded, paddingOf, lateByteIn, byLateStatus, lastEnded, zeroed, holding}
 use Rattle.secure.proofs.Counts.{came-round}
 use Rattle.sealed_receiver.specs.declared.Stage.{Stage}
 use Rattle.sealed_receiver.specs.declared.Stage.the-variants as stage
@@ -44,7 +44,7 @@ use Rattle.sealed_receiver.specs.State.{isFirst, isRefused, inFrame, siz
 use Rattle.sealed_receiver.specs.Step.{blank, at, knowing, withOpened, withHeader, nextFrame, switched, refusedState, Stepped, silent, unlessRefused, judgeOpened, judgePart, partText, endFrame, beginLast, beginSecondPart, afterFirstPart, afterSecondPart, afterLastPart, sealedIn, finish, blockWith, storeWith, absorbed, stored, reached, size, chunk, onByte, Running}
 use Rattle.secure.proofs.Bounds.{there, segments-fit, rest-beyond, pads-fit}
 use Rattle.sealed_receiver.proofs.Openings.{opened-next}
-use Rattle.sealed_receiver.proofs.FirstPart.{first-fits, first-header}
+use Rattle.secure.proofs.Parts.{first-fits, first-header}
 
 -- ---- refusals that a receiver of sealed frames gives
 
@@ -71,11 +71,7 @@ given-first text n =
 
 given-late : (x : Late) (b : ℕ) (j : Judged) → Allowed given j → AllowedEnd given (byLateStatus x b j)
 given-late late.Wrong b j k = end-turned given (row 12 b 0 0) refl
-given-late late.Aborted b j k = by-judged j k
-  where
-    by-judged : (j : Judged) → Allowed given j → AllowedEnd given (droppedBy j)
-    by-judged fine k = end-dropped given
-    by-judged (refused n) k = end-turned given n (k .gives n refl)
+given-late late.Aborted b j k = by-judgement j (λ e. rw e (end-dropped given)) (λ n e. rw e (end-turned given n (k .gives n e)))
 given-late late.Complete b j k = end-by given j k
 
 given-last : (h : Header) (text : List ℕ) → AllowedEnd given (lastEnded h text)
@@ -119,24 +115,21 @@ pub record Rules (k : Stage) (v : Known) : Type 0 where
 
 rules-of : (k : Stage) (v : Known) → rules k v ≡ true → Rules k v
 rules-of k v e =
-    let nonces = receivingRule k (v .receiving) && openedRule k (v .header) (v .receiving) in
-    let a = both-left nonces (headerRule k (v .header) && refusalRule k (v .refusal)) e in
-    let b = both-right nonces (headerRule k (v .header) && refusalRule k (v .refusal)) e in
-    record {
-      receiving = both-left (receivingRule k (v .receiving)) (openedRule k (v .header) (v .receiving)) a;
-      opened = both-right (receivingRule k (v .receiving)) (openedRule k (v .header) (v .receiving)) a;
-      header = both-left (headerRule k (v .header)) (refusalRule k (v .refusal)) b;
-      refusal = both-right (headerRule k (v .header)) (refusalRule k (v .refusal)) b;
-    }
+    let a = each-true (receivingRule k (v .receiving) && openedRule k (v .header) (v .receiving)) (headerRule k (v .header) && refusalRule k (v .refusal)) e in
+    let b = each-true (receivingRule k (v .receiving)) (openedRule k (v .header) (v .receiving)) (a .0) in
+    let c = each-true (headerRule k (v .header)) (refusalRule k (v .refusal)) (a .1) in
+    record { receiving = b .0; opened = b .1; header = c .0; refusal = c .1 }
 
-pub rules-agreed : (st : State) → agrees st ≡ true → Rules (st .position .stage) (st .known)
+pub agreed : (st : State) → agrees st ≡ true
+    → (let p = st .position in Rules (p .stage) (st .known) × (countRule (p .stage) (st .known .header) (p .got) ≡ true) × (blockRule (p .stage) (p .got) (p .block) ≡ true))
 unfolding agreesAt
-rules-agreed st e =
+agreed st e =
     let p = st .position in
     let k = p .stage in
     let v = st .known in
-    let a = both-left (rules k v && countRule k (v .header) (p .got)) (blockRule k (p .got) (p .block)) e in
-    rules-of k v (both-left (rules k v) (countRule k (v .header) (p .got)) a)
+    let a = each-true (rules k v && countRule k (v .header) (p .got)) (blockRule k (p .got) (p .block)) e in
+    let b = each-true (rules k v) (countRule k (v .header) (p .got)) (a .0) in
+    (rules-of k v (b .0), b .1, a .1)
 
 -- ---- what holds of a live state, whatever the store
 
@@ -150,18 +143,9 @@ unfolding agreesAt
 agree-live k got b v o l = rw (l .rule .receiving, l .rule .opened, l .rule .header, l .rule .refusal, o, lt-ltb got (sizeOf k (v .header)) (l .inside), l .zeros)
 
 pub live : {st : State} {s : List ℕ} → Running st s → Live (st .position .stage) (st .position .got) (st .position .block) (st .known)
-unfolding agreesAt
 live {st} r =
-    let p = st .position in
-    let k = p .stage in
-    let v = st .known in
-    let a = both-left (rules k v && countRule k (v .header) (p .got)) (blockRule k (p .got) (p .block)) (r .agree) in
-    let n : ltb (p .got) (sizeOf k (v .header)) ≡ true = rw (r .live) at (both-right (rules k v) (countRule k (v .header) (p .got)) a) in
-    record {
-      rule = rules-agreed st (r .agree);
-      inside = ltb-true (p .got) (sizeOf k (v .header)) n;
-      zeros = both-right (rules k v && countRule k (v .header) (p .got)) (blockRule k (p .got) (p .block)) (r .agree);
-    }
+    let a = agreed st (r .agree) in
+    record { rule = a .0; inside = ltb-true (st .position .got) (size st) (rw (r .live) at (a .1)); zeros = a .2 }
 
 pub inside-of : {st : State} {s : List ℕ} → Running st s → st .position .got < size st
 inside-of r = live r .inside
@@ -232,22 +216,16 @@ module _ (v : Known) (s : List ℕ) (o : Opens v) (e : isFine (judgeHeader (v .h
   h = v .header
 
   last-leaves : 1 + cond (noSecondPart h) 0 1 ≤ openedOf r → Leaves (beginLast v s)
-  last-leaves l = go (noLastPart h) refl
-    where
-      go : (b : Bool) → noLastPart h ≡ b → Leaves (cond b (endFrame whole v (take (h .s1 .len) s) s) (silent (at stage.Last v) s))
-      go true z = frame-leaves whole v (take (h .s1 .len) s) s o (end-whole given)
-      go false z =
-          let i : 0 < cond (noLastPart h) 0 (lastPart h) = rw z (omega arith) in
-          running-at stage.Last v s refl (record { receiving = o .receiving; opened = le-leb (1 + cond (noSecondPart h) 0 1) (openedOf r) l; header = e; refusal = o .refusal }) i f
+  last-leaves l =
+      at-test (λ b. Leaves (cond b (endFrame whole v (take (h .s1 .len) s) s) (silent (at stage.Last v) s))) (noLastPart h)
+      (λ z. frame-leaves whole v (take (h .s1 .len) s) s o (end-whole given))
+      (λ z.
+      running-at stage.Last v s refl (record { receiving = o .receiving; opened = le-leb (1 + cond (noSecondPart h) 0 1) (openedOf r) l; header = e; refusal = o .refusal }) (rw z (omega arith)) f)
 
   rest-leaves : 1 ≤ openedOf r → Leaves (beginSecondPart v s)
-  rest-leaves l = go (noSecondPart h) refl
-    where
-      go : (b : Bool) → noSecondPart h ≡ b → Leaves (cond b (beginLast v s) (silent (at stage.Second v) s))
-      go true z = let one : 1 + cond (noSecondPart h) 0 1 ≤ openedOf r = rw z l in last-leaves one
-      go false z =
-          let i : 0 < cond (noSecondPart h) 0 (secondPart h) = rw z (omega arith) in
-          running-at stage.Second v s refl (record { receiving = o .receiving; opened = le-leb 1 (openedOf r) l; header = e; refusal = o .refusal }) i f
+  rest-leaves l =
+      at-test (λ b. Leaves (cond b (beginLast v s) (silent (at stage.Second v) s))) (noSecondPart h) (λ z. last-leaves (rw z l))
+      (λ z. running-at stage.Second v s refl (record { receiving = o .receiving; opened = le-leb 1 (openedOf r) l; header = e; refusal = o .refusal }) (rw z (omega arith)) f)
 
 -- ---- behind an opened part
 
@@ -322,27 +300,22 @@ pub length-stored : (st : State) (s xs : List ℕ) → length (stored st s xs) �
 length-stored st s xs = length-with (inFrame (st .position .stage)) _ s xs
 
 pub chunk-leaves : (st : State) (s xs : List ℕ) → Running st s → Leaves (chunk st s xs)
-chunk-leaves st s xs r = go (ltb (st .position .got + length xs) (size st)) refl
-  where
-    l : Live (st .position .stage) (st .position .got) (st .position .block) (st .known)
-    l = live r
-
-    n : length (stored st s xs) ≡ length s
-    n = length-stored st s xs
-
-    go : (t : Bool) → ltb (st .position .got + length xs) (size st) ≡ t → Leaves (reached (absorbed st xs) (stored st s xs) t)
-    go true e = record {
-      agree = agree-live (st .position .stage) (st .position .got + length xs) _ (st .known) (r .live) (record {
+chunk-leaves st s xs r =
+    let p = st .position in
+    let l = live r in
+    let n : length (stored st s xs) ≡ length s = length-stored st s xs in
+    at-test (λ t. Leaves (reached (absorbed st xs) (stored st s xs) t)) (ltb (p .got + length xs) (size st))
+    (λ e. record {
+      agree = agree-live (p .stage) (p .got + length xs) _ (st .known) (r .live) (record {
         rule = l .rule;
-        inside = ltb-true (st .position .got + length xs) (size st) e;
-        zeros = block-kept (isFirst (st .position .stage)) (st .position .got) (st .position .block) xs (l .zeros);
+        inside = ltb-true (p .got + length xs) (size st) e;
+        zeros = block-kept (isFirst (p .stage)) (p .got) (p .block) xs (l .zeros);
       });
       live = r .live;
       fits = rw n (r .fits);
-    }
-    go false e =
-        let b = blockWith (isFirst (st .position .stage)) (st .position .got) (st .position .block) xs in
-        finish-leaves (st .position .stage) b (st .known) (stored st s xs) (l .rule) (r .live) (omega (arith, l .inside)) (rw n (r .fits))
+    })
+    (λ e.
+    finish-leaves (p .stage) (blockWith (isFirst (p .stage)) (p .got) (p .block) xs) (st .known) (stored st s xs) (l .rule) (r .live) (omega (arith, l .inside)) (rw n (r .fits)))
 
 pub byte-leaves : (st : State) (s : List ℕ) (b : ℕ) → Running st s → Leaves (onByte st s b)
 unfolding onByte

@@ -32,68 +32,72 @@ end-same v s s′ d dropped payload l =
     ap (λ (t : List ℕ). stepped (nextFrame v) t (report.Event (event.Dropped (v .header)))) (zeroed-same (v .header) s s′ d)
 end-same v s s′ d (refusedFor n) payload l = ap (refuse n) (zeroed-same (v .header) s s′ d)
 
--- ---- the m bytes from i on, which were lent, came back as ys
+-- ---- a part lent from byte i on: n bytes, which are p by the definition, a text of q bytes and its tag
 
-abbrev pub after : List ℕ → ℕ → ℕ → List ℕ → List ℕ
-after s i m ys = take i s ++ (ys ++ drop m (drop i s))
+pub record Region (h : Header) (s : List ℕ) (i n p q : ℕ) : Type 0 where
+  pub is : n ≡ p
+  pub size : p ≡ q + 16
+  pub fits : i + p ≤ needed h
+  pub room : needed h ≤ length s
 
-module _ (h : Header) (s ys : List ℕ) (i m : ℕ)
-    (inside : i + m ≤ needed h) (room : needed h ≤ length s) (kept : length ys ≡ length (take m (drop i s))) where
-  lent-size : length (take m (drop i s)) ≡ m
-  lent-size = length-take-le m (drop i s) (omega (arith, length-drop i s))
+module _ {h : Header} {s : List ℕ} {i n p q : ℕ} (g : Region h s i n p q) where
+  abbrev pub bytes : List ℕ
+  bytes = take (i + n - i) (drop i s)
+
+  pub lent-size : length bytes ≡ n
+  lent-size = length-take-le (i + n - i) (drop i s) (omega (arith, length-drop i s)) ∙ omega arith
 
   before-it : i ≤ length s
   before-it = omega arith
 
-  replaced : after s i m ys ≡ splice s i ys
-  replaced = given-back s ys i m (kept ∙ lent-size)
+  -- they came back as ys
+  module _ (ys : List ℕ) (kept : length ys ≡ length bytes) where
+    abbrev pub left : List ℕ
+    left = take i s ++ (ys ++ drop (i + n - i) (drop i s))
 
-  pub after-length : length (after s i m ys) ≡ length s
-  after-length = ap length replaced ∙ length-splice s i ys (omega (arith, lent-size))
+    replaced : left ≡ splice s i ys
+    replaced = given-back s ys i (i + n - i) (kept ∙ lent-size ∙ omega arith)
 
-  pub after-before : take i (after s i m ys) ≡ take i s
-  after-before = ap (take i) replaced ∙ splice-before s i ys before-it
+    pub left-length : length left ≡ length s
+    left-length = ap length replaced ∙ length-splice s i ys (omega (arith, lent-size))
 
-  pub after-behind : drop (needed h) (after s i m ys) ≡ drop (needed h) s
-  after-behind = ap (drop (needed h)) replaced ∙ splice-behind s i ys before-it (needed h) (omega (arith, lent-size))
+    pub left-before : take i left ≡ take i s
+    left-before = ap (take i) replaced ∙ splice-before s i ys before-it
 
-  pub after-again : (xs : List ℕ) → length xs ≡ m → splice (after s i m ys) i xs ≡ splice s i xs
-  after-again xs e = ap (λ (t : List ℕ). splice t i xs) replaced ∙ splice-again s i ys xs before-it (kept ∙ lent-size ∙ sym e)
+    pub left-behind : drop (needed h) left ≡ drop (needed h) s
+    left-behind = ap (drop (needed h)) replaced ∙ splice-behind s i ys before-it (needed h) (omega (arith, lent-size))
 
-  -- its text stands at its front
-  text-in : (text tag : List ℕ) (n : ℕ) → length text ≡ n → ys ≡ text ++ tag → take n (drop i (after s i m ys)) ≡ text
-  text-in text tag n e t =
-      let behind : List ℕ = drop (i + length ys) s in
-      ap (λ (x : List ℕ). take n (drop i x)) replaced
-      ∙ ap (take n) (splice-from s i ys before-it ∙ ap (λ (x : List ℕ). x ++ behind) t ∙ append-assoc text tag behind)
-      ∙ take-at text (tag ++ behind) n e
+    pub left-again : (xs : List ℕ) → length xs ≡ p → splice left i xs ≡ splice s i xs
+    left-again xs e = ap (λ (t : List ℕ). splice t i xs) replaced ∙ splice-again s i ys xs before-it (omega (arith, lent-size))
 
-  -- the part is opened there, of which the definition speaks with its own length, and `next` is what follows its text
-  module _ (r : Receiving) (p : ℕ) (ep : m ≡ p) (next : List ℕ → List ℕ → Stepped) where
-    abbrev bytes : List ℕ
-    bytes = take m (drop i s)
+    -- its text stands at its front
+    text-in : (text tag : List ℕ) → length text ≡ q → ys ≡ text ++ tag → take q (drop i left) ≡ text
+    text-in text tag e t =
+        let behind : List ℕ = drop (i + length ys) s in
+        ap (λ (x : List ℕ). take q (drop i x)) replaced
+        ∙ ap (take q) (splice-from s i ys before-it ∙ ap (λ (x : List ℕ). x ++ behind) t ∙ append-assoc text tag behind)
+        ∙ take-at text (tag ++ behind) q e
 
-    abbrev pub answer : List ℕ → Stepped
-    answer x = unlessRefused (judgePart r x) (zeroed h s) (next (partText r x) s)
+    -- the part is opened there, and `next` is what follows its text
+    module _ (r : Receiving) (next : List ℕ → List ℕ → Stepped) where
+      abbrev pub answer : List ℕ → Stepped
+      answer x = unlessRefused (judgePart r x) (zeroed h s) (next (partText r x) s)
 
-    same-part : answer bytes ≡ answer (take p (drop i s))
-    same-part = ap (λ (k : ℕ). answer (take k (drop i s))) ep
+      same-part : answer bytes ≡ answer (take p (drop i s))
+      same-part = let e : i + n - i ≡ p = omega arith in ap (λ (k : ℕ). answer (take k (drop i s))) e
 
-    pub part-refused : (n : Numbers) → judgePart r (take m (drop i s)) ≡ refused n
-        → refuse n (zeroed h (after s i m ys)) ≡ answer (take p (drop i s))
-    part-refused n j =
-        ap (refuse n) (zeroed-same h s (after s i m ys) after-behind)
-        ∙ sym (ap (λ (x : Judged). unlessRefused x (zeroed h s) (next (partText r bytes) s)) j)
-        ∙ same-part
+      pub part-refused : (m : Numbers) → judgePart r bytes ≡ refused m → refuse m (zeroed h left) ≡ answer (take p (drop i s))
+      part-refused m j =
+          ap (refuse m) (zeroed-same h s left left-behind)
+          ∙ sym (ap (λ (x : Judged). unlessRefused x (zeroed h s) (next (partText r bytes) s)) j)
+          ∙ same-part
 
-    pub part-opened : (n : ℕ) → m ≡ n + 16 → ((text : List ℕ) → length text ≡ n → next text (after s i m ys) ≡ next text s)
-        → judgePart r (take m (drop i s)) ≡ fine
-        → ys ≡ partText r (take m (drop i s)) ++ drop (length (take m (drop i s)) - 16) (take m (drop i s))
-        → next (take n (drop i (after s i m ys))) (after s i m ys) ≡ answer (take p (drop i s))
-    part-opened n en same j t =
-        let text : List ℕ = partText r bytes in
-        let l : length text ≡ n = part-text-length r bytes j ∙ omega (arith, lent-size) in
-        ap (λ (x : List ℕ). next x (after s i m ys)) (text-in text (drop (length bytes - 16) bytes) n l t)
-        ∙ same text l
-        ∙ sym (ap (λ (x : Judged). unlessRefused x (zeroed h s) (next text s)) j)
-        ∙ same-part
+      pub part-opened : ((text : List ℕ) → length text ≡ q → next text left ≡ next text s) → judgePart r bytes ≡ fine
+          → ys ≡ partText r bytes ++ drop (length bytes - 16) bytes → next (take q (drop i left)) left ≡ answer (take p (drop i s))
+      part-opened same j t =
+          let text : List ℕ = partText r bytes in
+          let l : length text ≡ q = part-text-length r bytes j ∙ omega (arith, lent-size) in
+          ap (λ (x : List ℕ). next x left) (text-in text (drop (length bytes - 16) bytes) l t)
+          ∙ same text l
+          ∙ sym (ap (λ (x : Judged). unlessRefused x (zeroed h s) (next text s)) j)
+          ∙ same-part

@@ -2,7 +2,7 @@
 use mathlib.Core.Path.{_≡_, sym, ap, ap₂, _∙_}
 use mathlib.Core.List.{List, _++_, append-assoc}
 use mathlib.Core.Bool.{Bool, true, false, cond}
-use Prim.Native.Nat.{ℕ, _+_, _-_, _≤_}
+use Prim.Native.Nat.{ℕ, _+_, _-_, _≤_, _<_}
 use native.Mathlib.Omega.{arith}
 use lib.ListN.{length, take, drop, replicate, length-append, length-drop, length-replicate, replicate-append-replicate}
 use lib.Seq.{take-take, take-add, drop-drop, length-take-le}
@@ -20,13 +20,12 @@ use Rattle.buffer.specs.Zeros.{allZero}
 use Rattle.secure.specs.Reading.{judgePadding, zeroed}
 use Rattle.secure.proofs.Trip.{one-segment}
 use Rattle.sealed_receiver.specs.declared.Stage.the-variants as stage
-use Rattle.sealed_receiver.specs.declared.Receiving.{Receiving}
 use Rattle.sealed_receiver.specs.declared.Known.{Known}
 use Rattle.sealed_receiver.specs.Step.{Stepped, refuse, unlessRefused, silent, at, withOpened, judgePart, partText, endFrame, beginLast, afterSecondPart, finish}
 use Rattle.buffer.proofs.Zeros.{only-zeros}
 use Rattle.secure.proofs.Stores.{zeroed-same}
-use Rattle.sealed_receiver.proofs.Regions.{after, after-length, after-behind, after-again, part-refused, part-opened}
-use Rattle.secure.proofs.Bounds.{rest-beyond, rest-size, rest-fits, pads-fit}
+use Rattle.sealed_receiver.proofs.Regions.{Region, bytes, left, left-behind, left-again, part-refused, part-opened}
+use Rattle.secure.proofs.Bounds.{there, rest-beyond, rest-size, rest-fits, pads-fit}
 
 -- a frame of one segment ends behind it
 pub whole-behind : (v : Known) (s : List ℕ) → judgeHeader (v .header) ≡ fine → noLastPart (v .header) ≡ true
@@ -116,49 +115,28 @@ module _ (v : Known) (s : List ℕ) where
 
   -- ---- opened where it stands
 
-  module _ (ys : List ℕ) (m : ℕ) (em : m ≡ secondPartLength h) (e : noSecondPart h ≡ false)
-      (room : needed h ≤ length s) (kept : length ys ≡ length (take m (drop inlineLength s))) where
-    abbrev r : Receiving
-    r = v .receiving
+  abbrev Second : ℕ → Type 0
+  Second m = Region h s inlineLength m (secondPartLength h) (secondPart h - 16)
 
-    abbrev left : List ℕ
-    left = after s inlineLength m ys
+  pub second-region : {m : ℕ} → m ≡ secondPartLength h → 0 < secondPartLength h → needed h ≤ length s → Second m
+  second-region e some room =
+      let t = there (noSecondPart h) (secondPart h) some in
+      record { is = e; size = rest-size h t ∙ omega arith; fits = omega (arith, rest-size h t, rest-fits h t); room = room }
 
-    abbrev next : List ℕ → List ℕ → Stepped
-    next = afterSecondPart (withOpened v)
+  module _ {m : ℕ} (l : Second m) (ys : List ℕ) (kept : length ys ≡ length (bytes l)) (b : List ℕ) where
+    pub rest-refused : (n : Numbers) → judgePart (v .receiving) (bytes l) ≡ refused n → refuse n (zeroed h (left l ys kept)) ≡ finish stage.Second b v s
+    unfolding finish
+    rest-refused n j = part-refused l ys kept (v .receiving) (afterSecondPart (withOpened v)) n j
 
-    size : m ≡ secondPart h - 16 + 16
-    size = em ∙ rest-size h e ∙ omega arith
-
-    inside : inlineLength + m ≤ needed h
-    inside = omega (arith, rest-fits h e, size)
-
-    pub rest-left : needed h ≤ length left
-    rest-left = omega (arith, after-length h s ys inlineLength m inside room kept)
-
-    rest-length : (text : List ℕ) → length text ≡ secondPart h - 16
-        → length (take (h .s1 .len - inlineLength) text ++ replicate (padding (h .s1 .len - inlineLength) + 16) 0) ≡ m
-    rest-length text l =
+    pub rest-opened : judgePart (v .receiving) (bytes l) ≡ fine → ys ≡ partText (v .receiving) (bytes l) ++ drop (length (bytes l) - 16) (bytes l)
+        → afterSecondPart (withOpened v) (take (secondPart h - 16) (drop inlineLength (left l ys kept))) (left l ys kept) ≡ finish stage.Second b v s
+    unfolding finish afterSecondPart
+    rest-opened j t =
+        part-opened l ys kept (v .receiving) (afterSecondPart (withOpened v))
+        (λ text lt.
         let n : ℕ = h .s1 .len - inlineLength in
+        let zs : List ℕ = replicate (padding n + 16) 0 in
         let front : length (take n text) ≡ n = length-take-le n text (omega arith) in
-        length-append (take n text) (replicate (padding n + 16) 0) ∙ omega (arith, front, length-replicate {A = ℕ} (padding n + 16) 0, size)
-
-    rest-same : (text : List ℕ) → length text ≡ secondPart h - 16 → next text left ≡ next text s
-    unfolding afterSecondPart
-    rest-same text l =
-        let n : ℕ = h .s1 .len - inlineLength in
-        let xs : List ℕ = take n text ++ replicate (padding n + 16) 0 in
+        let lx : length (take n text ++ zs) ≡ secondPartLength h = length-append (take n text) zs ∙ omega (arith, front, length-replicate {A = ℕ} (padding n + 16) 0, l .size) in
         ap₂ (λ (x y : List ℕ). unlessRefused (judgePadding (drop n text)) x (beginLast (withOpened v) y))
-        (zeroed-same h s left (after-behind h s ys inlineLength m inside room kept))
-        (after-again h s ys inlineLength m inside room kept xs (rest-length text l))
-
-    pub rest-refused : (b : List ℕ) (n : Numbers) → judgePart r (take m (drop inlineLength s)) ≡ refused n
-        → refuse n (zeroed h left) ≡ finish stage.Second b v s
-    unfolding finish
-    rest-refused b n j = part-refused h s ys inlineLength m inside room kept r (secondPartLength h) em next n j
-
-    pub rest-opened : (b : List ℕ) → judgePart r (take m (drop inlineLength s)) ≡ fine
-        → ys ≡ partText r (take m (drop inlineLength s)) ++ drop (length (take m (drop inlineLength s)) - 16) (take m (drop inlineLength s))
-        → next (take (secondPart h - 16) (drop inlineLength left)) left ≡ finish stage.Second b v s
-    unfolding finish
-    rest-opened b j t = part-opened h s ys inlineLength m inside room kept r (secondPartLength h) em next (secondPart h - 16) size rest-same j t
+        (zeroed-same h s (left l ys kept) (left-behind l ys kept)) (left-again l ys kept (take n text ++ zs) lx)) j t

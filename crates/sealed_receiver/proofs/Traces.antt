@@ -2,23 +2,23 @@
 use Prim.Native.Nat.{ℕ, zero, suc, _+_, _-_, _≤_, _<_, zero-le}
 use mathlib.Core.List.{List, [], _∷_, _++_, append-assoc}
 use mathlib.Core.Path.{_≡_, refl, sym, ap, ap₂, _∙_}
-use mathlib.Core.Bool.{Bool, true, false, cond}
+use mathlib.Core.Bool.{false, cond}
 use native.Mathlib.Omega.{arith}
 use native.Mathlib.Nat.{le-refl, add-zero, zero-add}
 use lib.ListN.{length, take, drop, replicate, length-take, length-drop, length-append, length-replicate}
 use lib.Seq.{sets, sets-eq, length-take-le, take-at}
-use lib.Dec.{lit<, ltb}
-use borrow.Author.Tests.{le-ltb, ltb-true, ltb-false, leb-true, leb-false}
+use lib.Dec.{lit<}
+use borrow.Author.Tests.{lt-ltb, le-ltb, leb-true, leb-false}
 use Rattle.buffer.specs.Splice.{replaceFront, splice}
 use Rattle.buffer.proofs.Parts.{replaceFront-next, length-replaceFront, over-longer}
 use Rattle.refusal.specs.Refusals.{Judged, fine, refused, orElse}
+use Rattle.refusal.proofs.Booleans.{by-test, at-test, by-less}
 use Rattle.preamble.specs.declared.Header.{Header}
 use Rattle.preamble.specs.Judge.{headerOf}
 use Rattle.body.specs.End.{Ended, whole, dropped, refusedFor}
 use Rattle.stream.specs.declared.Event.the-variants as event
 use Rattle.stream.specs.Stream.{Trace, ended, after}
 use Rattle.stream.specs.Stream as stream
-use Rattle.receiver.specs.declared.Report.the-variants as report
 use Rattle.preamble.specs.Layout.{noHeader}
 use Rattle.buffer.proofs.Sets.{sets-whole}
 use Rattle.receiver.proofs.Machine.{Silent, scan, scan-none, scan-silent}
@@ -35,7 +35,7 @@ use Rattle.sealed_receiver.specs.State.{openedOf, freshReceiving, opened
 use Rattle.sealed_receiver.specs.Step.{blank, at, knowing, withOpened, withHeader, nextFrame, switched, refusedState, Stepped, unlessRefused, judgeOpened, textOf, judgePart, partText, endFrame, beginLast, beginSecondPart, afterFirstPart, afterSecondPart, afterLastPart, finish, stored}
 use Rattle.secure.proofs.Bounds.{segments-fit, rest-beyond, rest-size, rest-fits, last-size, last-fits}
 use Rattle.sealed_receiver.proofs.Openings.{part-text-length, opened-next}
-use Rattle.sealed_receiver.proofs.FirstPart.{first-fits}
+use Rattle.secure.proofs.Parts.{first-fits}
 use Rattle.sealed_receiver.proofs.Gathered.{bare, parts}
 use Rattle.buffer.proofs.Splices.{splice-before, splice-at, splice-again}
 use Rattle.secure.proofs.Stores.{zeroed-over, holding-over}
@@ -62,29 +62,31 @@ run-unless : (j : Judged) (s : List ℕ) (x : Stepped) (P : ℕ) (ys : List ℕ)
 run-unless fine s x P ys = refl
 run-unless (refused n) s x P ys = ap (after (event.Refused n) P s) (silent-trace (refusedState n) s P ys refl)
 
--- a part that is opened
-opened-trace : (j : Judged) (o : Opened) (P : ℕ) (s : List ℕ) (next : List ℕ → Trace)
-    → stream.unlessRefused (orElse j (judgeOpened o)) P s (next (textOf o)) ≡ stream.unlessRefused j P s (byOpening o P s next)
-opened-trace fine (plain text) P s next = refl
-opened-trace fine fail P s next = refl
-opened-trace (refused n) o P s next = refl
+-- a part that is opened: what follows depends on the text only there
+opened-trace : (j : Judged) (o : Opened) (P : ℕ) (s : List ℕ) (x : Trace) (next : List ℕ → Trace) → (orElse j (judgeOpened o) ≡ fine → x ≡ next (textOf o))
+    → stream.unlessRefused (orElse j (judgeOpened o)) P s x ≡ stream.unlessRefused j P s (byOpening o P s next)
+opened-trace fine (plain text) P s x next h = h refl
+opened-trace fine fail P s x next h = refl
+opened-trace (refused n) o P s x next h = refl
 
-part-trace : (r : Receiving) (bytes : List ℕ) (P : ℕ) (s : List ℕ) (next : List ℕ → Trace)
-    → stream.unlessRefused (judgePart r bytes) P s (next (partText r bytes)) ≡ partTrace (keyExpansion (r .key)) (r .nonce) (openedOf r) bytes P s next
+part-run : (r : Receiving) (bytes : List ℕ) (y : Stepped) (P : ℕ) (ys s : List ℕ) (next : List ℕ → Trace) → (judgePart r bytes ≡ fine → runs y P ys ≡ next (partText r bytes))
+    → runs (unlessRefused (judgePart r bytes) s y) P ys ≡ partTrace (keyExpansion (r .key)) (r .nonce) (openedOf r) bytes P s next
 unfolding judgePart partText
-part-trace r bytes P s next = opened-trace (judgeNonce (openedOf r)) (openedBy (keyExpansion (r .key)) (r .nonce) bytes) P s next
+part-run r bytes y P ys s next h =
+    run-unless (judgePart r bytes) s y P ys
+    ∙ opened-trace (judgeNonce (openedOf r)) (openedBy (keyExpansion (r .key)) (r .nonce) bytes) P s (runs y P ys) next h
 
--- what follows depends on the text only where the part is opened
 part-next : (j : Judged) (P : ℕ) (s : List ℕ) (x y : Trace) → (j ≡ fine → x ≡ y) → stream.unlessRefused j P s x ≡ stream.unlessRefused j P s y
 part-next fine P s x y h = h refl
 part-next (refused n) P s x y h = refl
 
 -- what of segment 1 stands in the inline buffer
-inline-size : (text : List ℕ) (h : Header) (b : Bool) → noSecondPart h ≡ b → length text ≡ 80 → length (take (h .s1 .len) (drop 32 text)) ≡ cond b (h .s1 .len) inlineLength
-inline-size text h true e k = length-take-le (h .s1 .len) (drop 32 text) (let l = leb-true (h .s1 .len) inlineLength e in omega (arith, l, k, length-drop 32 text))
-inline-size text h false e k =
-    let l = leb-false (h .s1 .len) inlineLength e in
-    length-take (h .s1 .len) (drop 32 text) ∙ omega (arith, l, k, length-drop 32 text)
+inline-size : (text : List ℕ) (h : Header) → length text ≡ 80 → length (take (h .s1 .len) (drop 32 text)) ≡ cond (noSecondPart h) (h .s1 .len) inlineLength
+inline-size text h k =
+    let n = h .s1 .len in
+    let d = length-drop 32 text in
+    at-test (λ b. length (take n (drop 32 text)) ≡ cond b n inlineLength) (noSecondPart h)
+    (λ e. length-take-le n (drop 32 text) (omega (arith, leb-true n inlineLength e))) (λ e. length-take n (drop 32 text) ∙ omega (arith, leb-false n inlineLength e))
 
 -- ---- a frame, part by part; f bounds how many frames follow
 
@@ -125,6 +127,12 @@ module _ (f : ℕ) (below : Below f) where
     abbrev xs : List ℕ
     xs = take (lastPart h) ys
 
+    -- what an opened last part leads to
+    abbrev behind₂ : List ℕ → Trace
+    behind₂ text =
+        atEnd (lastEnded h text) h (P + lastPart h) (first ++ unpadded (lastLengths h) text) s
+        (frames f (keyExpansion (r .key)) (nextNonce (r .nonce)) (suc (openedOf r)) (P + lastPart h) (drop (lastPart h) ys))
+
     last-placed : (zs : List ℕ) → length zs ≤ lastPart h → stored (at stage.Last v) s zs ≡ splice s n₁ zs
     last-placed zs l = ap (λ (k : ℕ). sets s k zs) (add-zero n₁) ∙ sets-eq zs s n₁ (let q = last-fits h in omega (arith, q))
 
@@ -146,10 +154,7 @@ module _ (f : ℕ) (below : Below f) where
 
     -- all of it came
     last-whole : noLastPart h ≡ false → lastPart h ≤ length ys
-        → traced (at stage.Last v) s P ys
-        ≡ partTrace (keyExpansion (r .key)) (r .nonce) (openedOf r) xs (P + lastPart h) (zeroed h s)
-        (λ text. atEnd (lastEnded h text) h (P + lastPart h) (first ++ unpadded (lastLengths h) text) s
-        (frames f (keyExpansion (r .key)) (nextNonce (r .nonce)) (suc (openedOf r)) (P + lastPart h) (drop (lastPart h) ys)))
+        → traced (at stage.Last v) s P ys ≡ partTrace (keyExpansion (r .key)) (r .nonce) (openedOf r) xs (P + lastPart h) (zeroed h s) behind₂
     unfolding openedMore
     last-whole e l =
         let n : length xs ≡ lastPart h = length-take-le (lastPart h) ys l in
@@ -160,32 +165,19 @@ module _ (f : ℕ) (below : Below f) where
         full parts (at stage.Last v) s P (lastPart h) ys some (zero-add (lastPart h) ∙ sym (last-size h e)) l
         ∙ ap (λ (t : List ℕ). runs (finish stage.Last blank v t) (P + lastPart h) (drop (lastPart h) ys)) (last-placed xs (omega (arith, n)))
         ∙ ap (λ (y : Stepped). runs y (P + lastPart h) (drop (lastPart h) ys)) (last-finish e l)
-        ∙ run-unless (judgePart r xs) (zeroed h s) (endFrame (lastEnded h T) (withOpened v) p s) (P + lastPart h) (drop (lastPart h) ys)
-        ∙ part-next (judgePart r xs) (P + lastPart h) (zeroed h s) _ _
+        ∙ part-run r xs (endFrame (lastEnded h T) (withOpened v) p s) (P + lastPart h) (drop (lastPart h) ys) (zeroed h s) behind₂
         (λ j. end-run (lastEnded h T) (withOpened v) (P + lastPart h) (drop (lastPart h) ys) p s len
         ∙ ap (λ (m : ℕ). atEnd (lastEnded h T) h (P + lastPart h) p s (frames f (keyExpansion (r .key)) (nextNonce (r .nonce)) m (P + lastPart h) (drop (lastPart h) ys))) (opened-next r xs j))
-        ∙ part-trace r xs (P + lastPart h) (zeroed h s)
-        (λ text. atEnd (lastEnded h text) h (P + lastPart h) (first ++ unpadded (lastLengths h) text) s
-        (frames f (keyExpansion (r .key)) (nextNonce (r .nonce)) (suc (openedOf r)) (P + lastPart h) (drop (lastPart h) ys)))
 
     last-cut : noLastPart h ≡ false → length ys < lastPart h → traced (at stage.Last v) s P ys ≡ ended (splice s n₁ ys)
     last-cut e l =
         let k : 0 + length ys < lastPartLength h = rw (last-size h e) (omega arith) in
         short parts (at stage.Last v) s P ys k ∙ ap ended (last-placed ys (omega arith))
 
-    last-by : (b c : Bool) → noLastPart h ≡ b → ltb (length ys) (lastPart h) ≡ c
-        → runs (cond b (endFrame whole v (take n₁ s) s) (record { state = at stage.Last v; store = s; report = report.More })) P ys
-        ≡ cond b (atEnd whole h P first s (frames f (keyExpansion (r .key)) (r .nonce) (openedOf r) P ys))
-        (cond c (ended (splice s n₁ ys))
-        (partTrace (keyExpansion (r .key)) (r .nonce) (openedOf r) xs (P + lastPart h) (zeroed h s)
-        (λ text. atEnd (lastEnded h text) h (P + lastPart h) (first ++ unpadded (lastLengths h) text) s
-        (frames f (keyExpansion (r .key)) (nextNonce (r .nonce)) (suc (openedOf r)) (P + lastPart h) (drop (lastPart h) ys)))))
-    last-by true c e q = ap (λ (p : List ℕ). runs (endFrame whole v p s) P ys) stands ∙ end-run whole v P ys first s left
-    last-by false true e q = last-cut e (ltb-true (length ys) (lastPart h) q)
-    last-by false false e q = last-whole e (ltb-false (length ys) (lastPart h) q)
-
     last-run : runs (beginLast v s) P ys ≡ lastTrace (keyExpansion (r .key)) h (r .nonce) (openedOf r) P ys first s (frames f (keyExpansion (r .key)))
-    last-run = last-by (noLastPart h) (ltb (length ys) (lastPart h)) refl refl
+    last-run =
+        by-test (noLastPart h) (λ e. rw e (ap (λ (p : List ℕ). runs (endFrame whole v p s) P ys) stands ∙ end-run whole v P ys first s left))
+        (λ e. by-less (length ys) (lastPart h) (λ l. rw (e, lt-ltb (length ys) (lastPart h) l) (last-cut e l)) (λ l. rw (e, le-ltb (length ys) (lastPart h) l) (last-whole e l)))
 
   -- ---- the rest of segment 1
 
@@ -307,30 +299,25 @@ module _ (f : ℕ) (below : Below f) where
         rest-whole =
             let some : 0 < secondPart h₁ = omega arith in
             let len : length (drop (secondPart h₁) ys) ≤ f = omega (arith, length-drop (secondPart h₁) ys) in
-            let s′ = splice inline inlineLength rs in
             full parts (at stage.Second v) inline P (secondPart h₁) ys some (zero-add (secondPart h₁) ∙ sym (rest-size h₁ e)) l
             ∙ ap (λ (t : List ℕ). runs (finish stage.Second blank v t) (P + secondPart h₁) (drop (secondPart h₁) ys)) (rest-placed rs (let n = rest-n in omega (arith, n)))
             ∙ ap (λ (y : Stepped). runs y (P + secondPart h₁) (drop (secondPart h₁) ys)) rest-finish
-            ∙ run-unless (judgePart r₁ rs) (zeroed h₁ s) (afterSecondPart (withOpened v) (partText r₁ rs) s′) (P + secondPart h₁) (drop (secondPart h₁) ys)
-            ∙ part-next (judgePart r₁ rs) (P + secondPart h₁) (zeroed h₁ s) _ (behind₁ (partText r₁ rs)) (λ j. rest-behind j (P + secondPart h₁) (drop (secondPart h₁) ys) len)
-            ∙ part-trace r₁ rs (P + secondPart h₁) (zeroed h₁ s) behind₁
+            ∙ part-run r₁ rs _ (P + secondPart h₁) (drop (secondPart h₁) ys) (zeroed h₁ s) behind₁ (λ j. rest-behind j (P + secondPart h₁) (drop (secondPart h₁) ys) len)
 
     -- segment 1 is as long as the inline buffer has it
     abbrev InlineSize : Type 0
     InlineSize = length first ≡ cond (noSecondPart h₁) (h₁ .s1 .len) inlineLength
 
-    rest-by : (b c : Bool) → noSecondPart h₁ ≡ b → ltb (length ys) (secondPart h₁) ≡ c → length first ≡ cond b (h₁ .s1 .len) inlineLength
-        → runs (cond b (beginLast v inline) (record { state = at stage.Second v; store = inline; report = report.More })) P ys
-        ≡ cond b (lastTrace (keyExpansion (r₁ .key)) h₁ (r₁ .nonce) (openedOf r₁) P ys first inline (frames f (keyExpansion (r₁ .key))))
-        (cond c (ended (splice inline inlineLength ys)) (partTrace (keyExpansion (r₁ .key)) (r₁ .nonce) (openedOf r₁) rs (P + secondPart h₁) (zeroed h₁ s) behind₁))
-    rest-by true c e q k =
-        let l : length first ≤ length s = (let z = segments-fit h₁ in omega (arith, z)) in
-        last-run v P ys first inline (rw (length-replaceFront first s l) fits) (take-at first (drop (length first) s) (h₁ .s1 .len) k) left
-    rest-by false true e q k = rest-cut e k (ltb-true (length ys) (secondPart h₁) q)
-    rest-by false false e q k = rest-whole e k (ltb-false (length ys) (secondPart h₁) q)
-
     rest-run : InlineSize → runs (beginSecondPart v inline) P ys ≡ secondTrace (keyExpansion (r₁ .key)) h₁ (r₁ .nonce) (openedOf r₁) P ys first s (frames f (keyExpansion (r₁ .key)))
-    rest-run k = rest-by (noSecondPart h₁) (ltb (length ys) (secondPart h₁)) refl refl k
+    rest-run k =
+        by-test (noSecondPart h₁)
+        (λ e.
+        let n : length first ≡ h₁ .s1 .len = rw e at k in
+        let l : length first ≤ length s = omega (arith, segments-fit h₁) in
+        rw e (last-run v P ys first inline (rw (length-replaceFront first s l) fits) (take-at first (drop (length first) s) (h₁ .s1 .len) n) left))
+        (λ e.
+        let n : length first ≡ inlineLength = rw e at k in
+        by-less (length ys) (secondPart h₁) (λ l. rw (e, lt-ltb (length ys) (secondPart h₁) l) (rest-cut e n l)) (λ l. rw (e, le-ltb (length ys) (secondPart h₁) l) (rest-whole e n l)))
 
   -- ---- the first part
 
@@ -350,7 +337,7 @@ module _ (f : ℕ) (below : Below f) where
       run-unless (judgeFirst text (length s)) s (beginSecondPart (withHeader (withOpened v) h) (replaceFront first s)) P ys
       ∙ part-next (judgeFirst text (length s)) P s _ _
       (λ q. rest-run (withHeader (withOpened v) h) P ys first s (first-fits text (length s) q) left
-      (inline-size text h (noSecondPart h) refl (part-text-length r bytes j ∙ rw n))
+      (inline-size text h (part-text-length r bytes j ∙ rw n))
       ∙ ap (λ (m : ℕ). secondTrace (keyExpansion (r .key)) h (nextNonce (r .nonce)) m P ys first s (frames f (keyExpansion (r .key)))) (opened-next r bytes j))
 
   module _ (v : Known) (P : ℕ) (ys s : List ℕ) (left : length ys ≤ suc f) where
@@ -372,23 +359,17 @@ module _ (f : ℕ) (below : Below f) where
         let len : length (drop firstLength ys) ≤ f = omega (arith, length-drop firstLength ys) in
         full parts (nextFrame v) s P firstLength ys some refl l
         ∙ ap (λ (b : List ℕ). runs (unlessRefused (judgePart r₀ b) s (afterFirstPart (withOpened begun) (partText r₀ b) s)) (P + firstLength) (drop firstLength ys)) (sets-whole blank fs n)
-        ∙ run-unless (judgePart r₀ fs) s (afterFirstPart (withOpened begun) (partText r₀ fs) s) (P + firstLength) (drop firstLength ys)
-        ∙ part-next (judgePart r₀ fs) (P + firstLength) s _ (behind₀ r₀ (P + firstLength) (drop firstLength ys) s (partText r₀ fs))
+        ∙ part-run r₀ fs _ (P + firstLength) (drop firstLength ys) s (behind₀ r₀ (P + firstLength) (drop firstLength ys) s)
         (λ j. first-behind begun (P + firstLength) (drop firstLength ys) s fs len n j)
-        ∙ part-trace r₀ fs (P + firstLength) s (behind₀ r₀ (P + firstLength) (drop firstLength ys) s)
-
-    first-by : (c : Bool) → ltb (length ys) firstLength ≡ c
-        → traced (nextFrame v) s P ys
-        ≡ cond c (ended s) (partTrace (keyExpansion (r₀ .key)) (r₀ .nonce) (openedOf r₀) fs (P + firstLength) s (behind₀ r₀ (P + firstLength) (drop firstLength ys) s))
-    first-by true q = short parts (nextFrame v) s P ys (let l = ltb-true (length ys) firstLength q in omega (arith, l))
-    first-by false q = first-whole (ltb-false (length ys) firstLength q)
 
 -- THE FRAMES from a state on are those of the definition
 pub frames-trace : (f : ℕ) → Below f
 unfolding Below frames
 frames-trace zero v P [] s l = ap traceBy (scan-none (byteStep parts) (nextFrame v) s P)
 frames-trace zero v P (y ∷ ys) s l = absurd (omega arith)
-frames-trace (suc f) v P ys s l = first-by f (frames-trace f) v P ys s l (ltb (length ys) firstLength) refl
+frames-trace (suc f) v P ys s l =
+    by-less (length ys) firstLength (λ h. rw (lt-ltb (length ys) firstLength h) (short parts (nextFrame v) s P ys (omega arith)))
+    (λ h. rw (le-ltb (length ys) firstLength h) (first-whole f (frames-trace f) v P ys s l h))
 
 -- from a switch on: THE DEFINITION
 pub sealed-trace : (key nonce : List ℕ) (P : ℕ) (ys s : List ℕ) → traced (switched key nonce) s P ys ≡ sealedTrace key nonce 0 P ys s

@@ -1,6 +1,6 @@
 -- Laws of sealing and opening by a record.
 use mathlib.Core.Path.{_≡_, _∙_}
-use mathlib.Core.Bool.{Bool, true, _&&_}
+use mathlib.Core.Bool.{true, _&&_}
 use mathlib.Core.List.{List, append-nil}
 use Prim.Native.Nat.{ℕ, _+_, _-_, _≤_}
 use native.Mathlib.Omega.{arith}
@@ -14,7 +14,7 @@ use Rattle.buffer.specs.Splice.{overwrite}
 use Rattle.buffer.proofs.Parts.{overwrite-fits}
 use Rattle.records.specs.Records.{isWhole, allowed}
 use Rattle.records.proofs.Laws.{sized-good, whole-within}
-use Rattle.sealing_cases.specs.Sealing.{sealingSize, keyOf, nonceOf, givenOf, bufferOf, doneBy, doneOf}
+use Rattle.sealing_cases.specs.Sealing.{sealingSize}
 
 -- n bytes from a place on, over as many
 pub bytes-all : (s l : List ℕ) (at n : ℕ) → length l ≡ n → at + n ≤ length s → overwrite (take n (drop at s)) l ≡ take n (drop at s)
@@ -35,12 +35,3 @@ module _ (room : ℕ) (s : List ℕ) (e : isWhole (sealingSize room s) s ≡ tru
       let h = whole-within (sealingSize room s) s e in
       let t : sealingSize room s ≡ 38 + numberAt 4 34 s = rw given in
       omega arith
-
-pub sealing-done : (opens : Bool) (s key nonce text buf : List ℕ)
-    → key ≡ keyOf s
-    → nonce ≡ nonceOf s
-    → text ≡ givenOf s
-    → buf ≡ bufferOf s
-    → doneBy opens key nonce text buf ≡ doneOf opens s
-unfolding doneOf
-sealing-done opens s key nonce text buf ek en et eb = rw (ek, en, et, eb)

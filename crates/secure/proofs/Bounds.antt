@@ -30,9 +30,6 @@ round-up n r e = omega arith
 
 -- ---- the rest of segment 1
 
-rest-room : (n p q a b c : ℕ) → 48 < n → p < 16 → 48 + (n - 48 + p + 16) ≤ n + q + a + b + c + 32
-rest-room n p q a b c h k = omega arith
-
 module _ (h : Header) (e : noSecondPart h ≡ false) where
   pub rest-beyond : inlineLength < h .s1 .len
   rest-beyond = leb-false (h .s1 .len) inlineLength e
@@ -42,9 +39,7 @@ module _ (h : Header) (e : noSecondPart h ≡ false) where
 
   pub rest-fits : inlineLength + secondPart h ≤ needed h
   unfolding needed
-  rest-fits =
-      rest-room (h .s1 .len) (padding (h .s1 .len - inlineLength)) (padding (h .s1 .len))
-      (roundUp (h .s2 .len)) (roundUp (h .s3 .len)) (roundUp (h .s4 .len)) rest-beyond (few (h .s1 .len - inlineLength))
+  rest-fits = (let b = rest-beyond in let p = few (h .s1 .len - inlineLength) in omega arith)
 
   -- with its padding and the tag behind it
   pub pads-fit : (pad : ℕ) → pad ≡ padding (h .s1 .len - inlineLength) → h .s1 .len + pad + 16 ≤ needed h
@@ -52,23 +47,16 @@ module _ (h : Header) (e : noSecondPart h ≡ false) where
 
 -- ---- the last part
 
-last-room : (n q a b c : ℕ) → n + (a + b + c + 32) ≤ n + q + a + b + c + 32
-last-room n q a b c = omega arith
-
 module _ (h : Header) where
   pub last-size : noLastPart h ≡ false → lastPartLength h ≡ lastPart h
   last-size e = ap (λ (b : Bool). cond b 0 (lastPart h)) e
 
   pub last-fits : h .s1 .len + lastPart h ≤ needed h
   unfolding needed
-  last-fits = last-room (h .s1 .len) (padding (h .s1 .len)) (roundUp (h .s2 .len)) (roundUp (h .s3 .len)) (roundUp (h .s4 .len))
+  last-fits = omega arith
 
 -- ---- on the wire
 
 pub least : (h : Header) → firstLength ≤ sealedLength h
 unfolding sealedLength
 least h = omega arith
-
-pub first-two-fit : (h : Header) (k : ℕ) → sealedLength h ≤ k → firstLength + secondPartLength h ≤ k
-unfolding sealedLength
-first-two-fit h k l = omega arith

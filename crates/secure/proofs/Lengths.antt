@@ -1,7 +1,7 @@
 -- How long the texts of parts are.
 use mathlib.Core.Path.{_≡_, refl, sym, ap, ap₂, _∙_}
 use mathlib.Core.Bool.{Bool, true, false, cond}
-use mathlib.Core.List.{List, _++_, append-nil}
+use mathlib.Core.List.{List, [], _∷_, _++_, append-nil}
 use Prim.Native.Nat.{ℕ, _+_, _-_, _≤_, suc, _<_}
 use native.Mathlib.Nat.{zero-add}
 use native.Mathlib.Omega.{arith}
@@ -16,7 +16,8 @@ use Rattle.banner.specs.declared.Revision.the-variants.{Msgr21}
 use Rattle.aes.specs.Aes.{State}
 use Rattle.gcm.specs.Gcm.{sealedBy}
 use Rattle.gcm.proofs.Placing.{sealed-length}
-use Rattle.secure.specs.Layout.{nextNonce, padding, roundUp, padded, inlined, epilogue16, firstText, secondText, lastText, noSecondPart, noLastPart, unlessNone, laterTexts, texts, partsFrom, sealedParts, sealedFrame, secondPart, lastPart, sealedLength, partCount}
+use Rattle.secure.proofs.LastText.{lengthOf, rounds}
+use Rattle.secure.specs.Layout.{nextNonce, padding, roundUp, padded, paddedFrom, lastLengths, inlined, firstText, secondText, lastText, noSecondPart, noLastPart, unlessNone, laterTexts, texts, partsFrom, sealedParts, sealedFrame, secondPart, lastPart, sealedLength, partCount}
 
 pub length-inlined : (first : List ℕ) → length (inlined first) ≡ 48
 length-inlined first =
@@ -34,22 +35,15 @@ length-padded bytes =
 pub length-segment : (n : ℕ) (bytes : List ℕ) → n ≤ length bytes → length (padded (take n bytes)) ≡ roundUp n
 length-segment n bytes h = length-padded (take n bytes) ∙ ap roundUp (length-take-le n bytes h)
 
+length-from : (ns : List ℕ) (late : ℕ) (bytes : List ℕ) → length bytes ≡ lengthOf ns → length (paddedFrom ns late bytes) ≡ rounds ns + 16
+length-from [] late bytes e = refl
+length-from (n ∷ ns) late bytes e =
+    let i = length-from ns late (drop n bytes) (length-drop n bytes ∙ omega arith) in
+    length-append (padded (take n bytes)) (paddedFrom ns late (drop n bytes)) ∙ omega (arith, length-segment n bytes (omega arith))
+
 pub length-last-text : (h : Header) (late : ℕ) (bytes : List ℕ) → length bytes ≡ restLength h → length (lastText h late bytes) + 16 ≡ lastPart h
 unfolding lastText
-length-last-text h late bytes e =
-    let b₃ : List ℕ = drop (h .s2 .len) bytes in
-    let b₄ : List ℕ = drop (h .s3 .len) b₃ in
-    let l₃ : length b₃ ≡ length bytes - h .s2 .len = length-drop (h .s2 .len) bytes in
-    let l₄ : length b₄ ≡ length b₃ - h .s3 .len = length-drop (h .s3 .len) b₃ in
-    let s₂ = length-segment (h .s2 .len) bytes (omega arith) in
-    let s₃ = length-segment (h .s3 .len) b₃ (omega arith) in
-    let s₄ = length-segment (h .s4 .len) b₄ (omega arith) in
-    let p₄ : List ℕ = padded (take (h .s4 .len) b₄) ++ epilogue16 late in
-    let p₃ : List ℕ = padded (take (h .s3 .len) b₃) ++ p₄ in
-    let a₂ : length (padded (take (h .s2 .len) bytes) ++ p₃) ≡ length (padded (take (h .s2 .len) bytes)) + length p₃ = length-append (padded (take (h .s2 .len) bytes)) p₃ in
-    let a₃ : length p₃ ≡ length (padded (take (h .s3 .len) b₃)) + length p₄ = length-append (padded (take (h .s3 .len) b₃)) p₄ in
-    let a₄ : length p₄ ≡ length (padded (take (h .s4 .len) b₄)) + 16 = length-append (padded (take (h .s4 .len) b₄)) (epilogue16 late) in
-    omega arith
+length-last-text h late bytes e = (let l = length-from (lastLengths h) late bytes (e ∙ omega arith) in omega arith)
 
 pub length-rest-text : (h : Header) (first : List ℕ) → length first ≡ h .s1 .len → length (secondText first) + 16 ≡ secondPart h
 length-rest-text h first e =

@@ -3,7 +3,9 @@ pub mod Stores
 pub mod LastText
 pub mod Counts
 pub mod Runs
+pub mod Headers
 pub mod Opening
 pub mod Lengths
 pub mod Missing
+pub mod Parts
 pub mod Trip

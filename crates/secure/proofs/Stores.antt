@@ -6,12 +6,15 @@ use native.Mathlib.Omega.{arith}
 use lib.ListN.{length, take, drop, replicate, length-append, length-replicate, take-append-drop}
 use lib.Seq.{length-take-le}
 use Rattle.buffer.specs.Splice.{replaceFront, splice, overwrite}
-use Rattle.buffer.proofs.Parts.{rest, back, overwrite-fits, next-overwrite}
+use Rattle.buffer.proofs.Parts.{rest, back, overwrite-fits, next-overwrite, over-longer}
 use Rattle.buffer.proofs.Splices.{splice-covered}
 use Rattle.preamble.specs.declared.Header.{Header}
 use Rattle.preamble.specs.Layout.{total}
+use Rattle.body.specs.End.{Ended, whole, dropped, refusedFor}
+use Rattle.stream.specs.declared.Event.the-variants.{Frame, Dropped}
+use Rattle.stream.specs.Stream.{Trace, after, refusedAt}
 use Rattle.secure.specs.Layout.{needed}
-use Rattle.secure.specs.Reading.{zeroed, holding}
+use Rattle.secure.specs.Reading.{zeroed, holding, atEnd}
 use Rattle.secure.proofs.Bounds.{segments-fit}
 
 length-held : (h : Header) (p : List ℕ) → needed h ≤ length (p ++ replicate (needed h - length p) 0)
@@ -25,6 +28,13 @@ zeroed-over h s xs i k l = let m = length-replicate {A = ℕ} (needed h) 0 in sp
 
 pub holding-over : (h : Header) (p s xs : List ℕ) (i : ℕ) → i ≤ length s → i + length xs ≤ needed h → holding h p (splice s i xs) ≡ holding h p s
 holding-over h p s xs i k l = let m = length-held h p in splice-covered s i xs k (p ++ replicate (needed h - length p) 0) (omega (arith, m))
+
+pub at-end-same : (h : Header) (payload xs store : List ℕ) → length xs ≤ needed h → (o : Ended) (at : ℕ) (next : List ℕ → Trace)
+    → atEnd o h at payload (replaceFront xs store) next ≡ atEnd o h at payload store next
+at-end-same h payload xs store l whole at next =
+    ap (λ (s : List ℕ). after (Frame h) at s (next s)) (over-longer xs (payload ++ replicate (needed h - length payload) 0) store (omega (arith, length-held h payload)))
+at-end-same h payload xs store l dropped at next = ap (λ (s : List ℕ). after (Dropped h) at s (next s)) (over-longer xs (replicate (needed h) 0) store (omega (arith, length-replicate {A = ℕ} (needed h) 0)))
+at-end-same h payload xs store l (refusedFor n) at next = ap (refusedAt n at) (over-longer xs (replicate (needed h) 0) store (omega (arith, length-replicate {A = ℕ} (needed h) 0)))
 
 -- nor do the bytes that the frame needs matter
 

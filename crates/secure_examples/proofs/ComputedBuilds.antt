@@ -6,8 +6,7 @@ use Prim.Native.Nat.{ℕ}
 use lib.ListN.{replicate}
 use Rattle.buffer.specs.Le.{numberAt}
 use Rattle.crc32c.specs.Crc.{crcOf, steps, step}
-use Rattle.refusal.specs.Refusals.{row}
-use Rattle.refusal.specs.Writes.{wrote, refusedFor}
+use Rattle.refusal.specs.Writes.{wrote}
 use Rattle.preamble.specs.Layout.{preambleFront, preambleBytes}
 use Rattle.preamble.specs.Judge.{shapeFault, limitFault, judgeHeader}
 use Rattle.stream.specs.Rows.{Holds}
@@ -78,18 +77,6 @@ built : sealedDone (sending 0 false false) two false (seg1 ++ seg2) buffer 2 ≡
 unfolding sealedFrame nextNonce nonceAfter numberAt sentMore agrees shapeFault limitFault judgeHeader sealedLength partCount judgeEarlier judgeSealed sealedDone
 built = ap (outcome (judgeSealed (sending 0 false false) two false 50 180 2) (sending 0 false false) two buffer 2) whole-frame
 
-refused-18 : sealedDone (sending 18446744073709551614 false false) two false (seg1 ++ seg2) buffer 2 ≡ done (refusedFor (row 18 0 0 0)) (sending 18446744073709551614 false false) buffer
-unfolding agrees shapeFault limitFault judgeHeader sealedLength partCount judgeEarlier judgeSealed sealedDone
-refused-18 = refl
-
-refused-13 : sealedDone (sending 0 false false) two false seg1 buffer 0 ≡ done (refusedFor (row 13 0 0 0)) (sending 0 false false) buffer
-unfolding agrees shapeFault limitFault judgeHeader sealedLength partCount judgeEarlier judgeSealed sealedDone
-refused-13 = refl
-
-refused-14 : sealedDone (sending 0 false false) two false (seg1 ++ seg2) (replicate 175 0xbb) 0 ≡ done (refusedFor (row 14 176 0 0)) (sending 0 false false) (replicate 175 0xbb)
-unfolding agrees shapeFault limitFault judgeHeader sealedLength partCount judgeEarlier judgeSealed sealedDone
-refused-14 = refl
-
 built-aborted : sealedDone (sending 0 false false) two true (seg1 ++ seg2) buffer 2 ≡ done (wrote 176) (sendingState key nonce3 3 false false) ((0xbb ∷ 0xbb ∷ []) ++ (two0 ++ two1 ++ aborted2) ++ (0xbb ∷ 0xbb ∷ []))
 unfolding sealedFrame nextNonce nonceAfter numberAt sentMore agrees shapeFault limitFault judgeHeader sealedLength partCount judgeEarlier judgeSealed sealedDone
 built-aborted = ap (outcome (judgeSealed (sending 0 false false) two true 50 180 2) (sending 0 false false) two buffer 2) aborted-frame
@@ -99,5 +86,5 @@ unfolding sealedFrame nextNonce nonceAfter numberAt sentMore agrees shapeFault l
 built-one = ap (outcome (judgeSealed (sending 0 false false) none false 0 97 1) (sending 0 false false) none (replicate 97 0xbb) 1) empty-frame
 
 pub buildRows-hold : Holds buildRows
-unfolding buildRows
-buildRows-hold = held built (held refused-18 (held refused-13 (held refused-14 (held built-aborted (held built-one refl)))))
+unfolding buildRows agrees shapeFault limitFault judgeHeader sealedLength partCount judgeEarlier judgeSealed sealedDone
+buildRows-hold = held built (held refl (held refl (held refl (held built-aborted (held built-one refl)))))

@@ -1,16 +1,17 @@
 -- Parts sealed and opened by blocks that are looked up: what antt computes for each part.
-use mathlib.Core.Bool.{Bool, true, false, cond, _&&_}
+use mathlib.Core.Bool.{cond, _&&_}
 use mathlib.Core.List.{List, [], _∷_, _++_}
-use mathlib.Core.Path.{_≡_, refl, sym, ap, ap₂, subst, fun-ext, _∙_}
+use mathlib.Core.Path.{_≡_, refl, ap, ap₂, subst, fun-ext, _∙_}
 use Prim.Native.Nat.{ℕ, zero, suc, _+_, _-_, _/_, _%_}
-use borrow.Author.Tests.{eqb-true}
 use lib.Bits.{bitXor}
-use lib.Dec.{eqb, leb, lit<}
+use lib.Dec.{leb, lit<}
 use lib.ListN.{length, take, drop}
+use Rattle.refusal.proofs.Booleans.{at-test}
 use Rattle.aes.specs.Aes.{State, keyExpansion}
 use Rattle.aes.specs.Counter.{keystreamBlock, byteOf, keystreamByte, gctrFrom}
 use Rattle.ghash.specs.Ghash.{ghash}
 use Rattle.gcm.specs.Gcm.{Opened, plain, fail, blockNumber, blockBytes, tagOf, sealedBy, sameAs, tagFits, openedBy}
+use Rattle.gcm.proofs.Opened.{same-bytes}
 use Rattle.secure_examples.specs.Parts.{key, nonce0, nonce1, nonce2}
 use Rattle.ghash.proofs.Computed.{hash, hash-is}
 use Rattle.secure_examples.proofs.Blocks.{w, keys, h, hash-key, block, table0, blocks0, table1, blocks1, table2, blocks2}
@@ -45,17 +46,6 @@ tag-by nonce c =
 
 -- ---- by the blocks of a nonce
 
-same : (xs ys : List ℕ) → sameAs xs ys ≡ true → xs ≡ ys
-unfolding sameAs
-same [] [] e = refl
-same [] (y ∷ ys) e = cc
-same (x ∷ xs) [] e = cc
-same (x ∷ xs) (y ∷ ys) e = go (eqb x y) refl e (same xs ys)
-  where
-    go : (t : Bool) → eqb x y ≡ t → (t && sameAs xs ys) ≡ true → (sameAs xs ys ≡ true → xs ≡ ys) → x ∷ xs ≡ y ∷ ys
-    go true p q tails = ap₂ _∷_ (eqb-true x y p) (tails q)
-    go false p q tails = cc
-
 abbrev tableOf : List ℕ → List State
 tableOf nonce = cond (sameAs nonce nonce0) table0 (cond (sameAs nonce nonce1) table1 (cond (sameAs nonce nonce2) table2 []))
 
@@ -72,11 +62,8 @@ none nonce = fun-ext go
     go (suc i) = refl
 
 chosen : (n nonce : List ℕ) (t ts : List State) → InTable n t → InTable nonce ts → InTable nonce (cond (sameAs nonce n) t ts)
-chosen n nonce t ts r rs = go (sameAs nonce n) refl
-  where
-    go : (b : Bool) → sameAs nonce n ≡ b → InTable nonce (cond b t ts)
-    go true e = subst (λ (m : List ℕ). InTable m t) (sym (same nonce n e)) r
-    go false e = rs
+chosen n nonce t ts r rs =
+    at-test (λ b. InTable nonce (cond b t ts)) (sameAs nonce n) (λ e. subst (λ (m : List ℕ). InTable m t) (same-bytes nonce n e) r) (λ e. rs)
 
 in-table : (nonce : List ℕ) → InTable nonce (tableOf nonce)
 unfolding InTable

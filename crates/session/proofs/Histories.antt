@@ -1,20 +1,21 @@
 -- Every history: what the events before a call say is what the session then holds, by induction over the calls.
-use mathlib.Core.Path.{_≡_, refl, sym, ap, subst, _∙_}
-use mathlib.Core.Bool.{Bool, true, false, cond}
+use mathlib.Core.Path.{_≡_, refl, sym, ap, _∙_}
+use mathlib.Core.Bool.{true, cond}
 use mathlib.Core.List.{List, [], _∷_, _++_, append-nil, append-assoc}
 use Prim.Native.Nat.{ℕ, zero, suc, _+_, _≤_, _<_}
 use native.Mathlib.Omega.{arith}
 use lib.ListN.{length, length-append}
 use lib.Dec.{leb, ltb}
-use borrow.Author.Tests.{leb-true, leb-false, lt-ltb, le-ltb}
+use borrow.Author.Tests.{leb-true, le-leb, lt-leb, lt-ltb, le-ltb}
 use Rattle.refusal.specs.declared.Refusal.the-variants as why
 use Rattle.refusal.specs.Refusals.{Judged, fine, refused, unless, firstOf, byJudgement}
+use Rattle.refusal.proofs.Booleans.{by-test, by-less}
 use Rattle.session.specs.declared.Session.{Session}
 use Rattle.session.specs.declared.Message.{Message}
 use Rattle.session.specs.declared.Answer.{Answer}
 use Rattle.session.specs.declared.Answer.the-variants as answer
 use Rattle.session.specs.declared.Outcome.{Outcome}
-use Rattle.session.specs.Calls.{places, finalNumber, heldFrom, heldOf, agrees, freshSession, acked, outcome, refusing}
+use Rattle.session.specs.Calls.{places, finalNumber, heldFrom, heldOf, agrees, freshSession, outcome, refusing}
 use Rattle.session.specs.Laws.{Call, accept, ack, reconnect, reset, callOf, Event, accepted, acknowledged, dropped, nothing, above, after}
 use Rattle.session.specs.History.{Entry, Chained, sessionBy, eventBy, eventsOf, Fate, isAcknowledged, isDropped, isHeld, fateOf, same, acceptedIn, withFate, highest, due, Each, numbers, countUp, NotAmong, AllDifferent, EveryHistory}
 use Rattle.session.proofs.Table.{agrees-by}
@@ -31,11 +32,7 @@ fate-snoc : (m : ℕ) (es : List Event) (e : Event) → fateOf m (es ++ (e ∷ [
 unfolding fateOf
 fate-snoc m [] e = refl
 fate-snoc m (accepted x ∷ es) e = fate-snoc m es e
-fate-snoc m (acknowledged n ∷ es) e = go (leb m n) (fate-snoc m es e)
-  where
-    go : (t : Bool) → fateOf m (es ++ (e ∷ [])) ≡ onFate (fateOf m es) m e → cond t isAcknowledged (fateOf m (es ++ (e ∷ []))) ≡ onFate (cond t isAcknowledged (fateOf m es)) m e
-    go true ih = refl
-    go false ih = ih
+fate-snoc m (acknowledged n ∷ es) e = by-test (leb m n) (λ t. rw t) (λ t. rw t (fate-snoc m es e))
 fate-snoc m (dropped ∷ es) e = refl
 fate-snoc m (nothing ∷ es) e = fate-snoc m es e
 
@@ -46,12 +43,7 @@ unfolding fateOf above
 keeps isAcknowledged e x ms = refl
 keeps isDropped e x ms = refl
 keeps isHeld (accepted y) x ms = refl
-keeps isHeld (acknowledged n) x ms = go (leb (x .number) n) refl
-  where
-    go : (t : Bool) → leb (x .number) n ≡ t
-        → cond (same isHeld (cond t isAcknowledged isHeld)) (x ∷ above n ms) (above n ms) ≡ cond (ltb n (x .number)) (x ∷ above n ms) (above n ms)
-    go true t = rw (le-ltb n (x .number) (leb-true (x .number) n t))
-    go false t = rw (lt-ltb n (x .number) (leb-false (x .number) n t))
+keeps isHeld (acknowledged n) x ms = by-less n (x .number) (λ l. rw (lt-leb _ _ l, lt-ltb _ _ l)) (λ l. rw (le-leb _ _ l, le-ltb _ _ l))
 keeps isHeld dropped x ms = refl
 keeps isHeld nothing x ms = refl
 
@@ -87,19 +79,17 @@ highest-snoc (nothing ∷ es) e k low last = highest-snoc es e k low last
 
 -- ---- every message has one fate
 
+by-fate : {A : Type 0} (f : Fate) → (f ≡ isAcknowledged → A) → (f ≡ isDropped → A) → (f ≡ isHeld → A) → A
+by-fate isAcknowledged a d h = a refl
+by-fate isDropped a d h = d refl
+by-fate isHeld a d h = h refl
+
 fates-add : (es : List Event) → length (acceptedIn es) ≡ length (withFate isAcknowledged es) + length (withFate isHeld es) + length (withFate isDropped es)
 unfolding acceptedIn withFate
 fates-add [] = refl
-fates-add (accepted x ∷ es) = go (fateOf (x .number) es) (fates-add es)
-  where
-    go : (f : Fate) → length (acceptedIn es) ≡ length (withFate isAcknowledged es) + length (withFate isHeld es) + length (withFate isDropped es)
-        → suc (length (acceptedIn es))
-        ≡ length (cond (same isAcknowledged f) (x ∷ withFate isAcknowledged es) (withFate isAcknowledged es))
-        + length (cond (same isHeld f) (x ∷ withFate isHeld es) (withFate isHeld es))
-        + length (cond (same isDropped f) (x ∷ withFate isDropped es) (withFate isDropped es))
-    go isAcknowledged ih = omega arith
-    go isDropped ih = omega arith
-    go isHeld ih = omega arith
+fates-add (accepted x ∷ es) =
+    let ih = fates-add es in
+    by-fate (fateOf (x .number) es) (λ f. rw f (omega arith)) (λ f. rw f (omega arith)) (λ f. rw f (omega arith))
 fates-add (acknowledged n ∷ es) = fates-add es
 fates-add (dropped ∷ es) = fates-add es
 fates-add (nothing ∷ es) = fates-add es
@@ -151,42 +141,32 @@ at-first = record {
 }
 
 module _ (past : List Event) (s t : Session) (u : Upto past s) where
-  -- where no message was accepted
-  no-message : (e : Event) → acceptedIn (e ∷ []) ≡ [] → acceptedIn (past ++ (e ∷ [])) ≡ acceptedIn past
-  no-message e z = accepted-snoc past e ∙ rw z (append-nil (acceptedIn past))
+  abbrev messages : Event → List Message
+  messages e = acceptedIn past ++ acceptedIn (e ∷ [])
 
-  quiet : (e : Event) → acceptedIn (e ∷ []) ≡ [] → highest (e ∷ []) ≤ t .released → t .last ≡ s .last → s .released ≤ t .released
-      → agrees t ≡ true → length (t .handles) ≡ places → heldOf t ≡ after e (heldOf s) → Upto (past ++ (e ∷ [])) t
-  quiet e z top same-last up ok sized table =
-      let m : acceptedIn (past ++ (e ∷ [])) ≡ acceptedIn past = no-message e z in
-      record {
-        agreeing = ok;
-        sized = sized;
-        last = rw m (same-last ∙ u .last);
-        held = table ∙ ap (after e) (u .held) ∙ sym (held-snoc past e);
-        counted = rw m (u .counted);
-        covered = highest-snoc past e (t .released) (omega arith) top;
-      }
-
-  next : (e : Event) → Moves e s t → agrees t ≡ true → length (t .handles) ≡ places → heldOf t ≡ after e (heldOf s) → Upto (past ++ (e ∷ [])) t
+  -- what an event does to the numbers
+  moved : (e : Event) → Moves e s t
+      → (t .last ≡ length (messages e)) × (numbers (messages e) ≡ countUp 1 (length (messages e))) × (s .released ≤ t .released) × (highest (e ∷ []) ≤ t .released)
   unfolding acceptedIn highest
-  next (accepted x) moves ok sized table =
-      let m : acceptedIn (past ++ (accepted x ∷ [])) ≡ acceptedIn past ++ (x ∷ []) = accepted-snoc past (accepted x) in
+  moved (accepted x) moves =
       let k : length (acceptedIn past ++ (x ∷ [])) ≡ suc (length (acceptedIn past)) = simp length-append (omega arith) in
       let n : x .number ≡ 1 + length (acceptedIn past) = omega arith in
+      (rw k (omega arith), rw (k, numbers-append, u .counted, n) (sym (count-snoc 1 (length (acceptedIn past)))), moves .2, omega arith)
+  moved (acknowledged n) moves = (rw append-nil (moves .0 ∙ u .last), rw append-nil (u .counted), moves .1, omega arith)
+  moved dropped moves = (rw append-nil (moves .0 ∙ u .last), rw append-nil (u .counted), moves .1, omega arith)
+  moved nothing moves = (rw (moves, append-nil) (u .last), rw append-nil (u .counted), rw moves (omega arith), omega arith)
+
+  next : (e : Event) → Moves e s t → agrees t ≡ true → length (t .handles) ≡ places → heldOf t ≡ after e (heldOf s) → Upto (past ++ (e ∷ [])) t
+  next e moves ok sized table =
+      let m = moved e moves in
       record {
         agreeing = ok;
         sized = sized;
-        last = rw (m, k) (omega arith);
-        held = table ∙ ap (after (accepted x)) (u .held) ∙ sym (held-snoc past (accepted x));
-        counted = rw (m, k, numbers-append (acceptedIn past) (x ∷ []), u .counted, n) (sym (count-snoc 1 (length (acceptedIn past))));
-        covered = highest-snoc past (accepted x) (t .released) (omega arith) (omega arith);
+        last = rw (accepted-snoc past e) (m .0);
+        held = table ∙ ap (after e) (u .held) ∙ sym (held-snoc past e);
+        counted = rw (accepted-snoc past e) (m .1);
+        covered = highest-snoc past e (t .released) (omega (arith, u .covered, m .2)) (m .3);
       }
-  next (acknowledged n) moves ok sized table = quiet (acknowledged n) refl (omega arith) (moves .0) (moves .1) ok sized table
-  next dropped moves ok sized table = quiet dropped refl (omega arith) (moves .0) (moves .1) ok sized table
-  next nothing moves ok sized table =
-      let up : s .released ≤ t .released = rw moves (omega arith) in
-      quiet nothing refl (omega arith) (ap (λ (r : Session). r .last) moves) up ok sized table
 
 -- ---- the next call
 
@@ -199,19 +179,16 @@ module _ (past : List Event) (s : Session) (u : Upto past s) where
   answered (accept h) =
       rw (accept-is s (u .agreeing) h, answer-by (firstOf (unless (ltb (s .last) finalNumber) why.NumbersSpent ∷ unless (ltb (length (heldOf s)) places) why.TableFull ∷ [])) s, u .held, u .last)
   answered (ack n) = rw (ack-is s (u .agreeing) n, answer-by (unless (leb n (s .last)) why.AckAhead) s, u .last)
-  answered (reconnect n) = rw (reconnect-is s (u .agreeing) n, ← u .last) (go (leb n (s .last)) refl)
-    where
-      go : (t : Bool) → leb n (s .last) ≡ t
-          → byJudgement (unless t why.AckAhead) (outcome (acked s n) (answer.Resend (length (heldOf (acked s n))))) (refusing s) .answer
-          ≡ byJudgement (unless t why.AckAhead) (answer.Resend (length (withFate isHeld (past ++ (acknowledged n ∷ []))))) answer.Refused
-      go true t = ap (λ (l : List Message). answer.Resend (length l))
-          (acked-is s (u .agreeing) n (leb-true n (s .last) t) .table ∙ ap (above n) (u .held) ∙ sym (held-snoc past (acknowledged n)))
-      go false t = refl
+  answered (reconnect n) =
+      rw (reconnect-is s (u .agreeing) n, ← u .last)
+      (by-test (leb n (s .last))
+      (λ t. rw (t, acked-is s (u .agreeing) n (leb-true n (s .last) t) .table, u .held, held-snoc past (acknowledged n)))
+      (λ t. rw t))
   answered (reset full) = rw (reset-is s (u .agreeing) full)
 
   module _ (e : Entry) (met : e .outcome ≡ callOf s (e .call)) where
     entry-good : Good s (e .call) (e .outcome)
-    entry-good = subst (λ (o : Outcome). Good s (e .call) o) (sym met) (good s (u .agreeing) (u .sized) (e .call))
+    entry-good = rw met (good s (u .agreeing) (u .sized) (e .call))
 
     entry-next : Upto (past ++ (eventBy e ∷ [])) (e .outcome .session)
     entry-next = next past s (e .outcome .session) u (eventBy e) (entry-good .moves) (entry-good .agreeing) (entry-good .sized) (entry-good .table)
@@ -220,9 +197,7 @@ module _ (past : List Event) (s : Session) (u : Upto past s) where
     entry-answer = ap (λ (o : Outcome). o .answer) met ∙ answered (e .call)
 
     entry-old : (n : ℕ) → eventBy e ≡ acknowledged n → n ≤ highest past → e .outcome .session ≡ s
-    entry-old n is low =
-        let moves : Moves (acknowledged n) s (e .outcome .session) = subst (λ (x : Event). Moves x s (e .outcome .session)) is (entry-good .moves) in
-        moves .3 (omega (arith, u .covered))
+    entry-old n is low = (rw is at (entry-good .moves)) .3 (omega (arith, u .covered))
 
 -- ---- all calls
 

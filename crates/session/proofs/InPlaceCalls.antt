@@ -11,9 +11,12 @@ use mir.Val.{Val, vint, vbool, vptr}
 use base.Logic.{SProp, ent, sep, emp, via, fst∗, snd∗, exE, id⊢}
 use base.Fml.{Fml, GName, Lft, Share, ftrue, flft, fobs, fbor, fat}
 use base.Stored.{Coded}
-use prog.Wp.{Heap, Calls, Loops, WpFn, Tables}
+use prog.Wp.{Heap, Calls, Loops, WpFn, Tables, Closed}
+use prog.Model.{Model}
+use prog.Routine.{Routine, Env}
 use ghost.Atoms.{Atoms, sem}
 use contract.Monad.{fact}
+use contract.Running.{Running, GhostRules, givenOf, tables, tablesOf}
 use types.Kit.{Given, ‵, raw, some, later, _⊛_, _$_, _∵_, !, qed, by, move, keep, drop, use1, split, join, pick, rewrite, fsplit, fsplit3, fjoin, fjoin3, feqI, suffices, frame, await, done}
 use types.Run.{look, look-raw, init, store-raw, forget, stop, hop, fld, from, load, of-opd, and-then, no-more, assigns, land, returns, enter, alloc1, alloc0, params1, pass1, pass0, free1, free0}
 use types.Part.{whole, sub, look-in}
@@ -35,6 +38,7 @@ use denote.Triple.Call.{calls-at}
 use denote.Triple.Clauses.{Ended, Clauses, ensured, closing, lasts}
 use denote.Triple.Entry.{onEntry}
 use denote.Triple.Spec.{Meets, tripleOf}
+use denote.Triple.Table.{entered, cited}
 use denote.Triple.Walked.{says, Stays, stay-ref, stay-none, walkOf, goes-none, goes-ref, Walks, ends-at, walked, walk-meets}
 use denote.Exit.{yes}
 use Rattle.session.specs.Calls.{outcome}
@@ -205,6 +209,15 @@ module _ (p : Argument) where
           (λ κs qs bounds a _ are. via 𝓤 _ (fst∗ 𝓤 _ (emp 𝓤)) (walk W (κs .0) (qs .0) (a .0 .ptr .0) (a .0 .ptr .1) (a .0 .name) (a .0 .now) (a .1 .0) (are .1 .0) f C Λ fm known))
 
       -- where the call by value meets its contract, so does the lent one
-      pub lent-meets : (𝓣 : Tables 𝓤 H) → Triple 𝓤 (𝓣 .C f) Callee → Meets 𝓤 H A (lent .signature) (WpFn 𝓤 H (𝓣 .C) (𝓣 .Λ) (thin f)) (closing 𝓤 H A lent AnswersLent)
+      lent-meets : (𝓣 : Tables 𝓤 H) → Triple 𝓤 (𝓣 .C f) Callee → Meets 𝓤 H A (lent .signature) (WpFn 𝓤 H (𝓣 .C) (𝓣 .Λ) (thin f)) (closing 𝓤 H A lent AnswersLent)
       lent-meets 𝓣 known = walk-meets 𝓤 H A lent stayed W (goes-ref 𝓤 H A W 1 0 tt (plain (λ _. T.the-row)), (goes-none 𝓤 H A W 1 (λ _. row) yes (λ κs x f. refl), tt)) AnswersLent
           (WpFn 𝓤 H (𝓣 .C) (𝓣 .Λ) (thin f)) (WpFn-mono 𝓤 H (W .laws) 𝓣 (thin f)) (walks (𝓣 .C) (𝓣 .Λ) (fmOf 𝓤 H (W .laws) 𝓣) known)
+
+-- the theorem of the lent call k, from that of the routine r that it calls as f
+pub lent-spec : (p : Argument) (answer : Session → p .X → Outcome) {M : Type 1} (𝓤 : URA M) (H : Heap 𝓤) (𝓜 : Model 𝓤 H) (𝓖 : GhostRules 𝓤 H) (𝓡 : Running 𝓤 H 𝓜) (γ : Env) (k f : Name) (r : Routine) → γ f ≡ r
+    → Closed 𝓤 H (tables 𝓤 H 𝓜 𝓡 γ .C) (tables 𝓤 H 𝓜 𝓡 γ .Λ) k (thin p f) → Triple 𝓤 (𝓡 .run r) (Callee p answer 𝓤 H (𝓖 .A))
+    → Triple 𝓤 (𝓡 .run (γ k)) (tripleOf 𝓤 H (𝓖 .A) (lent p .signature) (closing 𝓤 H (𝓖 .A) (lent p) (AnswersLent p answer 𝓤 H (𝓖 .A))))
+unfolding tablesOf
+lent-spec p answer 𝓤 H 𝓜 𝓖 𝓡 γ k f r is closed met =
+    entered 𝓤 H (tripleOf 𝓤 H (𝓖 .A) (lent p .signature) (closing 𝓤 H (𝓖 .A) (lent p) (AnswersLent p answer 𝓤 H (𝓖 .A)))) (tables 𝓤 H 𝓜 𝓡 γ .C) (tables 𝓤 H 𝓜 𝓡 γ .Λ) k (thin p f) closed
+    (lent-meets p answer 𝓤 H (𝓖 .A) (givenOf 𝓤 H 𝓜 𝓖) f (tablesOf 𝓤 H 𝓜 (tables 𝓤 H 𝓜 𝓡 γ)) (cited 𝓤 H (Callee p answer 𝓤 H (𝓖 .A)) 𝓜 𝓡 γ f r is met))

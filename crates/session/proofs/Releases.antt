@@ -7,6 +7,7 @@ use borrow.Author.Tests.{leb-false, lt-ltb}
 use lib.Dec.{leb, ltb}
 use lib.ListN.{length}
 use Rattle.refusal.specs.Refusals.{Judged, fine, refused, byJudgement}
+use Rattle.refusal.proofs.Booleans.{at-cond}
 use Rattle.session.specs.declared.Session.{Session}
 use Rattle.session.specs.declared.Message.{Message}
 use Rattle.session.specs.declared.Answer.{Answer}
@@ -30,34 +31,35 @@ oneReleases m (c ∷ cs) = cond (releases m c) true (oneReleases m cs)
 
 -- ---- fates
 
+-- an event of a call that does not release the message m
+by-event : (P : session.Event → Type 0) (m : ℕ) (c : session.Call) (r : Answer) → releases m c ≡ false
+    → ((x : Message) → P (session.accepted x)) → ((n : ℕ) → leb m n ≡ false → P (session.acknowledged n)) → P session.nothing → P (eventOf c r)
+by-event P m (session.accept h) (answer.Accepted n) e a k z = a _
+by-event P m (session.accept h) answer.Done e a k z = z
+by-event P m (session.accept h) (answer.Resend n) e a k z = z
+by-event P m (session.accept h) (answer.Refused n) e a k z = z
+by-event P m (session.ack n) (answer.Accepted i) e a k z = k n e
+by-event P m (session.ack n) answer.Done e a k z = k n e
+by-event P m (session.ack n) (answer.Resend i) e a k z = k n e
+by-event P m (session.ack n) (answer.Refused i) e a k z = z
+by-event P m (session.reconnect n) (answer.Accepted i) e a k z = k n e
+by-event P m (session.reconnect n) answer.Done e a k z = k n e
+by-event P m (session.reconnect n) (answer.Resend i) e a k z = k n e
+by-event P m (session.reconnect n) (answer.Refused i) e a k z = z
+by-event P m (session.reset true) r e a k z = absurd (true≢false e)
+by-event P m (session.reset false) r e a k z = z
+
 -- a call that does not release the message leaves its fate to the later ones
 pub stays : (m : ℕ) (c : session.Call) (r : Answer) (es : List session.Event) → releases m c ≡ false → fateOf m (eventOf c r ∷ es) ≡ fateOf m es
 unfolding fateOf
-stays m (session.accept h) (answer.Accepted n) es e = refl
-stays m (session.accept h) answer.Done es e = refl
-stays m (session.accept h) (answer.Resend n) es e = refl
-stays m (session.accept h) (answer.Refused n) es e = refl
-stays m (session.ack n) (answer.Accepted k) es e = rw e
-stays m (session.ack n) answer.Done es e = rw e
-stays m (session.ack n) (answer.Resend k) es e = rw e
-stays m (session.ack n) (answer.Refused k) es e = refl
-stays m (session.reconnect n) (answer.Accepted k) es e = rw e
-stays m (session.reconnect n) answer.Done es e = rw e
-stays m (session.reconnect n) (answer.Resend k) es e = rw e
-stays m (session.reconnect n) (answer.Refused k) es e = refl
-stays m (session.reset true) r es e = absurd (true≢false e)
-stays m (session.reset false) r es e = refl
+stays m c r es e = by-event (λ (v : session.Event). fateOf m (v ∷ es) ≡ fateOf m es) m c r e (λ x. refl) (λ n l. rw l) refl
 
 -- a message whose fate is to be held is among those held
 pub among : (x : Message) (es fs : List session.Event) → fateOf (x .number) fs ≡ isHeld → List·Memᴰ x (withFate isHeld (es ++ (session.accepted x ∷ fs)))
 unfolding withFate
 among x [] fs e = rw e (List·Memᴰ·head refl)
-among x (session.accepted y ∷ es) fs e = go (same isHeld (fateOf (y .number) (es ++ (session.accepted x ∷ fs)))) (among x es fs e)
-  where
-    go : (b : Bool) → List·Memᴰ x (withFate isHeld (es ++ (session.accepted x ∷ fs)))
-        → List·Memᴰ x (cond b (y ∷ withFate isHeld (es ++ (session.accepted x ∷ fs))) (withFate isHeld (es ++ (session.accepted x ∷ fs))))
-    go true k = List·Memᴰ·tail k
-    go false k = k
+among x (session.accepted y ∷ es) fs e =
+    at-cond (List·Memᴰ x) (same isHeld (fateOf (y .number) (es ++ (session.accepted x ∷ fs)))) (List·Memᴰ·tail (among x es fs e)) (among x es fs e)
 among x (session.acknowledged n ∷ es) fs e = among x es fs e
 among x (session.dropped ∷ es) fs e = among x es fs e
 among x (session.nothing ∷ es) fs e = among x es fs e
@@ -69,27 +71,11 @@ unfolding above
 mem-above x n (y ∷ ms) e (List·Memᴰ·head p) =
     let l : ltb n (y .number) ≡ true = rw p at (lt-ltb n (x .number) (leb-false (x .number) n e)) in
     rw l (List·Memᴰ·head p)
-mem-above x n (y ∷ ms) e (List·Memᴰ·tail k) = go (ltb n (y .number)) (mem-above x n ms e k)
-  where
-    go : (b : Bool) → List·Memᴰ x (above n ms) → List·Memᴰ x (cond b (y ∷ above n ms) (above n ms))
-    go true i = List·Memᴰ·tail i
-    go false i = i
+mem-above x n (y ∷ ms) e (List·Memᴰ·tail k) = at-cond (List·Memᴰ x) (ltb n (y .number)) (List·Memᴰ·tail (mem-above x n ms e k)) (mem-above x n ms e k)
 
 keeps : (c : session.Call) (r : Answer) (ms : List Message) (x : Message) → releases (x .number) c ≡ false → List·Memᴰ x ms → List·Memᴰ x (after (eventOf c r) ms)
-keeps (session.accept h) (answer.Accepted n) ms x e k = Memᴰ·append-left _ k
-keeps (session.accept h) answer.Done ms x e k = k
-keeps (session.accept h) (answer.Resend n) ms x e k = k
-keeps (session.accept h) (answer.Refused n) ms x e k = k
-keeps (session.ack n) (answer.Accepted i) ms x e k = mem-above x n ms e k
-keeps (session.ack n) answer.Done ms x e k = mem-above x n ms e k
-keeps (session.ack n) (answer.Resend i) ms x e k = mem-above x n ms e k
-keeps (session.ack n) (answer.Refused i) ms x e k = k
-keeps (session.reconnect n) (answer.Accepted i) ms x e k = mem-above x n ms e k
-keeps (session.reconnect n) answer.Done ms x e k = mem-above x n ms e k
-keeps (session.reconnect n) (answer.Resend i) ms x e k = mem-above x n ms e k
-keeps (session.reconnect n) (answer.Refused i) ms x e k = k
-keeps (session.reset true) r ms x e k = absurd (true≢false e)
-keeps (session.reset false) r ms x e k = k
+keeps c r ms x e k =
+    by-event (λ (v : session.Event). List·Memᴰ x (after v ms)) (x .number) c r e (λ y. Memᴰ·append-left _ k) (λ n l. mem-above x n ms l k) k
 
 -- of a session that agrees with itself and has its places
 pub record Good (s : Session) : Type 0 where
@@ -112,11 +98,7 @@ kept s t fine r h = h
 kept s t (refused n) r h = refl
 
 pub acked-keeps : (s : Session) (n : ℕ) → acked s n .handles ≡ s .handles
-acked-keeps s n = go (leb n (s .released))
-  where
-    go : (b : Bool) → cond b s (record { handles = s .handles; released = n; last = s .last }) .handles ≡ s .handles
-    go true = refl
-    go false = refl
+acked-keeps s n = at-cond (λ (t : Session). t .handles ≡ s .handles) (leb n (s .released)) refl refl
 
 pub cleared-keeps : (s : Session) (full : Bool) → cleared s full .handles ≡ s .handles
 cleared-keeps s true = refl

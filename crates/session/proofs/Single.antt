@@ -1,6 +1,6 @@
 -- Every single call, of a session that agrees with itself.
 use mathlib.Core.Path.{_≡_, refl, sym, ap, _∙_}
-use mathlib.Core.Bool.{Bool, true, false, cond, true≢false}
+use mathlib.Core.Bool.{Bool, true, false, cond}
 use mathlib.Core.List.{[], _∷_, map}
 use Prim.Native.Nat.{ℕ, zero, suc, _+_, _-_, _≤_, _<_, _%_}
 use native.Mathlib.Omega.{arith}
@@ -11,6 +11,7 @@ use Rattle.refusal.specs.declared.Numbers.{Numbers}
 use Rattle.refusal.specs.declared.Refusal.the-variants as why
 use Rattle.refusal.specs.Refusals.{unless, firstOf, row, byJudgement}
 use Rattle.refusal.proofs.Judgements.{or-else-last}
+use Rattle.refusal.proofs.Booleans.{by-test, at-test, wrong}
 use Rattle.session.specs.declared.Session.{Session}
 use Rattle.session.specs.declared.Answer.{Answer}
 use Rattle.session.specs.declared.Answer.the-variants as answer
@@ -70,23 +71,6 @@ pub record Good (s : Session) (c : Call) (o : Outcome) : Type 0 where
   pub table : heldOf (o .session) ≡ after (eventOf c (o .answer)) (heldOf s)
   pub moves : Moves (eventOf c (o .answer)) s (o .session)
 
--- the number of a refusal, and whether an answer is one
-numberBy : Answer → ℕ
-numberBy (answer.Accepted n) = 0
-numberBy answer.Done = 0
-numberBy (answer.Resend k) = 0
-numberBy (answer.Refused n) = n .number
-
-isRefusal : Answer → Bool
-isRefusal (answer.Accepted n) = false
-isRefusal answer.Done = false
-isRefusal (answer.Resend k) = false
-isRefusal (answer.Refused n) = true
-
-no-refusal : {A : Type 0} (r : Answer) → isRefusal r ≡ false → (n : Numbers) → r ≡ answer.Refused n → A
-unfolding isRefusal
-no-refusal r z n e = absurd (true≢false (sym (ap isRefusal e) ∙ z))
-
 -- an ack of a number that was sent
 pub record Acked (s : Session) (n : ℕ) (t : Session) : Type 0 where
   pub agreeing : agrees t ≡ true
@@ -95,133 +79,89 @@ pub record Acked (s : Session) (n : ℕ) (t : Session) : Type 0 where
   pub moves : Moves (acknowledged n) s t
 
 pub acked-is : (s : Session) → agrees s ≡ true → (n : ℕ) → n ≤ s .last → Acked s n (acked s n)
-acked-is s ok n sent = go (leb n (s .released)) refl (agreeing s ok)
-  where
-    go : (t : Bool) → leb n (s .released) ≡ t → Agreeing s → Acked s n (cond t s (releasing s n))
-    go true t a =
-        let le : n ≤ s .released = leb-true n (s .released) t in
-        record {
-          agreeing = ok;
-          kept = refl;
-          table = sym (all-above (s .handles) (s .released) (s .last - s .released) n le);
-          moves = (refl, omega arith, le, λ _. refl);
-        }
-    go false t a =
-        let lt : s .released < n = leb-false n (s .released) t in
-        let top : s .released + (s .last - s .released) ≡ s .last = omega arith in
-        record {
-          agreeing = agrees-by (releasing s n) sent (omega arith);
-          kept = refl;
-          table = sym (rw top at (some-above (s .handles) (s .released) (s .last - s .released) n (omega arith) (omega arith)));
-          moves = (refl, omega arith, omega arith, λ le. absurd (omega arith));
-        }
+acked-is s ok n sent =
+    let a : Agreeing s = agreeing s ok in
+    at-test (λ (b : Bool). Acked s n (cond b s (releasing s n))) (leb n (s .released))
+    (λ t.
+    let le : n ≤ s .released = leb-true n (s .released) t in
+    record {
+      agreeing = ok;
+      kept = refl;
+      table = sym (all-above (s .handles) (s .released) (s .last - s .released) n le);
+      moves = (refl, omega arith, le, λ _. refl);
+    })
+    (λ t.
+    let lt : s .released < n = leb-false n (s .released) t in
+    let top : s .released + (s .last - s .released) ≡ s .last = omega arith in
+    record {
+      agreeing = agrees-by (releasing s n) sent (omega arith);
+      kept = refl;
+      table = sym (rw top at (some-above (s .handles) (s .released) (s .last - s .released) n (omega arith) (omega arith)));
+      moves = (refl, omega arith, omega arith, λ le. absurd (omega arith));
+    })
 
 module _ (s : Session) (ok : agrees s ≡ true) (sized : length (s .handles) ≡ places) where
   good-refused : (c : Call) (n : Numbers) → (n .number ≡ 26 → ⊥) → eventOf c (answer.Refused n) ≡ nothing → Good s c (refusing s n)
-  unfolding numberBy
-  good-refused c n other e = record {
-    never26 = λ k. other (ap numberBy k);
-    agreeing = ok;
-    sized = sized;
-    unchanged = λ m k. refl;
-    table = rw e;
-    moves = rw e;
-  }
+  good-refused c n other e = record { never26 = λ k. other (cc); agreeing = ok; sized = sized; unchanged = λ m k. refl; table = rw e; moves = rw e }
+
+  -- a call that is not refused
+  good-done : (c : Call) (r : Answer) (t : Session) → ((m : Numbers) → r ≡ answer.Refused m → ⊥) → agrees t ≡ true → length (t .handles) ≡ places
+      → heldOf t ≡ after (eventOf c r) (heldOf s) → Moves (eventOf c r) s t → Good s c (outcome t r)
+  good-done c r t not ok′ sized′ table moves =
+      record { never26 = not (row 26 0 0 0); agreeing = ok′; sized = sized′; unchanged = λ m k. absurd (not m k); table = table; moves = moves }
 
   good-accepted : (h : ℕ) → length (heldOf s) < places → Good s (accept h) (outcome (adding s (s .last + 1) h) (answer.Accepted (s .last + 1)))
-  unfolding isRefusal
   good-accepted h room =
       let a : Agreeing s = agreeing s ok in
       let k : length (heldOf s) ≡ s .last - s .released = held-size s in
       let more : s .last + 1 - s .released ≡ suc (s .last - s .released) = omega arith in
       let next : s .released + suc (s .last - s .released) ≡ s .last + 1 = omega arith in
-      record {
-        never26 = no-refusal (answer.Accepted (s .last + 1)) refl (row 26 0 0 0);
-        agreeing = agrees-by (adding s (s .last + 1) h) (omega arith) (omega arith);
-        sized = length-set (s .handles) ((s .last + 1) % places) h ∙ sized;
-        unchanged = no-refusal (answer.Accepted (s .last + 1)) refl;
-        table = rw (more, ← next) (held-more (s .handles) (s .released) (s .last - s .released) h sized (omega arith));
-        moves = (refl, refl, omega arith);
-      }
+      good-done (accept h) (answer.Accepted (s .last + 1)) (adding s (s .last + 1) h) (λ m e. wrong (cc)) (agrees-by (adding s (s .last + 1) h) (omega arith) (omega arith))
+      (length-set (s .handles) ((s .last + 1) % places) h ∙ sized)
+      (rw (more, ← next) (held-more (s .handles) (s .released) (s .last - s .released) h sized (omega arith)))
+      (refl, refl, omega arith)
 
-  good-acked : (c : Call) (n : ℕ) (r : Answer) → isRefusal r ≡ false → eventOf c r ≡ acknowledged n → n ≤ s .last → Good s c (outcome (acked s n) r)
+  good-acked : (c : Call) (n : ℕ) (r : Answer) → ((m : Numbers) → r ≡ answer.Refused m → ⊥) → eventOf c r ≡ acknowledged n → n ≤ s .last → Good s c (outcome (acked s n) r)
   good-acked c n r not e sent =
       let k : Acked s n (acked s n) = acked-is s ok n sent in
-      record {
-        never26 = no-refusal r not (row 26 0 0 0);
-        agreeing = k .agreeing;
-        sized = ap length (k .kept) ∙ sized;
-        unchanged = no-refusal r not;
-        table = rw e (k .table);
-        moves = rw e (k .moves);
-      }
+      good-done c r (acked s n) not (k .agreeing) (ap length (k .kept) ∙ sized) (rw e (k .table)) (rw e (k .moves))
 
   good-reset : (full : Bool) → Good s (reset full) (outcome (cleared s full) answer.Done)
-  unfolding isRefusal heldFrom
+  unfolding heldFrom
   good-reset true =
       let a : Agreeing s = agreeing s ok in
       let none : s .last - s .last ≡ 0 = omega arith in
-      record {
-        never26 = no-refusal answer.Done refl (row 26 0 0 0);
-        agreeing = agrees-by (releasing s (s .last)) (omega arith) (omega arith);
-        sized = sized;
-        unchanged = no-refusal answer.Done refl;
-        table = rw none;
-        moves = (refl, a .order);
-      }
-  good-reset false = record {
-    never26 = no-refusal answer.Done refl (row 26 0 0 0);
-    agreeing = ok;
-    sized = sized;
-    unchanged = λ n k. refl;
-    table = refl;
-    moves = refl;
-  }
+      good-done (reset true) answer.Done (releasing s (s .last)) (λ m e. wrong (cc)) (agrees-by (releasing s (s .last)) (omega arith) (omega arith)) sized (rw none) (refl, a .order)
+  good-reset false = good-done (reset false) answer.Done s (λ m e. wrong (cc)) ok sized refl refl
 
   accept-good : (left room : Bool) (h : ℕ) → (room ≡ true → length (heldOf s) < places) → Good s (accept h) (acceptBy s ok left room h)
   accept-good true true h k = good-accepted h (k refl)
   accept-good true false h k = good-refused (accept h) (row 22 0 0 0) (λ e. omega arith) refl
   accept-good false room h k = good-refused (accept h) (row 25 0 0 0) (λ e. omega arith) refl
 
-  ack-good : (c : Call) (n : ℕ) (r : Answer) → isRefusal r ≡ false → eventOf c r ≡ acknowledged n → eventOf c (answer.Refused (row 23 0 0 0)) ≡ nothing
+  ack-good : (c : Call) (n : ℕ) (r : Answer) → ((m : Numbers) → r ≡ answer.Refused m → ⊥) → eventOf c r ≡ acknowledged n → eventOf c (answer.Refused (row 23 0 0 0)) ≡ nothing
       → (sent : Bool) → (sent ≡ true → n ≤ s .last) → Good s c (ackBy s ok sent n r)
   ack-good c n r not e e′ true k = good-acked c n r not e (k refl)
   ack-good c n r not e e′ false k = good-refused c (row 23 0 0 0) (λ z. omega arith) e′
 
   pub good : (c : Call) → Good s c (callOf s c)
-  unfolding isRefusal
   good (accept h) = rw (accept-is s ok h) (accept-good (ltb (s .last) finalNumber) (ltb (length (heldOf s)) places) h (ltb-true (length (heldOf s)) places))
-  good (ack n) = rw (ack-is s ok n) (ack-good (ack n) n answer.Done refl refl refl (leb n (s .last)) (leb-true n (s .last)))
+  good (ack n) = rw (ack-is s ok n) (ack-good (ack n) n answer.Done (λ m e. wrong (cc)) refl refl (leb n (s .last)) (leb-true n (s .last)))
   good (reconnect n) =
-      rw (reconnect-is s ok n) (ack-good (reconnect n) n (answer.Resend (length (heldOf (acked s n)))) refl refl refl (leb n (s .last)) (leb-true n (s .last)))
+      rw (reconnect-is s ok n) (ack-good (reconnect n) n (answer.Resend (length (heldOf (acked s n)))) (λ m e. wrong (cc)) refl refl (leb n (s .last)) (leb-true n (s .last)))
   good (reset full) = rw (reset-is s ok full) (good-reset full)
 
 -- ---- the claim
 
 sound : (s : Session) (c : Call) → length (s .handles) ≡ places → Sound s c
-sound s c sized = go (agrees s) refl
-  where
-    go : (t : Bool) → agrees s ≡ t → Sound s c
-    go true ok =
-        let g : Good s c (callOf s c) = good s ok sized c in
-        record {
-          contradicts = λ no-good. absurd (true≢false (sym ok ∙ no-good));
-          never26 = λ _. g .never26;
-          agreeing = λ _. g .agreeing;
-          sized = g .sized;
-          unchanged = g .unchanged;
-          table = λ _. g .table;
-        }
-    go false bad =
-        let o : callOf s c ≡ refusing s (row 26 0 0 0) = contradicted s c bad in
-        record {
-          contradicts = λ _. o;
-          never26 = λ ok. absurd (true≢false (sym ok ∙ bad));
-          agreeing = λ ok. absurd (true≢false (sym ok ∙ bad));
-          sized = ap (λ (x : Outcome). length (x .session .handles)) o ∙ sized;
-          unchanged = λ n _. ap (λ (x : Outcome). x .session) o;
-          table = λ ok. absurd (true≢false (sym ok ∙ bad));
-        }
+sound s c sized =
+    by-test (agrees s)
+    (λ ok.
+    let g : Good s c (callOf s c) = good s ok sized c in
+    record { contradicts = λ bad. cc; never26 = λ _. g .never26; agreeing = λ _. g .agreeing; sized = g .sized; unchanged = g .unchanged; table = λ _. g .table })
+    (λ bad.
+    let o : callOf s c ≡ refusing s (row 26 0 0 0) = contradicted s c bad in
+    record { contradicts = λ _. o; never26 = λ ok _. wrong (cc); agreeing = λ ok. cc; sized = rw o sized; unchanged = λ n _. rw o; table = λ ok. cc })
 
 -- what `held_at` gives are the messages held
 at-is : (s : Session) → agrees s ≡ true → (i : ℕ) → i < s .last - s .released → heldAt s i ≡ held.At (messageAt (s .handles) (s .released + 1 + i))

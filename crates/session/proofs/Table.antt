@@ -1,14 +1,14 @@
 -- Laws of the messages that a session holds.
 use mathlib.Core.Logic.{_≢_}
 use mathlib.Core.Path.{_≡_, refl, sym, ap, _∙_}
-use mathlib.Core.Bool.{Bool, true, false}
+use mathlib.Core.Bool.{true}
 use mathlib.Core.List.{List, [], _∷_, _++_}
 use Prim.Native.Nat.{ℕ, zero, suc, _+_, _-_, _≤_, _<_, _%_}
 use native.Mathlib.Omega.{arith}
 use lib.ListN.{length, set}
 use lib.Seq.{getD-set-same, getD-set-other}
 use lib.Dec.{leb, ltb}
-use borrow.Author.Tests.{lt-ltb, ltb-true, ltb-false, leb-true, le-leb}
+use borrow.Author.Tests.{lt-ltb, le-ltb, ltb-true, leb-true, le-leb}
 use Rattle.refusal.specs.declared.Numbers.{Numbers}
 use Rattle.refusal.specs.declared.Refusal.{Refusal}
 use Rattle.refusal.specs.declared.Judgement.{Judgement}
@@ -16,7 +16,7 @@ use Rattle.refusal.specs.declared.Judgement.the-variants as judgement
 use Rattle.refusal.specs.declared.Refusal.the-variants as why
 use Rattle.refusal.specs.Refusals.{Judged, fine, numbersOf, judgedBy, unless, byJudgement}
 use Rattle.refusal.proofs.Judgements.{passed, all-fine}
-use Rattle.refusal.proofs.Booleans.{both-left, both-right}
+use Rattle.refusal.proofs.Booleans.{by-less, each-true}
 use Rattle.session.specs.declared.Session.{Session}
 use Rattle.session.specs.declared.Message.{Message}
 use Rattle.session.specs.declared.Answer.the-variants as answer
@@ -61,27 +61,20 @@ all-above hs n (suc k) m h =
     let t : ltb m (n + 1) ≡ true = lt-ltb m (n + 1) (omega arith) in
     rw (t, all-above hs (n + 1) k m (omega arith))
 
-first-below : (hs : List ℕ) (n k m : ℕ) → ltb m (n + 1) ≡ false → above m (heldFrom hs n (suc k)) ≡ above m (heldFrom hs (n + 1) k)
-unfolding heldFrom above
-first-below hs n k m t = rw t
-
 pub some-above : (hs : List ℕ) (n k m : ℕ) → n ≤ m → m ≤ n + k → above m (heldFrom hs n k) ≡ heldFrom hs m (n + k - m)
+unfolding heldFrom above
 some-above hs n zero m low high =
+    let z : n + 0 - m ≡ 0 = omega arith in
+    rw z
+some-above hs n (suc k) m low high =
+    by-less m (n + 1)
+    (λ l.
     let e : n ≡ m = omega arith in
-    let z : m + 0 - m ≡ 0 = omega arith in
-    rw (e, z) (all-above hs m 0 m (omega arith))
-some-above hs n (suc k) m low high = go (ltb m (n + 1)) refl (λ l h. some-above hs (n + 1) k m l h)
-  where
-    go : (t : Bool) → ltb m (n + 1) ≡ t → (n + 1 ≤ m → m ≤ n + 1 + k → above m (heldFrom hs (n + 1) k) ≡ heldFrom hs m (n + 1 + k - m)) → above m (heldFrom hs n (suc k)) ≡ heldFrom hs m (n + suc k - m)
-    go true t ih =
-        let lt : m < n + 1 = ltb-true m (n + 1) t in
-        let e : n ≡ m = omega arith in
-        let z : m + suc k - m ≡ suc k = omega arith in
-        rw (e, z) (all-above hs m (suc k) m (omega arith))
-    go false t ih =
-        let ge : n + 1 ≤ m = ltb-false m (n + 1) t in
-        let e : n + suc k - m ≡ n + 1 + k - m = omega arith in
-        rw e (first-below hs n k m t ∙ ih ge (omega arith))
+    let z : m + suc k - m ≡ suc k = omega arith in
+    rw (lt-ltb m (n + 1) l, all-above hs (n + 1) k m (omega arith), e, z))
+    (λ g.
+    let z : n + suc k - m ≡ n + 1 + k - m = omega arith in
+    rw (le-ltb m (n + 1) g, z) (some-above hs (n + 1) k m g (omega arith)))
 
 -- the message at a place
 pub found-held : (hs : List ℕ) (n k i : ℕ) → i < k → found (heldFrom hs n k) i ≡ held.At (messageAt hs (n + 1 + i))
@@ -94,7 +87,7 @@ found-held hs n (suc k) (suc i) h =
     let e : n + 1 + 1 + i ≡ n + 1 + suc i = omega arith in
     rw e at (found-held hs (n + 1) k i (omega arith))
 
-pub found-beyond : (hs : List ℕ) (n k i : ℕ) → k ≤ i → found (heldFrom hs n k) i ≡ held.Beyond
+found-beyond : (hs : List ℕ) (n k i : ℕ) → k ≤ i → found (heldFrom hs n k) i ≡ held.Beyond
 unfolding heldFrom found
 found-beyond hs n zero i h = refl
 found-beyond hs n (suc k) zero h = absurd (omega arith)
@@ -104,6 +97,13 @@ found-beyond hs n (suc k) (suc i) h = found-beyond hs (n + 1) k i (omega arith)
 
 pub held-size : (s : Session) → length (heldOf s) ≡ s .last - s .released
 held-size s = held-length (s .handles) (s .released) (s .last - s .released)
+
+-- the message at a place, by the count k of those held
+pub at-place : (s : Session) (i k : ℕ) → k ≡ s .last - s .released → i < k → held.At (messageAt (s .handles) (s .released + 1 + i)) ≡ found (heldOf s) i
+at-place s i k e h = sym (found-held (s .handles) (s .released) (s .last - s .released) i (rw e at h))
+
+pub beyond-place : (s : Session) (i k : ℕ) → k ≡ s .last - s .released → k ≤ i → held.Beyond ≡ found (heldOf s) i
+beyond-place s i k e h = sym (found-beyond (s .handles) (s .released) (s .last - s .released) i (rw e at h))
 
 -- as many messages are to be sent again as are held
 pub resend-held : (s t : Session) (k : ℕ) → s ≡ t → k ≡ s .last - s .released → outcome s (answer.Resend k) ≡ outcome t (answer.Resend (length (heldOf t)))
@@ -116,10 +116,9 @@ pub record Agreeing (s : Session) : Type 0 where
 
 pub agreeing : (s : Session) → agrees s ≡ true → Agreeing s
 unfolding agrees
-agreeing s e = record {
-  order = leb-true (s .released) (s .last) (both-left (leb (s .released) (s .last)) (leb (s .last - s .released) places) e);
-  room = leb-true (s .last - s .released) places (both-right (leb (s .released) (s .last)) (leb (s .last - s .released) places) e);
-}
+agreeing s e =
+    let b = each-true (leb (s .released) (s .last)) (leb (s .last - s .released) places) e in
+    record { order = leb-true (s .released) (s .last) (b .0); room = leb-true (s .last - s .released) places (b .1) }
 
 pub agrees-by : (s : Session) → s .released ≤ s .last → s .last - s .released ≤ places → agrees s ≡ true
 unfolding agrees

@@ -2,12 +2,13 @@
 use Prim.Native.Nat.{ℕ, zero, suc, _+_, _≤_, _<_}
 use mathlib.Core.Path.{_≡_, refl}
 use mathlib.Core.List.{List}
-use mathlib.Core.Bool.{Bool, true, false, cond}
+use mathlib.Core.Bool.{Bool, true, false}
 use native.Mathlib.Omega.{arith}
 use lib.ListN.{length, take, drop}
 use lib.Dec.{ltb}
 use Rattle.buffer.specs.Splice.{replaceFront}
-use Rattle.refusal.specs.Refusals.{Judged, fine, refused, row}
+use Rattle.refusal.specs.Refusals.{Judged, fine, refused}
+use Rattle.refusal.proofs.Booleans.{at-cond}
 use Rattle.banner.specs.declared.Features.{Features}
 use Rattle.banner.specs.declared.Revision.{Revision}
 use Rattle.banner.specs.Banner.{judgeOwn, judgeFeatures, judgeMagic, judgeLength, revisionOf}
@@ -16,7 +17,7 @@ use Rattle.preamble.specs.Layout.{total}
 use Rattle.preamble.specs.Judge.{headerOf, judgePreamble}
 use Rattle.body.specs.Body.{bodyLength, firstSumLength, wireLength}
 use Rattle.body.specs.End.{Ended, whole, dropped, refusedFor, segmentBytes, ending}
-use Rattle.stream.specs.Stream.{Trace, ended, unlessRefused, refusedAt, zeroed, firstSumEnd, firstWrong, firstReported, reportedFirst, atEnd, bodyTrace, frames, bannerTrace, payloadOf, peerOf, streamTrace, byOwn, traceOf}
+use Rattle.stream.specs.Stream.{Trace, unlessRefused, firstSumEnd, firstWrong, firstReported, reportedFirst, atEnd, bodyTrace, frames, bannerTrace, payloadOf, peerOf, streamTrace, byOwn, traceOf}
 use Rattle.stream.specs.Adds.{Adds, AddsUp, AllAddUp}
 
 pub least : (revision : Revision) (h : Header) → 32 ≤ wireLength revision h
@@ -40,31 +41,19 @@ module _ (revision : Revision) (h : Header) (P : ℕ) (b s : List ℕ) (next : L
   first-adds false at x t e u = u
 
   body-adds : AddsTrace revision P (bodyTrace revision h P b s next)
-  body-adds = go (firstWrong revision h b) (ltb (length b) (bodyLength revision h))
-    where
-      go : (w c : Bool) → AddsTrace revision P
-          (cond w (refusedAt (row 11 1 0 0) (firstSumEnd P h) (zeroed h s))
-          (reportedFirst (firstReported revision h b) h (firstSumEnd P h) (replaceFront (take (h .s1 .len) b) s)
-          (cond c (ended (replaceFront (segmentBytes revision h b) s)) (atEnd (ending revision h (drop (total h + firstSumLength revision h) b) (segmentBytes revision h b)) h (P + wireLength revision h) s (segmentBytes revision h b) next))))
-      go true c = omega arith
-      go false true = first-adds (firstReported revision h b) (firstSumEnd P h) (replaceFront (take (h .s1 .len) b) s) _ refl tt
-      go false false = first-adds (firstReported revision h b) (firstSumEnd P h) (replaceFront (take (h .s1 .len) b) s) _ refl (end-adds (ending revision h (drop (total h + firstSumLength revision h) b) (segmentBytes revision h b)) (segmentBytes revision h b))
+  body-adds =
+      at-cond (AddsTrace revision P) (firstWrong revision h b) (omega arith)
+      (first-adds (firstReported revision h b) (firstSumEnd P h) (replaceFront (take (h .s1 .len) b) s) _ refl
+      (at-cond (AddsTrace revision P) (ltb (length b) (bodyLength revision h)) tt
+      (end-adds (ending revision h (drop (total h + firstSumLength revision h) b) (segmentBytes revision h b)) (segmentBytes revision h b))))
 
 frames-add : (f : ℕ) (revision : Revision) (P : ℕ) (rest s : List ℕ) → AddsTrace revision P (frames f revision P rest s)
 unfolding frames
 frames-add zero revision P rest s = tt
-frames-add (suc f) revision P rest s = go (ltb (length rest) 32) (λ Q r t. frames-add f revision Q r t)
-  where
-    go : (c : Bool) → ((Q : ℕ) (r t : List ℕ) → AddsTrace revision Q (frames f revision Q r t))
-        → AddsTrace revision P
-        (cond c (ended s)
-        (unlessRefused (judgePreamble (take 32 rest) (length s)) (P + 32) s
-        (bodyTrace revision (headerOf (take 32 rest)) P (drop 32 rest) s
-        (λ t. frames f revision (P + wireLength revision (headerOf (take 32 rest))) (drop (wireLength revision (headerOf (take 32 rest))) rest) t))))
-    go true ih = tt
-    go false ih =
-        judged revision P (P + 32) (judgePreamble (take 32 rest) (length s)) s _ (omega arith)
-        (body-adds revision (headerOf (take 32 rest)) P (drop 32 rest) s _ (λ t. ih _ _ t))
+frames-add (suc f) revision P rest s =
+    at-cond (AddsTrace revision P) (ltb (length rest) 32) tt
+    (judged revision P (P + 32) (judgePreamble (take 32 rest) (length s)) s _ (omega arith)
+    (body-adds revision (headerOf (take 32 rest)) P (drop 32 rest) s _ (λ t. frames-add f revision _ _ t)))
 
 -- ---- the banner
 
@@ -75,10 +64,6 @@ up-judged : (j : Judged) (at : ℕ) (s : List ℕ) (t : Trace) → Up t → Up (
 up-judged fine at s t u = u
 up-judged (refused n) at s t u = tt
 
-up-cond : (c : Bool) (s : List ℕ) (t : Trace) → Up t → Up (cond c (ended s) t)
-up-cond true s t u = tt
-up-cond false s t u = u
-
 banner-up : (own : Features) (stream s : List ℕ) → Up (bannerTrace own stream s)
 banner-up own stream s =
     let p = peerOf stream in
@@ -88,11 +73,11 @@ banner-up own stream s =
 stream-up : (own : Features) (stream s : List ℕ) → Up (streamTrace own stream s)
 unfolding streamTrace
 stream-up own stream s =
-    up-cond (ltb (length stream) 8) s _
+    at-cond Up (ltb (length stream) 8) tt
     (up-judged (judgeMagic (take 8 stream)) 8 s _
-    (up-cond (ltb (length stream) 10) s _
+    (at-cond Up (ltb (length stream) 10) tt
     (up-judged (judgeLength (payloadOf stream)) 10 s _
-    (up-cond (ltb (length stream) (10 + payloadOf stream)) s _ (banner-up own stream s)))))
+    (at-cond Up (ltb (length stream) (10 + payloadOf stream)) tt (banner-up own stream s)))))
 
 own-up : (j : Judged) (t : Trace) (s : List ℕ) → Up t → Up (byOwn j t s)
 own-up fine t s u = u

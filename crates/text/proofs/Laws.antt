@@ -17,13 +17,10 @@ use Rattle.text.specs.Law.{EveryLine}
 
 -- ---- pages
 
-pages : {l l′ : List ℕ} {i i′ : ℕ} → l ≡ l′ → i ≡ i′ → page l i ≡ page l′ i′
-pages e f = ap₂ page e f
-
 -- one text behind another
 pub write-next : (xs ys : List ℕ) (p : Page) → write ys (write xs p) ≡ write (xs ++ ys) p
 unfolding write page
-write-next xs ys p = pages (go (leb (length xs) (length (p .bytes) - p .at)) refl) ends
+write-next xs ys p = ap₂ page (go (leb (length xs) (length (p .bytes) - p .at)) refl) ends
   where
     go : (b : Bool) → leb (length xs) (length (p .bytes) - p .at) ≡ b → sets (sets (p .bytes) (p .at) xs) (p .at + min (length xs) (length (p .bytes) - p .at)) ys ≡ sets (p .bytes) (p .at) (xs ++ ys)
     go true t =
@@ -40,7 +37,7 @@ write-next xs ys p = pages (go (leb (length xs) (length (p .bytes) - p .at)) ref
 
 write-none : (p : Page) → p ≡ write [] p
 unfolding write page
-write-none p = pages refl (omega arith)
+write-none p = ap₂ page refl (omega arith)
 
 pub puts-append : (xs ys : List Piece) (p : Page) → puts (xs ++ ys) p ≡ puts ys (puts xs p)
 puts-append [] ys p = refl
@@ -53,7 +50,7 @@ puts-text (x ∷ xs) p = puts-text xs (put x p) ∙ write-next (bytesOf x) (text
 
 pub write-whole : (xs l : List ℕ) (i : ℕ) → i + length xs ≤ length l → write xs (page l i) ≡ page (take i l ++ xs ++ drop (i + length xs) l) (i + length xs)
 unfolding write page
-write-whole xs l i h = pages (sets-eq xs l i h) (omega arith)
+write-whole xs l i h = ap₂ page (sets-eq xs l i h) (omega arith)
 
 -- ---- widths
 

@@ -3,11 +3,8 @@ use borrow.Author.Needs.{needs}
 use Rattle.aes.proofs.add_round_key.Statement.{statement}
 use Rattle.aes.proofs.add_round_key.Tie as tie
 
-returns : tie.Need-returns
-unfolding addRoundKey
-returns c = cc
-
 pub add-round-key-spec : {M : Type 1} → statement M
+unfolding addRoundKey
 add-round-key-spec =
     tie.close
     (tie.spec
@@ -23,4 +20,4 @@ add-round-key-spec =
     (λ c. search needs)
     (λ c. search needs)
     (λ c κs. search needs)
-    returns)
+    (λ c. cc))

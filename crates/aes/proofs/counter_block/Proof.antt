@@ -4,11 +4,8 @@ use Rattle.aes.specs.Counter.{counterBlock}
 use Rattle.aes.proofs.counter_block.Statement.{statement}
 use Rattle.aes.proofs.counter_block.Tie as tie
 
-returns : tie.Need-returns
-unfolding counterBlock columnAt
-returns c = search needs
-
 pub counter-block-spec : {M : Type 1} → statement M
+unfolding counterBlock columnAt
 counter-block-spec =
     tie.close
     (tie.spec
@@ -28,4 +25,4 @@ counter-block-spec =
     (λ c. search needs)
     (λ c. search needs)
     (λ c. search needs)
-    returns)
+    (λ c. search needs))

@@ -3,11 +3,8 @@ use borrow.Author.Needs.{needs}
 use Rattle.aes.proofs.first_word.Statement.{statement}
 use Rattle.aes.proofs.first_word.Tie as tie
 
-returns : tie.Need-returns
-unfolding firstWord
-returns c = cc
-
 pub first-word-spec : {M : Type 1} → statement M
+unfolding firstWord
 first-word-spec =
     tie.close
     (tie.spec
@@ -17,4 +14,4 @@ first-word-spec =
     (λ c. search needs)
     (λ c κs. search needs)
     (λ c κs. search needs)
-    returns)
+    (λ c. cc))

@@ -3,11 +3,8 @@ use Rattle.aes.specs.Counter.{keystreamBlock}
 use Rattle.aes.proofs.keystream.Statement.{statement}
 use Rattle.aes.proofs.keystream.Tie as tie
 
-returns : tie.Need-returns
-unfolding keystreamBlock
-returns c = cc (c .rounds .ensures (c .before .before .counter-block .result) (c .before .add-round-key .ensures))
-
 pub keystream-spec : {M : Type 1} → statement M
+unfolding keystreamBlock
 keystream-spec =
     tie.close
     (tie.spec
@@ -15,4 +12,4 @@ keystream-spec =
     (λ c κs. search needs)
     (λ c κs. search needs)
     (λ c κs. search needs)
-    returns)
+    (λ c. cc (c .rounds .ensures (c .before .before .counter-block .result) (c .before .add-round-key .ensures))))

@@ -3,11 +3,8 @@ use borrow.Author.Needs.{needs}
 use Rattle.aes.proofs.mix_columns.Statement.{statement}
 use Rattle.aes.proofs.mix_columns.Tie as tie
 
-returns : tie.Need-returns
-unfolding mixColumns
-returns c = cc
-
 pub mix-columns-spec : {M : Type 1} → statement M
+unfolding mixColumns
 mix-columns-spec =
     tie.close
     (tie.spec
@@ -19,4 +16,4 @@ mix-columns-spec =
     (λ c κs. search needs)
     (λ c. search needs)
     (λ c κs. search needs)
-    returns)
+    (λ c. cc))

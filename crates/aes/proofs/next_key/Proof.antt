@@ -3,11 +3,8 @@ use borrow.Author.Needs.{needs}
 use Rattle.aes.proofs.next_key.Statement.{statement}
 use Rattle.aes.proofs.next_key.Tie as tie
 
-returns : tie.Need-returns
-unfolding nextKey following
-returns c = cc
-
 pub next-key-spec : {M : Type 1} → statement M
+unfolding nextKey following
 next-key-spec =
     tie.close
     (tie.spec
@@ -18,4 +15,4 @@ next-key-spec =
     (λ c κs. search needs)
     (λ c. search needs)
     (λ c κs. search needs)
-    returns)
+    (λ c. cc))

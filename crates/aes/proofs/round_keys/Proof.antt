@@ -20,10 +20,6 @@ Inv-loop t w₀ k₀ rc₀ i₀ w k rc i =
 abbrev μ-loop : tie.MeasureT-loop
 μ-loop t w₀ k₀ rc₀ i₀ w k rc i = 10 - i
 
-loop-holds : tie.Need-loop-holds Inv-loop μ-loop
-unfolding roundKey rcon
-loop-holds c = (search needs, refl, λ j h. let q : j ≡ 0 = omega arith in rw q, refl, refl)
-
 loop-again : tie.Need-loop-again Inv-loop μ-loop
 loop-again c =
     let l = c .before .before .before .loop in
@@ -43,12 +39,13 @@ returns c =
     expanded (l .w) (c .before .before .args .key) (l .inv .1) (λ j h. l .inv .2 j (omega arith))
 
 pub round-keys-spec : {M : Type 1} → statement M
+unfolding roundKey rcon
 round-keys-spec =
     tie.close
     (tie.spec
     Inv-loop
     μ-loop
-    loop-holds
+    (λ c. (search needs, refl, λ j h. let q : j ≡ 0 = omega arith in rw q, refl, refl))
     (λ c κs. search needs)
     (λ c κs. search needs)
     (λ c. search needs)

@@ -1,7 +1,7 @@
-use Prim.Native.Nat.{ℕ, _-_, _≤_}
+use Prim.Native.Nat.{_-_, _≤_}
 use native.Mathlib.Omega.{arith}
 use borrow.Author.Needs.{needs}
-use mathlib.Core.Path.{_≡_, refl, ap, _∙_}
+use mathlib.Core.Path.{_≡_, refl}
 use Rattle.aes.specs.Aes.{rounds}
 use Rattle.aes.proofs.Keys.{rounds-next, cipher-last}
 use Rattle.aes.proofs.rounds.Statement.{statement}
@@ -12,10 +12,6 @@ Inv-loop t w s₀ i₀ s i = (i ≤ 9) × (s ≡ rounds i w s₀)
 
 abbrev μ-loop : tie.MeasureT-loop
 μ-loop t w s₀ i₀ s i = 9 - i
-
-loop-holds : tie.Need-loop-holds Inv-loop μ-loop
-unfolding rounds
-loop-holds c = (search needs, refl)
 
 loop-again : tie.Need-loop-again Inv-loop μ-loop
 loop-again c =
@@ -28,16 +24,16 @@ returns c =
     let l = c .before .before .before .before .before .loop in
     let a = c .before .before .before .before .before .before .args in
     let e : l .i ≡ 9 = omega arith in
-    let q : l .s ≡ rounds 9 (a .w .now) (a .keyed) = l .inv .1 ∙ ap (λ (n : ℕ). rounds n (a .w .now) (a .keyed)) e in
-    λ block h. cc (cipher-last (a .w .now) block, q, h)
+    λ block h. cc (cipher-last (a .w .now) block, l .inv .1, e, h)
 
 pub rounds-spec : {M : Type 1} → statement M
+unfolding rounds
 rounds-spec =
     tie.close
     (tie.spec
     Inv-loop
     μ-loop
-    loop-holds
+    (λ c. (search needs, refl))
     (λ c. search needs)
     (λ c. search needs)
     (λ c. search needs)

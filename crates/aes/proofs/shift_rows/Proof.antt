@@ -3,11 +3,8 @@ use borrow.Author.Needs.{needs}
 use Rattle.aes.proofs.shift_rows.Statement.{statement}
 use Rattle.aes.proofs.shift_rows.Tie as tie
 
-returns : tie.Need-returns
-unfolding shiftRows
-returns c = search needs
-
 pub shift-rows-spec : {M : Type 1} → statement M
+unfolding shiftRows
 shift-rows-spec =
     tie.close
     (tie.spec
@@ -43,4 +40,4 @@ shift-rows-spec =
     (λ c. search needs)
     (λ c. search needs)
     (λ c. search needs)
-    returns)
+    (λ c. search needs))

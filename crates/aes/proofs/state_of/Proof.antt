@@ -3,11 +3,8 @@ use Rattle.aes.specs.Aes.{stateOf, columnAt}
 use Rattle.aes.proofs.state_of.Statement.{statement}
 use Rattle.aes.proofs.state_of.Tie as tie
 
-returns : tie.Need-returns
-unfolding stateOf columnAt
-returns c = search needs
-
 pub state-of-spec : {M : Type 1} → statement M
+unfolding stateOf columnAt
 state-of-spec =
     tie.close
     (tie.spec
@@ -27,4 +24,4 @@ state-of-spec =
     (λ c. search needs)
     (λ c. search needs)
     (λ c. search needs)
-    returns)
+    (λ c. search needs))

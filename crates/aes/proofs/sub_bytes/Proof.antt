@@ -3,11 +3,8 @@ use borrow.Author.Needs.{needs}
 use Rattle.aes.proofs.sub_bytes.Statement.{statement}
 use Rattle.aes.proofs.sub_bytes.Tie as tie
 
-returns : tie.Need-returns
-unfolding subBytes
-returns c = cc
-
 pub sub-bytes-spec : {M : Type 1} → statement M
+unfolding subBytes
 sub-bytes-spec =
     tie.close
     (tie.spec
@@ -19,4 +16,4 @@ sub-bytes-spec =
     (λ c κs. search needs)
     (λ c. search needs)
     (λ c κs. search needs)
-    returns)
+    (λ c. cc))

@@ -3,11 +3,8 @@ use borrow.Author.Needs.{needs}
 use Rattle.aes.proofs.sub_column.Statement.{statement}
 use Rattle.aes.proofs.sub_column.Tie as tie
 
-returns : tie.Need-returns
-unfolding subColumn
-returns c = cc
-
 pub sub-column-spec : {M : Type 1} → statement M
+unfolding subColumn
 sub-column-spec =
     tie.close
     (tie.spec
@@ -19,4 +16,4 @@ sub-column-spec =
     (λ c κs. search needs)
     (λ c. search needs)
     (λ c κs. search needs)
-    returns)
+    (λ c. cc))

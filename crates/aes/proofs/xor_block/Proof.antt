@@ -1,5 +1,5 @@
 use mathlib.Core.List.{List, _++_}
-use mathlib.Core.Path.{_≡_, refl, sym, ap, _∙_}
+use mathlib.Core.Path.{_≡_, refl, _∙_}
 use Prim.Native.Nat.{ℕ, _+_, _-_, _/_, _≤_}
 use native.Mathlib.Nat.{add-zero}
 use native.Mathlib.Omega.{arith}
@@ -39,7 +39,7 @@ returns c =
     let l = c .before .loop in
     let a = c .before .before .before .args in
     let k : l .k ≡ a .n = omega arith in
-    λ w nonce d es e. l .inv .2 w nonce d es e ∙ ap (λ (m : ℕ). take (a .i + m) (gctr w nonce d) ++ drop (a .i + m) d) k
+    λ w nonce d es e. l .inv .2 w nonce d es e ∙ rw k
 
 pub xor-block-spec : {M : Type 1} → statement M
 xor-block-spec =
@@ -47,7 +47,7 @@ xor-block-spec =
     (tie.spec
     Inv-loop
     μ-loop
-    (λ c. (search needs, refl, λ w nonce d es e. e ∙ ap (λ (m : ℕ). take m (gctr w nonce d) ++ drop m d) (sym (add-zero (c .before .args .i)))))
+    (λ c. (search needs, refl, λ w nonce d es e. e ∙ rw add-zero))
     (λ c. search needs)
     (λ c. search needs)
     (λ c κs. search needs)

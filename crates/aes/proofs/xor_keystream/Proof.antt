@@ -1,7 +1,6 @@
 use mathlib.Core.Path.{_≡_, _∙_}
 use Prim.Native.Nat.{ℕ, _+_, _-_, min}
 use native.Mathlib.Omega.{arith}
-use lib.ListN.{length}
 use Rattle.aes.proofs.Counters.{masked-front}
 use borrow.Author.Needs.{needs}
 use Rattle.aes.proofs.xor_keystream.Statement.{statement}
@@ -11,10 +10,8 @@ returns : tie.Need-returns
 returns c =
     let b = c .before .before .before in
     let less = b .before .before .before .before in
-    let a = less .before .before .args in
-    let i : ℕ = b .xor-blocks .result in
-    let e : i ≡ min (a .n) (length (a .buf .now)) = (let h : i ≡ less .min .result = omega (arith, b .xor-blocks .ensures .0) in h ∙ less .min .ensures) in
-    b .xor-blocks .ensures .3 ∙ masked-front (a .w .now) (a .nonce) (a .buf .now) (a .n) i e
+    let h : b .xor-blocks .result ≡ less .min .result = omega (arith, b .xor-blocks .ensures .0) in
+    b .xor-blocks .ensures .3 ∙ masked-front _ _ (less .before .before .args .buf .now) (less .before .before .args .n) (b .xor-blocks .result) (h ∙ less .min .ensures)
 
 returns-2 : tie.Need-returns-2
 returns-2 c =
@@ -23,10 +20,9 @@ returns-2 c =
     let less = b .before .before .before .before in
     let a = less .before .before .args in
     let i : ℕ = b .xor-blocks .result in
-    let m : ℕ = less .min .result in
-    let e : i + (m - i) ≡ min (a .n) (length (a .buf .now)) = (let h : i + (m - i) ≡ less .min .result = omega (arith, b .xor-blocks .ensures .0) in h ∙ less .min .ensures) in
+    let h : i + (less .min .result - i) ≡ less .min .result = omega (arith, b .xor-blocks .ensures .0) in
     c .before .before .xor-block .ensures (a .w .now) (a .nonce) (a .buf .now) (stream .keystream .ensures) (b .xor-blocks .ensures .3)
-    ∙ masked-front (a .w .now) (a .nonce) (a .buf .now) (a .n) (i + (m - i)) e
+    ∙ masked-front (a .w .now) (a .nonce) (a .buf .now) (a .n) (i + (less .min .result - i)) (h ∙ less .min .ensures)
 
 pub xor-keystream-spec : {M : Type 1} → statement M
 xor-keystream-spec =

@@ -5,11 +5,8 @@ use borrow.Author.Needs.{needs}
 use Rattle.banner.proofs.judge_features.Statement.{statement}
 use Rattle.banner.proofs.judge_features.Tie as tie
 
-returns : tie.Need-returns
-unfolding judgeFeatures
-returns c = cc (or-else-last (judgedBy (c .before .judge-lacking .result)))
-
 pub judge-features-spec : {M : Type 1} → statement M
+unfolding judgeFeatures
 judge-features-spec =
     tie.close
     (tie.spec
@@ -18,4 +15,4 @@ judge-features-spec =
     (λ c κs. search needs)
     (λ c κs. search needs)
     (λ c κs. search needs)
-    returns)
+    (λ c. cc (or-else-last (judgedBy (c .before .judge-lacking .result)))))

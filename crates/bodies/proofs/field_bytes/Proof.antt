@@ -1,6 +1,3 @@
-use mathlib.Core.Path.{sym, ap, _∙_}
-use Rattle.fields.specs.Field.{fixed}
-use Rattle.fields.specs.Reading.{inSpan}
 use Rattle.bodies.proofs.Rows.{took-read, took-failed}
 use borrow.Author.Needs.{needs}
 use Rattle.bodies.proofs.field_bytes.Statement.{statement}
@@ -13,5 +10,5 @@ field-bytes-spec =
     (λ c κs. search needs)
     (λ c. search needs)
     (λ c. search needs)
-    (λ c. took-read (ap (inSpan (fixed (c .before .before .before .before .before .args .w)) (c .before .before .before .before .before .args .s .now)) (sym (c .before .value .given .1)) ∙ c .before .before .before .read-bytes .ensures))
-    (λ c. took-failed (ap (inSpan (fixed (c .before .before .before .before .before .args .w)) (c .before .before .before .before .before .args .s .now)) (sym (c .before .next .given .1)) ∙ c .before .before .before .read-bytes .ensures)))
+    (λ c. took-read (rw (c .before .value .given .1) at (c .before .before .before .read-bytes .ensures)))
+    (λ c. took-failed (rw (c .before .next .given .1) at (c .before .before .before .read-bytes .ensures))))

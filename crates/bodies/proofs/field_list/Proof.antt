@@ -1,5 +1,3 @@
-use mathlib.Core.Path.{sym, ap, _∙_}
-use Rattle.fields.specs.Reading.{inList}
 use Rattle.bodies.proofs.Rows.{took-read, took-failed}
 use borrow.Author.Needs.{needs}
 use Rattle.bodies.proofs.field_list.Statement.{statement}
@@ -12,5 +10,5 @@ field-list-spec =
     (λ c κs. search needs)
     (λ c. search needs)
     (λ c. search needs)
-    (λ c. took-read (ap (inList (c .before .before .before .before .before .args .s .now)) (sym (c .before .value .given .1)) ∙ c .before .before .before .read-list .ensures))
-    (λ c. took-failed (ap (inList (c .before .before .before .before .before .args .s .now)) (sym (c .before .next .given .1)) ∙ c .before .before .before .read-list .ensures)))
+    (λ c. took-read (rw (c .before .value .given .1) at (c .before .before .before .read-list .ensures)))
+    (λ c. took-failed (rw (c .before .next .given .1) at (c .before .before .before .read-list .ensures))))

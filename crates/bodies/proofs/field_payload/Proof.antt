@@ -1,6 +1,3 @@
-use mathlib.Core.Path.{sym, ap, _∙_}
-use Rattle.fields.specs.Field.{payload}
-use Rattle.fields.specs.Reading.{inSpan}
 use Rattle.bodies.proofs.Rows.{took-read, took-failed}
 use borrow.Author.Needs.{needs}
 use Rattle.bodies.proofs.field_payload.Statement.{statement}
@@ -13,5 +10,5 @@ field-payload-spec =
     (λ c κs. search needs)
     (λ c. search needs)
     (λ c. search needs)
-    (λ c. took-read (ap (inSpan payload (c .before .before .before .before .before .args .s .now)) (sym (c .before .value .given .1)) ∙ c .before .before .before .read-payload .ensures))
-    (λ c. took-failed (ap (inSpan payload (c .before .before .before .before .before .args .s .now)) (sym (c .before .next .given .1)) ∙ c .before .before .before .read-payload .ensures)))
+    (λ c. took-read (rw (c .before .value .given .1) at (c .before .before .before .read-payload .ensures)))
+    (λ c. took-failed (rw (c .before .next .given .1) at (c .before .before .before .read-payload .ensures))))

@@ -1,6 +1,3 @@
-use mathlib.Core.Path.{sym, ap, _∙_}
-use Rattle.fields.specs.Field.{number}
-use Rattle.fields.specs.Reading.{inU32}
 use Rattle.bodies.proofs.Rows.{took-read, took-failed}
 use borrow.Author.Needs.{needs}
 use Rattle.bodies.proofs.field_u32.Statement.{statement}
@@ -13,5 +10,5 @@ field-u32-spec =
     (λ c κs. search needs)
     (λ c. search needs)
     (λ c. search needs)
-    (λ c. took-read (ap (inU32 (number 4)) (sym (c .before .value .given .1)) ∙ c .before .before .before .read-u32 .ensures))
-    (λ c. took-failed (ap (inU32 (number 4)) (sym (c .before .next .given .1)) ∙ c .before .before .before .read-u32 .ensures)))
+    (λ c. took-read (rw (c .before .value .given .1) at (c .before .before .before .read-u32 .ensures)))
+    (λ c. took-failed (rw (c .before .next .given .1) at (c .before .before .before .read-u32 .ensures))))

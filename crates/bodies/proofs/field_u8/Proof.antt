@@ -1,5 +1,3 @@
-use mathlib.Core.Path.{sym, ap, _∙_}
-use Rattle.fields.specs.Reading.{inU8}
 use Rattle.bodies.proofs.Rows.{took-read, took-failed}
 use borrow.Author.Needs.{needs}
 use Rattle.bodies.proofs.field_u8.Statement.{statement}
@@ -12,5 +10,5 @@ field-u8-spec =
     (λ c κs. search needs)
     (λ c. search needs)
     (λ c. search needs)
-    (λ c. took-read (ap inU8 (sym (c .before .value .given .1)) ∙ c .before .before .before .read-u8 .ensures))
-    (λ c. took-failed (ap inU8 (sym (c .before .next .given .1)) ∙ c .before .before .before .read-u8 .ensures)))
+    (λ c. took-read (rw (c .before .value .given .1) at (c .before .before .before .read-u8 .ensures)))
+    (λ c. took-failed (rw (c .before .next .given .1) at (c .before .before .before .read-u8 .ensures))))

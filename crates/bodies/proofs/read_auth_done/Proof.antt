@@ -4,12 +4,6 @@ use borrow.Author.Needs.{needs}
 use Rattle.bodies.proofs.read_auth_done.Statement.{statement}
 use Rattle.bodies.proofs.read_auth_done.Tie as tie
 
-returns : tie.Need-returns
-returns c =
-    row-read (auth-done-is _) (c .before .before .before .before .before .start .ensures)
-    (step _ (c .before .before .before .before .field-u64 .ensures) (step _ (c .before .before .before .field-u32 .ensures) (step _ (c .before .before .field-rest .ensures) end)))
-    (c .settle .ensures)
-
 pub read-auth-done-spec : {M : Type 1} → statement M
 read-auth-done-spec =
     tie.close
@@ -19,4 +13,6 @@ read-auth-done-spec =
     (λ c κs. search needs)
     (λ c κs. search needs)
     (λ c κs. search needs)
-    returns)
+    (λ c. row-read (auth-done-is _) (c .before .before .before .before .before .start .ensures)
+    (step _ (c .before .before .before .before .field-u64 .ensures) (step _ (c .before .before .before .field-u32 .ensures) (step _ (c .before .before .field-rest .ensures) end)))
+    (c .settle .ensures)))

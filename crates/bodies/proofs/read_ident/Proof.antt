@@ -4,11 +4,6 @@ use borrow.Author.Needs.{needs}
 use Rattle.bodies.proofs.read_ident.Statement.{statement}
 use Rattle.bodies.proofs.read_ident.Tie as tie
 
-returns : tie.Need-returns
-returns c = row-read (ident-is _) (c .before .before .before .before .before .before .before .before .before .before .start .ensures)
-    (step _ (c .before .before .before .before .before .before .before .before .before .field-u32 .ensures) (step _ (c .before .before .before .before .before .before .before .before .field-rest .ensures) (step _ (c .before .before .before .before .before .before .before .field-u64 .ensures) (step _ (c .before .before .before .before .before .before .field-u642 .ensures) (step _ (c .before .before .before .before .before .field-u643 .ensures) (step _ (c .before .before .before .before .field-u644 .ensures) (step _ (c .before .before .before .field-u645 .ensures) (step _ (c .before .before .field-u646 .ensures) end))))))))
-    (c .settle .ensures)
-
 pub read-ident-spec : {M : Type 1} → statement M
 read-ident-spec =
     tie.close
@@ -23,4 +18,6 @@ read-ident-spec =
     (λ c κs. search needs)
     (λ c κs. search needs)
     (λ c κs. search needs)
-    returns)
+    (λ c. row-read (ident-is _) (c .before .before .before .before .before .before .before .before .before .before .start .ensures)
+    (step _ (c .before .before .before .before .before .before .before .before .before .field-u32 .ensures) (step _ (c .before .before .before .before .before .before .before .before .field-rest .ensures) (step _ (c .before .before .before .before .before .before .before .field-u64 .ensures) (step _ (c .before .before .before .before .before .before .field-u642 .ensures) (step _ (c .before .before .before .before .before .field-u643 .ensures) (step _ (c .before .before .before .before .field-u644 .ensures) (step _ (c .before .before .before .field-u645 .ensures) (step _ (c .before .before .field-u646 .ensures) end))))))))
+    (c .settle .ensures)))

@@ -4,11 +4,6 @@ use borrow.Author.Needs.{needs}
 use Rattle.bodies.proofs.row_auth_done.Statement.{statement}
 use Rattle.bodies.proofs.row_auth_done.Tie as tie
 
-returns : tie.Need-returns
-returns c =
-    from-empty (c .before .before .before .before .before .before .before .before .before .before .before .start-draft .ensures)
-    (w.step (c .before .before .before .before .before .before .before .before .before .before .append-u64 .ensures) (w.step (c .before .before .before .before .before .before .append-u32 .ensures) (w.step (c .before .before .append-rest .ensures) w.end)))
-
 pub row-auth-done-spec : {M : Type 1} → statement M
 row-auth-done-spec =
     tie.close
@@ -18,4 +13,5 @@ row-auth-done-spec =
     (λ c κs. search needs)
     (λ c κs. search needs)
     (λ c. search needs)
-    returns)
+    (λ c. from-empty (c .before .before .before .before .before .before .before .before .before .before .before .start-draft .ensures)
+    (w.step (c .before .before .before .before .before .before .before .before .before .before .append-u64 .ensures) (w.step (c .before .before .before .before .before .before .append-u32 .ensures) (w.step (c .before .before .append-rest .ensures) w.end)))))

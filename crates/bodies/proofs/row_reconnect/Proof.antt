@@ -5,15 +5,6 @@ use borrow.Author.Needs.{needs}
 use Rattle.bodies.proofs.row_reconnect.Statement.{statement}
 use Rattle.bodies.proofs.row_reconnect.Tie as tie
 
-same-length : tie.Need-same-length
-same-length c =
-    c .before .out7 .given ∙ c .before .before .before .before .before .out6 .given ∙ c .before .before .before .before .before .before .before .before .before .out5 .given ∙ c .before .before .before .before .before .before .before .before .before .before .before .before .before .out4 .given ∙ c .before .before .before .before .before .before .before .before .before .before .before .before .before .before .before .before .before .out3 .given ∙ c .before .before .before .before .before .before .before .before .before .before .before .before .before .before .before .before .before .before .before .before .before .out2 .given ∙ c .before .before .before .before .before .before .before .before .before .before .before .before .before .before .before .before .before .before .before .before .before .before .before .before .before .out .given
-
-returns : tie.Need-returns
-returns c =
-    from-empty (c .before .before .before .before .before .before .before .before .before .before .before .before .before .before .before .before .before .before .before .before .before .before .before .before .before .before .before .start-draft .ensures)
-    (w.step (c .before .before .before .before .before .before .before .before .before .before .before .before .before .before .before .before .before .before .before .before .before .before .before .before .before .before .append-u32 .ensures) (w.step (c .before .before .before .before .before .before .before .before .before .before .before .before .before .before .before .before .before .before .before .before .before .before .append-rest .ensures) (w.step (c .before .before .before .before .before .before .before .before .before .before .before .before .before .before .before .before .before .before .append-u64 .ensures) (w.step (c .before .before .before .before .before .before .before .before .before .before .before .before .before .before .append-u642 .ensures) (w.step (c .before .before .before .before .before .before .before .before .before .before .append-u643 .ensures) (w.step (c .before .before .before .before .before .before .append-u644 .ensures) (w.step (c .before .before .append-u645 .ensures) w.end)))))))
-
 pub row-reconnect-spec : {M : Type 1} → statement M
 row-reconnect-spec =
     tie.close
@@ -26,5 +17,6 @@ row-reconnect-spec =
     (λ c κs. search needs)
     (λ c κs. search needs)
     (λ c κs. search needs)
-    same-length
-    returns)
+    (λ c. c .before .out7 .given ∙ c .before .before .before .before .before .out6 .given ∙ c .before .before .before .before .before .before .before .before .before .out5 .given ∙ c .before .before .before .before .before .before .before .before .before .before .before .before .before .out4 .given ∙ c .before .before .before .before .before .before .before .before .before .before .before .before .before .before .before .before .before .out3 .given ∙ c .before .before .before .before .before .before .before .before .before .before .before .before .before .before .before .before .before .before .before .before .before .out2 .given ∙ c .before .before .before .before .before .before .before .before .before .before .before .before .before .before .before .before .before .before .before .before .before .before .before .before .before .out .given)
+    (λ c. from-empty (c .before .before .before .before .before .before .before .before .before .before .before .before .before .before .before .before .before .before .before .before .before .before .before .before .before .before .before .start-draft .ensures)
+    (w.step (c .before .before .before .before .before .before .before .before .before .before .before .before .before .before .before .before .before .before .before .before .before .before .before .before .before .before .append-u32 .ensures) (w.step (c .before .before .before .before .before .before .before .before .before .before .before .before .before .before .before .before .before .before .before .before .before .before .append-rest .ensures) (w.step (c .before .before .before .before .before .before .before .before .before .before .before .before .before .before .before .before .before .before .append-u64 .ensures) (w.step (c .before .before .before .before .before .before .before .before .before .before .before .before .before .before .append-u642 .ensures) (w.step (c .before .before .before .before .before .before .before .before .before .before .append-u643 .ensures) (w.step (c .before .before .before .before .before .before .append-u644 .ensures) (w.step (c .before .before .append-u645 .ensures) w.end)))))))))

@@ -5,27 +5,16 @@ use borrow.Author.Needs.{needs}
 use Rattle.body.proofs.end_of.Statement.{statement}
 use Rattle.body.proofs.end_of.Tie as tie
 
-returns : tie.Need-returns
-unfolding ending
-returns c = rw (sym (c .before .no-epilogue .ensures) ∙ c .if1 .taken)
-
-returns-2 : tie.Need-returns-2
-unfolding ending
-returns-2 c = rw (sym (c .before .before .before .before .before .no-epilogue .ensures) ∙ c .before .before .before .before .if1 .left, sym (c .before .before .before .judge-spelling .ensures) ∙ ap judgedBy (c .before .spelling .given .1))
-
-returns-3 : tie.Need-returns-3
-unfolding ending
-returns-3 c = rw (sym (c .before .before .before .before .before .no-epilogue .ensures) ∙ c .before .before .before .before .if1 .left, sym (c .before .before .before .judge-spelling .ensures) ∙ ap judgedBy (c .before .enum-told .given .1)) (c .end-by-late .ensures)
-
 pub end-of-spec : {M : Type 1} → statement M
+unfolding ending
 end-of-spec =
     tie.close
     (tie.spec
     (λ c κs. search needs)
-    returns
+    (λ c. rw (sym (c .before .no-epilogue .ensures) ∙ c .if1 .taken))
     (λ c κs. search needs)
     (λ c. search needs)
     (λ c. search needs)
     (λ c κs. search needs)
-    returns-2
-    returns-3)
+    (λ c. rw (sym (c .before .before .before .before .before .no-epilogue .ensures) ∙ c .before .before .before .before .if1 .left, sym (c .before .before .before .judge-spelling .ensures) ∙ ap judgedBy (c .before .spelling .given .1)))
+    (λ c. rw (sym (c .before .before .before .before .before .no-epilogue .ensures) ∙ c .before .before .before .before .if1 .left, sym (c .before .before .before .judge-spelling .ensures) ∙ ap judgedBy (c .before .enum-told .given .1)) (c .end-by-late .ensures)))

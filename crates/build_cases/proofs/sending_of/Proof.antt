@@ -9,11 +9,11 @@ pub sending-of-spec : {M : Type 1} → statement M
 sending-of-spec =
     tie.close
     (tie.spec
-    (λ c κs. search needs)
-    (λ c κs. search needs)
+    (search needs)
+    (search needs)
     (λ c. c .refused-sending .ensures ∙ sending-refused _ (c .before .before .byte-at .ensures) (c .before .if1 .taken))
-    (λ c κs. search needs)
-    (λ c κs. search needs)
-    (λ c κs. search needs)
-    (λ c κs. search needs)
+    (search needs)
+    (search needs)
+    (search needs)
+    (search needs)
     (λ c. c .sending-after .ensures ∙ sending-made _ (c .before .before .before .before .before .byte-at .ensures) (c .before .before .before .before .if1 .left) (c .before .before .before .key-at .ensures (omega arith)) (c .before .before .nonce-at .ensures (omega arith)) (c .before .u64-at .ensures)))

@@ -5,11 +5,13 @@ use borrow.Author.Needs.{needs}
 use Rattle.builder.proofs.judge_banner.Statement.{statement}
 use Rattle.builder.proofs.judge_banner.Tie as tie
 
-returns : tie.Need-returns
-unfolding judgeBanner
-returns c = cc (or-else-last (judgedBy (c .before .before .unless .result)))
-
 pub judge-banner-spec : {M : Type 1} → statement M
+unfolding judgeBanner
 judge-banner-spec =
     tie.close
-    (tie.spec (λ c κs. search needs) (λ c κs. search needs) (λ c κs. search needs) (λ c κs. search needs) returns)
+    (tie.spec
+    (λ c κs. search needs)
+    (λ c κs. search needs)
+    (λ c κs. search needs)
+    (λ c κs. search needs)
+    (λ c. cc (or-else-last (judgedBy (c .before .before .unless .result)))))

@@ -13,5 +13,4 @@ run-requires c κs = (zeros 262144 164253 (lit≤ tt), zeros 65536 65536 (lit≤
 
 pub main-spec : {M : Type 1} → statement M
 main-spec =
-    tie.close
-    (tie.spec (λ c. search needs) (λ c. search needs) (λ c. search needs) run-requires (λ c. search needs))
+    tie.close (tie.spec (λ c. search needs) (λ c. search needs) (λ c. search needs) run-requires (λ c. search needs))

@@ -13,12 +13,6 @@ Inv-loop held₀ at n i₀ held i = (i ≤ n) × (held ≡ take i (drop at held�
 abbrev μ-loop : tie.MeasureT-loop
 μ-loop held₀ at n i₀ held i = n - i
 
-loop-again : tie.Need-loop-again Inv-loop μ-loop
-loop-again c =
-    let l = c .before .before .loop in
-    let a = c .before .before .before .args in
-    (omega arith, rw (l .inv .1) (moved-more (a .held .now) (a .at) (l .i) (omega arith)), length-set (l .held) (l .i) _ ∙ l .inv .2)
-
 returns : tie.Need-returns Inv-loop μ-loop
 returns c =
     let e : c .before .loop .i ≡ c .before .before .args .n = omega arith in
@@ -36,6 +30,6 @@ move-front-spec =
     (λ c. omega arith)
     (λ c. omega arith)
     (λ c. omega arith)
-    loop-again
+    (λ c. (omega arith, rw (c .before .before .loop .inv .1) (moved-more (c .before .before .before .args .held .now) (c .before .before .before .args .at) (c .before .before .loop .i) (omega arith)), length-set (c .before .before .loop .held) (c .before .before .loop .i) _ ∙ c .before .before .loop .inv .2))
     (λ c. c .before .loop .inv .2)
     returns)

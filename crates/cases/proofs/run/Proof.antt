@@ -12,11 +12,6 @@ Inv-loop held₀ space₀ text₀ s₀ held space text s = LoopInvariant s (leng
 abbrev μ-loop : tie.MeasureT-loop
 μ-loop held₀ space₀ text₀ s₀ held space text s = s .left
 
-loop-again : tie.Need-loop-again Inv-loop μ-loop
-loop-again c =
-    let i = c .before .before .before .before .before .before .before .before .before .before .before .before .loop .inv in
-    (omega (arith, c .before .before .before .before .before .before .run-one .ensures .0), c .before .before .before .before .before .before .run-one .kept .0 ∙ i .1, c .before .before .before .before .before .before .run-one .kept .1 .0 ∙ i .2, c .before .before .before .before .before .before .run-one .kept .1 .1 .0 ∙ i .3)
-
 pub run-spec : {M : Type 1} → statement M
 run-spec =
     tie.close
@@ -27,7 +22,7 @@ run-spec =
     (λ c. (omega arith, refl, refl, refl))
     (λ c κs. omega arith)
     (λ c. omega arith)
-    loop-again
+    (λ c. (omega (arith, c .before .before .before .before .before .before .run-one .ensures .0), c .before .before .before .before .before .before .run-one .kept .0 ∙ c .before .before .before .before .before .before .before .before .before .before .before .before .loop .inv .1, c .before .before .before .before .before .before .run-one .kept .1 .0 ∙ c .before .before .before .before .before .before .before .before .before .before .before .before .loop .inv .2, c .before .before .before .before .before .before .run-one .kept .1 .1 .0 ∙ c .before .before .before .before .before .before .before .before .before .before .before .before .loop .inv .3))
     (λ c κs. search needs)
     (λ c κs. search needs)
     (λ c. c .before .before .before .before .before .loop .inv .1)

@@ -11,15 +11,8 @@ unfolding nextOf
 returns c = let l = space-lent (c .before .before .before .before .before .before .before .before .before .before .before .before .args .space .now) (c .before .before .before .before .before .before .before .before .before .before .before .before .pre) in
     rw (lt-ltb _ _ (c .before .before .before .before .before .before .before .if1 .taken)) (rw l at (c .before .before .before .before .build-record .ensures))
 
-returns-2 : tie.Need-returns-2
-unfolding nextOf
-returns-2 c = rw (le-ltb _ _ (c .before .before .before .before .before .before .if1 .left), kind-is (c .before .before .before .before .before .byte-at .ensures) (c .before .before .before .before .if2 .taken)) (c .before .before .builds-record .ensures)
-
-returns-3 : tie.Need-returns-3
-unfolding nextOf
-returns-3 c = rw (le-ltb _ _ (c .before .before .before .before .before .before .before .before .before .if1 .left), kind-isnt (c .before .before .before .before .before .before .before .before .byte-at .ensures) (c .before .before .before .before .before .before .before .if2 .left)) (record { step = c .before .before .before .before .run-record .ensures; builds = refl })
-
 pub run-next-spec : {M : Type 1} → statement M
+unfolding nextOf
 run-next-spec =
     tie.close
     (tie.spec
@@ -32,8 +25,8 @@ run-next-spec =
     (λ c κs. search needs)
     (λ c κs. search needs)
     (λ c. search needs)
-    returns-2
+    (λ c. rw (le-ltb _ _ (c .before .before .before .before .before .before .if1 .left), kind-is (c .before .before .before .before .before .byte-at .ensures) (c .before .before .before .before .if2 .taken)) (c .before .before .builds-record .ensures))
     (λ c κs. search needs)
     (λ c. search needs)
     (λ c. search needs)
-    returns-3)
+    (λ c. rw (le-ltb _ _ (c .before .before .before .before .before .before .before .before .before .if1 .left), kind-isnt (c .before .before .before .before .before .before .before .before .byte-at .ensures) (c .before .before .before .before .before .before .before .if2 .left)) (record { step = c .before .before .before .before .run-record .ensures; builds = refl })))

@@ -11,7 +11,7 @@ forward-spec =
     tie.close
     (tie.spec
     (λ c. drop-end (c .before .args .s .now) (c .before .args .at) (c .before .args .n) (omega arith))
-    (λ c. search needs)
-    (λ c. search needs)
+    (search needs)
+    (search needs)
     (λ c. sym (drop-drop (c .before .before .args .n) (c .before .before .args .at) (c .before .before .args .s .now)))
     (λ c. drop-end (c .before .before .args .s .now) (c .before .before .args .at) (c .before .before .args .n) (omega arith)))

@@ -10,11 +10,4 @@ returns c = record { state = cc; taken = cc; store = cc; printed = cc }
 pub make-call-spec : {M : Type 1} → statement M
 make-call-spec =
     tie.close
-    (tie.spec
-    (λ c κs. search needs)
-    (λ c κs. search needs)
-    (λ c κs. search needs)
-    (λ c κs. search needs)
-    (λ c. search needs)
-    (λ c. search needs)
-    returns)
+    (tie.spec (search needs) (search needs) (search needs) (search needs) (search needs) (search needs) returns)

@@ -36,28 +36,23 @@ loop-again c =
       c .before .before .before .before .before .before .make-either .kept .1 .1 .1 .1 .1 .1 .0 ∙ l .inv .5,
     )
 
-returns : tie.Need-returns Inv-loop μ-loop
-unfolding callLines prints
-returns c =
-    let l = c .before .loop in
-    ap (λ (xs : List Call). prints (callLines (c .before .before .before .before .before .before .before .args .l) (c .before .before .before .before .before .before .before .args .s .now) xs (drop (l .taken) (c .before .before .before .before .before .before .before .args .stream .now)) (l .state) (l .store)) (page (l .text) (l .end))) (sym (calls-none (c .before .before .before .before .before .before .before .args .l .lends) (c .before .before .before .before .before .before .before .args .s .now) (l .left) (l .place) (omega arith))) ∙ l .inv .3
-
 pub make-calls-spec : {M : Type 1} → statement M
+unfolding callLines prints
 make-calls-spec =
     tie.close
     (tie.spec
     Inv-loop
     μ-loop
-    (λ c κs. search needs)
+    (search needs)
     (λ c. (omega (arith, c .before .before .before .before .before .pre .0), omega (arith, c .call-width .ensures .1), c .call-width .ensures .0, refl, refl, refl))
     (λ c κs. omega (arith, c .before .loop .inv .0))
-    (λ c κs. search needs)
+    (search needs)
     (λ c κs. c .before .before .before .before .before .before .before .before .before .before .before .pre .1)
-    (λ c κs. search needs)
+    (search needs)
     (λ c. omega (arith, c .before .before .before .before .before .before .before .before .before .before .before .before .loop .inv .0, c .before .before .before .before .before .before .before .before .before .before .before .before .loop .inv .1))
     (λ c. omega (arith, c .before .before .before .before .before .before .before .before .before .before .before .loop-test .taken))
     (λ c. omega (arith, c .before .before .before .before .before .before .before .before .before .before .before .loop-test .taken))
     loop-again
     (λ c. c .before .loop .inv .4)
     (λ c. c .before .loop .inv .5)
-    returns)
+    (λ c. ap (λ (xs : List Call). prints (callLines (c .before .before .before .before .before .before .before .args .l) (c .before .before .before .before .before .before .before .args .s .now) xs (drop (c .before .loop .taken) (c .before .before .before .before .before .before .before .args .stream .now)) (c .before .loop .state) (c .before .loop .store)) (page (c .before .loop .text) (c .before .loop .end))) (sym (calls-none (c .before .before .before .before .before .before .before .args .l .lends) (c .before .before .before .before .before .before .before .args .s .now) (c .before .loop .left) (c .before .loop .place) (omega arith))) ∙ c .before .loop .inv .3))

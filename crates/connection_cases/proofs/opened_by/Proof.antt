@@ -6,8 +6,8 @@ pub opened-by-spec : {M : Type 1} → statement M
 opened-by-spec =
     tie.close
     (tie.spec
-    (λ c. search needs)
-    (λ c κs. search needs)
-    (λ c. search needs)
+    (search needs)
+    (search needs)
+    (search needs)
     (λ c. rw (c .before .enum-told .given .1) (c .with-opened .ensures))
     (λ c. search needs))

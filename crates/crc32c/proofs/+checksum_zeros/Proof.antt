@@ -38,42 +38,14 @@ claims t = (
   fewer-steps-reads.Learnt,
 )
 
-checksum-zeros-returns : (t : ℕ) → checksum-zeros-lts.Need-returns (claims t) (checksum-zeros-at t) checksum-zeros.Post
-checksum-zeros-returns t c = none (c .before .args .start) (c .before .args .n) (omega arith)
-
-checksum-zeros-root-of-requires : (t : ℕ) → checksum-zeros-lts.Need-root-of-requires (claims t) (checksum-zeros-at t) checksum-zeros.Post
-checksum-zeros-root-of-requires t c κs = search needs
-
-checksum-zeros-checksum-zeros-requires : (t : ℕ) → checksum-zeros-lts.Need-checksum-zeros-requires (claims t) (checksum-zeros-at t) checksum-zeros.Post
-checksum-zeros-checksum-zeros-requires t c κs = (omega (arith, c .before .before .pre .0), c .before .before .pre .1)
-
-checksum-zeros-square-of-requires : (t : ℕ) → checksum-zeros-lts.Need-square-of-requires (claims t) (checksum-zeros-at t) checksum-zeros.Post
-checksum-zeros-square-of-requires t c κs = search needs
-
-checksum-zeros-returns-2 : (t : ℕ) → checksum-zeros-lts.Need-returns-2 (claims t) (checksum-zeros-at t) checksum-zeros.Post
-checksum-zeros-returns-2 t c =
-    let b = c .before .before in
-    let z = b .before .before .before in
-    even (z .args .n) (z .args .start) (b .before .root-of .result) (b .checksum-zeros .result) (c .before .square-of .result) (b .before .root-of .ensures) (b .checksum-zeros .ensures) (c .before .square-of .ensures) (omega arith) (omega arith)
-
-checksum-zeros-fewer-steps-requires : (t : ℕ) → checksum-zeros-lts.Need-fewer-steps-requires (claims t) (checksum-zeros-at t) checksum-zeros.Post
-checksum-zeros-fewer-steps-requires t c κs = search needs
-
-checksum-zeros-returns-3 : (t : ℕ) → checksum-zeros-lts.Need-returns-3 (claims t) (checksum-zeros-at t) checksum-zeros.Post
-checksum-zeros-returns-3 t c =
-    let b = c .before .before .before in
-    let z = b .before .before .before in
-    c .fewer-steps .ensures
-    ∙ odd (z .args .n) (z .args .start) (b .before .root-of .result) (b .checksum-zeros .result) (c .before .before .square-of .result) (b .before .root-of .ensures) (b .checksum-zeros .ensures) (c .before .before .square-of .ensures) (omega arith) (omega arith)
-
 pub +checksum-zeros-spec : {M : Type 1} → statement M
 +checksum-zeros-spec = close μ-checksum-zeros λ t. checksum-zeros-lts.spec (claims t)
     (checksum-zeros-at t)
     checksum-zeros.Post
-    (checksum-zeros-returns t)
-    (checksum-zeros-root-of-requires t)
-    (checksum-zeros-checksum-zeros-requires t)
-    (checksum-zeros-square-of-requires t)
-    (checksum-zeros-returns-2 t)
-    (checksum-zeros-fewer-steps-requires t)
-    (checksum-zeros-returns-3 t)
+    (λ c. none (c .before .args .start) (c .before .args .n) (omega arith))
+    (λ c κs. search needs)
+    (λ c κs. (omega (arith, c .before .before .pre .0), c .before .before .pre .1))
+    (λ c κs. search needs)
+    (λ c. even (c .before .before .before .before .before .args .n) (c .before .before .before .root-of .result) (c .before .before .before .root-of .ensures) (c .before .before .checksum-zeros .ensures) (c .before .square-of .ensures) (omega arith) (omega arith))
+    (λ c κs. search needs)
+    (λ c. c .fewer-steps .ensures ∙ odd (c .before .before .before .before .before .before .args .n) (c .before .before .before .before .root-of .result) (c .before .before .before .before .root-of .ensures) (c .before .before .before .checksum-zeros .ensures) (c .before .before .square-of .ensures) (omega arith) (omega arith))

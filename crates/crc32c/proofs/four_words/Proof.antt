@@ -13,13 +13,6 @@ Inv-loop bytes a₀ b₀ c₀ d₀ i₀ k₀ a b c d i k = (k ≤ 4) × (i ≡ i
 abbrev μ-loop : tie.MeasureT-loop
 μ-loop bytes a₀ b₀ c₀ d₀ i₀ k₀ a b c d i k = 4 - k
 
-loop-again : tie.Need-loop-again Inv-loop μ-loop
-loop-again c =
-    let p = c .before in
-    let l = p .before .before .before .loop in
-    let bs = p .before .before .before .before .before .args .bytes .now in
-    (omega arith, omega arith, λ s h. far s bs (l .a) (l .b) (l .c) (l .d) (l .i) (p .mixed .result) (l .inv .2 s h) (omega arith) (p .mixed .ensures) (c .steps-128 .result) (c .steps-128 .ensures) (omega arith))
-
 pub four-words-spec : {M : Type 1} → statement M
 four-words-spec =
     tie.close
@@ -35,5 +28,5 @@ four-words-spec =
     (λ c κs. search needs)
     (λ c. search needs)
     (λ c. search needs)
-    loop-again
+    (λ c. (omega arith, omega arith, λ s h. far (c .before .mixed .result) (c .before .before .before .before .loop .inv .2 s h) (omega arith) (c .before .mixed .ensures) (c .steps-128 .ensures) (omega arith)))
     (λ c. (omega arith, c .before .loop .inv .2)))

@@ -13,11 +13,6 @@ Inv-loop start bytes l₀ l = LeftBy start bytes l
 abbrev μ-loop : tie.MeasureT-loop
 μ-loop start bytes l₀ l = length bytes - l .i
 
-loop-again : tie.Need-loop-again Inv-loop μ-loop
-loop-again c =
-    let l = c .before .before .before in
-    c .four-words .ensures .1 (l .before .before .args .start) (l .loop .inv)
-
 pub over-fours-spec : {M : Type 1} → statement M
 over-fours-spec =
     tie.close
@@ -28,5 +23,5 @@ over-fours-spec =
     (λ c. omega (arith, c .before .loop .inv .within))
     (λ c κs. omega (arith, c .before .before .loop .inv .within))
     (λ c. search needs)
-    loop-again
+    (λ c. c .four-words .ensures .1 (c .before .before .before .before .before .args .start) (c .before .before .before .loop .inv))
     (λ c. c .before .before .loop .inv))

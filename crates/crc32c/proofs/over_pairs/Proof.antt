@@ -13,14 +13,6 @@ Inv-loop bytes a₀ b₀ c₀ d₀ i₀ a b c d i = (i ≤ length bytes) × ((s 
 abbrev μ-loop : tie.MeasureT-loop
 μ-loop bytes a₀ b₀ c₀ d₀ i₀ a b c d i = length bytes - i
 
-loop-again : tie.Need-loop-again Inv-loop μ-loop
-loop-again c =
-    let p = c .before in
-    let q = p .before .before in
-    let l = q .before .before .before .before .loop in
-    let bs = q .before .before .before .before .before .before .args .bytes .now in
-    (omega arith, λ s h. pair s bs (l .a) (l .b) (l .c) (l .d) (l .i) (p .mixed2 .result) (q .before .mixed .result) (l .inv .1 s h) (omega arith) (p .mixed2 .ensures) (q .before .mixed .ensures) (c .steps-64 .result) (q .steps-32 .result) (c .steps-64 .ensures) (q .steps-32 .ensures))
-
 pub over-pairs-spec : {M : Type 1} → statement M
 over-pairs-spec =
     tie.close
@@ -42,5 +34,5 @@ over-pairs-spec =
     (λ c κs. omega (arith, word-length (c .before .before .before .before .before .loop .i) (c .before .before .before .before .before .before .before .args .bytes .now) (omega arith)))
     (λ c κs. search needs)
     (λ c. search needs)
-    loop-again
+    (λ c. (omega arith, λ s h. pair (c .before .mixed2 .result) (c .before .before .before .before .mixed .result) (c .before .before .before .before .before .before .before .loop .inv .1 s h) (omega arith) (c .before .mixed2 .ensures) (c .before .before .before .before .mixed .ensures) (c .steps-64 .ensures) (c .before .before .before .steps-32 .ensures)))
     (λ c. (omega (arith, c .before .loop .inv .0), c .before .loop .inv .1)))

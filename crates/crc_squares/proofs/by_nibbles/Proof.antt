@@ -16,11 +16,6 @@ Inv-loop first x r₀ rest₀ j₀ r rest j = (j ≤ 8) × (bitXor r (nibbles ro
 abbrev μ-loop : tie.MeasureT-loop
 μ-loop first x r₀ rest₀ j₀ r rest j = 8 - j
 
-loop-holds : tie.Need-loop-holds Inv-loop μ-loop
-loop-holds c =
-    let a = c .args in
-    (omega arith, ap (λ (p : ℕ). nibbles rootOrSquareAt p 8 (a .x)) (add-zero (a .first)))
-
 loop-again : tie.Need-loop-again Inv-loop μ-loop
 loop-again c =
     let p = c .before in
@@ -30,19 +25,13 @@ loop-again c =
     let e = c .entry .ensures ∙ placed-at (p .place .result) i (omega (arith, mask-lt (l .rest) 4)) (p .place .ensures) in
     (search needs, nibbles-next rootOrSquareAt (l .r) (c .entry .result) (l .rest) (a .first) (l .j) (omega arith) e ∙ l .inv .1)
 
-returns : tie.Need-returns Inv-loop μ-loop
-returns c =
-    let l = c .before .loop in
-    let a = c .before .before .args in
-    nibbles-end rootOrSquareAt (l .r) (l .rest) (a .first + l .j) (l .j) (omega arith) ∙ l .inv .1
-
 pub by-nibbles-spec : {M : Type 1} → statement M
 by-nibbles-spec =
     tie.close
     (tie.spec
     Inv-loop
     μ-loop
-    loop-holds
+    (λ c. (omega arith, ap (λ (p : ℕ). nibbles rootOrSquareAt p 8 (c .args .x)) (add-zero (c .args .first))))
     (λ c. search needs)
     (λ c. search needs)
     (λ c. omega (arith, mask-lt (c .before .loop .rest) 4))
@@ -51,4 +40,4 @@ by-nibbles-spec =
     (λ c. search needs)
     (λ c. search needs)
     loop-again
-    returns)
+    (λ c. nibbles-end rootOrSquareAt (c .before .loop .r) (c .before .loop .rest) (c .before .before .args .first + c .before .loop .j) (c .before .loop .j) (omega arith) ∙ c .before .loop .inv .1))

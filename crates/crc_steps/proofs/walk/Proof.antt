@@ -1,10 +1,9 @@
-use mathlib.Core.Path.{_≡_, refl, sym, ap, _∙_}
-use Prim.Native.Nat.{ℕ, _+_, _*_, _-_, _%_}
+use mathlib.Core.Path.{_≡_, refl, _∙_}
+use Prim.Native.Nat.{_*_, _-_, _%_}
 use native.Mathlib.Omega.{arith}
 use borrow.Author.Needs.{needs}
 use Rattle.crc_steps.specs.Steps.{steps}
-use Rattle.crc_steps.proofs.Linear.{steps-none}
-use Rattle.crc_steps.proofs.Rules.{by-byte, entry-is}
+use Rattle.crc_steps.proofs.Rules.{by-byte, walked}
 use Rattle.crc_steps.proofs.walk.Statement.{statement}
 use Rattle.crc_steps.proofs.walk.Tie as tie
 
@@ -13,20 +12,6 @@ Inv-loop t n k c₀ left₀ c left = steps (8 * left) c ≡ steps (8 * n) (k % 2
 
 abbrev μ-loop : tie.MeasureT-loop
 μ-loop t n k c₀ left₀ c left = left
-
-loop-again : tie.Need-loop-again Inv-loop μ-loop
-loop-again c =
-    let l = c .before .before .loop in
-    let z = c .before .before .before in
-    let e : 8 + 8 * (l .left - 1) ≡ 8 * l .left = omega arith in
-    sym (by-byte (z .args .t .now) (z .pre) (8 * (l .left - 1)) (l .c)) ∙ ap (λ (m : ℕ). steps m (l .c)) e ∙ l .inv
-
-returns : tie.Need-returns Inv-loop μ-loop
-returns c =
-    let l = c .before .loop in
-    let a = c .before .before .args in
-    let e : 0 ≡ 8 * l .left = omega arith in
-    sym (steps-none (l .c)) ∙ ap (λ (m : ℕ). steps m (l .c)) e ∙ l .inv ∙ sym (entry-is (8 * a .n) (a .k))
 
 pub walk-spec : {M : Type 1} → statement M
 walk-spec =
@@ -40,5 +25,5 @@ walk-spec =
     (λ c. search needs)
     (λ c. search needs)
     (λ c. search needs)
-    loop-again
-    returns)
+    (λ c. by-byte (c .before .before .before .args .t .now) (c .before .before .before .pre) (c .before .before .loop .left) (c .before .before .loop .c) (omega arith) ∙ c .before .before .loop .inv)
+    (λ c. walked (c .before .before .args .n) (c .before .before .args .k) (c .before .loop .c) (c .before .loop .left) (omega arith) (c .before .loop .inv)))

@@ -1,22 +1,8 @@
-use mathlib.Core.Path.{_∙_, ap₂}
 use native.Mathlib.Omega.{arith}
-use lib.Bits.{bitXor}
 use borrow.Author.Needs.{needs}
 use Rattle.crc_steps.proofs.Rules.{by-bytes}
 use Rattle.crc_steps_64.proofs.steps_64.Statement.{statement}
 use Rattle.crc_steps_64.proofs.steps_64.Tie as tie
-
-returns : tie.Need-returns
-returns c =
-    let p = c .before in
-    let d = p .before in
-    let q = d .before in
-    let e = q .before in
-    let r = e .before in
-    let f = r .before in
-    let s = f .before in
-    ap₂ bitXor (f .byte-0 .ensures) (ap₂ bitXor (e .byte-1 .ensures) (ap₂ bitXor (d .byte-2 .ensures) (c .byte-3 .ensures)))
-    ∙ by-bytes 32 (s .before .args .w) (omega arith) (s .place .result) (r .place2 .result) (q .place3 .result) (p .place4 .result) (s .place .ensures) (r .place2 .ensures) (q .place3 .ensures) (p .place4 .ensures)
 
 pub steps-64-spec : {M : Type 1} → statement M
 steps-64-spec =
@@ -30,4 +16,4 @@ steps-64-spec =
     (λ c κs. search needs)
     (λ c κs. search needs)
     (λ c κs. search needs)
-    returns)
+    (λ c. cc (by-bytes 32 (c .before .before .before .before .before .before .before .before .args .w) (omega arith) (c .before .before .before .before .before .before .before .place .ensures) (c .before .before .before .before .before .place2 .ensures) (c .before .before .before .place3 .ensures) (c .before .place4 .ensures))))

@@ -12,10 +12,6 @@ use borrow.Author.Needs.{needs}
 use Rattle.delivery.proofs.request_by_frame.Statement.{statement}
 use Rattle.delivery.proofs.request_by_frame.Tie as tie
 
-returns : tie.Need-returns
-unfolding requestByFrame
-returns c = rw (sym (c .before .for-session .ensures) ∙ not-true _ (c .if1 .taken))
-
 returns-2 : tie.Need-returns-2
 unfolding requestByFrame
 returns-2 c =
@@ -27,11 +23,12 @@ returns-2 c =
     ∙ ap (byBody h) (c .before .read .ensures .answer ∙ ap (readBody (h .tag)) (take-min s (h .s1 .len) (c .before .before .before .min .result) (c .before .before .before .min .ensures))))
 
 pub request-by-frame-spec : {M : Type 1} → statement M
+unfolding requestByFrame
 request-by-frame-spec =
     tie.close
     (tie.spec
     (λ c κs. search needs)
-    returns
+    (λ c. rw (sym (c .before .for-session .ensures) ∙ not-true _ (c .if1 .taken)))
     (λ c. search needs)
     (λ c κs. search needs)
     (λ c. simp length-take (omega (arith, c .before .min .ensures)))

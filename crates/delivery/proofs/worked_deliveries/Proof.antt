@@ -25,13 +25,13 @@ use Rattle.session.specs.declared.Answer.the-variants.{Resend}
 use Rattle.session.specs.Calls.{heldFrom, heldOf, freshSession, agrees, judgeState, judgeAccept, judgeAck, acceptOf, ackOf, reconnectOf, resetOf, found, heldAt}
 use Rattle.session.specs.Laws as session
 use Rattle.session.specs.Laws.{callOf, heldAnswers}
-use Rattle.delivery.specs.Requests.{requestByFrame, ConnectedWith}
-use Rattle.delivery.specs.Calls.{Chained, sessionAfter, Connection, Connects, Cause, sends, hands, receives, callsDue}
+use Rattle.delivery.specs.Requests.{requestByFrame}
+use Rattle.delivery.specs.Calls.{sessionAfter, Connects, Cause, sends, hands, receives, callsDue}
 use Rattle.delivery.specs.Worked.{ours, store, ack1, split, acked, Any, faultRows, second, heldRows, resultRows, brokenRows, answerRows, reading, resumed, Resumes, frameRows, tagRows, resetRows, segmentRows, reset0, reset2, twoWhole, twoAborted, tag10, Reasons, Worked}
 use Rattle.connection.proofs.Prefixes.{upTo}
 use Rattle.delivery.proofs.Reasons.{afterCalls}
 use Rattle.delivery.proofs.OneRequest.{all-played}
-use Rattle.delivery.proofs.NoReason.{Holding, uncovered, no-requests-holds}
+use Rattle.delivery.proofs.NoReason.{uncovered, no-requests-holds}
 use Rattle.delivery.proofs.NoRequests.{NoRequests, NoRequestsBehind, no-requests-spliced, releases-nothing}
 use Rattle.delivery.proofs.Acks.{sealed-ack}
 use borrow.Author.Needs.{needs}
@@ -121,26 +121,17 @@ answer-two : callOf two (session.reconnect 1) .answer ≡ Resend 1
 unfolding agrees judgeState judgeAccept judgeAck acceptOf reconnectOf heldFrom
 answer-two = refl
 
-connected : (s : Session) (k : Connection) (ks : List Connection) → Connects s (k ∷ ks) → ConnectedWith s (k .own) (k .connected)
-connected s k ks c = c .0
-
-chained : (s : Session) (k : Connection) (ks : List Connection) → Connects s (k ∷ ks) → Chained (k .stream) (k .connected .state) (k .store) 0 (k .calls)
-chained s k ks c = c .1
-
-others : (s : Session) (k : Connection) (ks : List Connection) → Connects s (k ∷ ks) → Connects (sessionAfter s (k .calls)) ks
-others s k ks c = c .2
-
 resumes : SwitchedDemand3 → Resumes
 resumes demand k l cs ds c sent switch own all =
     let a = reading split k cs in
     let b = reading resumed l ds in
     let s : Session = sessionAfter freshSession cs in
-    let later : Connects s (b ∷ []) = others freshSession a (b ∷ []) c in
+    let later : Connects s (b ∷ []) = c .2 in
     let q : s ≡ two =
-    releases-nothing demand Any split split-any freshSession k cs (connected freshSession a (b ∷ []) c) (chained freshSession a (b ∷ []) c) tt
+    releases-nothing demand Any split split-any freshSession k cs (c .0) (c .1) tt
     ∙ ap (afterCalls freshSession) sent in
     let r =
-    all-played demand none resumed (length resumed) (session.reconnect 1) (traceOf ours resumed store .entries) refl resumed-none resumed-once s l ds (connected s b [] later) (chained s b [] later) switch own all in (
+    all-played demand none resumed (length resumed) (session.reconnect 1) (traceOf ours resumed store .entries) refl resumed-none resumed-once s l ds (later .0) (later .1) switch own all in (
       ap heldOf (r .0 ∙ ap (λ (x : Session). callOf x (session.reconnect 1) .session) q) ∙ held-two,
       r .1 ∙ ap (λ (x : Session). callOf x (session.reconnect 1) .answer ∷ []) q ∙ ap (λ (x : Answer). x ∷ []) answer-two,
     )
@@ -150,45 +141,18 @@ resumes demand k l cs ds c sent switch own all =
 abbrev entriesBehind : List ℕ → List Cause
 entriesBehind frames = map receives (traceOf ours (bannerBytes 1 0 ++ frames) store .entries)
 
-acked-holds : Holding 2 (map receives (traceOf ours acked store .entries))
-unfolding numberAt crcOf steps step missing lowestBit bitCount judgeFeatures shapeFault limitFault headerOf judgeFields judgePreamble ending frames streamTrace traceOf stepOf layoutIn settled readBody requestByFrame
-acked-holds = (refl, (refl, (refl, tt)))
-
-reset0-holds : (m : ℕ) → Holding m (entriesBehind reset0)
-unfolding numberAt crcOf steps step missing lowestBit bitCount judgeFeatures shapeFault limitFault headerOf judgeFields judgePreamble ending frames streamTrace traceOf stepOf layoutIn settled readBody requestByFrame
-reset0-holds m = (refl, (refl, tt))
-
-reset2-holds : (m : ℕ) → Holding m (entriesBehind reset2)
-unfolding numberAt crcOf steps step missing lowestBit bitCount judgeFeatures shapeFault limitFault headerOf judgeFields judgePreamble ending frames streamTrace traceOf stepOf layoutIn settled readBody requestByFrame
-reset2-holds m = (refl, (refl, tt))
-
-whole-holds : (m : ℕ) → Holding m (entriesBehind twoWhole)
-unfolding numberAt crcOf steps step missing lowestBit bitCount judgeFeatures shapeFault limitFault headerOf judgeFields judgePreamble ending frames streamTrace traceOf stepOf layoutIn settled readBody requestByFrame
-whole-holds m = (refl, (refl, (refl, tt)))
-
-aborted-holds : (m : ℕ) → Holding m (entriesBehind twoAborted)
-unfolding numberAt crcOf steps step missing lowestBit bitCount judgeFeatures shapeFault limitFault headerOf judgeFields judgePreamble ending frames streamTrace traceOf stepOf layoutIn settled readBody requestByFrame
-aborted-holds m = (refl, (refl, (refl, tt)))
-
-tag-holds : (m : ℕ) → Holding m (entriesBehind tag10)
-unfolding numberAt crcOf steps step missing lowestBit bitCount judgeFeatures shapeFault limitFault headerOf judgeFields judgePreamble ending frames streamTrace traceOf stepOf layoutIn settled readBody requestByFrame
-tag-holds m = (refl, (refl, tt))
-
-damaged-holds : (m : ℕ) → Holding m (entriesBehind (set ack1 32 3))
-unfolding numberAt crcOf steps step missing lowestBit bitCount judgeFeatures shapeFault limitFault headerOf judgeFields judgePreamble ending frames streamTrace traceOf stepOf layoutIn settled readBody requestByFrame
-damaged-holds m = (refl, (refl, tt))
-
 reasons : Reasons
+unfolding numberAt crcOf steps step missing lowestBit bitCount judgeFeatures shapeFault limitFault headerOf judgeFields judgePreamble ending frames streamTrace traceOf stepOf layoutIn settled readBody requestByFrame
 reasons = record {
   unfinished = λ sw m. uncovered m (map receives (traceWith sw ours split store .entries)) (no-requests-holds m (traceWith sw ours split store .entries) (split-any sw tt));
-  other = uncovered 2 (map receives (traceOf ours acked store .entries)) acked-holds;
+  other = uncovered 2 (map receives (traceOf ours acked store .entries)) (refl, (refl, (refl, tt)));
   lower = uncovered 3 (sends 9 ∷ hands 2 ∷ []) (refl, (refl, tt));
-  notFull = λ m. uncovered m (entriesBehind reset0) (reset0-holds m);
-  neitherFull = λ m. uncovered m (entriesBehind reset2) (reset2-holds m);
-  segments = λ m. uncovered m (entriesBehind twoWhole) (whole-holds m);
-  aborted = λ m. uncovered m (entriesBehind twoAborted) (aborted-holds m);
-  otherTag = λ m. uncovered m (entriesBehind tag10) (tag-holds m);
-  damaged = λ m. uncovered m (entriesBehind (set ack1 32 3)) (damaged-holds m);
+  notFull = λ m. uncovered m (entriesBehind reset0) (refl, (refl, tt));
+  neitherFull = λ m. uncovered m (entriesBehind reset2) (refl, (refl, tt));
+  segments = λ m. uncovered m (entriesBehind twoWhole) (refl, (refl, (refl, tt)));
+  aborted = λ m. uncovered m (entriesBehind twoAborted) (refl, (refl, (refl, tt)));
+  otherTag = λ m. uncovered m (entriesBehind tag10) (refl, (refl, tt));
+  damaged = λ m. uncovered m (entriesBehind (set ack1 32 3)) (refl, (refl, tt));
 }
 
 table : SwitchedDemand3 → Worked

@@ -1,16 +1,12 @@
 use mathlib.Core.Path.{refl}
-use Rattle.fields.proofs.Drafts.{appended-counted, fits-numbers}
-use Rattle.fields.specs.Field.{numbers}
+use Rattle.fields.proofs.Drafts.{appended-counted}
+use Rattle.fields.specs.Field.{numbers, Fits}
 use borrow.Author.Needs.{needs}
 use Rattle.fields.proofs.append_list.Statement.{statement}
 use Rattle.fields.proofs.append_list.Tie as tie
 
-returns : tie.Need-returns
-returns c =
-    let w = c .before .before .append-words .ensures in
-    appended-counted (numbers _) _ (fits-numbers (w .1)) (c .before .before .before .before .before .before .before .before .before .count-bytes .ensures) refl refl refl (c .before .before .before .before .before .before .put .ensures) (w .0)
-
 pub append-list-spec : {M : Type 1} → statement M
+unfolding Fits
 append-list-spec =
     tie.close
     (tie.spec
@@ -19,4 +15,4 @@ append-list-spec =
     (λ c κs. search needs)
     (λ c κs. search needs)
     (λ c. search needs)
-    returns)
+    (λ c. appended-counted (numbers _) _ (c .before .before .append-words .ensures .1) (c .before .before .before .before .before .before .before .before .before .count-bytes .ensures) refl refl refl (c .before .before .before .before .before .before .put .ensures) (c .before .before .append-words .ensures .0)))

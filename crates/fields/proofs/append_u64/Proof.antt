@@ -1,13 +1,12 @@
-use Rattle.fields.proofs.Drafts.{appended, fits-number}
-use Rattle.fields.specs.Field.{number}
+use Rattle.fields.proofs.Drafts.{appended}
+use Rattle.fields.specs.Field.{number, Fits}
 use borrow.Author.Needs.{needs}
 use Rattle.fields.proofs.append_u64.Statement.{statement}
 use Rattle.fields.proofs.append_u64.Tie as tie
 
 returns : tie.Need-returns
-returns c = let g = c .before .before .before .before .before .before .before .fits in
-    appended (number 8 _) (fits-number 8 _ (g .n .fits)) (c .before .before .before .before .before .long-bytes .ensures) (c .before .before .put .ensures)
+unfolding Fits
+returns c = appended (number 8 _) (c .before .before .before .before .before .before .before .fits .n .fits) (c .before .before .before .before .before .long-bytes .ensures) (c .before .before .put .ensures)
 
 pub append-u64-spec : {M : Type 1} → statement M
-append-u64-spec =
-    tie.close (tie.spec (λ c κs. search needs) (λ c. search needs) (λ c κs. search needs) (λ c. search needs) returns)
+append-u64-spec = tie.close (tie.spec (λ c κs. search needs) (λ c. search needs) (λ c κs. search needs) (λ c. search needs) returns)

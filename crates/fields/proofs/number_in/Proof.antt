@@ -4,10 +4,6 @@ use borrow.Author.Needs.{needs}
 use Rattle.fields.proofs.number_in.Statement.{statement}
 use Rattle.fields.proofs.number_in.Tie as tie
 
-returns-2 : tie.Need-returns-2
-returns-2 c = let g = c .before .before .before .args in
-    beyond-list (g .s .now) (g .l .at) (g .l .count) (g .i) (c .if1 .left)
-
 pub number-in-spec : {M : Type 1} → statement M
 number-in-spec =
     tie.close
@@ -17,4 +13,4 @@ number-in-spec =
     (λ c. search needs)
     (λ c κs. search needs)
     (λ c. c .u32-at .ensures ∙ number-got _ _ _ _ _ (c .before .min .ensures) (c .before .before .if1 .taken))
-    returns-2)
+    (λ c. beyond-list (c .before .before .before .args .s .now) (c .before .before .before .args .l .at) _ _ (c .if1 .left)))

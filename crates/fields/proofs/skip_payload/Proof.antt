@@ -1,10 +1,11 @@
 use mathlib.Core.Path.{_∙_}
-use Rattle.fields.proofs.Skips.{payload-passed}
 use borrow.Author.Needs.{needs}
+use Rattle.fields.specs.Layout.{stepOf}
 use Rattle.fields.proofs.skip_payload.Statement.{statement}
 use Rattle.fields.proofs.skip_payload.Tie as tie
 
 pub skip-payload-spec : {M : Type 1} → statement M
+unfolding stepOf
 skip-payload-spec =
     tie.close
     (tie.spec
@@ -12,4 +13,4 @@ skip-payload-spec =
     (λ c. search needs)
     (λ c. search needs)
     (λ c κs. search needs)
-    (λ c. c .skip .ensures ∙ rw (c .before .u32-at .ensures) (payload-passed _ _)))
+    (λ c. c .skip .ensures ∙ rw (c .before .u32-at .ensures)))

@@ -3,11 +3,8 @@ use borrow.Author.Needs.{needs}
 use Rattle.gcm.proofs.block_of.Statement.{statement}
 use Rattle.gcm.proofs.block_of.Tie as tie
 
-returns : tie.Need-returns
-unfolding blockNumber
-returns c = cc
-
 pub block-of-spec : {M : Type 1} → statement M
+unfolding blockNumber
 block-of-spec =
     tie.close
     (tie.spec
@@ -21,4 +18,4 @@ block-of-spec =
     (λ c. search needs)
     (λ c κs. search needs)
     (λ c κs. search needs)
-    returns)
+    (λ c. cc))

@@ -5,9 +5,6 @@ use borrow.Author.Needs.{needs}
 use Rattle.gcm.proofs.hash_key.Statement.{statement}
 use Rattle.gcm.proofs.hash_key.Tie as tie
 
-returns : tie.Need-returns
-unfolding hashKey stateOf columnAt
-returns c = c .block-of .ensures ∙ ap blockNumber (c .before .encrypt .ensures)
-
 pub hash-key-spec : {M : Type 1} → statement M
-hash-key-spec = tie.close (tie.spec (λ c κs. search needs) (λ c κs. search needs) returns)
+unfolding hashKey stateOf columnAt
+hash-key-spec = tie.close (tie.spec (λ c κs. search needs) (λ c κs. search needs) (λ c. c .block-of .ensures ∙ ap blockNumber (c .before .encrypt .ensures)))

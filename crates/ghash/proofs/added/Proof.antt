@@ -1,4 +1,4 @@
-use Prim.Native.Nat.{_-_, _^_, _<_}
+use Prim.Native.Nat.{_-_}
 use Rattle.ghash.proofs.Words.{xor-pair}
 use borrow.Author.Needs.{needs}
 use Rattle.ghash.proofs.added.Statement.{statement}
@@ -6,11 +6,8 @@ use Rattle.ghash.proofs.added.Tie as tie
 
 returns : tie.Need-returns
 returns c =
-    let y = c .before .before .before .before .args .y in
-    let x = c .before .before .before .before .args .x in
-    let hy : y .lo < 2 ^ 64 = search needs in
-    let hx : x .lo < 2 ^ 64 = search needs in
-    xor-pair (y .hi) (y .lo) (x .hi) (x .lo) hy hx
+    let a = c .before .before .before .before .args in
+    xor-pair (a .y .hi) (a .y .lo) (a .x .hi) (a .x .lo) (search needs) (search needs)
 
 pub added-spec : {M : Type 1} → statement M
 added-spec = tie.close (tie.spec returns)

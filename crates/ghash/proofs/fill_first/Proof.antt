@@ -1,5 +1,5 @@
 use mathlib.Core.Path.{_≡_, refl, _∙_}
-use Prim.Native.Nat.{ℕ, _+_, _-_, _*_, _<_, _≤_}
+use Prim.Native.Nat.{_+_, _-_, _*_, _≤_}
 use native.Mathlib.Omega.{arith}
 use native.Mathlib.Nat.{not-suc-le-zero}
 use lib.ListN.{length, set, length-set}
@@ -19,14 +19,10 @@ abbrev μ-loop : tie.MeasureT-loop
 loop-again : tie.Need-loop-again Inv-loop μ-loop
 loop-again c =
     let l = c .before .before .loop in
-    let h = c .before .before .before .before .args .h in
-    let p = c .four .result in
-    let v : ℕ = pair (h .hi) (h .lo) in
-    let k : l .i < 16 = omega arith in
-    let room : 2 * l .i + 1 < length (l .m) = omega arith in (
+    let p = c .four .result in (
       search needs,
       length-set (set (l .m) (2 * l .i) (p .hi)) (2 * l .i + 1) (p .lo) ∙ length-set (l .m) (2 * l .i) (p .hi) ∙ l .inv .1,
-      filled-more v (p .hi) (p .lo) (l .i) (l .m) room (c .four .ensures ∙ first-entry v (l .i) k) (l .inv .2),
+      filled-more _ (p .hi) (p .lo) (l .i) (l .m) (omega arith) (c .four .ensures ∙ first-entry _ (l .i) (omega arith)) (l .inv .2),
     )
 
 pub fill-first-spec : {M : Type 1} → statement M

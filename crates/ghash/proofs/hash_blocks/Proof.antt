@@ -1,8 +1,8 @@
-use mathlib.Core.Path.{_≡_, refl, sym, ap, _∙_}
+use mathlib.Core.Path.{_≡_, refl, _∙_}
 use Prim.Native.Nat.{ℕ, _+_, _-_, _/_, _%_, _≤_}
+use native.Mathlib.Nat.{sub-zero}
 use native.Mathlib.Omega.{arith}
-use lib.Bits.{bitXor}
-use Rattle.ghash.specs.Ghash.{pair, product, ghashFrom}
+use Rattle.ghash.specs.Ghash.{pair, ghashFrom}
 use Rattle.ghash.specs.Tables.{Whole}
 use Rattle.ghash.proofs.Blocks.{ghash-next}
 use borrow.Author.Needs.{needs}
@@ -18,28 +18,16 @@ Inv-loop m s end y₀ i₀ y i =
 abbrev μ-loop : tie.MeasureT-loop
 μ-loop m s end y₀ i₀ y i = end - i
 
-loop-holds : tie.Need-loop-holds Inv-loop μ-loop
-loop-holds c =
-    let a = c .before .before .args in
-    let e : a .end / 16 ≡ (a .end - 0) / 16 = omega arith in
-    (search needs, refl, λ v n f. ap (λ (k : ℕ). ghashFrom v (a .s .now) (k + n) 0 0) e)
-
 loop-again : tie.Need-loop-again Inv-loop μ-loop
 loop-again c =
     let at = c .before .before .before .before in
     let l = at .loop in
-    let a = at .before .before .before .args in
-    let y : ℕ = pair (l .y .hi) (l .y .lo) in
-    let h : l .i + 16 ≤ a .end = omega arith in (
+    let a = at .before .before .before .args in (
       search needs,
       search needs,
       λ v n f.
           let e : (a .end - l .i) / 16 + n ≡ (a .end - (l .i + 16)) / 16 + n + 1 = omega arith in
-          l .inv .2 v n f
-          ∙ ap (λ (k : ℕ). ghashFrom v (a .s .now) k (l .i) y) e
-          ∙ ghash-next v (a .s .now) ((a .end - (l .i + 16)) / 16 + n) (l .i) y
-          ∙ ap (ghashFrom v (a .s .now) ((a .end - (l .i + 16)) / 16 + n) (l .i + 16))
-          (sym (c .times-by .ensures v f ∙ ap (λ (z : ℕ). product z v) (c .before .added .ensures ∙ ap (bitXor y) (c .before .before .block-at .ensures)))),
+          l .inv .2 v n f ∙ rw (e, ghash-next, c .times-by .ensures v f, c .before .added .ensures, c .before .before .block-at .ensures),
     )
 
 returns : tie.Need-returns Inv-loop μ-loop
@@ -49,9 +37,7 @@ returns c =
     λ v n f.
     let i : l .i ≡ a .end = omega arith in
     let e : (a .end - a .end) / 16 + n ≡ n = omega arith in
-    l .inv .2 v n f
-    ∙ ap (λ (k : ℕ). ghashFrom v (a .s .now) ((a .end - k) / 16 + n) k (pair (l .y .hi) (l .y .lo))) i
-    ∙ ap (λ (k : ℕ). ghashFrom v (a .s .now) k (a .end) (pair (l .y .hi) (l .y .lo))) e
+    l .inv .2 v n f ∙ rw (i, e)
 
 pub hash-blocks-spec : {M : Type 1} → statement M
 hash-blocks-spec =
@@ -59,7 +45,7 @@ hash-blocks-spec =
     (tie.spec
     Inv-loop
     μ-loop
-    loop-holds
+    (λ c. (search needs, refl, λ v n f. rw sub-zero))
     (λ c κs. search needs)
     (λ c κs. search needs)
     (λ c κs. search needs)

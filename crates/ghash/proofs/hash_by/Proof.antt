@@ -1,8 +1,6 @@
-use mathlib.Core.Path.{ap, ap₂, _∙_}
+use mathlib.Core.Path.{_∙_}
 use Prim.Native.Nat.{ℕ}
-use lib.Bits.{bitXor}
-use lib.ListN.{length}
-use Rattle.ghash.specs.Ghash.{pair, product, ghash}
+use Rattle.ghash.specs.Ghash.{pair, ghash}
 use Rattle.ghash.proofs.Blocks.{bits-of}
 use borrow.Author.Needs.{needs}
 use Rattle.ghash.proofs.hash_by.Statement.{statement}
@@ -11,14 +9,10 @@ use Rattle.ghash.proofs.hash_by.Tie as tie
 returns : tie.Need-returns
 unfolding ghash
 returns c =
-    let added = c .before in
-    let text = added .before .before in
+    let text = c .before .before .before in
     let fill = text .before .before .before .before in
-    let a = fill .before .before .before .before .args in
-    let v : ℕ = pair (a .h .hi) (a .h .lo) in
-    c .times-by .ensures v (fill .fill .ensures)
-    ∙ ap (λ (z : ℕ). product z v)
-    (added .added .ensures ∙ ap₂ bitXor (text .hash-text .ensures v (fill .fill .ensures)) (ap (pair 0) (bits-of (length (a .s .now)))))
+    let v : ℕ = pair (fill .before .before .before .before .args .h .hi) (fill .before .before .before .before .args .h .lo) in
+    c .times-by .ensures v (fill .fill .ensures) ∙ rw (c .before .added .ensures, text .hash-text .ensures v (fill .fill .ensures), bits-of)
 
 pub hash-by-spec : {M : Type 1} → statement M
 hash-by-spec =

@@ -4,11 +4,8 @@ use borrow.Author.Needs.{needs}
 use Rattle.ghash.proofs.quad_at.Statement.{statement}
 use Rattle.ghash.proofs.quad_at.Tie as tie
 
-returns : tie.Need-returns
-unfolding quadAt
-returns c = c .quad .ensures
-
 pub quad-at-spec : {M : Type 1} → statement M
+unfolding quadAt
 quad-at-spec =
     tie.close
     (tie.spec
@@ -20,4 +17,4 @@ quad-at-spec =
     (λ c. search needs)
     (λ c. search needs)
     (λ c κs. search needs)
-    returns)
+    (λ c. c .quad .ensures))

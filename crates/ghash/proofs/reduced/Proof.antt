@@ -6,9 +6,6 @@ use Rattle.ghash.proofs.Words.{reduced-by}
 use Rattle.ghash.proofs.reduced.Statement.{statement}
 use Rattle.ghash.proofs.reduced.Tie as tie
 
-returns : tie.Need-returns
-unfolding steps step
-returns c = reduced-by refl tt
-
 pub reduced-spec : {M : Type 1} → statement M
-reduced-spec = tie.close (tie.spec returns)
+unfolding steps step
+reduced-spec = tie.close (tie.spec (λ c. reduced-by refl tt))

@@ -1,4 +1,4 @@
-use Prim.Native.Nat.{ℕ, _^_, _<_}
+use Prim.Native.Nat.{ℕ}
 use Rattle.ghash.specs.Ghash.{pair}
 use Rattle.ghash.proofs.Entries.{four-halves}
 use Rattle.ghash.proofs.Words.{half-0, half-32, half-64, half-96}
@@ -13,11 +13,9 @@ returns c =
     let h₁ = h₂ .before .before in
     let x = h₁ .before .before .before .args .x in
     let y : ℕ = pair (x .hi) (x .lo) in
-    let kh : x .hi < 2 ^ 64 = search needs in
-    let kl : x .lo < 2 ^ 64 = search needs in
     λ v f.
-    four-halves v y _ _ _ _ (h₁ .half-by .ensures v y 96 f (half-96 (x .hi) (x .lo) kh kl)) (h₂ .half-by2 .ensures v y 64 f (half-64 (x .hi) (x .lo) kl))
-    (h₃ .half-by3 .ensures v y 32 f (half-32 (x .hi) (x .lo) kl))
+    four-halves v y _ _ _ _ (h₁ .half-by .ensures v y 96 f (half-96 (x .hi) (x .lo) (search needs) (search needs))) (h₂ .half-by2 .ensures v y 64 f (half-64 (x .hi) (x .lo) (search needs)))
+    (h₃ .half-by3 .ensures v y 32 f (half-32 (x .hi) (x .lo) (search needs)))
     (c .half-by4 .ensures v y 0 f (half-0 (x .hi) (x .lo)))
 
 pub times-by-large-spec : {M : Type 1} → statement M

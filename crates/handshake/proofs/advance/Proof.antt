@@ -1,5 +1,3 @@
-use mathlib.Core.Path.{refl}
-use Rattle.handshake.proofs.Moves.{by-next}
 use borrow.Author.Needs.{needs}
 use Rattle.handshake.proofs.advance.Statement.{statement}
 use Rattle.handshake.proofs.advance.Tie as tie
@@ -11,5 +9,5 @@ advance-spec =
     (λ c. search needs)
     (λ c. search needs)
     (λ c κs. search needs)
-    (λ c. by-next _ (c .before .n .given .1) refl)
-    (λ c. by-next _ (c .before .enum-told .given .1) (rw (c .numbers-of .ensures))))
+    (λ c. rw (c .before .n .given .1))
+    (λ c. rw (c .before .enum-told .given .1, c .numbers-of .ensures)))

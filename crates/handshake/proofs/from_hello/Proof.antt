@@ -3,9 +3,6 @@ use borrow.Author.Needs.{needs}
 use Rattle.handshake.proofs.from_hello.Statement.{statement}
 use Rattle.handshake.proofs.from_hello.Tie as tie
 
-returns : tie.Need-returns
-unfolding find
-returns c = c .when .ensures
-
 pub from-hello-spec : {M : Type 1} → statement M
-from-hello-spec = tie.close (tie.spec (λ c κs. search needs) returns)
+unfolding find
+from-hello-spec = tie.close (tie.spec (λ c κs. search needs) (λ c. c .when .ensures))

@@ -1,6 +1,4 @@
 use mathlib.Core.Path.{_∙_}
-use lib.Dec.{eqb}
-use Rattle.handshake.specs.declared.State.the-variants.{More}
 use Rattle.handshake.specs.Table.{find}
 use Rattle.handshake.proofs.Moves.{auth-rows}
 use borrow.Author.Needs.{needs}
@@ -9,9 +7,7 @@ use Rattle.handshake.proofs.server_more.Tie as tie
 
 returns : tie.Need-returns
 unfolding find
-returns c =
-    let g = c .before .before .args in
-    c .when .ensures ∙ rw (c .before .led .ensures) (auth-rows (g .v .auth) (eqb (g .tag) 5) More)
+returns c = c .when .ensures ∙ rw (c .before .led .ensures) (auth-rows (c .before .before .args .v .auth) _ _)
 
 pub server-more-spec : {M : Type 1} → statement M
 server-more-spec = tie.close (tie.spec (λ c κs. search needs) (λ c κs. search needs) returns)

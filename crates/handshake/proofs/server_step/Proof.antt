@@ -1,12 +1,6 @@
-use Rattle.handshake.proofs.Moves.{stepped}
 use borrow.Author.Needs.{needs}
 use Rattle.handshake.proofs.server_step.Statement.{statement}
 use Rattle.handshake.proofs.server_step.Tie as tie
 
 pub server-step-spec : {M : Type 1} → statement M
-server-step-spec =
-    tie.close
-    (tie.spec
-    (λ c κs. search needs)
-    (λ c κs. search needs)
-    (λ c. stepped _ _ _ _ (c .advance .ensures) (c .before .server-next .ensures)))
+server-step-spec = tie.close (tie.spec (λ c κs. search needs) (λ c κs. search needs) (λ c. record { step = cc }))

@@ -6,7 +6,7 @@ pub auth-of-spec : {M : Type 1} → statement M
 auth-of-spec =
     tie.close
     (tie.spec
-    (λ c. rw (eq-eqb (c .before .args .n) 0 (c .if1 .taken)))
-    (λ c. rw (ne-eqb (c .before .before .args .n) 0 (c .before .if1 .left), eq-eqb (c .before .before .args .n) 1 (c .if2 .taken)))
-    (λ c. rw (ne-eqb (c .before .before .before .args .n) 0 (c .before .before .if1 .left), ne-eqb (c .before .before .before .args .n) 1 (c .before .if2 .left), eq-eqb (c .before .before .before .args .n) 2 (c .if3 .taken)))
-    (λ c. rw (ne-eqb (c .before .before .before .args .n) 0 (c .before .before .if1 .left), ne-eqb (c .before .before .before .args .n) 1 (c .before .if2 .left), ne-eqb (c .before .before .before .args .n) 2 (c .if3 .left))))
+    (λ c. rw (eq-eqb _ 0 (c .if1 .taken)))
+    (λ c. rw (ne-eqb _ 0 (c .before .if1 .left), eq-eqb _ 1 (c .if2 .taken)))
+    (λ c. rw (ne-eqb _ 0 (c .before .before .if1 .left), ne-eqb _ 1 (c .before .if2 .left), eq-eqb _ 2 (c .if3 .taken)))
+    (λ c. rw (ne-eqb _ 0 (c .before .before .if1 .left), ne-eqb _ 1 (c .before .if2 .left), ne-eqb _ 2 (c .if3 .left))))

@@ -1,14 +1,12 @@
-use mathlib.Core.Bool.{true, false}
-use mathlib.Core.Path.{_≡_, _∙_, sym, refl}
+use mathlib.Core.Path.{_≡_, _∙_, refl}
 use Prim.Native.Nat.{_≤_}
 use native.Mathlib.Omega.{arith}
 use borrow.Author.Needs.{needs}
-use borrow.Author.Tests.{not-true, not-false}
 use lib.ListN.{length}
 use Rattle.handshake.specs.declared.State.the-variants.{Hello}
-use Rattle.handshake_cases.proofs.Laws.{steps-none, steps-broken, steps-on, good-within}
-use Rattle.handshake_cases.specs.Steps.{sideOf, stepGood, stepsFrom}
-use Rattle.records.proofs.Laws.{Left, left-all, left-is, did-all, did-broken}
+use Rattle.handshake_cases.proofs.Laws.{steps-broken, steps-on, good-within}
+use Rattle.handshake_cases.specs.Steps.{sideOf, stepsFrom}
+use Rattle.records.proofs.Laws.{Left, left-all, did-all, did-broken}
 use Rattle.text.specs.Page.{page}
 use Rattle.handshake_cases.proofs.make_steps.Statement.{statement}
 use Rattle.handshake_cases.proofs.make_steps.Tie as tie
@@ -19,31 +17,15 @@ Inv-loop s n side text₀ at state₀ place₀ end₀ left₀ text state place e
 abbrev μ-loop : tie.MeasureT-loop
 μ-loop s n side text₀ at state₀ place₀ end₀ left₀ text state place end left = left
 
-returns : tie.Need-returns Inv-loop μ-loop
-returns c = let l = c .before .before .before .before .before .before .before .loop in
-    let e : stepGood (c .before .before .before .before .before .before .before .before .before .before .args .s .now) (l .place) ≡ false = sym (c .before .before .before .before .before .step-good .ensures) ∙ not-true (c .before .before .before .before .before .step-good .result) (c .before .before .before .before .if1 .taken) in
-    did-broken (left-is (steps-broken (c .before .before .before .before .before .before .before .before .before .before .args .s .now) (sideOf (c .before .before .before .before .before .before .before .before .before .before .args .side)) (l .state) (l .left) (l .place) (c .before .before .before .before .before .before .loop-test .taken) e) (l .inv .2)) (c .before .before .bad-record .ensures .0) (c .before .before .bad-record .ensures .1)
-
-add-byte-at : tie.Need-add-byte-at Inv-loop μ-loop
-add-byte-at c = let e : stepGood (c .before .before .before .before .before .before .before .args .s .now) (c .before .before .before .before .loop .place) ≡ true = sym (c .before .before .step-good .ensures) ∙ not-false (c .before .before .step-good .result) (c .before .if1 .left) in
-    let h = good-within (c .before .before .before .before .before .before .before .args .s .now) (c .before .before .before .before .loop .place) e in omega arith
-
-add-place : tie.Need-add-place Inv-loop μ-loop
-add-place c = let e : stepGood (c .before .before .before .before .before .before .before .before .before .before .before .before .before .args .s .now) (c .before .before .before .before .before .before .before .before .before .before .loop .place) ≡ true = sym (c .before .before .before .before .before .before .before .before .step-good .ensures) ∙ not-false (c .before .before .before .before .before .before .before .before .step-good .result) (c .before .before .before .before .before .before .before .if1 .left) in
-    let h = good-within (c .before .before .before .before .before .before .before .before .before .before .before .before .before .args .s .now) (c .before .before .before .before .before .before .before .before .before .before .loop .place) e in omega arith
-
 loop-again : tie.Need-loop-again Inv-loop μ-loop
-loop-again c = let l = c .before .before .before .before .before .before .before .before .before .before .loop in
+loop-again c =
+    let l = c .before .before .before .before .before .before .before .before .before .before .loop in
     let s = c .before .before .before .before .before .before .before .before .before .before .before .before .before .args .s .now in
-    let e : stepGood s (l .place) ≡ true = sym (c .before .before .before .before .before .before .before .before .step-good .ensures) ∙ not-false (c .before .before .before .before .before .before .before .before .step-good .result) (c .before .before .before .before .before .before .before .if1 .left) in
-    let h = good-within s (l .place) e in
-    (omega arith, c .before .before .print-step .kept .0 ∙ l .inv .1, steps-on s (sideOf (c .before .before .before .before .before .before .before .before .before .before .before .before .before .args .side)) (l .state) (l .left) (l .place) (c .before .before .before .before .before .before .byte-at .result) (c .before .before .before .before .before .byte-at2 .result) (c .before .before .before .before .before .before .before .before .before .loop-test .taken) e (c .before .before .before .before .before .before .byte-at .ensures) (c .before .before .before .before .before .byte-at2 .ensures) (c .before .before .before .before .make-step .ensures) (c .before .before .print-step .ensures) (l .inv .2))
-
-returns-2 : tie.Need-returns-2 Inv-loop μ-loop
-returns-2 c = let l = c .before .loop in
-    did-all (l .place) (left-is (steps-none (c .before .before .before .before .args .s .now) (sideOf (c .before .before .before .before .args .side)) (l .state) (l .left) (l .place) (omega arith)) (l .inv .2)) refl (l .inv .0)
+    let h = good-within s (l .place) (c .before .before .before .before .before .before .before .before .step-good .ensures) (c .before .before .before .before .before .before .before .if1 .left) in
+    (omega arith, c .before .before .print-step .kept .0 ∙ l .inv .1, steps-on s (sideOf (c .before .before .before .before .before .before .before .before .before .before .before .before .before .args .side)) (l .state) (l .left) (l .place) (c .before .before .before .before .before .before .before .before .before .loop-test .taken) (c .before .before .before .before .before .before .before .before .step-good .ensures) (c .before .before .before .before .before .before .before .if1 .left) (c .before .before .before .before .before .before .byte-at .ensures) (c .before .before .before .before .before .byte-at2 .ensures) (c .before .before .before .before .make-step .ensures) (c .before .before .print-step .ensures) (l .inv .2))
 
 pub make-steps-spec : {M : Type 1} → statement M
+unfolding stepsFrom
 make-steps-spec =
     tie.close
     (tie.spec
@@ -51,17 +33,17 @@ make-steps-spec =
     μ-loop
     (λ c. (omega arith, refl, left-all))
     (λ c κs. omega arith)
-    (λ c κs. search needs)
+    (search needs)
     (λ c. c .before .before .bad-record .kept .0 ∙ c .before .before .before .before .before .before .before .loop .inv .1)
-    returns
-    (λ c κs. search needs)
-    add-byte-at
-    (λ c κs. search needs)
-    (λ c κs. search needs)
-    (λ c κs. search needs)
-    add-place
+    (λ c. did-broken (steps-broken _ _ _ _ _ (c .before .before .before .before .before .before .loop-test .taken) (c .before .before .before .before .before .step-good .ensures) (c .before .before .before .before .if1 .taken) (c .before .before .before .before .before .before .before .loop .inv .2)) (c .before .before .bad-record .ensures))
+    (search needs)
+    (λ c. omega (arith, good-within _ _ (c .before .before .step-good .ensures) (c .before .if1 .left)))
+    (search needs)
+    (search needs)
+    (search needs)
+    (λ c. omega (arith, good-within _ _ (c .before .before .before .before .before .before .before .before .step-good .ensures) (c .before .before .before .before .before .before .before .if1 .left)))
     (λ c. omega arith)
     (λ c. omega arith)
     loop-again
     (λ c. c .before .loop .inv .1)
-    returns-2)
+    (λ c. let e : c .before .loop .left ≡ 0 = omega arith in did-all _ (rw e at (c .before .loop .inv .2)) refl (c .before .loop .inv .0)))

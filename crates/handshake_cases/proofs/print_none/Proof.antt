@@ -2,10 +2,5 @@ use borrow.Author.Needs.{needs}
 use Rattle.handshake_cases.proofs.print_none.Statement.{statement}
 use Rattle.handshake_cases.proofs.print_none.Tie as tie
 
-returns : tie.Need-returns
-returns c = cc
-
 pub print-none-spec : {M : Type 1} → statement M
-print-none-spec =
-    tie.close
-    (tie.spec (λ c κs. search needs) (λ c. search needs) (λ c κs. search needs) (λ c. search needs) returns)
+print-none-spec = tie.close (tie.spec (search needs) (search needs) (search needs) (search needs) (λ c. cc))

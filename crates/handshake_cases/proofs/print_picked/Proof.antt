@@ -4,11 +4,4 @@ use Rattle.handshake_cases.proofs.print_picked.Tie as tie
 
 pub print-picked-spec : {M : Type 1} → statement M
 print-picked-spec =
-    tie.close
-    (tie.spec
-    (λ c κs. search needs)
-    (λ c. search needs)
-    (λ c κs. search needs)
-    (λ c κs. search needs)
-    (λ c. search needs)
-    (λ c. cc))
+    tie.close (tie.spec (search needs) (search needs) (search needs) (search needs) (search needs) (λ c. cc))

@@ -6,11 +6,11 @@ pub put-report-spec : {M : Type 1} → statement M
 put-report-spec =
     tie.close
     (tie.spec
-    (λ c. search needs)
-    (λ c. search needs)
-    (λ c κs. search needs)
-    (λ c. search needs)
-    (λ c κs. search needs)
+    (search needs)
+    (search needs)
+    (search needs)
+    (search needs)
+    (search needs)
     (λ c. rw (c .enum-told .given .1))
-    (λ c. search needs)
+    (search needs)
     (λ c. rw (c .before .before .before .before .before .before .before .before .before .before .report .given .1) (cc)))

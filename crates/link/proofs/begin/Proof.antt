@@ -3,8 +3,4 @@ use Rattle.link.proofs.begin.Statement.{statement}
 use Rattle.link.proofs.begin.Tie as tie
 
 pub begin-spec : {M : Type 1} → statement M
-begin-spec =
-    tie.close
-    (tie.spec
-    (λ c κs. search needs)
-    (λ c. rw (c .before .start .ensures .state)))
+begin-spec = tie.close (tie.spec (search needs) (λ c. rw (c .before .start .ensures .state)))

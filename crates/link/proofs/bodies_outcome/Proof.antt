@@ -1,6 +1,5 @@
-use native.Mathlib.Omega.{arith}
-use Rattle.link.proofs.Outcomes.{bodies-short, bodies-all, bodies-more}
 use borrow.Author.Needs.{needs}
+use borrow.Author.Tests.{lt-ltb, le-ltb, le-leb, lt-leb}
 use Rattle.link.proofs.bodies_outcome.Statement.{statement}
 use Rattle.link.proofs.bodies_outcome.Tie as tie
 
@@ -9,8 +8,8 @@ bodies-outcome-spec =
     tie.close
     (tie.spec
     (λ c. search needs)
-    (λ c κs. search needs)
-    (λ c. bodies-short (c .before .before .before .args .left) (c .before .before .before .args .n) (c .before .before .before .args .refused) (c .before .before .if1 .left) (omega (arith, c .before .min .ensures)))
-    (λ c. bodies-all (c .before .before .before .before .args .left) (c .before .before .before .before .args .n) (c .before .before .before .before .args .refused) (c .before .before .before .if1 .left) (omega (arith, c .before .before .min .ensures)) (c .if3 .taken))
-    (λ c. search needs)
-    (λ c. bodies-more (c .before .before .before .before .args .left) (c .before .before .before .before .args .n) (c .before .before .before .before .args .refused) (c .before .before .before .if1 .left) (omega (arith, c .before .before .min .ensures)) (omega arith)))
+    (search needs)
+    (λ c. rw (c .before .before .if1 .left, ← (c .before .min .ensures), lt-ltb _ _ (c .if2 .taken)))
+    (λ c. rw (c .before .before .before .if1 .left, ← (c .before .before .min .ensures), le-ltb _ _ (c .before .if2 .left), le-leb _ _ (c .if3 .taken)))
+    (search needs)
+    (λ c. rw (c .before .before .before .if1 .left, ← (c .before .before .min .ensures), le-ltb _ _ (c .before .if2 .left), lt-leb _ _ (c .if3 .left))))

@@ -7,6 +7,6 @@ pub every-link-spec : {M : Type 1} → statement M
 every-link-spec =
     tie.close
     (tie.spec
-    (λ c κs. search needs)
-    (λ c κs. search needs)
+    (search needs)
+    (search needs)
     (λ c. every-link (c .before .every-line .ensures) (c .every-cutting .ensures)))

@@ -3,9 +3,4 @@ use Rattle.link.proofs.is_ready.Statement.{statement}
 use Rattle.link.proofs.is_ready.Tie as tie
 
 pub is-ready-spec : {M : Type 1} → statement M
-is-ready-spec =
-    tie.close
-    (tie.spec
-    (λ c κs. search needs)
-    (λ c κs. search needs)
-    (λ c. cc))
+is-ready-spec = tie.close (tie.spec (search needs) (search needs) (λ c. cc))

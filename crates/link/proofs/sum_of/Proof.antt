@@ -7,7 +7,7 @@ use mathlib.Core.Path.{_≡_, ap, _∙_}
 use lib.ListN.{drop}
 use borrow.Author.Needs.{needs}
 use Rattle.link.specs.File.{sumOf}
-use Rattle.link.proofs.Outcomes.{sum-more, sum-none}
+use Rattle.link.proofs.Outcomes.{sum-more}
 use Rattle.link.proofs.sum_of.Statement.{statement}
 use Rattle.link.proofs.sum_of.Tie as tie
 
@@ -18,10 +18,10 @@ next n i sum k table h e inv =
     omega arith
 
 done : (n i sum : ℕ) (table : List ℕ) → n ≤ i → sum + sumOf (n - i) (drop (4 * i) table) ≡ sumOf n table → sum ≡ sumOf n table
+unfolding sumOf
 done n i sum table h inv =
     let m : n - i ≡ 0 = omega arith in
-    let s : sumOf (n - i) (drop (4 * i) table) ≡ 0 = ap (λ (j : ℕ). sumOf j (drop (4 * i) table)) m ∙ sum-none (drop (4 * i) table) in
-    omega arith
+    omega (arith, rw m at inv)
 
 abbrev Inv-loop : tie.InvT-loop
 Inv-loop n table sum₀ i₀ sum i = (i ≤ n) × (sum + sumOf (n - i) (drop (4 * i) table) ≡ sumOf n table) × (sum ≤ i * 4294967295)
@@ -37,8 +37,8 @@ sum-of-spec =
     μ-loop
     (λ c. (omega arith, rw (sub-zero, zero-add), omega arith))
     (λ c. omega arith)
-    (λ c κs. search needs)
-    (λ c κs. search needs)
+    (search needs)
+    (search needs)
     (λ c. omega arith)
     (λ c. omega arith)
     (λ c. omega arith)

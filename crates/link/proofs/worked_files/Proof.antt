@@ -18,9 +18,6 @@ fileRows-hold : Holds fileRows
 unfolding fileRows numberAt crcOf steps step missing lowestBit bitCount judgeFeatures shapeFault limitFault headerOf judgeFields judgePreamble ending frames streamTrace traceOf decimalBy textOf linesOf endOf sumOf linkText
 fileRows-hold = refl
 
-returns : tie.Need-returns
-unfolding Worked
-returns c = fileRows-hold
-
 pub worked-files-spec : {M : Type 1} → statement M
-worked-files-spec = tie.close (tie.spec returns)
+unfolding Worked
+worked-files-spec = tie.close (tie.spec (λ c. fileRows-hold))

@@ -3,10 +3,8 @@ use borrow.Author.Needs.{needs}
 use Rattle.preamble.proofs.judge_flags.Statement.{statement}
 use Rattle.preamble.proofs.judge_flags.Tie as tie
 
-returns : tie.Need-returns
-returns c = cc (first-last (c .before .before .fault-when2 .result))
-
 pub judge-flags-spec : {M : Type 1} → statement M
 judge-flags-spec =
     tie.close
-    (tie.spec (λ c κs. search needs) (λ c κs. search needs) (λ c κs. search needs) (λ c κs. search needs) returns)
+    (tie.spec (λ c κs. search needs) (λ c κs. search needs) (λ c κs. search needs) (λ c κs. search needs)
+    (λ c. cc (first-last (c .before .before .fault-when2 .result))))

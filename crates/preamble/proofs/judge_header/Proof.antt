@@ -5,11 +5,8 @@ use borrow.Author.Needs.{needs}
 use Rattle.preamble.proofs.judge_header.Statement.{statement}
 use Rattle.preamble.proofs.judge_header.Tie as tie
 
-returns : tie.Need-returns
-unfolding judgeHeader
-returns c = cc (or-else-last (judgedBy (c .before .before .before .judge-limits .result)))
-
 pub judge-header-spec : {M : Type 1} → statement M
+unfolding judgeHeader
 judge-header-spec =
     tie.close
     (tie.spec
@@ -18,4 +15,4 @@ judge-header-spec =
     (λ c κs. search needs)
     (λ c κs. search needs)
     (λ c κs. search needs)
-    returns)
+    (λ c. cc (or-else-last (judgedBy (c .before .before .before .judge-limits .result)))))

@@ -4,11 +4,8 @@ use borrow.Author.Needs.{needs}
 use Rattle.preamble.proofs.limit_fault.Statement.{statement}
 use Rattle.preamble.proofs.limit_fault.Tie as tie
 
-returns : tie.Need-returns
-unfolding limitFault
-returns c = cc (first-last (c .before .before .before .before .before .before .before .before .before .before .before .before .before .above2 .result))
-
 pub limit-fault-spec : {M : Type 1} → statement M
+unfolding limitFault
 limit-fault-spec =
     tie.close
     (tie.spec
@@ -37,4 +34,4 @@ limit-fault-spec =
     (λ c κs. search needs)
     (λ c κs. search needs)
     (λ c κs. search needs)
-    returns)
+    (λ c. cc (first-last (c .before .before .before .before .before .before .before .before .before .before .before .before .before .above2 .result))))

@@ -4,11 +4,8 @@ use borrow.Author.Needs.{needs}
 use Rattle.preamble.proofs.shape_fault.Statement.{statement}
 use Rattle.preamble.proofs.shape_fault.Tie as tie
 
-returns : tie.Need-returns
-unfolding shapeFault
-returns c = cc (first-last (c .before .before .before .before .before .before .before .before .before .segment-fault .result))
-
 pub shape-fault-spec : {M : Type 1} → statement M
+unfolding shapeFault
 shape-fault-spec =
     tie.close
     (tie.spec
@@ -22,4 +19,4 @@ shape-fault-spec =
     (λ c κs. search needs)
     (λ c κs. search needs)
     (λ c κs. search needs)
-    returns)
+    (λ c. cc (first-last (c .before .before .before .before .before .before .before .before .before .segment-fault .result))))

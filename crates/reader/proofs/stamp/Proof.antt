@@ -1,22 +1,13 @@
-use contract.Running.{givenOf, tables, tablesOf}
-use denote.Triple.Spec.{tripleOf}
-use denote.Triple.Table.{entered, cited}
 use Rattle.fields.specs.Layout as kind
 use Rattle.reader.specs.FieldRead.{readAt}
-use Rattle.reader.proofs.ReaderCalls.{reader-meets}
-use Rattle.reader.proofs.take_stamp as callee
-use Rattle.reader.proofs.take_stamp.Symbol as callee-def
-use Rattle.reader.proofs.take_stamp.Symbol.{name as #callee}
-use Rattle.reader.proofs.take_stamp.Met as callee-thm
-use Rattle.reader.proofs.stamp.Key.{name as #this}
-use Rattle.reader.proofs.stamp as this
-use Rattle.reader.proofs.stamp.Statement as stated
+use Rattle.reader.proofs.ReaderCalls.{reader-call}
+use Rattle.reader.proofs.take_stamp.Symbol as callee
+use Rattle.reader.proofs.take_stamp.Met.{met}
+use Rattle.reader.proofs.stamp.Key.{name}
+use Rattle.reader.proofs.stamp.Statement.{statement}
 use Rattle.reader.proofs.stamp.Code as code
 
-pub stamp-spec : {M : Type 1} → stated.statement M
-unfolding code.routine tablesOf
+pub stamp-spec : {M : Type 1} → statement M
+unfolding code.routine
 stamp-spec 𝓤 H 𝓜 𝓖 𝓡 =
-    entered 𝓤 H (tripleOf 𝓤 H (𝓖 .A) this.signature (this.spec 𝓤 H (𝓖 .A) (𝓜 .mem) (𝓡 .run)))
-    (tables 𝓤 H 𝓜 𝓡 code.env .C) (tables 𝓤 H 𝓜 𝓡 code.env .Λ) #this code.function (code.unfolded 𝓤 H 𝓜 𝓡)
-    (reader-meets (readAt (kind.fixed 8)) 𝓤 H (𝓖 .A) (givenOf 𝓤 H 𝓜 𝓖) #callee (tablesOf 𝓤 H 𝓜 (tables 𝓤 H 𝓜 𝓡 code.env))
-    (cited 𝓤 H (tripleOf 𝓤 H (𝓖 .A) callee.signature (callee.spec 𝓤 H (𝓖 .A) (𝓜 .mem) (𝓡 .run))) 𝓜 𝓡 code.env #callee callee-def.routine code.calls-reader·take-stamp (callee-thm.met 𝓤 H 𝓜 𝓖 𝓡)))
+    reader-call (readAt (kind.fixed 8)) 𝓤 H 𝓜 𝓖 𝓡 code.env name callee.name callee.routine (code.unfolded 𝓤 H 𝓜 𝓡) code.calls-reader·take-stamp (met 𝓤 H 𝓜 𝓖 𝓡)

@@ -15,32 +15,24 @@ Inv-loop buf₀ first i₀ buf i = (i ≤ length buf₀) × (length buf ≡ leng
 abbrev μ-loop : tie.MeasureT-loop
 μ-loop buf₀ first i₀ buf i = length buf₀ - i
 
-loop-holds : tie.Need-loop-holds Inv-loop μ-loop
-unfolding counted
-loop-holds c = (omega arith, refl, refl)
-
-loop-again : tie.Need-loop-again Inv-loop μ-loop
-loop-again c =
-    let l = c .before .loop in
-    (omega arith, length-set (l .buf) (l .i) _ ∙ l .inv .1, rw (l .inv .2) (counted-more (c .before .before .args .buf .now) (c .before .before .args .first) (l .i) (omega arith)))
-
 returns : tie.Need-returns Inv-loop μ-loop
 returns c =
     let e : c .before .loop .i ≡ length (c .before .before .args .buf .now) = omega arith in
     c .before .loop .inv .2 ∙ rw (e, drop-length, append-nil)
 
 pub count-up-spec : {M : Type 1} → statement M
+unfolding counted
 count-up-spec =
     tie.close
     (tie.spec
     Inv-loop
     μ-loop
-    loop-holds
+    (λ c. (omega arith, refl, refl))
     (λ c. omega arith)
     (λ c. omega arith)
     (λ c. omega arith)
     (λ c. omega arith)
     (λ c. omega arith)
-    loop-again
+    (λ c. (omega arith, length-set (c .before .loop .buf) (c .before .loop .i) _ ∙ c .before .loop .inv .1, rw (c .before .loop .inv .2) (counted-more (c .before .before .args .buf .now) (c .before .before .args .first) (c .before .loop .i) (omega arith))))
     (λ c. c .before .loop .inv .1)
     returns)

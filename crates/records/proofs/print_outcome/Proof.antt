@@ -6,12 +6,12 @@ pub print-outcome-spec : {M : Type 1} → statement M
 print-outcome-spec =
     tie.close
     (tie.spec
-    (λ c. search needs)
-    (λ c κs. search needs)
-    (λ c. search needs)
-    (λ c κs. search needs)
-    (λ c κs. search needs)
-    (λ c. search needs)
+    (search needs)
+    (search needs)
+    (search needs)
+    (search needs)
+    (search needs)
+    (search needs)
     (λ c. rw (c .before .before .before .before .before .outcome .given .1) (c .before .before .print-wrote .ensures))
-    (λ c. search needs)
+    (search needs)
     (λ c. rw (c .before .before .before .before .before .before .outcome2 .given .1) (rw (c .before .before .before .numbers-of .ensures) at (c .before .before .print-refused .ensures))))

@@ -4,11 +4,4 @@ use Rattle.records.proofs.print_wrote.Tie as tie
 
 pub print-wrote-spec : {M : Type 1} → statement M
 print-wrote-spec =
-    tie.close
-    (tie.spec
-    (λ c κs. search needs)
-    (λ c. search needs)
-    (λ c κs. search needs)
-    (λ c κs. search needs)
-    (λ c. search needs)
-    (λ c. cc))
+    tie.close (tie.spec (search needs) (search needs) (search needs) (search needs) (search needs) (λ c. cc))

@@ -11,41 +11,26 @@ use Rattle.aes.specs.Aes.{State, keyExpansion}
 use Rattle.secure.specs.Layout.{allNonces, frameParts, sealedParts, sealedLength, partCount}
 use Rattle.sealed_builder.specs.declared.Sending.{Sending}
 use Rattle.sealed_builder.specs.Build.{spentOf, sentMore, done, sealedDone}
-use Rattle.sealed_builder.proofs.Accepted.{accepted, counted}
+use Rattle.sealed_builder.proofs.Accepted.{Accepted, accepted, counted}
 use borrow.Author.Needs.{needs}
 use Rattle.sealed_builder.proofs.build_sealed.Statement.{statement}
 use Rattle.sealed_builder.proofs.build_sealed.Tie as tie
 
-sub-put-sealed : tie.Need-sub-put-sealed
-sub-put-sealed c =
-    let g = c .before .before .before .before .before .before .before .before .args in
-    let f = accepted (g .sending) (g .header) (g .abort) (length (g .source .now)) (length (g .buf .now)) (g .queued) (sym (c .before .before .before .before .before .judge-sealed .ensures) ∙ ap judgedBy (c .before .before .before .enum-told .given .1)) in
-    omega arith
+-- where the request is accepted
+abbrev start : tie.After-enum-told → tie.Start
+start a = a .before .before .before .before .before
 
-part-put-sealed-start : tie.Need-part-put-sealed-start
-part-put-sealed-start c =
-    let g = c .before .before .before .before .before .before .before .before .args in
-    let f = accepted (g .sending) (g .header) (g .abort) (length (g .source .now)) (length (g .buf .now)) (g .queued) (sym (c .before .before .before .before .before .judge-sealed .ensures) ∙ ap judgedBy (c .before .before .before .enum-told .given .1)) in
-    omega arith
-
-put-sealed-requires : tie.Need-put-sealed-requires
-put-sealed-requires c κs =
-    let g = c .before .before .before .before .before .before .before .before .before .before .args in
-    let f = accepted (g .sending) (g .header) (g .abort) (length (g .source .now)) (length (g .buf .now)) (g .queued) (sym (c .before .before .before .before .before .before .before .judge-sealed .ensures) ∙ ap judgedBy (c .before .before .before .before .before .enum-told .given .1)) in
-    let b : length (rest (g .buf .now) (g .queued)) ≡ length (g .buf .now) - g .queued = length-rest (g .buf .now) (g .queued) in
-    (f .whole, omega arith)
+request : (a : tie.After-enum-told)
+    → (let g = start a .args in Accepted (g .sending) (g .header) (g .abort) (length (g .source .now)) (length (g .buf .now)) (g .queued))
+request a =
+    let g = start a .args in
+    accepted (g .sending) (g .header) (g .abort) (length (g .source .now)) (length (g .buf .now)) (g .queued) (sym (a .before .before .judge-sealed .ensures) ∙ ap judgedBy (a .enum-told .given .1))
 
 sent-more-requires : tie.Need-sent-more-requires
 sent-more-requires c κs =
-    let g = c .before .before .before .before .before .before .before .before .before .before .before .before .before .before .before .args in
-    let f = accepted (g .sending) (g .header) (g .abort) (length (g .source .now)) (length (g .buf .now)) (g .queued) (sym (c .before .before .before .before .before .before .before .before .before .before .before .before .judge-sealed .ensures) ∙ ap judgedBy (c .before .before .before .before .before .before .before .before .before .before .enum-told .given .1)) in
-    let k : spentOf (g .sending) + c .part-count .result ≤ allNonces = rw (c .part-count .ensures .0) (f .left) in
-    (c .part-count .ensures .1, c .part-count .ensures .2, counted (g .sending) (c .part-count .result) (c .part-count .ensures .1) k)
-
-returns : tie.Need-returns
-unfolding sealedDone
-returns c =
-    record { promise = rw (sym (c .before .before .before .judge-sealed .ensures) ∙ ap judgedBy (c .before .judgement .given .1)) }
+    let a = c .before .before .before .before .before .before .before .before .before .before in
+    let k : spentOf (start a .args .sending) + c .part-count .result ≤ allNonces = rw (c .part-count .ensures .0) (request a .left) in
+    (c .part-count .ensures .1, c .part-count .ensures .2, counted (start a .args .sending) (c .part-count .result) (c .part-count .ensures .1) k)
 
 returns-2 : tie.Need-returns-2
 unfolding sealedDone
@@ -63,6 +48,7 @@ returns-2 c =
     }
 
 pub build-sealed-spec : {M : Type 1} → statement M
+unfolding sealedDone
 build-sealed-spec =
     tie.close
     (tie.spec
@@ -70,13 +56,13 @@ build-sealed-spec =
     (λ c. search needs)
     (λ c. search needs)
     (λ c κs. search needs)
-    sub-put-sealed
-    part-put-sealed-start
+    (λ c. (let f = request (c .before .before .before) in omega arith))
+    (λ c. (let f = request (c .before .before .before) in omega arith))
     (λ c. search needs)
-    put-sealed-requires
+    (λ c κs. (let a = c .before .before .before .before .before in let f = request a in let l = length-rest (start a .args .buf .now) (start a .args .queued) in (f .whole, omega arith)))
     (λ c κs. search needs)
     (λ c κs. search needs)
     sent-more-requires
-    returns
+    (λ c. record { promise = rw (sym (c .before .before .before .judge-sealed .ensures) ∙ ap judgedBy (c .before .judgement .given .1)) })
     (λ c. search needs)
     returns-2)

@@ -1,4 +1,4 @@
-use mathlib.Core.Path.{_≡_, ap, ap₂, _∙_}
+use mathlib.Core.Path.{_≡_, refl, ap, ap₂, _∙_}
 use mathlib.Core.List.{List}
 use Prim.Native.Nat.{ℕ, _+_, _-_}
 use native.Mathlib.Omega.{arith}
@@ -6,39 +6,29 @@ use lib.ListN.{length, take, drop, length-drop}
 use lib.Seq.{length-take-le}
 use Rattle.buffer.specs.Splice.{replaceFront}
 use Rattle.buffer.proofs.Parts.{rest, length-rest, next}
+use Rattle.preamble.specs.declared.Header.{Header}
 use Rattle.banner.specs.declared.Revision.the-variants.{Msgr21}
 use Rattle.body.specs.Body.{lateByte, restSent}
 use Rattle.gcm.specs.Gcm.{sealedBy}
 use Rattle.gcm.proofs.Placing.{sealed-length}
-use Rattle.secure.specs.Layout.{nextNonce, firstText, laterTexts, texts, partsFrom, sealedParts, sealedLength}
+use Rattle.secure.specs.Layout.{nextNonce, firstText, laterTexts, texts, partsFrom, sealedParts, firstLength, secondPartLength, lastPartLength, sealedLength}
 use Rattle.secure.proofs.Lengths.{length-first-text}
 use borrow.Author.Needs.{needs}
 use Rattle.sealed_builder.proofs.put_sealed.Statement.{statement}
 use Rattle.sealed_builder.proofs.put_sealed.Tie as tie
 
-seal-first-requires : tie.Need-seal-first-requires
+length-is : (h : Header) → sealedLength h ≡ firstLength + secondPartLength h + lastPartLength h
 unfolding sealedLength
-seal-first-requires c κs = omega (arith, c .before .before .before .before .before .before .before .pre .1)
-
-sub-seal-later : tie.Need-sub-seal-later
-unfolding sealedLength
-sub-seal-later c =
-    omega (arith, c .before .before .before .before .before .before .before .before .before .before .pre .1, c .before .before .seal-first .kept .0)
-
-part-seal-later-start : tie.Need-part-seal-later-start
-unfolding sealedLength
-part-seal-later-start c =
-    omega (arith, c .before .before .before .before .before .before .before .before .before .before .pre .1, c .before .before .seal-first .kept .0)
+length-is h = refl
 
 seal-later-requires : tie.Need-seal-later-requires
-unfolding sealedLength
 seal-later-requires c κs =
     let first : length (c .before .before .before .before .before .before .before .part .result .now) ≡ c .before .before .before .before .before .before .before .before .before .before .before .args .h .s1 .len = ap length (c .before .before .before .before .before .before .before .part .ensures) ∙ length-take-le (c .before .before .before .before .before .before .before .before .before .before .before .args .h .s1 .len) (c .before .before .before .before .before .before .before .before .before .before .before .args .source .now) (omega (arith, c .before .before .before .before .before .before .before .before .before .before .before .pre .0)) in
     let l₁ : List ℕ = c .before .before .before .seal-first .last .0 in (
       first,
       omega (arith, first, c .before .before .before .before .before .before .before .before .struct-known .given),
       ap length (c .before .before .before .before .before .before .behind .ensures) ∙ length-drop (c .before .before .before .before .before .before .before .before .before .before .before .args .h .s1 .len) (c .before .before .before .before .before .before .before .before .before .before .before .args .source .now) ∙ omega (arith, c .before .before .before .before .before .before .before .before .before .before .before .pre .0),
-      omega (arith, c .before .before .before .before .before .before .before .before .before .before .before .pre .1, c .before .before .before .seal-first .kept .0, length-rest l₁ 96),
+      omega (arith, length-is (c .before .before .before .before .before .before .before .before .before .before .before .args .h), c .before .before .before .before .before .before .before .before .before .before .before .pre .1, c .before .before .before .seal-first .kept .0, length-rest l₁ 96),
     )
 
 returns : tie.Need-returns
@@ -66,9 +56,9 @@ put-sealed-spec =
     (λ c κs. search needs)
     (λ c κs. search needs)
     (λ c κs. search needs)
-    seal-first-requires
-    sub-seal-later
-    part-seal-later-start
+    (λ c κs. omega (arith, length-is (c .before .before .before .before .before .before .before .args .h), c .before .before .before .before .before .before .before .pre .1))
+    (λ c. omega (arith, length-is (c .before .before .before .before .before .before .before .before .before .before .args .h), c .before .before .before .before .before .before .before .before .before .before .pre .1, c .before .before .seal-first .kept .0))
+    (λ c. omega (arith, length-is (c .before .before .before .before .before .before .before .before .before .before .args .h), c .before .before .before .before .before .before .before .before .before .before .pre .1, c .before .before .seal-first .kept .0))
     (λ c. search needs)
     seal-later-requires
     (λ c. search needs)

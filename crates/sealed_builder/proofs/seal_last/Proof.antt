@@ -21,34 +21,30 @@ returns : tie.Need-returns
 returns c =
     last-none (c .before .before .before .before .args .w .now) (c .before .before .before .before .args .nonce) (c .before .before .before .before .args .h) (lastText (c .before .before .before .before .args .h) (lateByte Msgr21 (c .before .before .before .before .args .abort)) (restSent (c .before .before .before .before .args .abort) (c .before .before .before .before .args .rest .now))) (c .before .before .before .before .args .out .now) (sym (c .before .no-last-part .ensures) ∙ c .if1 .taken)
 
-sub-n : tie.Need-sub-n
-sub-n c =
-    let there : noLastPart (c .before .before .before .before .before .args .h) ≡ false = sym (c .before .before .no-last-part .ensures) ∙ c .before .if1 .left in
-    let n : c .last-part-length .result ≡ lastPart (c .before .before .before .before .before .args .h) = c .last-part-length .ensures .0 ∙ last-size (c .before .before .before .before .before .args .h) there in
-    omega arith
+-- where there is a last part
+there : (a : tie.Else1) → noLastPart (a .before .before .before .before .args .h) ≡ false
+there a = sym (a .before .no-last-part .ensures) ∙ a .if1 .left
 
-put-last-requires : tie.Need-put-last-requires
-put-last-requires c κs =
-    let there : noLastPart (c .before .before .before .before .before .before .args .h) ≡ false = sym (c .before .before .before .no-last-part .ensures) ∙ c .before .before .if1 .left in
-    (c .before .before .before .before .before .before .pre .0, omega (arith, last-size (c .before .before .before .before .before .before .args .h) there, c .before .before .before .before .before .before .pre .1))
+sized : (a : tie.After-last-part-length) → a .last-part-length .result ≡ lastPart (a .before .before .before .before .before .args .h)
+sized a = a .last-part-length .ensures .0 ∙ last-size (a .before .before .before .before .before .args .h) (there (a .before))
 
 seal-front-requires : tie.Need-seal-front-requires
 seal-front-requires c κs =
-    let there : noLastPart (c .before .before .before .before .before .before .before .before .before .before .args .h) ≡ false = sym (c .before .before .before .before .before .before .before .no-last-part .ensures) ∙ c .before .before .before .before .before .before .if1 .left in
-    let n : c .before .before .before .before .before .last-part-length .result ≡ lastPart (c .before .before .before .before .before .before .before .before .before .before .args .h) = c .before .before .before .before .before .last-part-length .ensures .0 ∙ last-size (c .before .before .before .before .before .before .before .before .before .before .args .h) there in
-    (omega (arith, last-size (c .before .before .before .before .before .before .before .before .before .before .args .h) there, c .before .before .before .before .before .before .before .before .before .before .pre .1, c .before .before .before .put-last .kept .0), omega (arith, c .before .before .before .before .before .last-part-length .ensures .1))
+    let a = c .before .before .before .before .before in
+    let z = a .before .before .before .before .before in
+    (omega (arith, sized a, last-size (z .args .h) (there (a .before)), z .pre .1, c .before .before .before .put-last .kept .0), omega (arith, sized a, a .last-part-length .ensures .1))
 
 returns-2 : tie.Need-returns-2
 returns-2 c =
     let g = c .before .before .before .before .before .before .before .before .before .before .before .before .before .args in
-    let there : noLastPart (c .before .before .before .before .before .before .before .before .before .before .before .before .before .args .h) ≡ false = sym (c .before .before .before .before .before .before .before .before .before .before .no-last-part .ensures) ∙ c .before .before .before .before .before .before .before .before .before .if1 .left in
-    let n : c .before .before .before .before .before .before .before .before .last-part-length .result ≡ lastPart (c .before .before .before .before .before .before .before .before .before .before .before .before .before .args .h) = c .before .before .before .before .before .before .before .before .last-part-length .ensures .0 ∙ last-size (c .before .before .before .before .before .before .before .before .before .before .before .before .before .args .h) there in
+    let some = there (c .before .before .before .before .before .before .before .before .before) in
+    let n = sized (c .before .before .before .before .before .before .before .before) in
     let bytes : List ℕ = restSent (g .abort) (g .rest .now) in
     let text : List ℕ = lastText (g .h) (lateByte Msgr21 (g .abort)) bytes in
     let len : length text + 16 ≡ lastPart (g .h) = length-last-text (g .h) (lateByte Msgr21 (g .abort)) bytes (length-sent (g .abort) (g .rest .now) ∙ c .before .before .before .before .before .before .before .before .before .before .before .before .before .pre .0) in
-    last-there (g .w .now) (g .nonce) (g .h) text (g .out .now) (c .before .before .seal-front .last .0) there
+    last-there (g .w .now) (g .nonce) (g .h) text (g .out .now) (c .before .before .seal-front .last .0) some
     (sealed-laid (g .w .now) (g .nonce) text (g .out .now) (c .before .before .before .before .before .before .put-last .last .0) (c .before .before .seal-front .last .0) (c .before .before .before .before .before .before .before .before .last-part-length .result - 16)
-    (omega arith) (omega (arith, last-size (g .h) there, c .before .before .before .before .before .before .before .before .before .before .before .before .before .pre .1)) (c .before .before .before .before .before .before .put-last .ensures) (c .before .before .seal-front .ensures))
+    (omega arith) (omega (arith, last-size (g .h) some, c .before .before .before .before .before .before .before .before .before .before .before .before .before .pre .1)) (c .before .before .before .before .before .before .put-last .ensures) (c .before .before .seal-front .ensures))
 
 pub seal-last-spec : {M : Type 1} → statement M
 seal-last-spec =
@@ -57,8 +53,8 @@ seal-last-spec =
     (λ c κs. search needs)
     returns
     (λ c κs. search needs)
-    sub-n
-    put-last-requires
+    (λ c. omega (arith, sized c))
+    (λ c κs. (let z = c .before .before .before .before .before .before in (z .pre .0, omega (arith, last-size (z .args .h) (there (c .before .before)), z .pre .1))))
     seal-front-requires
     (λ c. search needs)
     returns-2)

@@ -11,24 +11,21 @@ use borrow.Author.Needs.{needs}
 use Rattle.sealed_builder.proofs.seal_second_part.Statement.{statement}
 use Rattle.sealed_builder.proofs.seal_second_part.Tie as tie
 
-put-padded-requires : tie.Need-put-padded-requires
-put-padded-requires c κs =
-    let tail : length (c .before .before .behind .result .now) ≡ length (c .before .before .before .before .before .args .first .now) - 48 = ap length (c .before .before .behind .ensures) ∙ length-drop 48 (c .before .before .before .before .before .args .first .now) in
-    let e : roundUp (length (c .before .before .behind .result .now)) ≡ roundUp (length (c .before .before .before .before .before .args .first .now) - 48) = ap roundUp tail in
-    omega (arith, c .before .before .before .before .before .pre .0)
+-- what is behind the inline buffer
+rounded : (a : tie.After-behind) → roundUp (length (a .behind .result .now)) ≡ roundUp (length (a .before .before .before .args .first .now) - 48)
+rounded a = ap roundUp (ap length (a .behind .ensures) ∙ length-drop 48 (a .before .before .before .args .first .now))
 
 seal-front-requires : tie.Need-seal-front-requires
 seal-front-requires c κs =
-    let tail : length (c .before .before .before .before .before .before .behind .result .now) ≡ length (c .before .before .before .before .before .before .before .before .before .args .first .now) - 48 = ap length (c .before .before .before .before .before .before .behind .ensures) ∙ length-drop 48 (c .before .before .before .before .before .before .before .before .before .args .first .now) in
-    let e : roundUp (length (c .before .before .before .before .before .before .behind .result .now)) ≡ roundUp (length (c .before .before .before .before .before .before .before .before .before .args .first .now) - 48) = ap roundUp tail in
-    (omega (arith, c .before .before .before .before .before .before .before .before .before .pre .0, c .before .before .before .before .before .padding .ensures .0, c .before .before .before .put-padded .kept .0), omega (arith, c .before .before .before .before .before .before .before .before .before .pre .1, c .before .before .before .before .before .padding .ensures .1))
+    let e = rounded (c .before .before .before .before .before .before) in
+    let z = c .before .before .before .before .before .before .before .before .before in
+    (omega (arith, z .pre .0, c .before .before .before .before .before .padding .ensures .0, c .before .before .before .put-padded .kept .0), omega (arith, z .pre .1, c .before .before .before .before .before .padding .ensures .1))
 
 returns : tie.Need-returns
 returns c =
     let g = c .before .before .before .before .before .before .before .before .before .before .before .before .args in
-    let tail : length (c .before .before .before .before .before .before .before .before .before .behind .result .now) ≡ length (c .before .before .before .before .before .before .before .before .before .before .before .before .args .first .now) - 48 = ap length (c .before .before .before .before .before .before .before .before .before .behind .ensures) ∙ length-drop 48 (c .before .before .before .before .before .before .before .before .before .before .before .before .args .first .now) in
     let text : List ℕ = secondText (g .first .now) in
-    let e : roundUp (length (c .before .before .before .before .before .before .before .before .before .behind .result .now)) ≡ roundUp (length (g .first .now) - 48) = ap roundUp tail in
+    let e = rounded (c .before .before .before .before .before .before .before .before .before) in
     let len : length text ≡ length (c .before .before .before .before .before .before .before .before .before .behind .result .now) + c .before .before .before .before .before .before .before .before .padding .result =
     length-padded (drop 48 (g .first .now)) ∙ ap roundUp (length-drop 48 (g .first .now)) ∙ omega (arith, e, c .before .before .before .before .before .before .before .before .padding .ensures .0) in
     sealed-laid (g .w .now) (g .nonce) text (g .out .now) (c .before .before .before .before .before .before .put-padded .last .0) (c .before .before .seal-front .last .0) (length (c .before .before .before .before .before .before .before .before .before .behind .result .now) + c .before .before .before .before .before .before .before .before .padding .result)
@@ -42,7 +39,7 @@ seal-second-part-spec =
     (λ c κs. search needs)
     (λ c κs. search needs)
     (λ c. search needs)
-    put-padded-requires
+    (λ c κs. omega (arith, rounded (c .before .before), c .before .before .before .before .before .pre .0))
     seal-front-requires
     (λ c. search needs)
     returns)

@@ -1,6 +1,6 @@
 use Prim.Native.Nat.{ℕ, _<_}
 use mathlib.Core.Bool.{true, false}
-use mathlib.Core.Path.{_≡_, _∙_, sym, ap}
+use mathlib.Core.Path.{_≡_, _∙_, refl, sym, ap}
 use lib.ListN.{length}
 use borrow.Author.Needs.{needs}
 use borrow.Author.Tests.{not-true, not-false}
@@ -8,7 +8,7 @@ use Rattle.refusal.specs.declared.Numbers.{Numbers}
 use Rattle.refusal.specs.Refusals.{row}
 use Rattle.sealed_receiver.specs.State.{agrees, isRefused}
 use Rattle.sealed_receiver.specs.Step as step
-use Rattle.sealed_receiver.proofs.Every.{contradicting, repeating, shortened, feeding}
+use Rattle.sealed_receiver.proofs.Every.{contradicting, repeating, shortened, feeding, answered}
 use Rattle.sealed_receiver.proofs.receive.Statement.{statement}
 use Rattle.sealed_receiver.proofs.receive.Tie as tie
 
@@ -30,53 +30,33 @@ running a =
 
 returns : tie.Need-returns
 returns c =
-    let z = c .before .before .before .before .before .before in
-    let st = z .args .state in
-    let s = z .args .store .now in
+    let z = c .before .before .before .before .before .before .args in
+    let s = z .store .now in
     let tested = c .before .before .before .agrees-with-itself in
-    let a = sym (tested .ensures) ∙ not-true (tested .result) (c .before .before .if1 .taken) in
-    let e = sym (contradicting st s (z .args .piece .now) a) in
-    record {
-      received =
-          c .refuse-unchanged .ensures s
-          ∙ ap (λ (n : Numbers). step.refuseUnchanged st n s .received) (c .before .numbers-of .ensures)
-          ∙ ap (λ (x : step.Answer). x .received) e;
-      store = ap (λ (x : step.Answer). x .store) e;
-    }
+    let e = contradicting (z .state) s (z .piece .now) (sym (tested .ensures) ∙ not-true (tested .result) (c .before .before .if1 .taken)) in
+    answered (z .state) s (z .piece .now) e (c .refuse-unchanged .ensures s ∙ ap (λ (n : Numbers). step.refuseUnchanged (z .state) n s .received) (c .before .numbers-of .ensures)) refl
 
 returns-2 : tie.Need-returns-2
 returns-2 c =
-    let z = c .before .before .before .before .before .before .before .before .before in
-    let st = z .args .state in
-    let s = z .args .store .now in
-    let r = sym (c .before .before .is-refused .ensures) ∙ c .before .if2 .taken in
-    let e = sym (repeating st s (z .args .piece .now) (agreed (c .before .before .before .before .before)) r) in
-    record { received = c .refuse-unchanged2 .ensures s ∙ ap (λ (x : step.Answer). x .received) e; store = ap (λ (x : step.Answer). x .store) e }
+    let z = c .before .before .before .before .before .before .before .before .before .args in
+    let e = repeating (z .state) (z .store .now) (z .piece .now) (agreed (c .before .before .before .before .before)) (sym (c .before .before .is-refused .ensures) ∙ c .before .if2 .taken) in
+    answered (z .state) (z .store .now) (z .piece .now) e (c .refuse-unchanged2 .ensures (z .store .now)) refl
 
 returns-3 : tie.Need-returns-3
 returns-3 c =
-    let z = c .before .before .before .before .before .before .before .before .before .before .before .before .before in
-    let st = z .args .state in
-    let s = z .args .store .now in
+    let z = c .before .before .before .before .before .before .before .before .before .before .before .before .before .args in
+    let s = z .store .now in
     let q = c .before .before .before .before .needed-by .ensures in
-    let t : length s < step.neededBy st = rw q at (c .before .before .before .if3 .taken) in
-    let r = live (c .before .before .before .before .before) in
-    let e = sym (shortened st s (z .args .piece .now) (agreed (c .before .before .before .before .before .before .before .before .before)) r t) in
-    let numbers = c .before .before .numbers-of2 in
-    let n : numbers .result ≡ step.shortStore st = numbers .ensures ∙ ap (λ (k : ℕ). row 10 k 0 0) q in
-    record {
-      received = c .refuse-unchanged3 .ensures s ∙ rw (c .before .refused-state .ensures, n) (ap (λ (x : step.Answer). x .received) e);
-      store = ap (λ (x : step.Answer). x .store) e;
-    }
+    let t : length s < step.neededBy (z .state) = rw q at (c .before .before .before .if3 .taken) in
+    let e = shortened (z .state) s (z .piece .now) (agreed (c .before .before .before .before .before .before .before .before .before)) (live (c .before .before .before .before .before)) t in
+    let n : c .before .before .numbers-of2 .result ≡ step.shortStore (z .state) = c .before .before .numbers-of2 .ensures ∙ ap (λ (k : ℕ). row 10 k 0 0) q in
+    answered (z .state) s (z .piece .now) e (c .refuse-unchanged3 .ensures s ∙ rw (c .before .refused-state .ensures, n)) refl
 
 returns-4 : tie.Need-returns-4
 returns-4 c =
-    let z = c .before .before .before .before .before .before .before .before .before .before .before .before .before .before in
-    let st = z .args .state in
-    let s = z .args .store .now in
-    let e = sym (feeding st s (z .args .piece .now) (running (c .before .before .before .before))) in
+    let z = c .before .before .before .before .before .before .before .before .before .before .before .before .before .before .args in
     let f = c .before .before .take-piece .ensures in
-    record { received = f .received ∙ ap (λ (x : step.Answer). x .received) e; store = f .store ∙ ap (λ (x : step.Answer). x .store) e }
+    answered (z .state) (z .store .now) (z .piece .now) (feeding (z .state) (z .store .now) (z .piece .now) (running (c .before .before .before .before))) (f .received) (f .store)
 
 pub receive-spec : {M : Type 1} → statement M
 receive-spec =

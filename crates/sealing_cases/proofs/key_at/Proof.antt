@@ -10,7 +10,7 @@ pub key-at-spec : {M : Type 1} → statement M
 key-at-spec =
     tie.close
     (tie.spec
-    (λ c. search needs)
-    (λ c κs. search needs)
-    (λ c κs. search needs)
+    (search needs)
+    (search needs)
+    (search needs)
     (λ c. λ h. c .before .put .ensures ∙ rw (c .before .before .part .ensures) (bytes-all (c .before .before .before .before .before .args .s .now) (replicate 16 0) (c .before .before .before .before .before .args .at) 16 refl (omega arith))))

@@ -10,7 +10,7 @@ pub nonce-at-spec : {M : Type 1} → statement M
 nonce-at-spec =
     tie.close
     (tie.spec
-    (λ c. search needs)
-    (λ c κs. search needs)
-    (λ c κs. search needs)
+    (search needs)
+    (search needs)
+    (search needs)
     (λ c. λ h. c .before .put .ensures ∙ rw (c .before .before .part .ensures) (bytes-all (c .before .before .before .before .before .args .s .now) (replicate 12 0) (c .before .before .before .before .before .args .at) 12 refl (omega arith))))

@@ -12,5 +12,4 @@ unfolding doneBy
 returns-2 c = rw (c .before .before .before .before .if1 .left) (c .before .before .seal .ensures .is)
 
 pub seal-or-open-spec : {M : Type 1} → statement M
-seal-or-open-spec =
-    tie.close (tie.spec (λ c κs. search needs) (λ c. search needs) returns (λ c κs. search needs) (λ c. search needs) returns-2)
+seal-or-open-spec = tie.close (tie.spec (search needs) (search needs) returns (search needs) (search needs) returns-2)

@@ -10,15 +10,8 @@ use borrow.Author.Needs.{needs}
 use Rattle.session.proofs.accept.Statement.{statement}
 use Rattle.session.proofs.accept.Tie as tie
 
-returns : tie.Need-returns
-unfolding acceptOf
-returns c = when-fine _ _ _ _ _ (c .before .before .before .before .judge-accept .ensures) (c .before .before .enum-told .given .1) (ap (λ (t : Session). outcome t (Accepted (c .before .before .before .before .before .args .s .last + 1))) (c .add .ensures))
-
-returns-2 : tie.Need-returns-2
-unfolding acceptOf
-returns-2 c = when-refused _ _ _ _ _ (c .before .before .before .before .judge-accept .ensures) _ (c .before .before .v .given .1) (c .refuse .ensures)
-
 pub accept-spec : {M : Type 1} → statement M
+unfolding acceptOf
 accept-spec =
     tie.close
     (tie.spec
@@ -28,5 +21,5 @@ accept-spec =
     (λ c κs. search needs)
     (λ c. search needs)
     (λ c κs. search needs)
-    returns
-    returns-2)
+    (λ c. when-fine _ _ _ _ _ (c .before .before .before .before .judge-accept .ensures) (c .before .before .enum-told .given .1) (ap (λ (t : Session). outcome t (Accepted (c .before .before .before .before .before .args .s .last + 1))) (c .add .ensures)))
+    (λ c. when-refused _ _ _ _ _ (c .before .before .before .before .judge-accept .ensures) _ (c .before .before .v .given .1) (c .refuse .ensures)))

@@ -7,15 +7,8 @@ use borrow.Author.Needs.{needs}
 use Rattle.session.proofs.ack.Statement.{statement}
 use Rattle.session.proofs.ack.Tie as tie
 
-returns : tie.Need-returns
-unfolding ackOf
-returns c = when-fine _ _ _ _ _ (c .before .before .before .judge-ack .ensures) (c .before .enum-told .given .1) (ap (λ (t : Session). outcome t Done) (c .acked .ensures))
-
-returns-2 : tie.Need-returns-2
-unfolding ackOf
-returns-2 c = when-refused _ _ _ _ _ (c .before .before .before .before .judge-ack .ensures) _ (c .before .before .v .given .1) (c .refuse .ensures)
-
 pub ack-spec : {M : Type 1} → statement M
+unfolding ackOf
 ack-spec =
     tie.close
     (tie.spec
@@ -24,5 +17,5 @@ ack-spec =
     (λ c κs. search needs)
     (λ c. search needs)
     (λ c κs. search needs)
-    returns
-    returns-2)
+    (λ c. when-fine _ _ _ _ _ (c .before .before .before .judge-ack .ensures) (c .before .enum-told .given .1) (ap (λ (t : Session). outcome t Done) (c .acked .ensures)))
+    (λ c. when-refused _ _ _ _ _ (c .before .before .before .before .judge-ack .ensures) _ (c .before .before .v .given .1) (c .refuse .ensures)))

@@ -3,9 +3,7 @@ use borrow.Author.Needs.{needs}
 use Rattle.session.proofs.agrees_with_itself.Statement.{statement}
 use Rattle.session.proofs.agrees_with_itself.Tie as tie
 
-returns : tie.Need-returns
-unfolding agrees
-returns c = cc
-
 pub agrees-with-itself-spec : {M : Type 1} → statement M
-agrees-with-itself-spec = tie.close (tie.spec (λ c κs. search needs) (λ c κs. search needs) returns)
+unfolding agrees
+agrees-with-itself-spec =
+    tie.close (tie.spec (λ c κs. search needs) (λ c κs. search needs) (λ c. cc))

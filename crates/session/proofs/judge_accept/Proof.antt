@@ -7,11 +7,8 @@ use borrow.Author.Needs.{needs}
 use Rattle.session.proofs.judge_accept.Statement.{statement}
 use Rattle.session.proofs.judge_accept.Tie as tie
 
-returns : tie.Need-returns
-unfolding judgeAccept
-returns c = cc (or-else-last (judgedBy (c .before .before .before .unless2 .result)), held-length (c .before .before .before .before .before .before .before .args .s .handles) (c .before .before .before .before .before .before .before .args .s .released) (c .before .before .before .before .before .before .before .args .s .last - c .before .before .before .before .before .before .before .args .s .released))
-
 pub judge-accept-spec : {M : Type 1} → statement M
+unfolding judgeAccept
 judge-accept-spec =
     tie.close
     (tie.spec
@@ -21,4 +18,4 @@ judge-accept-spec =
     (λ c κs. search needs)
     (λ c κs. search needs)
     (λ c κs. search needs)
-    returns)
+    (λ c. cc (or-else-last (judgedBy (c .before .before .before .unless2 .result)), held-length (c .before .before .before .before .before .before .before .args .s .handles) (c .before .before .before .before .before .before .before .args .s .released) (c .before .before .before .before .before .before .before .args .s .last - c .before .before .before .before .before .before .before .args .s .released))))

@@ -5,10 +5,12 @@ use borrow.Author.Needs.{needs}
 use Rattle.session.proofs.judge_ack.Statement.{statement}
 use Rattle.session.proofs.judge_ack.Tie as tie
 
-returns : tie.Need-returns
-unfolding judgeAck
-returns c = cc (or-else-last (judgedBy (c .before .unless .result)))
-
 pub judge-ack-spec : {M : Type 1} → statement M
+unfolding judgeAck
 judge-ack-spec =
-    tie.close (tie.spec (λ c κs. search needs) (λ c κs. search needs) (λ c κs. search needs) returns)
+    tie.close
+    (tie.spec
+    (λ c κs. search needs)
+    (λ c κs. search needs)
+    (λ c κs. search needs)
+    (λ c. cc (or-else-last (judgedBy (c .before .unless .result)))))

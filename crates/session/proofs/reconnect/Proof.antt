@@ -4,15 +4,8 @@ use borrow.Author.Needs.{needs}
 use Rattle.session.proofs.reconnect.Statement.{statement}
 use Rattle.session.proofs.reconnect.Tie as tie
 
-returns : tie.Need-returns
-unfolding reconnectOf
-returns c = when-fine _ _ _ _ _ (c .before .before .before .before .judge-ack .ensures) (c .before .before .enum-told .given .1) (resend-held _ _ _ (c .before .acked .ensures) (c .held-count .ensures))
-
-returns-2 : tie.Need-returns-2
-unfolding reconnectOf
-returns-2 c = when-refused _ _ _ _ _ (c .before .before .before .before .judge-ack .ensures) _ (c .before .before .v .given .1) (c .refuse .ensures)
-
 pub reconnect-spec : {M : Type 1} → statement M
+unfolding reconnectOf
 reconnect-spec =
     tie.close
     (tie.spec
@@ -22,5 +15,5 @@ reconnect-spec =
     (λ c κs. search needs)
     (λ c. search needs)
     (λ c κs. search needs)
-    returns
-    returns-2)
+    (λ c. when-fine _ _ _ _ _ (c .before .before .before .before .judge-ack .ensures) (c .before .before .enum-told .given .1) (resend-held _ _ _ (c .before .acked .ensures) (c .held-count .ensures)))
+    (λ c. when-refused _ _ _ _ _ (c .before .before .before .before .judge-ack .ensures) _ (c .before .before .v .given .1) (c .refuse .ensures)))

@@ -5,9 +5,6 @@ use Rattle.session.proofs.worked_histories.Statement.{statement}
 use Rattle.session.proofs.worked_histories.Tie as tie
 
 -- each history computes
-table : Worked
-unfolding Worked examples heldFrom agrees judgeState judgeAccept judgeAck acceptOf ackOf reconnectOf resetOf found heldAt
-table = ((refl, (refl, (refl, (refl, (refl, (refl, (refl, (refl, (refl, (refl, (refl, (refl, (refl, (refl, (refl, (refl, (refl, (refl, (refl, (refl, tt)))))))))))))))))))), (refl, refl, refl, refl, refl), (refl, refl, refl, refl, refl), (refl, refl, refl, refl, refl))
-
 pub worked-histories-spec : {M : Type 1} → statement M
-worked-histories-spec = tie.close (tie.spec (λ c. table))
+unfolding Worked examples heldFrom agrees judgeState judgeAccept judgeAck acceptOf ackOf reconnectOf resetOf found heldAt
+worked-histories-spec = tie.close (tie.spec (λ c. ((refl, (refl, (refl, (refl, (refl, (refl, (refl, (refl, (refl, (refl, (refl, (refl, (refl, (refl, (refl, (refl, (refl, (refl, (refl, (refl, tt)))))))))))))))))))), (refl, refl, refl, refl, refl), (refl, refl, refl, refl, refl), (refl, refl, refl, refl, refl))))

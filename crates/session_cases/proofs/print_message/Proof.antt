@@ -5,11 +5,4 @@ use Rattle.session_cases.proofs.print_message.Tie as tie
 pub print-message-spec : {M : Type 1} → statement M
 print-message-spec =
     tie.close
-    (tie.spec
-    (λ c κs. search needs)
-    (λ c. search needs)
-    (λ c κs. search needs)
-    (λ c κs. search needs)
-    (λ c κs. search needs)
-    (λ c. search needs)
-    (λ c. cc))
+    (tie.spec (search needs) (search needs) (search needs) (search needs) (search needs) (search needs) (λ c. cc))

@@ -4,11 +4,4 @@ use Rattle.session_cases.proofs.print_number.Tie as tie
 
 pub print-number-spec : {M : Type 1} → statement M
 print-number-spec =
-    tie.close
-    (tie.spec
-    (λ c κs. search needs)
-    (λ c. search needs)
-    (λ c κs. search needs)
-    (λ c κs. search needs)
-    (λ c. search needs)
-    (λ c. λ w s. cc))
+    tie.close (tie.spec (search needs) (search needs) (search needs) (search needs) (search needs) (λ c. λ w s. cc))

@@ -7,10 +7,10 @@ pub print-resend-spec : {M : Type 1} → statement M
 print-resend-spec =
     tie.close
     (tie.spec
-    (λ c κs. search needs)
-    (λ c. search needs)
-    (λ c κs. search needs)
-    (λ c κs. search needs)
-    (λ c κs. search needs)
-    (λ c. search needs)
+    (search needs)
+    (search needs)
+    (search needs)
+    (search needs)
+    (search needs)
+    (search needs)
     (λ c. λ w. rw puts-append (cc)))

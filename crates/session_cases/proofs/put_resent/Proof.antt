@@ -38,8 +38,8 @@ put-resent-spec =
     Inv-loop
     μ-loop
     loop-holds
-    (λ c κs. search needs)
-    (λ c κs. search needs)
+    (search needs)
+    (search needs)
     (λ c. omega arith)
     (λ c. omega arith)
     loop-again

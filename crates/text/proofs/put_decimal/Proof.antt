@@ -1,21 +1,11 @@
-use mathlib.Core.Path.{_∙_, ap}
-use mathlib.Core.List.{List}
-use Prim.Native.Nat.{ℕ}
-use Rattle.text.specs.Page.{page, write, put}
+use Rattle.text.specs.Page.{put}
 use Rattle.text.proofs.Laws.{decimal-of}
 use borrow.Author.Needs.{needs}
 use Rattle.text.proofs.put_decimal.Statement.{statement}
 use Rattle.text.proofs.put_decimal.Tie as tie
 
-returns : tie.Need-returns
-unfolding put
-returns c =
-    let a = c .before .before .before .before .before .before .before .before in
-    let d = c .before .before .before .before .before .decimal in
-    c .before .before .put-word .ensures
-    ∙ ap (λ (xs : List ℕ). write xs (page (a .args .text .now) (a .args .at))) (d .ensures .1 .1 ∙ decimal-of (a .args .n) (d .result) (a .fits .n .fits) (d .ensures .1 .0))
-
 pub put-decimal-spec : {M : Type 1} → statement M
+unfolding put
 put-decimal-spec =
     tie.close
     (tie.spec
@@ -24,4 +14,4 @@ put-decimal-spec =
     (λ c. search needs)
     (λ c κs. search needs)
     (λ c. search needs)
-    returns)
+    (λ c. cc (decimal-of (c .before .before .before .before .before .before .before .before .args .n) (c .before .before .before .before .before .decimal .result) (c .before .before .before .before .before .before .before .before .fits .n .fits) (c .before .before .before .before .before .decimal .ensures .1 .0))))

@@ -7,7 +7,7 @@ pub glyph-of-spec : {M : Type 1} → statement M
 glyph-of-spec =
     tie.close
     (tie.spec
-    (λ c. search needs)
-    (λ c. search needs)
+    (search needs)
+    (search needs)
     (λ c. rw (lt-ltb (c .before .args .d) 10 (c .if1 .taken)))
     (λ c. rw (le-ltb (c .before .args .d) 10 (c .if1 .left))))

@@ -6,8 +6,8 @@ pub print-ident-spec : {M : Type 1} → statement M
 print-ident-spec =
     tie.close
     (tie.spec
-    (λ c κs. search needs)
-    (λ c κs. search needs)
-    (λ c κs. search needs)
-    (λ c. search needs)
+    (search needs)
+    (search needs)
+    (search needs)
+    (search needs)
     (λ c. rw (c .before .before .put-end .ensures, c .before .before .before .before .before .before .put-ident .ensures, c .before .before .before .before .before .before .before .before .before .before .put-block .ensures)))

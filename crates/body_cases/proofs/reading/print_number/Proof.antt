@@ -7,14 +7,14 @@ pub print-number-spec : {M : Type 1} → statement M
 print-number-spec =
     tie.close
     (tie.spec
-    (λ c κs. search needs)
-    (λ c. search needs)
-    (λ c κs. search needs)
-    (λ c κs. search needs)
-    (λ c. search needs)
+    (search needs)
+    (search needs)
+    (search needs)
+    (search needs)
+    (search needs)
     (λ c. rw (eq-eqb (c .before .before .before .before .before .before .before .before .before .before .before .before .before .before .before .args .tag) 10 (c .before .before .before .before .before .before .before .before .before .if1 .taken)) (cc))
-    (λ c. search needs)
-    (λ c κs. search needs)
-    (λ c κs. search needs)
-    (λ c. search needs)
+    (search needs)
+    (search needs)
+    (search needs)
+    (search needs)
     (λ c. rw (ne-eqb (c .before .before .before .before .before .before .before .before .before .before .before .before .before .before .before .args .tag) 10 (c .before .before .before .before .before .before .before .before .before .if1 .left)) (cc)))

@@ -6,6 +6,4 @@ returns : tie.Need-returns
 returns c = rw (c .before .before .put-end .ensures, c .before .before .before .before .before .before .put-reconnect .ensures, c .before .before .before .before .before .before .before .before .before .before .put-block .ensures)
 
 pub print-reconnect-spec : {M : Type 1} → statement M
-print-reconnect-spec =
-    tie.close
-    (tie.spec (λ c κs. search needs) (λ c κs. search needs) (λ c κs. search needs) (λ c. search needs) returns)
+print-reconnect-spec = tie.close (tie.spec (search needs) (search needs) (search needs) (search needs) returns)

@@ -6,9 +6,9 @@ pub put-byte-spec : {M : Type 1} → statement M
 put-byte-spec =
     tie.close
     (tie.spec
-    (λ c κs. search needs)
-    (λ c κs. search needs)
-    (λ c. search needs)
-    (λ c κs. search needs)
-    (λ c. search needs)
+    (search needs)
+    (search needs)
+    (search needs)
+    (search needs)
+    (search needs)
     (λ c. rw (c .before .before .put-word .ensures, c .before .before .before .before .before .before .glyph-of .ensures, c .before .before .before .before .before .glyph-of2 .ensures)))

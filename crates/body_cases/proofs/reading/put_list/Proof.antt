@@ -8,8 +8,8 @@ pub put-list-spec : {M : Type 1} → statement M
 put-list-spec =
     tie.close
     (tie.spec
-    (λ c. search needs)
-    (λ c κs. search needs)
-    (λ c κs. search needs)
-    (λ c. search needs)
+    (search needs)
+    (search needs)
+    (search needs)
+    (search needs)
     (λ c. rw (c .before .before .put-each .ensures, c .before .before .before .before .before .before .put-field .ensures, length-words (c .before .before .before .before .before .before .before .before .before .before .before .before .args .l .count) (drop (c .before .before .before .before .before .before .before .before .before .before .before .before .args .l .at) (c .before .before .before .before .before .before .before .before .before .before .before .before .args .s .now)))))

@@ -3,5 +3,4 @@ use Rattle.body_cases.proofs.reading.put_span.Statement.{statement}
 use Rattle.body_cases.proofs.reading.put_span.Tie as tie
 
 pub put-span-spec : {M : Type 1} → statement M
-put-span-spec =
-    tie.close (tie.spec (λ c κs. search needs) (λ c κs. search needs) (λ c. search needs) (λ c. cc))
+put-span-spec = tie.close (tie.spec (search needs) (search needs) (search needs) (λ c. cc))

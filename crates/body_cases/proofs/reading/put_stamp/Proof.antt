@@ -15,14 +15,6 @@ Inv-loop text₀ at bytes end₀ i₀ text end i = (i ≤ length bytes) × (leng
 abbrev μ-loop : tie.MeasureT-loop
 μ-loop text₀ at bytes end₀ i₀ text end i = length bytes - i
 
-loop-again : tie.Need-loop-again Inv-loop μ-loop
-loop-again c = let l = c .before .before .before .before .before .before .loop in
-    (omega arith, c .before .before .put-byte .kept .0 ∙ l .inv .1, stamp-more (c .before .before .before .before .before .before .before .before .before .args .bytes .now) (l .i) (page (l .text) (l .end)) (omega arith) (c .before .before .put-byte .ensures) ∙ l .inv .2)
-
-returns : tie.Need-returns Inv-loop μ-loop
-returns c = let l = c .before .loop in
-    sym (stamp-none (c .before .before .before .before .args .bytes .now) (l .i) (page (l .text) (l .end)) (omega arith)) ∙ l .inv .2
-
 pub put-stamp-spec : {M : Type 1} → statement M
 put-stamp-spec =
     tie.close
@@ -31,9 +23,9 @@ put-stamp-spec =
     μ-loop
     (λ c. (omega arith, refl, refl))
     (λ c. omega arith)
-    (λ c κs. search needs)
+    (search needs)
     (λ c. omega arith)
     (λ c. omega arith)
-    loop-again
+    (λ c. (omega arith, c .before .before .put-byte .kept .0 ∙ c .before .before .before .before .before .before .loop .inv .1, stamp-more (c .before .before .before .before .before .before .before .before .before .args .bytes .now) (c .before .before .before .before .before .before .loop .i) (page (c .before .before .before .before .before .before .loop .text) (c .before .before .before .before .before .before .loop .end)) (omega arith) (c .before .before .put-byte .ensures) ∙ c .before .before .before .before .before .before .loop .inv .2))
     (λ c. c .before .loop .inv .1)
-    returns)
+    (λ c. sym (stamp-none (c .before .before .before .before .args .bytes .now) (c .before .loop .i) (page (c .before .loop .text) (c .before .loop .end)) (omega arith)) ∙ c .before .loop .inv .2))

@@ -7,7 +7,7 @@ pub ask-spec : {M : Type 1} → statement M
 ask-spec =
     tie.close
     (tie.spec
-    (λ c κs. search needs)
+    (search needs)
     (λ c. c .ask-auth .ensures (c .before .if1 .taken))
-    (λ c κs. search needs)
+    (search needs)
     (λ c. c .ask-session .ensures (omega arith)))

@@ -5,18 +5,13 @@ use Rattle.body_cases.proofs.Requests.{opaque-given, end, step, asked}
 use Rattle.body_cases.proofs.writing.ask_auth_request.Statement.{statement}
 use Rattle.body_cases.proofs.writing.ask_auth_request.Tie as tie
 
-returns : tie.Need-returns
-returns c = asked (c .before .before .before .before .before .before .before .start .ensures)
-    (step (c .before .before .before .before .before .before .given-u32 .ensures) (step (c .before .before .before .before .before .given-list .ensures .0) (step (opaque-given 0 (c .before .before .before .before .given-bytes .ensures)) end)))
-    refl refl (c .before .before .before .before .before .given-list .ensures .1) (omega (arith, c .no-list .ensures))
-
 pub ask-auth-request-spec : {M : Type 1} → statement M
 ask-auth-request-spec =
     tie.close
     (tie.spec
-    (λ c κs. search needs)
-    (λ c κs. search needs)
-    (λ c κs. search needs)
-    (λ c κs. search needs)
-    (λ c κs. search needs)
-    returns)
+    (search needs)
+    (search needs)
+    (search needs)
+    (search needs)
+    (search needs)
+    (λ c. asked (c .before .before .before .before .before .before .before .start .ensures) (step (c .before .before .before .before .before .before .given-u32 .ensures) (step (c .before .before .before .before .before .given-list .ensures .0) (step (opaque-given 0 (c .before .before .before .before .given-bytes .ensures)) end))) refl refl (c .before .before .before .before .before .given-list .ensures .1) (omega arith)))

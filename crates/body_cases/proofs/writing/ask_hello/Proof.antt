@@ -5,18 +5,13 @@ use Rattle.body_cases.proofs.Requests.{opaque-given, end, step, asked}
 use Rattle.body_cases.proofs.writing.ask_hello.Statement.{statement}
 use Rattle.body_cases.proofs.writing.ask_hello.Tie as tie
 
-returns : tie.Need-returns
-returns c = asked (c .before .before .before .before .before .before .start .ensures)
-    (step (c .before .before .before .before .before .given-u8 .ensures) (step (opaque-given 0 (c .before .before .before .before .given-bytes .ensures)) end))
-    refl refl (omega (arith, c .before .no-list .ensures)) (omega (arith, c .no-list2 .ensures))
-
 pub ask-hello-spec : {M : Type 1} → statement M
 ask-hello-spec =
     tie.close
     (tie.spec
-    (λ c κs. search needs)
-    (λ c κs. search needs)
-    (λ c κs. search needs)
-    (λ c κs. search needs)
-    (λ c κs. search needs)
-    returns)
+    (search needs)
+    (search needs)
+    (search needs)
+    (search needs)
+    (search needs)
+    (λ c. asked (c .before .before .before .before .before .before .start .ensures) (step (c .before .before .before .before .before .given-u8 .ensures) (step (opaque-given 0 (c .before .before .before .before .given-bytes .ensures)) end)) refl refl (omega arith) (omega arith)))

@@ -5,18 +5,13 @@ use Rattle.body_cases.proofs.Requests.{end, step, asked}
 use Rattle.body_cases.proofs.writing.ask_reset.Statement.{statement}
 use Rattle.body_cases.proofs.writing.ask_reset.Tie as tie
 
-returns : tie.Need-returns
-returns c = asked (c .before .before .before .before .before .start .ensures)
-    (step (c .before .before .before .before .given-u8 .ensures) end)
-    refl refl (omega (arith, c .before .before .no-list .ensures)) (omega (arith, c .before .no-list2 .ensures))
-
 pub ask-reset-spec : {M : Type 1} → statement M
 ask-reset-spec =
     tie.close
     (tie.spec
-    (λ c κs. search needs)
-    (λ c κs. search needs)
-    (λ c κs. search needs)
-    (λ c κs. search needs)
-    (λ c κs. search needs)
-    returns)
+    (search needs)
+    (search needs)
+    (search needs)
+    (search needs)
+    (search needs)
+    (λ c. asked (c .before .before .before .before .before .start .ensures) (step (c .before .before .before .before .given-u8 .ensures) end) refl refl (omega arith) (omega arith)))

@@ -5,12 +5,12 @@ use Rattle.body_cases.proofs.Requests.{end, step, asked}
 use Rattle.body_cases.proofs.writing.ask_stamp.Statement.{statement}
 use Rattle.body_cases.proofs.writing.ask_stamp.Tie as tie
 
-returns : tie.Need-returns
-returns c = asked (c .before .before .before .before .before .start .ensures)
-    (step (c .before .before .before .before .given-stamp .ensures) end)
-    refl refl (omega (arith, c .before .no-list .ensures)) (omega (arith, c .no-list2 .ensures))
-
 pub ask-stamp-spec : {M : Type 1} → statement M
 ask-stamp-spec =
     tie.close
-    (tie.spec (λ c κs. search needs) (λ c κs. search needs) (λ c κs. search needs) (λ c κs. search needs) returns)
+    (tie.spec
+    (search needs)
+    (search needs)
+    (search needs)
+    (search needs)
+    (λ c. asked (c .before .before .before .before .before .start .ensures) (step (c .before .before .before .before .given-stamp .ensures) end) refl refl (omega arith) (omega arith)))

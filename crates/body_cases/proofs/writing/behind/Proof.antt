@@ -7,6 +7,6 @@ pub behind-spec : {M : Type 1} → statement M
 behind-spec =
     tie.close
     (tie.spec
-    (λ c κs. search needs)
-    (λ c. search needs)
+    (search needs)
+    (search needs)
     (λ c. end-behind (c .before .before .args .s .now) (c .before .before .args .at) (c .min .result) (c .before .before .args .k) (c .min .ensures)))

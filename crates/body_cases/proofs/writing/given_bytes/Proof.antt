@@ -8,5 +8,4 @@ returns c = bytes-by (c .before .behind .result) _ (c .before .before .before .u
 
 pub given-bytes-spec : {M : Type 1} → statement M
 given-bytes-spec =
-    tie.close
-    (tie.spec (λ c κs. search needs) (λ c. search needs) (λ c κs. search needs) (λ c κs. search needs) (λ c κs. search needs) returns)
+    tie.close (tie.spec (search needs) (search needs) (search needs) (search needs) (search needs) returns)

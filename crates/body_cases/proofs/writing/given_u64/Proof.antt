@@ -6,7 +6,4 @@ use Rattle.body_cases.proofs.writing.given_u64.Tie as tie
 pub given-u64-spec : {M : Type 1} → statement M
 given-u64-spec =
     tie.close
-    (tie.spec
-    (λ c κs. search needs)
-    (λ c κs. search needs)
-    (λ c. number-given 8 _ (c .before .u64-at .ensures) (c .past .ensures)))
+    (tie.spec (search needs) (search needs) (λ c. number-given 8 _ (c .before .u64-at .ensures) (c .past .ensures)))

@@ -9,6 +9,6 @@ pub given-u8-spec : {M : Type 1} → statement M
 given-u8-spec =
     tie.close
     (tie.spec
-    (λ c κs. search needs)
-    (λ c κs. search needs)
+    (search needs)
+    (search needs)
     (λ c. number-given 1 _ (c .before .byte-at .ensures ∙ byte-there _ _) (c .past .ensures)))

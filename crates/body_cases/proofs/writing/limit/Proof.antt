@@ -3,4 +3,4 @@ use Rattle.body_cases.proofs.writing.limit.Statement.{statement}
 use Rattle.body_cases.proofs.writing.limit.Tie as tie
 
 pub limit-spec : {M : Type 1} → statement M
-limit-spec = tie.close (tie.spec (λ c κs. search needs) (λ c. cc))
+limit-spec = tie.close (tie.spec (search needs) (λ c. cc))

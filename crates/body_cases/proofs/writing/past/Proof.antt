@@ -10,8 +10,8 @@ pub past-spec : {M : Type 1} → statement M
 past-spec =
     tie.close
     (tie.spec
-    (λ c κs. search needs)
-    (λ c. search needs)
-    (λ c. search needs)
+    (search needs)
+    (search needs)
+    (search needs)
     (λ c. took-read (ap (inSpan (fixed (c .before .before .before .before .before .args .w)) (c .before .before .before .before .before .args .s .now)) (sym (c .before .next .given .1)) ∙ c .before .before .before .read-bytes .ensures) .next)
     (λ c. took-failed {f = number 0 0} {p = nowhere} (ap (inSpan (fixed (c .before .before .before .before .before .args .w)) (c .before .before .before .before .before .args .s .now)) (sym (c .before .next2 .given .1)) ∙ c .before .before .before .read-bytes .ensures) .next))

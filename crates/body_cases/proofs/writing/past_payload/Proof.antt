@@ -10,8 +10,8 @@ pub past-payload-spec : {M : Type 1} → statement M
 past-payload-spec =
     tie.close
     (tie.spec
-    (λ c κs. search needs)
-    (λ c. search needs)
-    (λ c. search needs)
+    (search needs)
+    (search needs)
+    (search needs)
     (λ c. took-read (ap (inSpan payload (c .before .before .before .before .before .args .s .now)) (sym (c .before .next .given .1)) ∙ c .before .before .before .read-payload .ensures) .next)
     (λ c. took-failed {f = number 0 0} {p = nowhere} (ap (inSpan payload (c .before .before .before .before .before .args .s .now)) (sym (c .before .next2 .given .1)) ∙ c .before .before .before .read-payload .ensures) .next))

@@ -3,5 +3,4 @@ use Rattle.cases.proofs.checksums.checksum_size.Statement.{statement}
 use Rattle.cases.proofs.checksums.checksum_size.Tie as tie
 
 pub checksum-size-spec : {M : Type 1} → statement M
-checksum-size-spec =
-    tie.close (tie.spec (λ c κs. search needs) (λ c. search needs) (λ c. search needs) (λ c κs. search needs) (λ c. cc))
+checksum-size-spec = tie.close (tie.spec (search needs) (search needs) (search needs) (search needs) (λ c. cc))

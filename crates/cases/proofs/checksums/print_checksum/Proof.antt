@@ -5,11 +5,4 @@ use Rattle.cases.proofs.checksums.print_checksum.Tie as tie
 pub print-checksum-spec : {M : Type 1} → statement M
 print-checksum-spec =
     tie.close
-    (tie.spec
-    (λ c κs. search needs)
-    (λ c. search needs)
-    (λ c κs. search needs)
-    (λ c κs. search needs)
-    (λ c κs. search needs)
-    (λ c. search needs)
-    (λ c. cc))
+    (tie.spec (search needs) (search needs) (search needs) (search needs) (search needs) (search needs) (λ c. cc))

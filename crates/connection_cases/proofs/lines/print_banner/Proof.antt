@@ -5,11 +5,4 @@ use Rattle.connection_cases.proofs.lines.print_banner.Tie as tie
 pub print-banner-spec : {M : Type 1} → statement M
 print-banner-spec =
     tie.close
-    (tie.spec
-    (λ c κs. search needs)
-    (λ c. search needs)
-    (λ c κs. search needs)
-    (λ c κs. search needs)
-    (λ c κs. search needs)
-    (λ c. search needs)
-    (λ c. cc))
+    (tie.spec (search needs) (search needs) (search needs) (search needs) (search needs) (search needs) (λ c. cc))

@@ -4,11 +4,4 @@ use Rattle.connection_cases.proofs.lines.print_fine.Tie as tie
 
 pub print-fine-spec : {M : Type 1} → statement M
 print-fine-spec =
-    tie.close
-    (tie.spec
-    (λ c κs. search needs)
-    (λ c κs. search needs)
-    (λ c. search needs)
-    (λ c κs. search needs)
-    (λ c. search needs)
-    (λ c. cc))
+    tie.close (tie.spec (search needs) (search needs) (search needs) (search needs) (search needs) (λ c. cc))

@@ -6,12 +6,12 @@ pub print-judgement-spec : {M : Type 1} → statement M
 print-judgement-spec =
     tie.close
     (tie.spec
-    (λ c. search needs)
-    (λ c κs. search needs)
-    (λ c. search needs)
-    (λ c κs. search needs)
-    (λ c κs. search needs)
-    (λ c. search needs)
+    (search needs)
+    (search needs)
+    (search needs)
+    (search needs)
+    (search needs)
+    (search needs)
     (λ c. rw (c .before .before .before .before .enum-told .given .1) (c .before .before .print-fine .ensures))
-    (λ c. search needs)
+    (search needs)
     (λ c. rw (c .before .before .before .before .before .before .judgement .given .1) (rw (c .before .before .before .numbers-of .ensures) at (c .before .before .print-judgement-refused .ensures))))

@@ -3,11 +3,4 @@ use Rattle.connection_cases.proofs.lines.put_header.Statement.{statemen
 use Rattle.connection_cases.proofs.lines.put_header.Tie as tie
 
 pub put-header-spec : {M : Type 1} → statement M
-put-header-spec =
-    tie.close
-    (tie.spec
-    (λ c κs. search needs)
-    (λ c κs. search needs)
-    (λ c κs. search needs)
-    (λ c. search needs)
-    (λ c. cc))
+put-header-spec = tie.close (tie.spec (search needs) (search needs) (search needs) (search needs) (λ c. cc))

@@ -7,7 +7,7 @@ pub call-good-spec : {M : Type 1} → statement M
 call-good-spec =
     tie.close
     (tie.spec
-    (λ c κs. search needs)
-    (λ c κs. search needs)
-    (λ c κs. search needs)
+    (search needs)
+    (search needs)
+    (search needs)
     (λ c. c .both .ensures ∙ rw (c .before .before .either .ensures, c .before .before .before .is-try .ensures)))

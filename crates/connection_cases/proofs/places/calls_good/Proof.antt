@@ -14,35 +14,20 @@ Inv-loop l s n from width place₀ left₀ place left = (place + 8 * left ≤ 60
 abbrev μ-loop : tie.MeasureT-loop
 μ-loop l s n from width place₀ left₀ place left = left
 
-returns : tie.Need-returns Inv-loop μ-loop
-returns c =
-    let l = c .before .before .before .before .loop in
-    sym (good-stop (c .before .before .before .before .before .before .before .args .l) (c .before .before .before .before .before .before .before .args .s .now) (l .left) (l .place) (omega arith) (sym (ap (callGood (c .before .before .before .before .before .before .before .args .l)) (c .before .before .call-at .ensures)) ∙ sym (c .before .call-good .ensures) ∙ not-true _ (c .if1 .taken))) ∙ l .inv .3
-
-loop-again : tie.Need-loop-again Inv-loop μ-loop
-loop-again c =
-    let l = c .before .before .before .before .loop in
-    (omega arith, l .inv .1, l .inv .2, rw (l .inv .2) (sym (good-next (c .before .before .before .before .before .before .before .args .l) (c .before .before .before .before .before .before .before .args .s .now) (l .left) (l .place) (omega arith) (sym (ap (callGood (c .before .before .before .before .before .before .before .args .l)) (c .before .before .call-at .ensures)) ∙ sym (c .before .call-good .ensures) ∙ not-false _ (c .if1 .left)))) ∙ l .inv .3)
-
-returns-2 : tie.Need-returns-2 Inv-loop μ-loop
-unfolding callsGood
-returns-2 c =
-    let l = c .before .loop in
-    ap (callsGood (c .before .before .before .before .args .l)) (sym (calls-none (c .before .before .before .before .args .l .lends) (c .before .before .before .before .args .s .now) (l .left) (l .place) (omega arith))) ∙ l .inv .3
-
 pub calls-good-spec : {M : Type 1} → statement M
+unfolding callsGood
 calls-good-spec =
     tie.close
     (tie.spec
     Inv-loop
     μ-loop
-    (λ c κs. search needs)
+    (search needs)
     (λ c. (omega (arith, c .before .before .pre), omega (arith, c .call-width .ensures .1), c .call-width .ensures .0, refl))
     (λ c κs. omega arith)
-    (λ c κs. search needs)
-    returns
+    (search needs)
+    (λ c. sym (good-stop (c .before .before .before .before .before .before .before .args .l) (c .before .before .before .before .before .before .before .args .s .now) (c .before .before .before .before .loop .left) (c .before .before .before .before .loop .place) (omega arith) (sym (ap (callGood (c .before .before .before .before .before .before .before .args .l)) (c .before .before .call-at .ensures)) ∙ sym (c .before .call-good .ensures) ∙ not-true _ (c .if1 .taken))) ∙ c .before .before .before .before .loop .inv .3)
     (λ c. omega arith)
     (λ c. omega arith)
     (λ c. omega arith)
-    loop-again
-    returns-2)
+    (λ c. (omega arith, c .before .before .before .before .loop .inv .1, c .before .before .before .before .loop .inv .2, rw (c .before .before .before .before .loop .inv .2) (sym (good-next (c .before .before .before .before .before .before .before .args .l) (c .before .before .before .before .before .before .before .args .s .now) (c .before .before .before .before .loop .left) (c .before .before .before .before .loop .place) (omega arith) (sym (ap (callGood (c .before .before .before .before .before .before .before .args .l)) (c .before .before .call-at .ensures)) ∙ sym (c .before .call-good .ensures) ∙ not-false _ (c .if1 .left)))) ∙ c .before .before .before .before .loop .inv .3))
+    (λ c. ap (callsGood (c .before .before .before .before .args .l)) (sym (calls-none (c .before .before .before .before .args .l .lends) (c .before .before .before .before .args .s .now) (c .before .loop .left) (c .before .loop .place) (omega arith))) ∙ c .before .loop .inv .3))

@@ -7,7 +7,7 @@ pub calls-of-spec : {M : Type 1} → statement M
 calls-of-spec =
     tie.close
     (tie.spec
-    (λ c κs. search needs)
-    (λ c κs. search needs)
-    (λ c. search needs)
+    (search needs)
+    (search needs)
+    (search needs)
     (λ c. (rw (c .before .count-at .ensures .0) at (c .u16-at .ensures), omega arith)))

@@ -6,8 +6,8 @@ pub lent-at-spec : {M : Type 1} → statement M
 lent-at-spec =
     tie.close
     (tie.spec
-    (λ c. search needs)
-    (λ c κs. search needs)
-    (λ c. search needs)
+    (search needs)
+    (search needs)
+    (search needs)
     (λ c. rw (c .before .if1 .taken) (c .u32-at .ensures))
     (λ c. search needs))

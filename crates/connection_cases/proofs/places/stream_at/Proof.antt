@@ -7,11 +7,11 @@ pub stream-at-spec : {M : Type 1} → statement M
 stream-at-spec =
     tie.close
     (tie.spec
-    (λ c κs. search needs)
-    (λ c κs. search needs)
-    (λ c. search needs)
-    (λ c. search needs)
+    (search needs)
+    (search needs)
+    (search needs)
+    (search needs)
     (λ c. (rw (c .if1 .taken, c .before .calls-at .ensures .0, c .before .before .calls-of .ensures .0), omega (arith, c .before .calls-at .ensures .1, c .before .before .calls-of .ensures .1)))
-    (λ c. search needs)
-    (λ c. search needs)
+    (search needs)
+    (search needs)
     (λ c. (rw (c .if1 .left, c .before .calls-at .ensures .0, c .before .before .calls-of .ensures .0), omega (arith, c .before .calls-at .ensures .1, c .before .before .calls-of .ensures .1))))

@@ -8,12 +8,12 @@ pub put-last-spec : {M : Type 1} → statement M
 put-last-spec =
     tie.close
     (tie.spec
-    (λ c κs. search needs)
-    (λ c. search needs)
+    (search needs)
+    (search needs)
     (λ c. rw (← (at-refused (c .before .before .before .before .before .before .args .w) (c .before .before .before .before .before .before .args .bad) (c .before .before .before .before .if1 .taken))) (c .before .before .put-refused .ensures))
-    (λ c κs. search needs)
-    (λ c. search needs)
+    (search needs)
+    (search needs)
     (λ c. rw (← (at-bad (c .before .before .before .before .before .before .before .args .w) (c .before .before .before .before .before .before .before .args .bad) (c .before .before .before .before .before .if1 .left) (c .before .before .before .before .if2 .taken))) (c .before .before .put-bad-file .ensures))
-    (λ c κs. search needs)
-    (λ c. search needs)
+    (search needs)
+    (search needs)
     (λ c. rw (← (at-open (c .before .before .before .before .before .before .before .args .w) (c .before .before .before .before .before .before .before .args .bad) (c .before .before .before .before .before .before .before .args .w .taken) (c .before .before .before .before .before .before .before .args .w .«entry_end») (c .before .before .before .before .before .if1 .left) (c .before .before .before .before .if2 .left) refl refl)) (c .before .before .put-open .ensures)))

@@ -29,16 +29,6 @@ done : (a : Stepped)
     Turn (z .piece .now) (z .store .now) (stateAt (z .from) (z .came) (z .block .now) (z .knew)) (m .store) (stateAt (m .stage) (m .got) (m .block) (m .known)) (m .at) (movedTo (a .step .result) (a .step .last .1 .1 .1 .0)) (a .step .last .1 .1 .1 .1 .1 .0))
 done a = turn (a .before .before .before .before .before .loop .inv) (a .before .before .before .before .loop-test .taken) (a .step .ensures) (a .step .kept .1 .1 .1 .1 .1 .0)
 
-returns : tie.Need-returns Inv-loop μ-loop
-returns c =
-    reported (done (c .before .before .before .before .before .before))
-    (sym (c .before .is-more .ensures) ∙ not-true (c .before .is-more .result) (c .if1 .taken))
-
-loop-again : tie.Need-loop-again Inv-loop μ-loop
-loop-again c =
-    again (done (c .before .before .before .before .before .before))
-    (sym (c .before .is-more .ensures) ∙ not-false (c .before .is-more .result) (c .if1 .left))
-
 pub feed-spec : {M : Type 1} → statement M
 feed-spec =
     tie.close
@@ -53,8 +43,8 @@ feed-spec =
     (λ c. (let a = c .before .before .before .before in omega (arith, within (done a), start a .good .1 .1 .1 .1 .0 .0)))
     (λ c κs. search needs)
     (λ c. (let t = done (c .before .before .before .before .before .before) in t .kept ∙ t .midway .same))
-    returns
+    (λ c. reported (done (c .before .before .before .before .before .before)) (sym (c .before .is-more .ensures) ∙ not-true (c .before .is-more .result) (c .if1 .taken)))
     (λ c. (let t = done (c .before .before .before .before .before .before) in omega (arith, within t, progress t)))
-    loop-again
+    (λ c. again (done (c .before .before .before .before .before .before)) (sym (c .before .is-more .ensures) ∙ not-false (c .before .is-more .result) (c .if1 .left)))
     (λ c. c .before .loop .inv .same)
     (λ c. finished (c .before .loop .inv) (c .loop-test .left)))

@@ -5,16 +5,6 @@ use borrow.Author.Needs.{needs}
 use Rattle.receiver.proofs.pieces.fill.Statement.{statement}
 use Rattle.receiver.proofs.pieces.fill.Tie as tie
 
-returns : tie.Need-returns
-returns c =
-    let g = c .before .before .before .before .before .before .before .before .before .args in
-    rw (c .before .before .before .before .enum-told .given .1) (part-put (g .block .now) (g .bytes .now) (c .before .before .put .last .0) (g .at) (c .before .before .put .ensures) (c .before .before .before .before .before .before .before .before .before .pre .0 (c .before .before .before .before .enum-told .given .1)), refl)
-
-returns-2 : tie.Need-returns-2
-returns-2 c =
-    let g = c .before .before .before .before .before .before .before .before .before .args in
-    rw (c .before .before .before .before .enum-told2 .given .1) (refl, part-put (g .store .now) (g .bytes .now) (c .before .before .put2 .last .0) (g .at) (c .before .before .put2 .ensures) (c .before .before .before .before .before .before .before .before .before .pre .1 (c .before .before .before .before .enum-told2 .given .1)))
-
 pub fill-spec : {M : Type 1} → statement M
 fill-spec =
     tie.close
@@ -31,7 +21,7 @@ fill-spec =
     (λ c κs. search needs)
     (λ c. search needs)
     (λ c. search needs)
-    returns
+    (λ c. (let z = c .before .before .before .before .before .before .before .before .before in let e = c .before .before .before .before .enum-told .given .1 in rw e (part-put (z .args .block .now) (z .args .bytes .now) (c .before .before .put .last .0) (z .args .at) (c .before .before .put .ensures) (z .pre .0 e), refl)))
     (λ c. search needs)
-    returns-2
+    (λ c. (let z = c .before .before .before .before .before .before .before .before .before in let e = c .before .before .before .before .enum-told2 .given .1 in rw e (refl, part-put (z .args .store .now) (z .args .bytes .now) (c .before .before .put2 .last .0) (z .args .at) (c .before .before .put2 .ensures) (z .pre .1 e))))
     (λ c. search needs))

@@ -3,11 +3,8 @@ use borrow.Author.Needs.{needs}
 use Rattle.receiver.proofs.states.agree.Statement.{statement}
 use Rattle.receiver.proofs.states.agree.Tie as tie
 
-returns : tie.Need-returns
-unfolding agreesAt
-returns c = cc
-
 pub agree-spec : {M : Type 1} → statement M
+unfolding agreesAt
 agree-spec =
     tie.close
     (tie.spec
@@ -16,4 +13,4 @@ agree-spec =
     (λ c κs. search needs)
     (λ c κs. search needs)
     (λ c κs. search needs)
-    returns)
+    (λ c. cc))

@@ -5,15 +5,8 @@ use borrow.Author.Needs.{needs}
 use Rattle.receiver.proofs.transitions.end_payload.Statement.{statement}
 use Rattle.receiver.proofs.transitions.end_payload.Tie as tie
 
-returns : tie.Need-returns
-unfolding finish
-returns c = λ s. rw (le-leb _ _ (c .before .if1 .taken)) (c .end-banner .ensures s ∙ rw (c .before .before .before .with-peer .ensures, c .before .before .before .before .read-features .ensures, c .before .before .before .before .before .part .ensures))
-
-returns-2 : tie.Need-returns-2
-unfolding finish
-returns-2 c = λ s. rw (lt-leb _ _ (c .before .if1 .left)) (c .more .ensures s ∙ rw (c .before .before .before .with-peer .ensures, c .before .before .before .before .read-features .ensures, c .before .before .before .before .before .part .ensures))
-
 pub end-payload-spec : {M : Type 1} → statement M
+unfolding finish
 end-payload-spec =
     tie.close
     (tie.spec
@@ -22,5 +15,5 @@ end-payload-spec =
     (λ c κs. search needs)
     (λ c κs. search needs)
     (λ c κs. search needs)
-    returns
-    returns-2)
+    (λ c s. rw (le-leb _ _ (c .before .if1 .taken)) (c .end-banner .ensures s ∙ rw (c .before .before .before .with-peer .ensures, c .before .before .before .before .read-features .ensures, c .before .before .before .before .before .part .ensures)))
+    (λ c s. rw (lt-leb _ _ (c .before .if1 .left)) (c .more .ensures s ∙ rw (c .before .before .before .with-peer .ensures, c .before .before .before .before .read-features .ensures, c .before .before .before .before .before .part .ensures))))

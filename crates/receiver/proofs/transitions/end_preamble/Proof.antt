@@ -1,27 +1,21 @@
-use mathlib.Core.Path.{sym, ap, ap₂, _∙_}
+use mathlib.Core.Path.{_≡_, sym, ap, _∙_}
+use mathlib.Core.List.{List}
 use Prim.Native.Nat.{ℕ}
-use Rattle.refusal.specs.declared.Numbers.{Numbers}
+use lib.ListN.{length}
 use Rattle.refusal.specs.Refusals.{judgedBy}
-use Rattle.preamble.specs.declared.Preamble.{Preamble}
-use Rattle.preamble.specs.Judge.{judgeRead, judgePreamble}
-use Rattle.receiver.specs.Step.{finish, refuse, beginBody, withHeader}
+use Rattle.preamble.specs.Judge.{judgePreamble}
+use Rattle.receiver.specs.Step.{finish}
 use borrow.Author.Needs.{needs}
 use Rattle.receiver.proofs.transitions.end_preamble.Statement.{statement}
 use Rattle.receiver.proofs.transitions.end_preamble.Tie as tie
 
-returns : tie.Need-returns
-unfolding finish judgePreamble
-returns c = λ s e.
-    let j = sym (c .before .before .before .before .judge-read .ensures ∙ ap₂ (λ (p : Preamble) (n : ℕ). judgeRead p (c .before .before .before .before .before .before .before .args .block .now) n) (c .before .before .before .before .before .before .read-block .ensures) (sym e)) ∙ ap judgedBy (c .before .before .enum-told .given .1) in
-    rw j (c .begin-body .ensures s ∙ rw (c .before .with-header .ensures) (ap (λ (p : Preamble). beginBody (withHeader (c .before .before .before .before .before .before .before .args .v) (p .header)) s) (c .before .before .before .before .before .before .read-block .ensures)))
-
-returns-2 : tie.Need-returns-2
-unfolding finish judgePreamble
-returns-2 c = λ s e.
-    let j = sym (c .before .before .before .before .before .judge-read .ensures ∙ ap₂ (λ (p : Preamble) (n : ℕ). judgeRead p (c .before .before .before .before .before .before .before .before .args .block .now) n) (c .before .before .before .before .before .before .before .read-block .ensures) (sym e)) ∙ ap judgedBy (c .before .before .before .judgement .given .1) in
-    rw j (c .refuse .ensures s ∙ ap (λ (n : Numbers). refuse (c .before .before .before .before .before .before .before .before .args .v) n s) (c .before .numbers-of .ensures))
+-- the judgement, by what the function was given
+judges : (a : tie.After-judge-read) (s : List ℕ) → (let g = a .before .before .before .args in length s ≡ g .store → judgePreamble (g .block .now) (length s) ≡ judgedBy (a .judge-read .result))
+unfolding judgePreamble
+judges a s e = sym (a .judge-read .ensures ∙ rw (a .before .before .read-block .ensures, ← e))
 
 pub end-preamble-spec : {M : Type 1} → statement M
+unfolding finish
 end-preamble-spec =
     tie.close
     (tie.spec
@@ -33,5 +27,5 @@ end-preamble-spec =
     (λ c. search needs)
     (λ c κs. search needs)
     (λ c κs. search needs)
-    returns
-    returns-2)
+    (λ c s e. rw (judges (c .before .before .before .before) s e ∙ ap judgedBy (c .before .before .enum-told .given .1)) (c .begin-body .ensures s ∙ rw (c .before .with-header .ensures, c .before .before .before .before .before .before .read-block .ensures)))
+    (λ c s e. rw (judges (c .before .before .before .before .before) s e ∙ ap judgedBy (c .before .before .before .judgement .given .1)) (c .refuse .ensures s ∙ rw (c .before .numbers-of .ensures))))

@@ -9,7 +9,8 @@ use Rattle.secure.specs.Layout.{needed}
 use Rattle.secure.specs.Reading.{judgeFirst}
 use Rattle.sealed_receiver.specs.declared.Known.{Known}
 use Rattle.sealed_receiver.specs.Step as step
-use Rattle.sealed_receiver.proofs.FirstPart.{first-fits, first-header, first-refused, first-accepted}
+use Rattle.sealed_receiver.proofs.FirstPart.{first-refused, first-accepted}
+use Rattle.secure.proofs.Parts.{first-fits, first-header}
 use borrow.Author.Needs.{needs}
 use Rattle.sealed_receiver.proofs.parts.after_first_part.Statement.{statement}
 use Rattle.sealed_receiver.proofs.parts.after_first_part.Tie as tie

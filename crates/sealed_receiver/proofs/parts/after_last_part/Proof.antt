@@ -10,35 +10,34 @@ use borrow.Author.Needs.{needs}
 use Rattle.sealed_receiver.proofs.parts.after_last_part.Statement.{statement}
 use Rattle.sealed_receiver.proofs.parts.after_last_part.Tie as tie
 
+-- where it is known how the frame ends: the length of the text, and the end
+abbrev start : tie.After-end-of-last → tie.Start
+start a = a .before .before .before .before .before .before .before
+
+sized : (a : tie.After-end-of-last) → a .before .before .before .last-part-length .result - 16 ≡ lastPart (start a .args .v .header) - 16
+sized a = ap (λ (k : ℕ). k - 16) (a .before .before .before .last-part-length .ensures .0 ∙ last-size (start a .args .v .header) (start a .pre .1))
+
 returns : tie.Need-returns
 returns c =
-    let g = c .before .before .before .before .before .before .before .before .before .before .before .before .before .before .before .before .before .args in
-    let s = g .store .now in
-    let e = last-size (g .v .header) (c .before .before .before .before .before .before .before .before .before .before .before .before .before .before .before .before .before .pre .1) in
-    let n = c .before .before .before .before .before .before .before .before .before .before .before .before .before .last-part-length .result in
-    let em : n - 16 ≡ lastPart (g .v .header) - 16 = ap (λ (k : ℕ). k - 16) (c .before .before .before .before .before .before .before .before .before .before .before .before .before .last-part-length .ensures .0 ∙ e) in
+    let a = c .before .before .before .before .before .before .before .before .before .before in
+    let z = start a .args in
+    let e = a .end-of-last .ensures ∙ ap (lastEnded (z .v .header)) (a .before .part .ensures) in
     c .before .before .end-whole .ensures
-    ∙ last-whole (g .v) s (n - 16) em (endedAs (c .before .before .before .before .before .before .before .before .before .before .end-of-last .result)) (c .before .before .before .before .before .before .before .before .before .before .end-of-last .ensures ∙ ap (lastEnded (g .v .header)) (c .before .before .before .before .before .before .before .before .before .before .before .part .ensures)) (c .before .before .before .before .before .before .close-up .last .1 .0) (ap endedAs (c .before .before .before .before .before .before .before .before .enum-told .given .1)) (c .before .before .before .before .before .before .close-up .ensures)
+    ∙ last-whole (z .v) (z .store .now) (sized a) e (c .before .before .before .before .before .before .close-up .last .1 .0) (ap endedAs (c .before .before .before .before .before .before .before .before .enum-told .given .1)) (c .before .before .before .before .before .before .close-up .ensures)
 
 returns-2 : tie.Need-returns-2
 returns-2 c =
-    let g = c .before .before .before .before .before .before .before .before .before .before .before .before .before .args in
-    let s = g .store .now in
-    let e = last-size (g .v .header) (c .before .before .before .before .before .before .before .before .before .before .before .before .before .pre .1) in
-    let n = c .before .before .before .before .before .before .before .before .before .last-part-length .result in
-    let em : n - 16 ≡ lastPart (g .v .header) - 16 = ap (λ (k : ℕ). k - 16) (c .before .before .before .before .before .before .before .before .before .last-part-length .ensures .0 ∙ e) in
-    c .before .before .drop-frame .ensures s
-    ∙ last-ends (g .v) s (n - 16) em (endedAs (c .before .before .before .before .before .before .end-of-last .result)) (c .before .before .before .before .before .before .end-of-last .ensures ∙ ap (lastEnded (g .v .header)) (c .before .before .before .before .before .before .before .part .ensures)) dropped (ap endedAs (c .before .before .before .before .enum-told2 .given .1))
+    let a = c .before .before .before .before .before .before in
+    let z = start a .args in
+    let e = a .end-of-last .ensures ∙ ap (lastEnded (z .v .header)) (a .before .part .ensures) in
+    c .before .before .drop-frame .ensures (z .store .now) ∙ last-ends (z .v) (z .store .now) (sized a) e dropped (ap endedAs (c .before .before .before .before .enum-told2 .given .1))
 
 returns-3 : tie.Need-returns-3
 returns-3 c =
-    let g = c .before .before .before .before .before .before .before .before .before .before .before .before .before .before .args in
-    let s = g .store .now in
-    let e = last-size (g .v .header) (c .before .before .before .before .before .before .before .before .before .before .before .before .before .before .pre .1) in
-    let n = c .before .before .before .before .before .before .before .before .before .before .last-part-length .result in
-    let em : n - 16 ≡ lastPart (g .v .header) - 16 = ap (λ (k : ℕ). k - 16) (c .before .before .before .before .before .before .before .before .before .before .last-part-length .ensures .0 ∙ e) in
-    c .before .before .refuse-frame .ensures
-    ∙ last-ends (g .v) s (n - 16) em (endedAs (c .before .before .before .before .before .before .before .end-of-last .result)) (c .before .before .before .before .before .before .before .end-of-last .ensures ∙ ap (lastEnded (g .v .header)) (c .before .before .before .before .before .before .before .before .part .ensures)) (refusedFor _) (ap endedAs (c .before .before .before .before .before .end .given .1))
+    let a = c .before .before .before .before .before .before .before in
+    let z = start a .args in
+    let e = a .end-of-last .ensures ∙ ap (lastEnded (z .v .header)) (a .before .part .ensures) in
+    c .before .before .refuse-frame .ensures ∙ last-ends (z .v) (z .store .now) (sized a) e (refusedFor _) (ap endedAs (c .before .before .before .before .before .end .given .1))
 
 pub after-last-part-spec : {M : Type 1} → statement M
 after-last-part-spec =

@@ -1,74 +1,48 @@
 use mathlib.Core.Path.{_≡_, _∙_, sym, ap}
-use mathlib.Core.Bool.{false}
-use Prim.Native.Nat.{_+_, _-_}
-use lib.ListN.{take, drop, length-take, length-drop}
+use Prim.Native.Nat.{_-_}
 use native.Mathlib.Omega.{arith}
-use Rattle.refusal.specs.Refusals.{fine, judgedBy}
+use Rattle.refusal.specs.Refusals.{judgedBy}
 use Rattle.secure.specs.Layout.{noLastPart, lastPart, lastPartLength, needed}
 use Rattle.sealed_receiver.specs.declared.Known.{Known}
-use Rattle.sealed_receiver.specs.Step as step
-use Rattle.sealed_receiver.proofs.LastPart.{last-left, last-refused, last-opened}
-use Rattle.secure.proofs.Bounds.{there, last-size, last-fits}
+use Rattle.sealed_receiver.proofs.Regions.{Region, lent-size, left-length}
+use Rattle.sealed_receiver.proofs.LastPart.{last-region, last-refused, last-opened}
+use Rattle.secure.proofs.Bounds.{there}
 use borrow.Author.Needs.{needs}
 use Rattle.sealed_receiver.proofs.parts.end_last.Statement.{statement}
 use Rattle.sealed_receiver.proofs.parts.end_last.Tie as tie
 
-part-open-part-end : tie.Need-part-open-part-end
-part-open-part-end c =
-    let v = c .before .before .before .before .before .args .v in
-    let s = c .before .before .before .before .before .args .store .now in
-    let place = v .header .s1 .len in
-    let e : noLastPart (v .header) ≡ false = there (noLastPart (v .header)) (lastPart (v .header)) (c .before .before .before .before .before .pre .some) in
-    omega (arith, last-fits (v .header), last-size (v .header) e, c .last-part-length .ensures .0, c .before .before .before .before .before .pre .fits)
+-- where the part's length is known
+abbrev start : tie.After-last-part-length → tie.Start
+start a = a .before .before .before .before .before
 
-open-part-requires : tie.Need-open-part-requires
-open-part-requires c κs =
-    let v = c .before .before .before .before .before .before .args .v in
-    let s = c .before .before .before .before .before .before .args .store .now in
-    let place = v .header .s1 .len in
-    let e : noLastPart (v .header) ≡ false = there (noLastPart (v .header)) (lastPart (v .header)) (c .before .before .before .before .before .before .pre .some) in
-    let n = c .before .last-part-length .result in
-    let a = last-fits (v .header) in
-    let b = last-size (v .header) e in
-    let m = length-take (place + n - place) (drop place s) in
-    let d = length-drop place s in
-    (omega (arith, c .before .last-part-length .ensures .0, c .before .before .before .before .before .before .pre .fits), omega (arith, c .before .last-part-length .ensures .1))
+region : (a : tie.After-last-part-length)
+    → (let h = start a .args .v .header in Region h (start a .args .store .now) (h .s1 .len) (a .last-part-length .result) (lastPartLength h) (lastPart h - 16))
+region a = last-region (start a .args .v) (start a .args .store .now) (a .last-part-length .ensures .0) (start a .pre .some) (start a .pre .fits)
 
 behind-last-requires : tie.Need-after-last-part-requires
 behind-last-requires c κs =
-    let v = c .before .before .before .before .before .before .before .before .before .before .before .before .before .args .v in
-    let s = c .before .before .before .before .before .before .before .before .before .before .before .before .before .args .store .now in
-    let place = v .header .s1 .len in
-    let e : noLastPart (v .header) ≡ false = there (noLastPart (v .header)) (lastPart (v .header)) (c .before .before .before .before .before .before .before .before .before .before .before .before .before .pre .some) in
-    let n = c .before .before .before .before .before .before .before .before .last-part-length .result in
-    let em : place + n - place ≡ lastPartLength (v .header) = omega (arith, c .before .before .before .before .before .before .before .before .last-part-length .ensures .0) in
-    let h : c .before .with-opened .result .header ≡ v .header = ap (λ (k : Known). k .header) (c .before .with-opened .ensures) in
-    (omega (arith, ap needed h, last-left v s (c .before .before .before .before .before .before .open-part .last .1 .0) (place + n - place) em e (c .before .before .before .before .before .before .before .before .before .before .before .before .before .pre .fits) (c .before .before .before .before .before .before .open-part .kept .1 .0)), ap noLastPart h ∙ e)
+    let a = c .before .before .before .before .before .before .before .before in
+    let h = start a .args .v .header in
+    let o = c .before .before .before .before .before .before .open-part in
+    let e : c .before .with-opened .result .header ≡ h = ap (λ (k : Known). k .header) (c .before .with-opened .ensures) in
+    (omega (arith, ap needed e, left-length (region a) (o .last .1 .0) (o .kept .1 .0), start a .pre .fits), ap noLastPart e ∙ there (noLastPart h) (lastPart h) (start a .pre .some))
 
 returns : tie.Need-returns
 returns c =
     λ b.
-    let v = c .before .before .before .before .before .before .before .before .before .before .before .before .before .before .before .before .args .v in
-    let s = c .before .before .before .before .before .before .before .before .before .before .before .before .before .before .before .before .args .store .now in
-    let place = v .header .s1 .len in
-    let e : noLastPart (v .header) ≡ false = there (noLastPart (v .header)) (lastPart (v .header)) (c .before .before .before .before .before .before .before .before .before .before .before .before .before .before .before .before .pre .some) in
-    let n = c .before .before .before .before .before .before .before .before .before .before .before .last-part-length .result in
-    let em : place + n - place ≡ lastPartLength (v .header) = omega (arith, c .before .before .before .before .before .before .before .before .before .before .before .last-part-length .ensures .0) in
-    let j : step.judgePart (v .receiving) (take (place + n - place) (drop place s)) ≡ fine = sym (c .before .before .before .before .before .before .before .before .before .open-part .ensures .judged) ∙ ap judgedBy (c .before .before .before .before .before .enum-told .given .1) in
+    let a = c .before .before .before .before .before .before .before .before .before .before .before in
+    let o = c .before .before .before .before .before .before .before .before .before .open-part in
+    let j = sym (o .ensures .judged) ∙ ap judgedBy (c .before .before .before .before .before .enum-told .given .1) in
     (rw (c .before .before .before .before .with-opened .ensures) at (c .before .before .after-last-part .ensures))
-    ∙ last-opened v s (c .before .before .before .before .before .before .before .before .before .open-part .last .1 .0) (place + n - place) em e (c .before .before .before .before .before .before .before .before .before .before .before .before .before .before .before .before .pre .fits) (c .before .before .before .before .before .before .before .before .before .open-part .kept .1 .0) b j (c .before .before .before .before .before .before .before .before .before .open-part .ensures .text j)
+    ∙ last-opened (start a .args .v) (start a .args .store .now) (region a) (o .last .1 .0) (o .kept .1 .0) b j (o .ensures .text j)
 
 returns-2 : tie.Need-returns-2
 returns-2 c =
     λ b.
-    let v = c .before .before .before .before .before .before .before .before .before .before .before .before .before .before .before .before .args .v in
-    let s = c .before .before .before .before .before .before .before .before .before .before .before .before .before .before .before .before .args .store .now in
-    let place = v .header .s1 .len in
-    let e : noLastPart (v .header) ≡ false = there (noLastPart (v .header)) (lastPart (v .header)) (c .before .before .before .before .before .before .before .before .before .before .before .before .before .before .before .before .pre .some) in
-    let n = c .before .before .before .before .before .before .before .before .before .before .before .last-part-length .result in
-    let em : place + n - place ≡ lastPartLength (v .header) = omega (arith, c .before .before .before .before .before .before .before .before .before .before .before .last-part-length .ensures .0) in
+    let a = c .before .before .before .before .before .before .before .before .before .before .before in
+    let o = c .before .before .before .before .before .before .before .before .before .open-part in
     c .before .before .refuse-frame .ensures
-    ∙ last-refused v s (c .before .before .before .before .before .before .before .before .before .open-part .last .1 .0) (place + n - place) em e (c .before .before .before .before .before .before .before .before .before .before .before .before .before .before .before .before .pre .fits) (c .before .before .before .before .before .before .before .before .before .open-part .kept .1 .0) b _ (sym (c .before .before .before .before .before .before .before .before .before .open-part .ensures .judged) ∙ ap judgedBy (c .before .before .before .before .before .opened .given .1))
+    ∙ last-refused (start a .args .v) (start a .args .store .now) (region a) (o .last .1 .0) (o .kept .1 .0) b _ (sym (o .ensures .judged) ∙ ap judgedBy (c .before .before .before .before .before .opened .given .1))
 
 pub end-last-spec : {M : Type 1} → statement M
 end-last-spec =
@@ -79,8 +53,8 @@ end-last-spec =
     (λ c. search needs)
     (λ c. search needs)
     (λ c. search needs)
-    part-open-part-end
-    open-part-requires
+    (λ c. omega (arith, region c))
+    (λ c κs. (let g = region (c .before) in let l = lent-size g in (omega arith, omega (arith, c .before .last-part-length .ensures .1))))
     (λ c. search needs)
     (λ c κs. search needs)
     behind-last-requires

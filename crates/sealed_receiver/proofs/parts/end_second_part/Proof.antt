@@ -1,71 +1,53 @@
 use mathlib.Core.Path.{_≡_, _∙_, refl, sym, ap}
-use mathlib.Core.Bool.{false}
-use Prim.Native.Nat.{_+_, _-_}
-use lib.ListN.{take, drop, length-take, length-drop}
+use Prim.Native.Nat.{_-_}
 use native.Mathlib.Omega.{arith}
-use Rattle.refusal.specs.Refusals.{fine, isFine, judgedBy}
+use Rattle.refusal.specs.Refusals.{isFine, judgedBy}
 use Rattle.preamble.specs.declared.Header.{Header}
 use Rattle.preamble.specs.Judge.{judgeHeader}
 use Rattle.secure.specs.Layout.{noSecondPart, secondPart, secondPartLength, needed}
 use Rattle.sealed_receiver.specs.declared.Known.{Known}
-use Rattle.sealed_receiver.specs.Step as step
-use Rattle.sealed_receiver.proofs.SecondPart.{rest-left, rest-refused, rest-opened}
-use Rattle.secure.proofs.Bounds.{there, rest-size, rest-fits}
+use Rattle.sealed_receiver.proofs.Regions.{Region, lent-size, left-length}
+use Rattle.sealed_receiver.proofs.SecondPart.{second-region, rest-refused, rest-opened}
+use Rattle.secure.proofs.Bounds.{there}
 use borrow.Author.Needs.{needs}
 use Rattle.sealed_receiver.proofs.parts.end_second_part.Statement.{statement}
 use Rattle.sealed_receiver.proofs.parts.end_second_part.Tie as tie
 
-part-open-part-end : tie.Need-part-open-part-end
-part-open-part-end c =
-    let v = c .before .before .before .before .args .v in
-    let s = c .before .before .before .before .args .store .now in
-    let e : noSecondPart (v .header) ≡ false = there (noSecondPart (v .header)) (secondPart (v .header)) (c .before .before .before .before .pre .some) in
-    omega (arith, rest-fits (v .header) e, rest-size (v .header) e, c .second-part-length .ensures .0, c .before .before .before .before .pre .fits)
+-- where the part's length is known
+abbrev start : tie.After-second-part-length → tie.Start
+start a = a .before .before .before .before
 
-open-part-requires : tie.Need-open-part-requires
-open-part-requires c κs =
-    let v = c .before .before .before .before .before .args .v in
-    let s = c .before .before .before .before .before .args .store .now in
-    let e : noSecondPart (v .header) ≡ false = there (noSecondPart (v .header)) (secondPart (v .header)) (c .before .before .before .before .before .pre .some) in
-    let n = c .before .second-part-length .result in
-    let a = rest-fits (v .header) e in
-    let b = rest-size (v .header) e in
-    let m = length-take (48 + n - 48) (drop 48 s) in
-    let d = length-drop 48 s in
-    (omega (arith, c .before .second-part-length .ensures .0, c .before .before .before .before .before .pre .fits), omega (arith, c .before .second-part-length .ensures .1))
+region : (a : tie.After-second-part-length)
+    → (let h = start a .args .v .header in Region h (start a .args .store .now) 48 (a .second-part-length .result) (secondPartLength h) (secondPart h - 16))
+region a = second-region (start a .args .v) (start a .args .store .now) (a .second-part-length .ensures .0) (start a .pre .some) (start a .pre .fits)
 
 behind-rest-requires : tie.Need-after-second-part-requires
 behind-rest-requires c κs =
-    let v = c .before .before .before .before .before .before .before .before .before .before .before .before .args .v in
-    let s = c .before .before .before .before .before .before .before .before .before .before .before .before .args .store .now in
-    let e : noSecondPart (v .header) ≡ false = there (noSecondPart (v .header)) (secondPart (v .header)) (c .before .before .before .before .before .before .before .before .before .before .before .before .pre .some) in
-    let n = c .before .before .before .before .before .before .before .before .second-part-length .result in
-    let em : 48 + n - 48 ≡ secondPartLength (v .header) = omega (arith, c .before .before .before .before .before .before .before .before .second-part-length .ensures .0) in
-    let h : c .before .with-opened .result .header ≡ v .header = ap (λ (k : Known). k .header) (c .before .with-opened .ensures) in
-    (omega (arith, ap needed h, rest-left v s (c .before .before .before .before .before .before .open-part .last .1 .0) (48 + n - 48) em e (c .before .before .before .before .before .before .before .before .before .before .before .before .pre .fits) (c .before .before .before .before .before .before .open-part .kept .1 .0)), ap (λ (x : Header). isFine (judgeHeader x)) h ∙ c .before .before .before .before .before .before .before .before .before .before .before .before .pre .header refl, ap noSecondPart h ∙ e)
+    let a = c .before .before .before .before .before .before .before .before in
+    let h = start a .args .v .header in
+    let o = c .before .before .before .before .before .before .open-part in
+    let e : c .before .with-opened .result .header ≡ h = ap (λ (k : Known). k .header) (c .before .with-opened .ensures) in (
+      omega (arith, ap needed e, left-length (region a) (o .last .1 .0) (o .kept .1 .0), start a .pre .fits),
+      ap (λ (x : Header). isFine (judgeHeader x)) e ∙ start a .pre .header refl,
+      ap noSecondPart e ∙ there (noSecondPart h) (secondPart h) (start a .pre .some),
+    )
 
 returns : tie.Need-returns
 returns c =
     λ b.
-    let v = c .before .before .before .before .before .before .before .before .before .before .before .before .before .before .before .args .v in
-    let s = c .before .before .before .before .before .before .before .before .before .before .before .before .before .before .before .args .store .now in
-    let e : noSecondPart (v .header) ≡ false = there (noSecondPart (v .header)) (secondPart (v .header)) (c .before .before .before .before .before .before .before .before .before .before .before .before .before .before .before .pre .some) in
-    let n = c .before .before .before .before .before .before .before .before .before .before .before .second-part-length .result in
-    let em : 48 + n - 48 ≡ secondPartLength (v .header) = omega (arith, c .before .before .before .before .before .before .before .before .before .before .before .second-part-length .ensures .0) in
-    let j : step.judgePart (v .receiving) (take (48 + n - 48) (drop 48 s)) ≡ fine = sym (c .before .before .before .before .before .before .before .before .before .open-part .ensures .judged) ∙ ap judgedBy (c .before .before .before .before .before .enum-told .given .1) in
+    let a = c .before .before .before .before .before .before .before .before .before .before .before in
+    let o = c .before .before .before .before .before .before .before .before .before .open-part in
+    let j = sym (o .ensures .judged) ∙ ap judgedBy (c .before .before .before .before .before .enum-told .given .1) in
     (rw (c .before .before .before .before .with-opened .ensures) at (c .before .before .after-second-part .ensures))
-    ∙ rest-opened v s (c .before .before .before .before .before .before .before .before .before .open-part .last .1 .0) (48 + n - 48) em e (c .before .before .before .before .before .before .before .before .before .before .before .before .before .before .before .pre .fits) (c .before .before .before .before .before .before .before .before .before .open-part .kept .1 .0) b j (c .before .before .before .before .before .before .before .before .before .open-part .ensures .text j)
+    ∙ rest-opened (start a .args .v) (start a .args .store .now) (region a) (o .last .1 .0) (o .kept .1 .0) b j (o .ensures .text j)
 
 returns-2 : tie.Need-returns-2
 returns-2 c =
     λ b.
-    let v = c .before .before .before .before .before .before .before .before .before .before .before .before .before .before .before .args .v in
-    let s = c .before .before .before .before .before .before .before .before .before .before .before .before .before .before .before .args .store .now in
-    let e : noSecondPart (v .header) ≡ false = there (noSecondPart (v .header)) (secondPart (v .header)) (c .before .before .before .before .before .before .before .before .before .before .before .before .before .before .before .pre .some) in
-    let n = c .before .before .before .before .before .before .before .before .before .before .before .second-part-length .result in
-    let em : 48 + n - 48 ≡ secondPartLength (v .header) = omega (arith, c .before .before .before .before .before .before .before .before .before .before .before .second-part-length .ensures .0) in
+    let a = c .before .before .before .before .before .before .before .before .before .before .before in
+    let o = c .before .before .before .before .before .before .before .before .before .open-part in
     c .before .before .refuse-frame .ensures
-    ∙ rest-refused v s (c .before .before .before .before .before .before .before .before .before .open-part .last .1 .0) (48 + n - 48) em e (c .before .before .before .before .before .before .before .before .before .before .before .before .before .before .before .pre .fits) (c .before .before .before .before .before .before .before .before .before .open-part .kept .1 .0) b _ (sym (c .before .before .before .before .before .before .before .before .before .open-part .ensures .judged) ∙ ap judgedBy (c .before .before .before .before .before .opened .given .1))
+    ∙ rest-refused (start a .args .v) (start a .args .store .now) (region a) (o .last .1 .0) (o .kept .1 .0) b _ (sym (o .ensures .judged) ∙ ap judgedBy (c .before .before .before .before .before .opened .given .1))
 
 pub end-second-part-spec : {M : Type 1} → statement M
 end-second-part-spec =
@@ -75,8 +57,8 @@ end-second-part-spec =
     (λ c. search needs)
     (λ c. search needs)
     (λ c. search needs)
-    part-open-part-end
-    open-part-requires
+    (λ c. omega (arith, region c))
+    (λ c κs. (let g = region (c .before) in let l = lent-size g in (omega arith, omega (arith, c .before .second-part-length .ensures .1))))
     (λ c. search needs)
     (λ c κs. search needs)
     behind-rest-requires

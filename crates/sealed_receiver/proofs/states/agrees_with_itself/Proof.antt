@@ -3,11 +3,8 @@ use borrow.Author.Needs.{needs}
 use Rattle.sealed_receiver.proofs.states.agrees_with_itself.Statement.{statement}
 use Rattle.sealed_receiver.proofs.states.agrees_with_itself.Tie as tie
 
-returns : tie.Need-returns
-unfolding agreesAt
-returns c = cc
-
 pub agrees-with-itself-spec : {M : Type 1} → statement M
+unfolding agreesAt
 agrees-with-itself-spec =
     tie.close
     (tie.spec
@@ -16,4 +13,4 @@ agrees-with-itself-spec =
     (λ c κs. search needs)
     (λ c κs. search needs)
     (λ c κs. search needs)
-    returns)
+    (λ c. cc))

@@ -3,9 +3,6 @@ use mathlib.Core.Path.{refl}
 use Rattle.sealed_receiver.proofs.states.fresh_receiving.Statement.{statement}
 use Rattle.sealed_receiver.proofs.states.fresh_receiving.Tie as tie
 
-returns : tie.Need-returns
-unfolding freshReceiving
-returns c = refl
-
 pub fresh-receiving-spec : {M : Type 1} → statement M
-fresh-receiving-spec = tie.close (tie.spec returns)
+unfolding freshReceiving
+fresh-receiving-spec = tie.close (tie.spec (λ c. refl))

@@ -3,9 +3,6 @@ use mathlib.Core.Path.{refl}
 use Rattle.sealed_receiver.proofs.states.no_receiving.Statement.{statement}
 use Rattle.sealed_receiver.proofs.states.no_receiving.Tie as tie
 
-returns : tie.Need-returns
-unfolding noReceiving
-returns c = refl
-
 pub no-receiving-spec : {M : Type 1} → statement M
-no-receiving-spec = tie.close (tie.spec returns)
+unfolding noReceiving
+no-receiving-spec = tie.close (tie.spec (λ c. refl))
