@@ -1,9 +1,9 @@
--- Xor is associative.
+-- Xor is associative, and pairs of numbers can be interchanged.
 use mathlib.Core.Path.{_≡_, refl, sym, ap, ap₂, _∙_}
 use Prim.Native.Nat.{ℕ, zero, suc, _+_, _*_, _/_, _%_, _<_}
 use native.Mathlib.Nat.{mod-lt, zero-lt-suc, not-suc-le-zero, le-of-suc-le-suc}
 use lib.Arith.{bin-ind}
-use lib.Bits.{bitXor, differ, xor-step, xor-shr, xor-mod, xor-self, xor-zero-r}
+use lib.Bits.{bitXor, differ, xor-step, xor-shr, xor-mod, xor-self, xor-zero-r, xor-comm}
 
 -- ---- xor is associative
 
@@ -45,3 +45,8 @@ xor-assoc =
 
 pub xor-twice : (a b : ℕ) → bitXor (bitXor a b) b ≡ a
 xor-twice a b = xor-assoc a b b ∙ ap (bitXor a) (xor-self b) ∙ xor-zero-r a
+
+-- two pairs, with their inner numbers interchanged
+pub interchange : (a b c d : ℕ) → bitXor (bitXor a b) (bitXor c d) ≡ bitXor (bitXor a c) (bitXor b d)
+interchange a b c d =
+    rw (xor-assoc a b (bitXor c d), ← (xor-assoc b c d), xor-comm b c, xor-assoc c b d, ← (xor-assoc a c (bitXor b d)))

@@ -2,9 +2,9 @@
 use mathlib.Core.Path.{_≡_, refl, sym, ap, ap₂, _∙_}
 use mathlib.Core.List.{List, [], _∷_, _++_, append-assoc, append-nil}
 use Prim.Native.Nat.{ℕ, zero, suc, _+_, _-_, _≤_}
-use native.Mathlib.Nat.{le-refl, zero-add, suc-add, add-assoc}
+use native.Mathlib.Nat.{le-refl, zero-add, suc-add, add-assoc, add-zero}
 use native.Mathlib.Omega.{arith}
-use lib.ListN.{length, take, drop, length-append, length-take, length-drop, drop-of-length-le}
+use lib.ListN.{length, take, drop, length-append, length-take, length-drop, drop-of-length-le, take-append-drop, replicate, length-replicate}
 use lib.Seq.{take-nil, take-all, take-at, drop-at, drop-append-add, drop-drop, length-take-le, drop-append-le}
 use Rattle.buffer.specs.Splice.{replaceFront, overwrite, splice}
 use Rattle.buffer.proofs.Splices.{splice-at, splice-upto}
@@ -27,6 +27,10 @@ length-splice l i xs h = simp (length-append, length-drop, length-take) (omega a
 pub overwrite-fits : (xs l : List ℕ) → length xs ≤ length l → overwrite xs l ≡ replaceFront xs l
 unfolding overwrite
 overwrite-fits xs l h = take-all (length l) (replaceFront xs l) (let e = length-replaceFront xs l h in omega arith)
+
+-- zeros laid, as a front that is replaced
+pub overwrite-zeros : (n : ℕ) (buf : List ℕ) → n ≤ length buf → overwrite (replicate n 0) buf ≡ replaceFront (replicate n 0) buf
+overwrite-zeros n buf h = overwrite-fits (replicate n 0) buf (rw (length-replicate {A = ℕ} n 0) h)
 
 -- the same, of a buffer and of bytes by another name
 pub overwrite-as : (xs ys l after : List ℕ) → after ≡ overwrite xs l → xs ≡ ys → length ys ≤ length l → after ≡ replaceFront ys l
@@ -113,3 +117,31 @@ put-behind buf q Q A h l =
     let t : length (take Q buf) ≡ Q = length-take-le Q buf (omega arith) in
     sym (rw m at (drop-take q (Q + length A - q) (splice buf Q A)))
     ∙ rw (splice-upto buf Q A (omega arith), drop-append-le q (take Q buf) A (omega arith)) (ap (λ (x : List ℕ). x ++ A) (rw k at (drop-take q (Q - q) buf)))
+
+-- ---- bytes behind those that are queued
+
+-- xs behind the queued bytes of buf, and the buffer and the queued count then
+pub record Queue (buf : List ℕ) (queued : ℕ) (xs after : List ℕ) (count : ℕ) : Type 0 where
+  pub buffer : after ≡ splice buf queued xs
+  pub queue : count ≡ queued + length xs
+  pub room : queued + length xs ≤ length buf
+
+pub queue-none : (buf : List ℕ) (queued : ℕ) → queued ≤ length buf → Queue buf queued [] buf queued
+queue-none buf queued h = record {
+  buffer = sym (ap₂ (λ (l : List ℕ) (k : ℕ). l ++ drop k buf) (append-nil (take queued buf)) (add-zero queued) ∙ take-append-drop queued buf);
+  queue = sym (add-zero queued);
+  room = omega arith;
+}
+
+-- n bytes xs, which leave a buffer, and ys behind them
+pub queue-more : {buf after end ys : List ℕ} {queued n count : ℕ} (xs : List ℕ) → after ≡ splice buf queued xs → length xs ≡ n → queued + n ≤ length buf
+    → (queued + n ≤ length after → Queue after (queued + n) ys end count) → Queue buf queued (xs ++ ys) end count
+queue-more {buf} {ys = ys} {queued = queued} xs e l h more =
+    let s : length (splice buf queued xs) ≡ length buf = length-splice buf queued xs (omega arith) in
+    let q = more (rw (e, s) h) in
+    let a = length-append xs ys in
+    record {
+      buffer = q .buffer ∙ rw (e, ← l) (splice-next buf queued xs ys (omega arith));
+      queue = q .queue ∙ omega arith;
+      room = (let z = ap length e in let r = q .room in omega arith);
+    }

@@ -11,8 +11,8 @@ use lib.Seq.{drop-drop, length-take-le, take-all}
 use Rattle.buffer.specs.Le.{Bytes, leOf, numberAt}
 use Rattle.buffer.proofs.Parts.{rest, rest-is}
 use Rattle.crc_steps.specs.Steps.{steps}
-use Rattle.crc_steps.proofs.Linear.{at-zero, interchange, steps-add, steps-none, steps-shifted, steps-split, steps-xor}
-use Rattle.bits.proofs.Xor.{xor-assoc}
+use Rattle.crc_steps.proofs.Linear.{at-zero, steps-add, steps-none, steps-shifted, steps-split, steps-xor}
+use Rattle.bits.proofs.Xor.{xor-assoc, interchange}
 use Rattle.crc32c.specs.Crc.{crcByte, crcOf}
 use Rattle.crc32c.specs.Lanes.{Left, lanes, whole}
 use Rattle.crc32c.proofs.Laws.{crc-append}

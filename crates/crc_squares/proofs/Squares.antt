@@ -7,8 +7,9 @@ use native.Mathlib.Omega.{arith}
 use lib.Arith.{lt-one}
 use lib.Bits.{bitXor, xor-comm, xor-shr, shifted-half, shifted-even}
 use Rattle.crc_steps.specs.Steps.{poly, step, steps}
-use Rattle.crc_steps.proofs.Linear.{Linear, at-times, interchange, low-xor, step-lt, steps-add, steps-xor}
+use Rattle.crc_steps.proofs.Linear.{Linear, at-times, low-xor, step-lt, steps-add, steps-xor}
 use Rattle.crc_squares.specs.Square.{square, squareOf}
+use Rattle.bits.proofs.Xor.{interchange}
 
 -- the power that the lowest of n + 1 digits stands for has
 abbrev power : ℕ → ℕ

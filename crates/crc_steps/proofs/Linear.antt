@@ -5,16 +5,8 @@ use native.Mathlib.Nat.{mod-lt, zero-add, suc-add, zero-mul, one-mul, mul-one}
 use native.Mathlib.Omega.{arith}
 use lib.Bits.{bitXor, differ, xor-comm, xor-lt, xor-self, xor-zero-r, xor-shr, xor-shifted, shifted-half, shifted-even}
 use lib.Pow.{split, pow-pos}
-use Rattle.bits.proofs.Xor.{digit, xor-assoc, xor-odd}
+use Rattle.bits.proofs.Xor.{digit, xor-odd, interchange}
 use Rattle.crc_steps.specs.Steps.{poly, step, steps}
-
--- ---- xor
-
-pub interchange : (a b c d : ℕ) → bitXor (bitXor a b) (bitXor c d) ≡ bitXor (bitXor a c) (bitXor b d)
-interchange a b c d =
-    xor-assoc a b (bitXor c d)
-    ∙ ap (bitXor a) (sym (xor-assoc b c d) ∙ ap (λ (x : ℕ). bitXor x d) (xor-comm b c) ∙ xor-assoc c b d)
-    ∙ sym (xor-assoc a c (bitXor b d))
 
 -- ---- linear maps
 

@@ -1,13 +1,12 @@
 -- What an accepted build leaves: its bytes behind the queued ones; and builds one behind the other.
 use Prim.Native.Nat.{ℕ, _+_, _-_, _≤_}
-use mathlib.Core.List.{List, [], _∷_, _++_, append-nil}
-use mathlib.Core.Path.{_≡_, refl, sym, ap, ap₂, _∙_}
+use mathlib.Core.List.{List, [], _∷_, _++_}
+use mathlib.Core.Path.{_≡_, refl, sym, ap, _∙_}
 use mathlib.Core.Bool.{Bool, true, false, true≢false}
 use native.Mathlib.Omega.{arith}
-use native.Mathlib.Nat.{add-zero}
-use lib.ListN.{length, take, drop, length-append, take-append-drop}
+use lib.ListN.{length}
 use Rattle.buffer.specs.Splice.{splice}
-use Rattle.buffer.proofs.Parts.{length-splice, splice-next}
+use Rattle.buffer.proofs.Parts.{Queue, queue-none, queue-more}
 use Rattle.refusal.specs.Refusals.{Judged, fine, refused}
 use Rattle.refusal.proofs.Judgements.{all-fine}
 use Rattle.banner.specs.declared.Revision.{Revision}
@@ -66,32 +65,6 @@ appended r buf queued b p =
 abbrev pub allBytes : Revision → List Build → List ℕ
 allBytes r [] = []
 allBytes r (b ∷ bs) = frameBytes r (b .header) (b .abort) (b .source) ++ allBytes r bs
-
--- xs behind the queued bytes of buf, and the buffer and the queued count then
-pub record Queue (buf : List ℕ) (queued : ℕ) (xs after : List ℕ) (count : ℕ) : Type 0 where
-  pub buffer : after ≡ splice buf queued xs
-  pub queue : count ≡ queued + length xs
-  pub room : queued + length xs ≤ length buf
-
-pub queue-none : (buf : List ℕ) (queued : ℕ) → queued ≤ length buf → Queue buf queued [] buf queued
-queue-none buf queued h = record {
-  buffer = sym (ap₂ (λ (l : List ℕ) (k : ℕ). l ++ drop k buf) (append-nil (take queued buf)) (add-zero queued) ∙ take-append-drop queued buf);
-  queue = sym (add-zero queued);
-  room = omega arith;
-}
-
--- n bytes xs, which leave a buffer, and ys behind them
-pub queue-more : {buf after end ys : List ℕ} {queued n count : ℕ} (xs : List ℕ) → after ≡ splice buf queued xs → length xs ≡ n → queued + n ≤ length buf
-    → (queued + n ≤ length after → Queue after (queued + n) ys end count) → Queue buf queued (xs ++ ys) end count
-queue-more {buf} {ys = ys} {queued = queued} xs e l h more =
-    let s : length (splice buf queued xs) ≡ length buf = length-splice buf queued xs (omega arith) in
-    let q = more (rw (e, s) h) in
-    let a = length-append xs ys in
-    record {
-      buffer = q .buffer ∙ rw (e, ← l) (splice-next buf queued xs ys (omega arith));
-      queue = q .queue ∙ omega arith;
-      room = (let z = ap length e in let r = q .room in omega arith);
-    }
 
 pub queued-up : (r : Revision) (buf : List ℕ) (queued : ℕ) (bs : List Build) → queued ≤ length buf → Queued r buf queued bs → Queue buf queued (allBytes r bs) (bufferBy buf bs) (queuedBy queued bs)
 queued-up r buf queued [] h q = queue-none buf queued h

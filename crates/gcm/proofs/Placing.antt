@@ -3,11 +3,11 @@ use mathlib.Core.List.{List, _++_}
 use mathlib.Core.Path.{_≡_, refl, sym, ap, ap₂, _∙_}
 use Prim.Native.Nat.{ℕ, _+_, _-_, _<_, _≤_, _^_}
 use native.Mathlib.Omega.{arith}
-use lib.ListN.{length, take, drop, replicate, length-append, length-replicate}
+use lib.ListN.{length, take, drop, length-append}
 use lib.Pow.{high, low}
 use lib.Seq.{length-take-le}
 use Rattle.buffer.specs.Splice.{replaceFront, overwrite}
-use Rattle.buffer.proofs.Parts.{overwrite-fits, replace-longer, overwrite-front}
+use Rattle.buffer.proofs.Parts.{replace-longer, overwrite-front}
 use Rattle.aes.specs.Aes.{State}
 use Rattle.aes.specs.Counter.{gctr}
 use Rattle.aes.proofs.Counters.{gctr-length}
@@ -17,10 +17,6 @@ use Rattle.gcm.specs.Gcm.{be8, blockBytes, tagOf, sealedBy}
 pub bytes-split : (h l : ℕ) → l < 2 ^ 64 → be8 h ++ be8 l ≡ blockBytes (pair h l)
 unfolding blockBytes
 bytes-split h l k = sym (ap₂ (λ (x y : ℕ). be8 x ++ be8 y) (high h 64 k) (low h 64 k))
-
--- zeros laid, as a front that is replaced
-pub zeros-over : (n : ℕ) (buf : List ℕ) → n ≤ length buf → overwrite (replicate n 0) buf ≡ replaceFront (replicate n 0) buf
-zeros-over n buf h = overwrite-fits (replicate n 0) buf (rw (length-replicate {A = ℕ} n 0) h)
 
 module _ (w : List State) (nonce : List ℕ) where
   pub tag-length : (c : List ℕ) → length (tagOf w nonce c) ≡ 16

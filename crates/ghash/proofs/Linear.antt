@@ -8,13 +8,9 @@ use lib.Bits.{bitXor, differ, xor-comm, xor-zero-l, xor-zero-r, xor-shr, xor-blo
 use lib.Arith.{lt-one}
 use lib.Pow.{split, pow-pos, pow-add, shr-lt, shr-shr, mod-mod-pow}
 use lib.Pow as pow
-use Rattle.bits.proofs.Xor.{digit, xor-assoc, xor-odd}
+use Rattle.bits.proofs.Xor.{digit, xor-assoc, xor-odd, interchange}
 use Rattle.ghash.specs.Ghash.{reduction, step, mulFrom}
 use Rattle.ghash.specs.Tables.{steps}
-
-interchange : (a b c d : ℕ) → bitXor (bitXor a b) (bitXor c d) ≡ bitXor (bitXor a c) (bitXor b d)
-interchange a b c d =
-    rw (xor-assoc a b (bitXor c d), ← (xor-assoc b c d), xor-comm b c, xor-assoc c b d, ← (xor-assoc a c (bitXor b d)))
 
 -- ---- the steps are linear
 

@@ -17,7 +17,7 @@ use Rattle.sealed_builder.specs.Build.{Done, sentMore}
 use Rattle.sealed_builder.specs.Nonces.{Build}
 use Rattle.sealed_builder.proofs.Accepted.{Accepted, accepted}
 use Rattle.sealed_builder.proofs.NoNonceTwice.{judged, came, when-fine, when-refused}
-use Rattle.ends.proofs.Builds.{Queue, queue-none, queue-more}
+use Rattle.buffer.proofs.Parts.{Queue, queue-none, queue-more}
 use Rattle.sealed_ends.specs.Trip.{writtenBy, bytesOf, Accepts}
 use Rattle.sealed_ends.specs.Ends.{Queued, bufferBy, queuedBy}
 

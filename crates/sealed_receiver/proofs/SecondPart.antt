@@ -18,7 +18,7 @@ use Rattle.body.specs.End.{whole}
 use Rattle.secure.specs.Layout.{padding, inlineLength, noSecondPart, noLastPart, secondPart, secondPartLength, needed}
 use Rattle.buffer.specs.Zeros.{allZero}
 use Rattle.secure.specs.Reading.{judgePadding, zeroed}
-use Rattle.secure.proofs.Trip.{one-segment}
+use Rattle.secure.proofs.Headers.{one-segment}
 use Rattle.sealed_receiver.specs.declared.Stage.the-variants as stage
 use Rattle.sealed_receiver.specs.declared.Known.{Known}
 use Rattle.sealed_receiver.specs.Step.{Stepped, refuse, unlessRefused, silent, at, withOpened, judgePart, partText, endFrame, beginLast, afterSecondPart, finish}

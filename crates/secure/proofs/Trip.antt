@@ -34,7 +34,6 @@ use Rattle.buffer.proofs.Zeros.{zeros-are, zeros-both}
 use Rattle.secure.specs.Reading.{judgePadding, judgeFirst, unpadded, paddingOf, lateByteIn, byLateStatus, lastEnded, atEnd, frames}
 use Rattle.secure.specs.Trip.{Sent, SealedTrip}
 use Rattle.secure.proofs.Runs.{after-add}
-pub use Rattle.secure.proofs.Headers.{one-segment}
 use Rattle.secure.proofs.Parts.{PartOpens, PartsJudged, segment1, frame-trace}
 
 -- ---- zeros and padding

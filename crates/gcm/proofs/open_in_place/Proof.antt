@@ -5,10 +5,11 @@ use lib.ListN.{length}
 use Rattle.refusal.specs.Refusals.{row}
 use Rattle.refusal.specs.Writes.{wrote, refusedFor, done}
 use Rattle.gcm.proofs.Answers.{open-none, open-long, open-right, open-wrong}
-use Rattle.gcm.proofs.Placing.{masked-over, zeros-over}
+use Rattle.gcm.proofs.Placing.{masked-over}
 use borrow.Author.Needs.{needs}
 use Rattle.gcm.proofs.open_in_place.Statement.{statement}
 use Rattle.gcm.proofs.open_in_place.Tie as tie
+use Rattle.buffer.proofs.Parts.{overwrite-zeros}
 
 returns-3 : tie.Need-returns-3
 returns-3 c =
@@ -18,7 +19,7 @@ returns-3 c =
 returns-4 : tie.Need-returns-4
 returns-4 c =
     let s = c .before .before .before .before .before .before .before .before .before .before .args .buf .now in
-    record { is = ap (done (refusedFor (row 17 0 0 0))) (c .before .before .put-zeros .ensures ∙ zeros-over (length s - 16) s (omega arith)) ∙ sym (open-wrong _ _ _ _ (omega arith) (omega arith) (omega arith) cc) }
+    record { is = ap (done (refusedFor (row 17 0 0 0))) (c .before .before .put-zeros .ensures ∙ overwrite-zeros (length s - 16) s (omega arith)) ∙ sym (open-wrong _ _ _ _ (omega arith) (omega arith) (omega arith) cc) }
 
 pub open-in-place-spec : {M : Type 1} → statement M
 open-in-place-spec =

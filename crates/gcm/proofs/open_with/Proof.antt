@@ -6,10 +6,11 @@ use lib.Seq.{length-take-le}
 use Rattle.refusal.specs.Refusals.{row}
 use Rattle.refusal.specs.Writes.{wrote, refusedFor, done}
 use Rattle.gcm.proofs.Answers.{open-none, open-long, open-short, open-right, open-wrong}
-use Rattle.gcm.proofs.Placing.{opened-over, zeros-over}
+use Rattle.gcm.proofs.Placing.{opened-over}
 use borrow.Author.Needs.{needs}
 use Rattle.gcm.proofs.open_with.Statement.{statement}
 use Rattle.gcm.proofs.open_with.Tie as tie
+use Rattle.buffer.proofs.Parts.{overwrite-zeros}
 
 slice-aggregate-put : tie.Need-slice-aggregate-put
 slice-aggregate-put c =
@@ -26,7 +27,7 @@ returns-4 c =
 returns-5 : tie.Need-returns-5
 returns-5 c =
     let a = c .before .before .before .before .before .before .before .before .before .before .before .args in
-    record { is = ap (done (refusedFor (row 17 0 0 0))) (c .before .before .put-zeros .ensures ∙ zeros-over (length (a .sealed .now) - 16) (a .out .now) (omega arith)) ∙ sym (open-wrong _ _ _ _ (omega arith) (omega arith) (omega arith) cc) }
+    record { is = ap (done (refusedFor (row 17 0 0 0))) (c .before .before .put-zeros .ensures ∙ overwrite-zeros (length (a .sealed .now) - 16) (a .out .now) (omega arith)) ∙ sym (open-wrong _ _ _ _ (omega arith) (omega arith) (omega arith) cc) }
 
 pub open-with-spec : {M : Type 1} → statement M
 open-with-spec =
