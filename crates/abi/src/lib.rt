@@ -1,4 +1,6 @@
 // What every family of calls by C and Rust shares: revisions, marks, refusals and headers as 64-bit words, and back.
+#![tactic(auto)]
+
 ghost use Rattle.std.specs.Prelude.{◌≡◌, [], ◌∷◌, ◌≤◌};
 ghost use Rattle.refusal.specs.Refusals.{numbers_of};
 ghost use Rattle.refusal.specs.Writes.{outcome_of};
@@ -32,7 +34,7 @@ pub fn refusal_words(n: Numbers) -> [u64; 4]
 }
 
 // What a call answers that writes bytes: how many, and a refusal, either of which is zeros.
-#[derive(Drop)]
+#[derive(Clone, Copy)]
 pub struct Written {
     pub written: u64,
     pub refusal: [u64; 4],

@@ -1,4 +1,6 @@
 // Bodies of control frames over words: read and written. Each call promises the words of what `bodies` promises, for every word that C can hand in.
+#![tactic(auto)]
+
 ghost use Rattle.std.specs.Prelude.{◌≡◌};
 ghost use Rattle.refusal.specs.Refusals.{no_refusal};
 ghost use Rattle.abi.specs.Words.{low_u8, low_u32, written};

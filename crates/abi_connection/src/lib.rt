@@ -1,5 +1,7 @@
 // The calls of the receiving side of a connection over words. Each promises the words of what `connection` promises, for every word that C can hand in. A call on
 // a crc link is one of `abi_receiver`, and costs what that one does.
+#![tactic(auto)]
+
 mod secure;
 
 ghost use Rattle.std.specs.Prelude.{◌≡◌, cond, ◌&&◌, ◌||◌, leb, eqb};
@@ -26,7 +28,7 @@ use sealed_receiver::switch_on;
 // ---- sealed frames
 
 // The words of the part for sealed frames.
-#[derive(Drop)]
+#[derive(Clone, Copy)]
 struct Part {
     numbers: [u64; 18],
     first: [u8; 96],
@@ -52,7 +54,7 @@ fn secure_words(st: sealed_receiver::State) -> Part
 }
 
 // And those of a report.
-#[derive(Drop)]
+#[derive(Clone, Copy)]
 struct Handed {
     part: Part,
     report: [u64; 19],

@@ -1,4 +1,6 @@
 // `deliver` over words: a piece is received, and what it completes is done to the session.
+#![tactic(auto)]
+
 ghost use Rattle.std.specs.Prelude.{◌≡◌};
 ghost use Rattle.refusal.specs.Refusals.{no_refusal};
 ghost use Rattle.delivery.specs.Requests.{request_by_report, done_to};
@@ -13,7 +15,7 @@ use abi_session::{answer_words, answering, session_numbers, session_of};
 use delivery::{Effect, Request, apply, request_by_frame};
 
 // The words that change when something is done to a session: no frame changes a handle.
-#[derive(Drop)]
+#[derive(Clone, Copy)]
 struct Done {
     numbers: [u64; 2],
     effect: [u64; 6],

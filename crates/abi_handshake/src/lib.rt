@@ -1,4 +1,6 @@
 // The handshake's steps over words, and the mode that a server picks. Each promises the words of what `handshake` promises, for every word that C can hand in.
+#![tactic(auto)]
+
 ghost use Rattle.std.specs.Prelude.{◌≡◌};
 ghost use Rattle.handshake.specs.Table.{state_number};
 ghost use Rattle.handshake.specs.Pick.{pick_of};
@@ -12,7 +14,7 @@ use handshake::{
 use refusal::{Refusal, numbers_of};
 
 // The next state and a refusal, or zeros.
-#[derive(Drop)]
+#[derive(Clone, Copy)]
 struct Words {
     state: u64,
     refusal: [u64; 4],

@@ -1,4 +1,6 @@
 // The receiver's calls over words. Each promises the words of what `receiver` promises, for every word that C can hand in.
+#![tactic(auto)]
+
 pub mod words;
 
 ghost use Rattle.abi_receiver.specs.Words.{abi_state, handed, ReceivedBy, ReadsBack};

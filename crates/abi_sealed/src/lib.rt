@@ -1,4 +1,6 @@
 // Sealed builds over words. A call promises the words of what `sealed_builder` promises, for every word that C can hand in.
+#![tactic(auto)]
+
 ghost use Rattle.std.specs.Prelude.{◌≡◌};
 ghost use Rattle.refusal.specs.Writes.{outcome_of};
 ghost use Rattle.abi.specs.Words.{within, written, abi_result};
@@ -9,7 +11,7 @@ use refusal::{Refusal, both};
 use sealed_builder::{Sealed, Sending, build_sealed};
 
 // An answer, and the numbers and the nonce of the state then.
-#[derive(Drop)]
+#[derive(Clone, Copy)]
 struct Words {
     answer: Written,
     numbers: [u64; 3],

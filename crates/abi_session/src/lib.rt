@@ -1,4 +1,6 @@
 // The session's calls over words. Each promises the words of what `session` promises, for every word that C can hand in.
+#![tactic(auto)]
+
 ghost use Rattle.std.specs.Prelude.{◌≡◌};
 ghost use Rattle.refusal.specs.Refusals.{no_refusal};
 ghost use Rattle.session.specs.Calls.{fresh_session};
@@ -9,14 +11,14 @@ use refusal::Numbers;
 use session::{Answer, Held, Outcome, Session, accept, ack, held_at, reconnect, reset, start};
 
 // The words of a session and of an answer.
-#[derive(Drop)]
+#[derive(Clone, Copy)]
 struct OutcomeWords {
     numbers: [u64; 2],
     handles: [u64; 64],
     answer: [u64; 6],
 }
 
-#[derive(Drop)]
+#[derive(Clone, Copy)]
 struct Found {
     found: u64,
     message: [u64; 2],

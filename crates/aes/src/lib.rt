@@ -1,4 +1,6 @@
 // AES-128 (FIPS 197): the state is four columns of four bytes, by value. And its counter mode (SP 800-38D, 6.5).
+#![tactic(auto)]
+
 ghost use Rattle.std.specs.Prelude.{◌≡◌, List, [], ◌++◌, ℕ, ◌+◌, ◌/◌, ◌%◌, ◌≤◌, length, get_or, take, drop};
 ghost use Rattle.sbox.specs.Sbox.{Ruled, sbox, xtime};
 ghost use Rattle.aes.specs.Aes.{

@@ -1,4 +1,6 @@
 // The banner: its bytes, its judgements, the features in it and the revision that two banners choose.
+#![tactic(auto)]
+
 ghost use Rattle.std.specs.Prelude.{◌≡◌};
 ghost use Rattle.refusal.specs.declared.Refusal.TheVariants as refusal;
 ghost use Rattle.refusal.specs.Refusals.{judged_by};
@@ -8,7 +10,7 @@ ghost use Rattle.banner.specs.Banner.{banner_bytes, no_features, is_no_features,
 use buffer::{byte_at, u64_at};
 use refusal::{Judgement, Missing, Refusal, both, or_else, unless};
 
-#[derive(Drop)]
+#[derive(Clone, Copy)]
 pub enum Revision {
     Msgr20,
     Msgr21,
@@ -16,7 +18,7 @@ pub enum Revision {
 
 // The features of a banner.
 #[repr(C)]
-#[derive(Drop)]
+#[derive(Clone, Copy)]
 pub struct Features {
     pub supported: u64,
     pub required: u64,

@@ -1,4 +1,6 @@
 // Laws of exclusive or that the checksums, hashes and ciphers of this repository stand on, and the test of a table at all of its entries. No code: the laws are in proofs/.
+#![tactic(auto)]
+
 ghost use Rattle.std.specs.Prelude.{◌≡◌, ℕ};
 ghost use Rattle.std.specs.Int.Bits.{bit_xor};
 

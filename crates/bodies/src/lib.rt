@@ -1,4 +1,6 @@
 // Bodies of control frames: each tag's body is a row of fields, read by the cursor and written by the draft of crate `fields`.
+#![tactic(auto)]
+
 ghost use Rattle.std.specs.Prelude.{◌≡◌, ◌<◌};
 ghost use Rattle.preamble.specs.Judge.{segment_limit};
 ghost use Rattle.fields.specs.Layout as kind;
@@ -21,7 +23,7 @@ use fields::{
 use preamble::SEGMENT_LIMIT;
 use refusal::{Refusal, WriteResult, either};
 
-#[derive(Drop)]
+#[derive(Clone, Copy)]
 pub struct Ident {
     pub gid: u64,
     pub global_seq: u64,
@@ -31,7 +33,7 @@ pub struct Ident {
     pub cookie: u64,
 }
 
-#[derive(Drop)]
+#[derive(Clone, Copy)]
 pub struct Reconnect {
     pub client_cookie: u64,
     pub server_cookie: u64,
@@ -41,7 +43,7 @@ pub struct Reconnect {
 }
 
 // What a body says. Lists, payloads, blocks and stamps are places in the segment that was read. The error of a bad method is its 32 bits.
-#[derive(Drop)]
+#[derive(Clone, Copy)]
 pub enum Body {
     Hello {
         entity_type: u8,
@@ -83,31 +85,31 @@ pub enum Body {
 // ---- a field of a row, which goes on behind a fault: what is read there is nothing, and `settle` refuses the body
 
 // What a field holds, and the cursor behind it or at the first fault.
-#[derive(Drop)]
+#[derive(Clone, Copy)]
 struct FieldU8 {
     value: u8,
     next: Cursor,
 }
 
-#[derive(Drop)]
+#[derive(Clone, Copy)]
 struct FieldU32 {
     value: u32,
     next: Cursor,
 }
 
-#[derive(Drop)]
+#[derive(Clone, Copy)]
 struct FieldU64 {
     value: u64,
     next: Cursor,
 }
 
-#[derive(Drop)]
+#[derive(Clone, Copy)]
 struct FieldList {
     value: NumberList,
     next: Cursor,
 }
 
-#[derive(Drop)]
+#[derive(Clone, Copy)]
 struct FieldSpan {
     value: Span,
     next: Cursor,
@@ -559,7 +561,7 @@ fn row_stamp(out: &mut [u8], stamp: &[u8]) -> Draft
 // ---- by tag
 
 // What is to be written, but for its lists and bytes.
-#[derive(Drop)]
+#[derive(Clone, Copy)]
 pub enum Request {
     Hello(u8),
     AuthRequest(u32),

@@ -1,4 +1,6 @@
 // The bodies of frames: checksum fields, epilogues, late bytes and lengths on the wire.
+#![tactic(auto)]
+
 ghost use Rattle.std.specs.Prelude.{◌≡◌, ◌||◌, ◌∷◌, [], ◌+◌, ◌<◌, ◌≤◌, drop, get_or, leb, ltb, eqb};
 ghost use Rattle.buffer.specs.Le.{number_at, words};
 ghost use Rattle.refusal.specs.declared.Refusal.TheVariants as refusal;
@@ -16,7 +18,7 @@ use refusal::{Judgement, Refusal, either, or_else, unless};
 const SEGMENT_START: u32 = 0xFFFFFFFF;
 
 // What a late byte says.
-#[derive(Drop)]
+#[derive(Clone, Copy)]
 pub enum Late {
     Complete,
     Aborted,
@@ -24,7 +26,7 @@ pub enum Late {
 }
 
 // How a body ends.
-#[derive(Drop)]
+#[derive(Clone, Copy)]
 pub enum Ending {
     Whole,
     Dropped,
@@ -32,7 +34,7 @@ pub enum Ending {
 }
 
 // The checksum fields of segments 2 to 4.
-#[derive(Drop)]
+#[derive(Clone, Copy)]
 pub struct Sums {
     pub s2: u32,
     pub s3: u32,

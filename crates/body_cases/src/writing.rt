@@ -18,7 +18,7 @@ use records::{LARGEST, Step, bad_record, count_up, is_whole, print_outcome, read
 use refusal::{WriteResult, both, either};
 
 // What is to be written: the request, the places of its lists and bytes in the record, and the cursor behind them.
-#[derive(Drop)]
+#[derive(Clone, Copy)]
 struct Asked {
     request: Request,
     first: NumberList,
@@ -28,31 +28,31 @@ struct Asked {
 }
 
 // A field of the record, and the cursor behind it or at the first that is cut off. What is read behind the record's end is not used: the record is a bad one.
-#[derive(Drop)]
+#[derive(Clone, Copy)]
 struct GivenU8 {
     value: u8,
     next: Cursor,
 }
 
-#[derive(Drop)]
+#[derive(Clone, Copy)]
 struct GivenU32 {
     value: u32,
     next: Cursor,
 }
 
-#[derive(Drop)]
+#[derive(Clone, Copy)]
 struct GivenU64 {
     value: u64,
     next: Cursor,
 }
 
-#[derive(Drop)]
+#[derive(Clone, Copy)]
 struct GivenList {
     value: NumberList,
     next: Cursor,
 }
 
-#[derive(Drop)]
+#[derive(Clone, Copy)]
 struct GivenSpan {
     value: Span,
     next: Cursor,

@@ -1,5 +1,7 @@
 // Y records: sealed frames are built one after the other with one sending state, as they are read, with a line for each. All its builds together may be longer
 // than what is held of the input, so that a record is read in parts: its head, and each build by itself.
+#![tactic(auto)]
+
 ghost use Rattle.std.specs.Prelude.{◌≡◌, ◌-◌, ◌≤◌, length};
 ghost use Rattle.build_cases.specs.Sealed.{nonce_further, sending_after, sending_of, head_size, head_part, build_size, build_part, DidPart};
 
@@ -16,14 +18,14 @@ use secure::nonce_of;
 const BUILDS: usize = 256;
 
 // What is left of a record: how many builds are to come, and the sending state that the next one is given.
-#[derive(Drop)]
+#[derive(Clone, Copy)]
 pub struct Builds {
     pub left: usize,
     pub sending: Sending,
 }
 
 // What a part of a record came to, and what is left of the record.
-#[derive(Drop)]
+#[derive(Clone, Copy)]
 pub struct Part {
     pub step: Step,
     pub builds: Builds,

@@ -1,4 +1,6 @@
 // Builds banners and frames into the part of a send buffer behind what is queued.
+#![tactic(auto)]
+
 ghost use Rattle.std.specs.Prelude.{◌≡◌, ◌++◌, ◌+◌, ◌≤◌, length, leb};
 ghost use Rattle.buffer.specs.Splice.{replace_front};
 ghost use Rattle.refusal.specs.Refusals.{judged_by};

@@ -1,4 +1,6 @@
 // Runs case records: reads them on standard input, does what each asks for and prints its lines.
+#![tactic(auto)]
+
 mod builds;
 mod checksums;
 
@@ -16,11 +18,16 @@ use builds::{banner_record, frame_record};
 use checksums::checksum_record;
 use connection_cases::receiver_record;
 use handshake_cases::{mode_record, steps_record};
-use libc::{STDIN_FILENO, STDOUT_FILENO};
 use records::{LARGEST, Step, bad_record};
 use refusal::both;
 use sealing_cases::sealing_record;
 use session_cases::session_record;
+
+// Where the program reads.
+const STDIN_FILENO: i32 = 0;
+
+// Where it writes.
+const STDOUT_FILENO: i32 = 1;
 
 // The bytes of the longest record of any kind.
 const LONGEST: usize = 164253;
@@ -29,7 +36,7 @@ const LONGEST: usize = 164253;
 const MOST: u64 = 1099511627776;
 
 // What is still to be read of the bytes that are held, and whether more may come behind them.
-#[derive(Drop)]
+#[derive(Clone, Copy)]
 struct Input {
     at: usize,
     end: usize,
@@ -37,7 +44,7 @@ struct Input {
 }
 
 // Between two records, or two builds of one: the input, where the text ends, the builds that are to come, and how many more records are read.
-#[derive(Drop)]
+#[derive(Clone, Copy)]
 struct State {
     input: Input,
     filled: usize,

@@ -1,10 +1,17 @@
 // The link checker: reads one direction of a recorded link on standard input and prints what it comes to. What is read, and that it is written,
 // is the operating system's; all else is the library's.
+#![tactic(auto)]
+
 ghost use Rattle.std.specs.Prelude.{◌≡◌, ◌≤◌, length};
 
 use buffer::part;
-use libc::{STDIN_FILENO, STDOUT_FILENO};
 use link::{begin, read, wanted};
+
+// Where the program reads.
+const STDIN_FILENO: i32 = 0;
+
+// Where it writes.
+const STDOUT_FILENO: i32 = 1;
 
 // It is lent room for a read, the store, and room for the lines of a read: with less the text could be cut, or a frame refused that fits the store.
 fn run(held: &mut [u8], store: &mut [u8], text: &mut [u8])

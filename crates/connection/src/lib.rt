@@ -1,4 +1,6 @@
 // The receiving side of a connection: crc frames as they come, and sealed frames from a switch on (02, K4).
+#![tactic(auto)]
+
 ghost use Rattle.std.specs.Prelude.{◌≡◌, ◌&&◌, eqb};
 ghost use Rattle.refusal.specs.Refusals.{fine, judged_by};
 ghost use Rattle.receiver.specs.State.{rank};
@@ -19,14 +21,14 @@ use sealed_receiver::switch_on;
 use stream::Event;
 
 // Which frames come next.
-#[derive(Drop)]
+#[derive(Clone, Copy)]
 pub enum Mode {
     Crc,
     Secure,
 }
 
 // What the receiving side is between two calls. It goes in by value and comes back.
-#[derive(Drop)]
+#[derive(Clone, Copy)]
 pub struct State {
     pub mode: Mode,
     // A frame was reported or dropped, and no byte came since.
@@ -36,14 +38,14 @@ pub struct State {
 }
 
 // What a start gives: a state, and whether our own features were refused, which the state then repeats.
-#[derive(Drop)]
+#[derive(Clone, Copy)]
 pub struct Started {
     pub state: State,
     pub judgement: Judgement,
 }
 
 // What a call answers.
-#[derive(Drop)]
+#[derive(Clone, Copy)]
 pub struct Received {
     pub state: State,
     pub taken: usize,
@@ -51,7 +53,7 @@ pub struct Received {
 }
 
 // What a switch answers: the state, what the builder of sealed frames is given, and whether it was refused.
-#[derive(Drop)]
+#[derive(Clone, Copy)]
 pub struct Switched {
     pub state: State,
     pub sending: Sending,

@@ -1,5 +1,7 @@
 // R, X and T records: a receiving side is started and lent a stream piece by piece, with a line for the start and one for each call. A call of X or T may be a try to
 // switch instead, with two lines; each call of T lends a store of its own length.
+#![tactic(auto)]
+
 mod lines;
 mod places;
 
@@ -29,7 +31,7 @@ use sealed_receiver::{Known, Receiving};
 use sealing_cases::{key_at, nonce_at};
 
 // What a call leaves: the receiving side's state, how many bytes were taken, and where the text now ends.
-#[derive(Drop)]
+#[derive(Clone, Copy)]
 struct Called {
     state: State,
     taken: usize,

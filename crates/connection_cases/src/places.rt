@@ -22,7 +22,7 @@ pub const SWITCH: usize = 48;
 pub const TRY: usize = 4294967040;
 
 // Where the switches stand, how many there are, and whether each call says how much of the store it lends.
-#[derive(Drop)]
+#[derive(Clone, Copy)]
 pub struct Layout {
     pub from: u8,
     pub switches: u8,
@@ -30,7 +30,7 @@ pub struct Layout {
 }
 
 // A piece's length or a try to switch, and the length of the store that is lent.
-#[derive(Drop)]
+#[derive(Clone, Copy)]
 pub struct Call {
     pub number: usize,
     pub lent: usize,

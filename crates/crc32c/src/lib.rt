@@ -1,4 +1,6 @@
 // CRC32-C by tables, from any start value and with no complement at the end: four words at a time, and a run of zeros by halving its length.
+#![tactic(auto)]
+
 ghost use Rattle.std.specs.Prelude.{◌≡◌, ℕ, ◌+◌, ◌*◌, ◌-◌, ◌≤◌, ◌<◌, length, replicate};
 ghost use Rattle.crc32c.specs.Crc.{crc_of, steps};
 ghost use Rattle.crc32c.specs.Lanes.{LeftBy};
@@ -38,7 +40,7 @@ fn last(c: u32, rest: &[u8]) -> u32
 }
 
 // What the words before i give those from i on: a is xored into the next one, b, c and d into the three behind it.
-#[derive(Drop)]
+#[derive(Clone, Copy)]
 struct Lanes {
     a: u32,
     b: u32,

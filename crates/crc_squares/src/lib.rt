@@ -1,4 +1,6 @@
 // Square roots and squares of words as polynomials, by a table for their nibbles. A `match` on constants is compiled to a read-only table.
+#![tactic(auto)]
+
 mod roots_and_squares;
 
 ghost use Rattle.std.specs.Prelude.{◌≡◌, ◌≤◌};

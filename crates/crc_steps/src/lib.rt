@@ -1,4 +1,6 @@
 // Bit steps of CRC32-C from a byte, by a table, and what the tables of crc_steps_32, crc_steps_64, crc_steps_128 and crc_squares share.
+#![tactic(auto)]
+
 mod bytes;
 
 ghost use Rattle.std.specs.Prelude.{◌≡◌, ◌+◌, ◌*◌, ◌%◌};

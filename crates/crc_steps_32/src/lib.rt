@@ -1,5 +1,7 @@
 // 32 bit steps of a word, by a table for each of its bytes, the lowest first: the entry at 256 + k is what the steps make of the byte k at its place.
 // A `match` on constants is compiled to a read-only table, where a constant array is stored anew by each call that names it.
+#![tactic(auto)]
+
 ghost use Rattle.std.specs.Prelude.{◌≡◌};
 ghost use Rattle.crc_steps.specs.Steps.{steps};
 ghost use Rattle.crc_steps.specs.Tables.{entry};

@@ -1,5 +1,7 @@
 // A connection's receiving side and the session together: a piece of the stream is received, in crc mode or sealed, and what it completes is done
 // to the session. Of all that is received, only whole frames with tag 20, 15 or 12 release messages.
+#![tactic(auto)]
+
 ghost use Rattle.std.specs.Prelude.{◌≡◌, List, ℕ};
 ghost use Rattle.bodies.specs.Read.{answer_of};
 ghost use Rattle.session.specs.Laws.{accept, ack};
@@ -20,14 +22,14 @@ use session::{Outcome, Session};
 use stream::Event;
 
 // A connection's receiving side, and the session that outlives it.
-#[derive(Drop)]
+#[derive(Clone, Copy)]
 pub struct Delivery {
     pub receiver: State,
     pub session: Session,
 }
 
 // What a report asks of the session.
-#[derive(Drop)]
+#[derive(Clone, Copy)]
 pub enum Request {
     Nothing,
     Ack(u64),
@@ -39,7 +41,7 @@ pub enum Request {
 }
 
 // What was done to the session.
-#[derive(Drop)]
+#[derive(Clone, Copy)]
 pub enum Effect {
     Nothing,
     // Refusal 20: nothing was done.
@@ -48,14 +50,14 @@ pub enum Effect {
     Answer(session::Answer),
 }
 
-#[derive(Drop)]
+#[derive(Clone, Copy)]
 pub struct Applied {
     pub session: Session,
     pub effect: Effect,
 }
 
 // What `deliver` answers.
-#[derive(Drop)]
+#[derive(Clone, Copy)]
 pub struct Delivered {
     pub state: Delivery,
     pub taken: usize,
@@ -64,7 +66,7 @@ pub struct Delivered {
 }
 
 // What `switch` answers: what the builder of sealed frames is given, and whether the switch was refused.
-#[derive(Drop)]
+#[derive(Clone, Copy)]
 pub struct Switched {
     pub state: Delivery,
     pub sending: Sending,
@@ -72,14 +74,14 @@ pub struct Switched {
 }
 
 // What `accept` and `ack` answer.
-#[derive(Drop)]
+#[derive(Clone, Copy)]
 pub struct SessionCalled {
     pub state: Delivery,
     pub answer: session::Answer,
 }
 
 // What `connect` answers: our own features may be refused, and the receiver then repeats it.
-#[derive(Drop)]
+#[derive(Clone, Copy)]
 pub struct Connected {
     pub state: Delivery,
     pub judgement: Judgement,

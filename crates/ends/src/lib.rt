@@ -1,5 +1,7 @@
 // The two ends together: what is read is handed over exactly when the checks hold, and what is built comes back. No code runs here: the promises are
 // theorems about every list of calls of the builder and of the receiver.
+#![tactic(auto)]
+
 ghost use Rattle.ends.specs.Handed.{HandedOver};
 ghost use Rattle.ends.specs.Trip.{RoundTrip};
 ghost use Rattle.ends.specs.Ends.{TwoEnds};

@@ -1,4 +1,6 @@
 // Fields of control frames' bodies: a cursor by value that reads them one by one, and a draft by value that appends them to a buffer.
+#![tactic(auto)]
+
 ghost use Rattle.std.specs.Prelude.{◌≡◌, true, cond, ℕ, ◌+◌, ◌-◌, ◌≤◌, ◌<◌, ltb, length, get_or};
 ghost use Rattle.buffer.specs.Le.{le, words};
 ghost use Rattle.preamble.specs.Judge.{segment_limit};
@@ -12,52 +14,52 @@ use buffer::{byte_at, min, u32_at, u32_bytes, u64_at};
 use preamble::SEGMENT_LIMIT;
 
 // A place in a segment; once failed, the place that the fault is named by.
-#[derive(Drop)]
+#[derive(Clone, Copy)]
 pub struct Cursor {
     pub at: usize,
     pub failed: bool,
 }
 
 // Bytes of a segment.
-#[derive(Drop)]
+#[derive(Clone, Copy)]
 pub struct Span {
     pub at: usize,
     pub len: usize,
 }
 
 // So many 32-bit numbers of a segment, from a place on.
-#[derive(Drop)]
+#[derive(Clone, Copy)]
 pub struct NumberList {
     pub at: usize,
     pub count: u32,
 }
 
 // What a step answers: the field and the cursor behind it, or the cursor at its fault.
-#[derive(Drop)]
+#[derive(Clone, Copy)]
 pub enum U8Step {
     Read(u8, Cursor),
     Failed(Cursor),
 }
 
-#[derive(Drop)]
+#[derive(Clone, Copy)]
 pub enum U32Step {
     Read(u32, Cursor),
     Failed(Cursor),
 }
 
-#[derive(Drop)]
+#[derive(Clone, Copy)]
 pub enum U64Step {
     Read(u64, Cursor),
     Failed(Cursor),
 }
 
-#[derive(Drop)]
+#[derive(Clone, Copy)]
 pub enum ListStep {
     Read(NumberList, Cursor),
     Failed(Cursor),
 }
 
-#[derive(Drop)]
+#[derive(Clone, Copy)]
 pub enum SpanStep {
     Read(Span, Cursor),
     Failed(Cursor),
@@ -300,7 +302,7 @@ pub fn number_in(s: &[u8], l: NumberList, i: u32) -> u32
 // ---- writing: a draft says how long the body is so far, and which field was at fault first
 
 // The bytes so far, and the place of the first fault.
-#[derive(Drop)]
+#[derive(Clone, Copy)]
 pub struct Draft {
     pub len: usize,
     pub failed: bool,

@@ -1,4 +1,6 @@
 // AES-128-GCM: seal and open, into a buffer or where the bytes stand.
+#![tactic(auto)]
+
 ghost use Rattle.std.specs.Prelude.{◌≡◌, ◌++◌, ◌+◌, ◌-◌, ◌*◌, ◌^◌, ◌<◌, ◌≤◌, length, take, drop};
 ghost use Rattle.std.specs.Int.Bits.{bit_xor};
 ghost use Rattle.buffer.specs.Splice.{replace_front};

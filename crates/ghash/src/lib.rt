@@ -1,4 +1,6 @@
 // GHASH (SP 800-38D, 6.4), a block as two words. A product is looked up four bits at a time in a table that is made for each call from the hash key: a small one for short texts.
+#![tactic(auto)]
+
 ghost use Rattle.std.specs.Prelude.{◌≡◌, ℕ, ◌+◌, ◌*◌, ◌/◌, ◌%◌, ◌<◌, ◌≤◌, ◌^◌, ◌-◌, length};
 ghost use Rattle.std.specs.Int.Bits.{bit_xor};
 ghost use Rattle.ghash.specs.Ghash.{pair, step, mul_from, product, quad_of, quad_at, block_at, ghash_from, ghash};
@@ -6,7 +8,7 @@ ghost use Rattle.ghash.specs.Tables.{steps, Reduced, Filled, Whole};
 
 use buffer::put;
 
-#[derive(Drop)]
+#[derive(Clone, Copy)]
 pub struct Block {
     pub hi: u64,
     pub lo: u64,
@@ -14,7 +16,7 @@ pub struct Block {
 
 // ---- one bit of x at a time: Z and V
 
-#[derive(Drop)]
+#[derive(Clone, Copy)]
 struct Walk {
     zh: u64,
     zl: u64,

@@ -1,4 +1,6 @@
 // The handshake as steps: a side's state and the tag of a frame that came lead to the next state. And the mode that a server picks.
+#![tactic(auto)]
+
 ghost use Rattle.std.specs.Prelude.{◌≡◌, cond};
 ghost use Rattle.handshake.specs.Table.{led_to, both_rows, client_rows, server_rows, find};
 ghost use Rattle.handshake.specs.Steps.{Stepped, step_by};
@@ -11,7 +13,7 @@ ghost use Rattle.handshake.specs.declared.State.TheVariants as state;
 use refusal::{Numbers, Refusal, both, numbers_of};
 
 // A side's states (004's two diagrams). A server alone is in More and Standby, a client alone in Wait.
-#[derive(Drop)]
+#[derive(Clone, Copy)]
 pub enum State {
     Hello,
     Auth,
@@ -25,7 +27,7 @@ pub enum State {
 }
 
 // Where a server's caller leads to from an auth request.
-#[derive(Drop)]
+#[derive(Clone, Copy)]
 pub enum AuthVerdict {
     Stay,
     More,
@@ -34,7 +36,7 @@ pub enum AuthVerdict {
 }
 
 // All that the caller may be asked. A step looks at its own part alone.
-#[derive(Drop)]
+#[derive(Clone, Copy)]
 pub struct Verdict {
     // Where a server's auth request leads to.
     pub auth: AuthVerdict,
@@ -46,21 +48,21 @@ pub struct Verdict {
     pub reconnect: bool,
 }
 
-#[derive(Drop)]
+#[derive(Clone, Copy)]
 pub enum Report {
     Taken,
     Refused(Numbers),
 }
 
 // The state that a step leads to, and whether the tag was taken.
-#[derive(Drop)]
+#[derive(Clone, Copy)]
 pub struct Step {
     pub state: State,
     pub report: Report,
 }
 
 // What the table has for a tag.
-#[derive(Drop)]
+#[derive(Clone, Copy)]
 pub enum Next {
     To(State),
     Unexpected,
@@ -241,7 +243,7 @@ pub fn worked_runs()
 
 // ---- the mode
 
-#[derive(Drop)]
+#[derive(Clone, Copy)]
 pub enum Picked {
     Mode(u32),
     NoMode,

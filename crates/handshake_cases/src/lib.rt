@@ -1,4 +1,6 @@
 // P and M records: one side's handshake steps, made as they are read with a line for each, and the mode that a server picks.
+#![tactic(auto)]
+
 ghost use Rattle.std.specs.Prelude.{◌≡◌, ◌≤◌, length};
 ghost use Rattle.handshake.specs.declared.State.TheVariants as state;
 ghost use Rattle.handshake.specs.declared.Picked.TheVariants.{Mode, NoMode};

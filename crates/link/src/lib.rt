@@ -1,4 +1,6 @@
 // The link checker: one direction of a recorded link, walked as it is read, and the lines of what it comes to.
+#![tactic(auto)]
+
 mod lines;
 mod steps;
 
@@ -17,14 +19,14 @@ use steps::walk_bytes;
 use text::every_line;
 
 // Segments of the frame under way that are left, and how many bytes are left of the first of them.
-#[derive(Drop)]
+#[derive(Clone, Copy)]
 pub struct Segments {
     pub left: u8,
     pub bytes: usize,
 }
 
 // Where a walk stands.
-#[derive(Drop)]
+#[derive(Clone, Copy)]
 pub struct Walk {
     pub receiver: State,
     pub segments: Segments,
@@ -40,7 +42,7 @@ pub struct Walk {
 }
 
 // What comes next in the file.
-#[derive(Drop)]
+#[derive(Clone, Copy)]
 pub enum Part {
     Count,
     Table,
@@ -49,7 +51,7 @@ pub enum Part {
 }
 
 // Where the reading of a file stands.
-#[derive(Drop)]
+#[derive(Clone, Copy)]
 pub struct Link {
     pub part: Part,
     // How many lengths of the table, or bytes of the bodies, are to come.
@@ -58,7 +60,7 @@ pub struct Link {
 }
 
 // What follows bytes of the file: another part, of which so much is to come, or the end, where the file is bad or not.
-#[derive(Drop)]
+#[derive(Clone, Copy)]
 enum Outcome {
     Next(Part, u64),
     Ends(bool),

@@ -1,5 +1,7 @@
 // What the exported functions of `mahuixen` promise, held from outside: each is called by one function, which promises the same. Nothing else in Rattle calls them, so
 // without this a weaker contract would break no proof. Standing above the library, it adds nothing to it.
+#![tactic(auto)]
+
 pub mod deliveries;
 pub mod handshakes;
 pub mod sealing;

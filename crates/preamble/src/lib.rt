@@ -1,4 +1,6 @@
 // The preamble: its bytes, its fields and the judgements on them, each a small function that needs nothing of its caller.
+#![tactic(auto)]
+
 ghost use Rattle.std.specs.Prelude.{◌≡◌, not, ◌&&◌, ◌<◌, eqb};
 ghost use Rattle.refusal.specs.Refusals.{judged_by, first_of, is_fine};
 ghost use Rattle.preamble.specs.Layout.{no_header, is_no_segment, is_no_header, total, front_list};
@@ -17,7 +19,7 @@ pub const FRAME_LIMIT: u64 = 2097152;
 
 // A segment's two fields in a preamble.
 #[repr(C)]
-#[derive(Drop)]
+#[derive(Clone, Copy)]
 pub struct Segment {
     pub len: u32,
     pub align: u16,
@@ -25,7 +27,7 @@ pub struct Segment {
 
 // What a preamble says of its frame. Four named segments: an array of structs would cost each function a longer proof.
 #[repr(C)]
-#[derive(Drop)]
+#[derive(Clone, Copy)]
 pub struct Header {
     pub tag: u8,
     pub count: u8,
@@ -36,7 +38,7 @@ pub struct Header {
 }
 
 // All fields of a preamble.
-#[derive(Drop)]
+#[derive(Clone, Copy)]
 pub struct Preamble {
     pub header: Header,
     pub flags: u8,

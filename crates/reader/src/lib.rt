@@ -1,4 +1,6 @@
 // A reader that holds the segment it reads: thin calls over the cursor by value.
+#![tactic(auto)]
+
 ghost use Rattle.std.specs.Prelude.{◌≡◌, List, ℕ};
 ghost use Rattle.fields.specs.Layout.{good};
 ghost use Rattle.fields.specs.Layout as kind;
@@ -11,14 +13,14 @@ use fields::{
     read_negative, read_payload, read_rest, read_u8, read_u32, read_u64,
 };
 
-#[derive(Drop)]
+#[derive(Clone, Copy)]
 pub struct Reader<'a> {
     pub src: &'a [u8],
     pub at: usize,
 }
 
 // A field and the place behind it, or the place of its fault. Lists and bytes are places in the segment.
-#[derive(Drop)]
+#[derive(Clone, Copy)]
 pub enum FieldRead {
     Number(u64, usize),
     List(NumberList, usize),

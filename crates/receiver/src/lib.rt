@@ -1,4 +1,6 @@
 // Receives a stream that may be cut anywhere: a call takes bytes up to and including the one that completes a report.
+#![tactic(auto)]
+
 mod pieces;
 pub mod states;
 mod transitions;
@@ -18,7 +20,7 @@ use states::{agree, fresh, is_refused, needed_by, only_own, place_of, refused_st
 use stream::Event;
 
 // What the next bytes of the stream are.
-#[derive(Drop)]
+#[derive(Clone, Copy)]
 pub enum Stage {
     Magic,
     Length,
@@ -33,7 +35,7 @@ pub enum Stage {
 }
 
 // Where the bytes of a stage go.
-#[derive(Drop)]
+#[derive(Clone, Copy)]
 pub enum Place {
     Block,
     Store,
@@ -41,7 +43,7 @@ pub enum Place {
 }
 
 // Where a receiver stands in the stream.
-#[derive(Drop)]
+#[derive(Clone, Copy)]
 pub struct Position {
     pub stage: Stage,
     // Bytes of the stage that came; in Rest, segment bytes that stand in the store.
@@ -51,7 +53,7 @@ pub struct Position {
 }
 
 // What it knows from earlier bytes. A field that the stage does not use yet, or no longer, is zero.
-#[derive(Drop)]
+#[derive(Clone, Copy)]
 pub struct Known {
     pub own: Features,
     pub payload: u16,
@@ -64,20 +66,20 @@ pub struct Known {
 }
 
 // What a receiver is between two calls. It goes in and comes back.
-#[derive(Drop)]
+#[derive(Clone, Copy)]
 pub struct State {
     pub position: Position,
     pub known: Known,
 }
 
-#[derive(Drop)]
+#[derive(Clone, Copy)]
 pub enum Report {
     More,
     Event(Event),
 }
 
 // What a call answers.
-#[derive(Drop)]
+#[derive(Clone, Copy)]
 pub struct Received {
     pub state: State,
     pub taken: usize,
@@ -85,7 +87,7 @@ pub struct Received {
 }
 
 // What the last byte of a stage comes to. The block is empty behind it.
-#[derive(Drop)]
+#[derive(Clone, Copy)]
 pub struct Transition {
     pub stage: Stage,
     pub got: usize,
@@ -94,7 +96,7 @@ pub struct Transition {
 }
 
 // What a step or a call comes to, without the block, which stands elsewhere.
-#[derive(Drop)]
+#[derive(Clone, Copy)]
 pub struct Moved {
     pub stage: Stage,
     pub got: usize,
@@ -103,7 +105,7 @@ pub struct Moved {
     pub report: Report,
 }
 
-#[derive(Drop)]
+#[derive(Clone, Copy)]
 pub enum Taken {
     // The whole piece was taken and does not end the stage, of which so many bytes have come in all: nothing else changes. `Moved` may say the same.
     Partial(usize),
@@ -111,7 +113,7 @@ pub enum Taken {
 }
 
 // What a start gives: a state, and whether our own features were refused, which the state then repeats.
-#[derive(Drop)]
+#[derive(Clone, Copy)]
 pub struct Started {
     pub state: State,
     pub judgement: Judgement,
@@ -244,7 +246,7 @@ pub fn worked_states()
 {}
 
 // What a list of calls comes to.
-#[derive(Drop)]
+#[derive(Clone, Copy)]
 pub struct AllReceived {
     pub state: State,
     pub taken: usize,

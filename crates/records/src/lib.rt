@@ -1,4 +1,6 @@
 // What the kinds of case records share: lines, sizes, buffers that count up and lists of numbers.
+#![tactic(auto)]
+
 ghost use Rattle.std.specs.Prelude.{◌≡◌, ◌-◌, length, drop};
 ghost use Rattle.refusal.specs.Writes.{outcome_of};
 ghost use Rattle.fields.specs.Field.{words_of};
@@ -7,12 +9,14 @@ ghost use Rattle.records.specs.Records.{sum_pieces, why_pieces, refused_pieces, 
 
 use buffer::part;
 use fields::{NumberList, number_in};
-use libc::STDOUT_FILENO;
 use refusal::{Numbers, WriteResult, both, numbers_of};
 use text::{put_end, put_field, put_hex, put_number, put_word};
 
+// Where it writes.
+const STDOUT_FILENO: i32 = 1;
+
 // What a record came to: how many bytes it has, 0 where it is bad, and where the text now ends.
-#[derive(Drop)]
+#[derive(Clone, Copy)]
 pub struct Step {
     pub taken: usize,
     pub filled: usize,

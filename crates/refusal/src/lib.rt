@@ -1,9 +1,11 @@
 // What can be turned away, as 01's table has it: cases, their numbers and details, and judgements put in order.
+#![tactic(auto)]
+
 ghost use Rattle.std.specs.Prelude.{◌≡◌, ◌&&◌, ◌||◌};
 ghost use Rattle.refusal.specs.Refusals.{row, numbers_of, no_refusal, is_no_refusal, judged_by, is_fine, or_else, unless};
 
 // Feature bits that one side requires and the other does not support.
-#[derive(Drop)]
+#[derive(Clone, Copy)]
 pub struct Missing {
     pub bits: u64,
     pub lowest: u32,
@@ -11,7 +13,7 @@ pub struct Missing {
 }
 
 // Refusals: a case for each number of the rules, with the values that its details are made of. Of a preamble that is the place of the field at fault; where no field is, as for a text too long to be sealed, a limit's place is 0.
-#[derive(Drop)]
+#[derive(Clone, Copy)]
 pub enum Refusal {
     Magic,
     BannerLength(u16),
@@ -49,14 +51,14 @@ pub enum Refusal {
 }
 
 // What a judgement comes to.
-#[derive(Drop)]
+#[derive(Clone, Copy)]
 pub enum Judgement {
     Fine,
     Refused(Refusal),
 }
 
 // What a call that writes into a lent buffer comes to: so many bytes, or a refusal.
-#[derive(Drop)]
+#[derive(Clone, Copy)]
 pub enum WriteResult {
     Wrote(usize),
     Refused(Refusal),
@@ -64,7 +66,7 @@ pub enum WriteResult {
 
 // A refusal as numbers.
 #[repr(C)]
-#[derive(Drop)]
+#[derive(Clone, Copy)]
 pub struct Numbers {
     pub number: u8,
     pub first: u64,

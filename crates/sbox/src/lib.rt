@@ -1,4 +1,6 @@
 // The substitution table of AES, with its rule. A crate of its own: its 256 entries are tested once, and nothing else is checked again with them.
+#![tactic(auto)]
+
 mod table;
 
 ghost use Rattle.sbox.specs.Sbox.{Inverts, Ruled};

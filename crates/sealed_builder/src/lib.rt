@@ -1,4 +1,6 @@
 // Builds sealed frames into the part of a send buffer behind what is queued, and keeps count of the nonces.
+#![tactic(auto)]
+
 ghost use Rattle.std.specs.Prelude.{◌≡◌, ◌+◌, ◌-◌, ◌<◌, ◌≤◌, true, false, [], ◌∷◌, length, take, nat_le};
 ghost use Rattle.buffer.specs.Splice.{replace_front, overwrite};
 ghost use Rattle.refusal.specs.Refusals.{judged_by};
@@ -28,7 +30,7 @@ use secure::{
 };
 
 // What a sender of sealed frames is between two builds.
-#[derive(Drop)]
+#[derive(Clone, Copy)]
 pub struct Sending {
     pub key: [u8; 16],
     // The nonce of the next part.
@@ -41,7 +43,7 @@ pub struct Sending {
 }
 
 // What a build comes to.
-#[derive(Drop)]
+#[derive(Clone, Copy)]
 pub struct Sealed {
     pub built: WriteResult,
     pub sending: Sending,

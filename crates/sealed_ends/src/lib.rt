@@ -1,5 +1,7 @@
 // The two ends of a switched link together: what was sealed is handed over exactly when its checks hold, and what is built comes back. No code runs here: the
 // promises are theorems about every list of calls of the builders, of the switch and of the receiver.
+#![tactic(auto)]
+
 ghost use Rattle.sealed_ends.specs.Handed.{SealedHandedOver};
 ghost use Rattle.sealed_ends.specs.Trip.{SealedRoundTrip};
 ghost use Rattle.sealed_ends.specs.Ends.{SealedTwoEnds};

@@ -1,4 +1,6 @@
 // Receives sealed frames from a switch on: the stream may be cut anywhere, and a call takes bytes up to and including the one that completes a report.
+#![tactic(auto)]
+
 mod parts;
 mod pieces;
 pub mod states;
@@ -17,7 +19,7 @@ use states::{
 use stream::Event;
 
 // Which part the next bytes of the stream are of.
-#[derive(Drop)]
+#[derive(Clone, Copy)]
 pub enum Stage {
     First,
     Second,
@@ -26,7 +28,7 @@ pub enum Stage {
 }
 
 // Where a receiver stands in the stream.
-#[derive(Drop)]
+#[derive(Clone, Copy)]
 pub struct Position {
     pub stage: Stage,
     // Bytes of the part that came.
@@ -36,7 +38,7 @@ pub struct Position {
 }
 
 // What opens the next part.
-#[derive(Drop)]
+#[derive(Clone, Copy)]
 pub struct Receiving {
     pub key: [u8; 16],
     pub nonce: [u8; 12],
@@ -46,7 +48,7 @@ pub struct Receiving {
 }
 
 // What a receiver knows from earlier bytes. A field that the stage does not use is zero.
-#[derive(Drop)]
+#[derive(Clone, Copy)]
 pub struct Known {
     pub receiving: Receiving,
     pub header: Header,
@@ -54,14 +56,14 @@ pub struct Known {
 }
 
 // What a receiver is between two calls. It goes in by value and comes back.
-#[derive(Drop)]
+#[derive(Clone, Copy)]
 pub struct State {
     pub position: Position,
     pub known: Known,
 }
 
 // What a call answers.
-#[derive(Drop)]
+#[derive(Clone, Copy)]
 pub struct Received {
     pub state: State,
     pub taken: usize,
@@ -69,7 +71,7 @@ pub struct Received {
 }
 
 // What the last byte of a part comes to.
-#[derive(Drop)]
+#[derive(Clone, Copy)]
 pub struct Transition {
     pub state: State,
     pub report: Report,

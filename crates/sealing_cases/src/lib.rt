@@ -1,4 +1,6 @@
 // S and O records: a text is sealed, and sealed bytes are opened, into a buffer that counts up.
+#![tactic(auto)]
+
 ghost use Rattle.std.specs.Prelude.{◌≡◌, ◌+◌, ◌≤◌, length, take, drop};
 ghost use Rattle.refusal.specs.Writes.{done, outcome_of};
 ghost use Rattle.records.specs.Records.{Did};

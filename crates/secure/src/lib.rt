@@ -1,4 +1,6 @@
 // Sealed frames: nonces, padding, lengths and counts of parts. The layout and its reading are definitions.
+#![tactic(auto)]
+
 ghost use Rattle.std.specs.Prelude.{◌≡◌, ◌+◌, ◌-◌, ◌<◌, ◌≤◌, if◌then◌else◌};
 ghost use Rattle.buffer.specs.Zeros.{all_zero};
 ghost use Rattle.secure.specs.Trip.{SealedTrip};

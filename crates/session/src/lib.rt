@@ -1,4 +1,6 @@
 // A session that outlives its connections: the messages sent and not yet acknowledged, each a number and the caller's handle, to be sent again after a reconnect.
+#![tactic(auto)]
+
 ghost use Rattle.std.specs.Prelude.{◌≡◌, ◌-◌};
 ghost use Rattle.refusal.specs.Refusals.{numbers_of, judged_by};
 ghost use Rattle.session.specs.Calls.{agrees, judge_state, judge_accept, judge_ack, outcome, refusing, adding, releasing, acked, cleared, fresh_session, accept_of, ack_of, reconnect_of, reset_of, held_at};
@@ -9,7 +11,7 @@ ghost use Rattle.session.specs.Worked.{Worked};
 use refusal::{Judgement, Numbers, Refusal, both, numbers_of, or_else, unless};
 
 // What a session is between two calls. Held are the messages with the numbers above `released` up to `last`.
-#[derive(Drop)]
+#[derive(Clone, Copy)]
 pub struct Session {
     // The handle of a held message stands at its number modulo 64.
     pub handles: [u64; 64],
@@ -19,13 +21,13 @@ pub struct Session {
     pub last: u64,
 }
 
-#[derive(Drop)]
+#[derive(Clone, Copy)]
 pub struct Message {
     pub number: u64,
     pub handle: u64,
 }
 
-#[derive(Drop)]
+#[derive(Clone, Copy)]
 pub enum Answer {
     // The message's number.
     Accepted(u64),
@@ -36,14 +38,14 @@ pub enum Answer {
 }
 
 // The session after a call, and its answer.
-#[derive(Drop)]
+#[derive(Clone, Copy)]
 pub struct Outcome {
     pub session: Session,
     pub answer: Answer,
 }
 
 // The message at a place of those held, oldest first.
-#[derive(Drop)]
+#[derive(Clone, Copy)]
 pub enum Held {
     At(Message),
     Beyond,

@@ -1,4 +1,6 @@
 // N records: a session's calls are made one after the other, as they are read, with a line for each.
+#![tactic(auto)]
+
 ghost use Rattle.std.specs.Prelude.{◌≡◌, List, ℕ, ◌≤◌, length};
 ghost use Rattle.session.specs.Calls.{held_of};
 ghost use Rattle.session.specs.Laws.{held_answers};
@@ -22,7 +24,7 @@ const CALLS: usize = 4096;
 const CALL: usize = 9;
 
 // What a call leaves: the session, and where the text now ends.
-#[derive(Drop)]
+#[derive(Clone, Copy)]
 struct Called {
     session: Session,
     filled: usize,

@@ -1,4 +1,6 @@
 // Demand 3's list over a whole stream: the definition, streams worked through it, and a law of it. No code runs here: the promises are theorems.
+#![tactic(auto)]
+
 ghost use Rattle.stream.specs.Worked.{Worked};
 ghost use Rattle.stream.specs.Adds.{AllAddUp};
 
@@ -7,7 +9,7 @@ use preamble::Header;
 use refusal::Numbers;
 
 // What a stream's bytes come to: the definition's entries and the receiver's reports are of this type.
-#[derive(Drop)]
+#[derive(Clone, Copy)]
 pub enum Event {
     Banner(Features, Revision),
     First(Header),

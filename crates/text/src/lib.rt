@@ -1,4 +1,6 @@
 // The text of lines: words, numbers and a line's end, written one behind the other into a lent buffer. What has no room is left out.
+#![tactic(auto)]
+
 ghost use Rattle.std.specs.Prelude.{◌≡◌, [], ◌∷◌, ◌-◌, min, length};
 ghost use Rattle.text.specs.Line.{raw, number, decimal, hex, newline};
 ghost use Rattle.text.specs.Page.{page, put, puts};

@@ -1,8 +1,12 @@
 // Published vectors, run: FIPS 197's two examples of AES-128, and the test cases 1 to 3 of the GCM specification (McGrew and Viega), sealed, opened and refused. Hexadecimal.
+#![tactic(auto)]
+
 ghost use Rattle.std.specs.Prelude.{◌<◌};
 
-use libc::STDOUT_FILENO;
 use refusal::{WriteResult, numbers_of};
+
+// Where it writes.
+const STDOUT_FILENO: i32 = 1;
 
 fn digit(n: u8) -> u8
     requires { n < 16 }
