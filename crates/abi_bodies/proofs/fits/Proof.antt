@@ -8,8 +8,8 @@ unfolding words.fits
 fits_spec =
     tie.close
     (tie.spec
-    (λ c. rw c.if1.true)
-    (λ c. rw (c.before.if1.false, c.if2.true))
-    (λ c. rw (c.before.before.if1.false, c.before.if2.false, eq-eqb _ _ c.if3.true))
-    (λ c. rw (c.before.before.before.if1.false, c.before.before.if2.false, ne_eqb _ _ c.before.if3.false, eq-eqb _ _ c.if4.true))
-    (λ c. rw (c.before.before.before.if1.false, c.before.before.if2.false, ne_eqb _ _ c.before.if3.false, ne_eqb _ _ c.if4.false)))
+    (λ c. rw c.if-kind.true)
+    (λ c. rw (c.before.if-kind.false, c.if-kind-2.true))
+    (λ c. rw (c.before.before.if-kind.false, c.before.if-kind-2.false, eq-eqb _ _ c.if-kind-eq3.true))
+    (λ c. rw (c.before.before.before.if-kind.false, c.before.before.if-kind-2.false, ne_eqb _ _ c.before.if-kind-eq3.false, eq-eqb _ _ c.if-kind-eq5.true))
+    (λ c. rw (c.before.before.before.if-kind.false, c.before.before.if-kind-2.false, ne_eqb _ _ c.before.if-kind-eq3.false, ne_eqb _ _ c.if-kind-eq5.false)))

@@ -8,7 +8,7 @@ pub read_any_spec : {M : Type 1} → statement M
 read_any_spec =
     tie.close
     (tie.spec
-    (λ c. rw (lt-leb _ _ c.if1.true))
+    (λ c. rw (lt-leb _ _ c.if-tag-gt255.true))
     (λ c. search rules)
     (λ c κs. search rules)
-    (λ c. read-words _ _ _ c.before.if1.false c.read.ensures))
+    (λ c. read-words _ _ _ c.before.if-tag-gt255.false c.read.ensures))

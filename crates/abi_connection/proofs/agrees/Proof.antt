@@ -8,23 +8,23 @@ use borrow.Author.Rules.{rules}
 use Rattle.abi_connection.proofs.agrees.Statement.{statement}
 use Rattle.abi_connection.proofs.agrees.Tie as tie
 
-returns : tie.Need-returns
+returns : tie.Need-returns-then-not-is_usable
 returns c =
     let z = c.before.before.args in
-    let u = c.before.is-usable in
-    disagrees (abi_connection z.t1 z.t2 z.block z.sealed z.first z.key z.nonce) (sym u.ensures ∙ not-true u.result c.if1.true)
+    let u = c.before.is_usable in
+    disagrees (abi_connection z.t1 z.t2 z.block z.sealed z.first z.key z.nonce) (sym u.ensures ∙ not-true u.result c.if-not-is_usable.true)
 
-returns-2 : tie.Need-returns-2
+returns-2 : tie.Need-returns-then-link-eq0
 returns-2 c =
     let z = c.before.before.before.before.args in
-    let u = c.before.before.before.is-usable in
-    crc-agrees-given z.t1 (abi_state z.t2 z.block) (abi_secure z.sealed z.first z.key z.nonce) _ c.before.if2.true (sym u.ensures ∙ not-false u.result c.before.before.if1.false) c.crc-agrees.ensures
+    let u = c.before.before.before.is_usable in
+    crc-agrees-given z.t1 (abi_state z.t2 z.block) (abi_secure z.sealed z.first z.key z.nonce) _ c.before.if-link-eq0.true (sym u.ensures ∙ not-false u.result c.before.before.if-not-is_usable.false) c.crc_agrees.ensures
 
-returns-3 : tie.Need-returns-3
+returns-3 : tie.Need-returns
 returns-3 c =
     let z = c.before.before.before.before.args in
-    let u = c.before.before.before.is-usable in
-    secure_agrees-given z.t1 (abi_state z.t2 z.block) (abi_secure z.sealed z.first z.key z.nonce) _ c.before.if2.false (sym u.ensures ∙ not-false u.result c.before.before.if1.false) c.secure_agrees.ensures
+    let u = c.before.before.before.is_usable in
+    secure_agrees-given z.t1 (abi_state z.t2 z.block) (abi_secure z.sealed z.first z.key z.nonce) _ c.before.if-link-eq0.false (sym u.ensures ∙ not-false u.result c.before.before.if-not-is_usable.false) c.secure_agrees.ensures
 
 pub agrees_spec : {M : Type 1} → statement M
 agrees_spec =

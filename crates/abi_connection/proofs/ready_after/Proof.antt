@@ -6,6 +6,6 @@ pub ready_after_spec : {M : Type 1} → statement M
 ready_after_spec =
     tie.close
     (tie.spec
-    (λ c. simp c.if1.true)
-    (λ c. simp (c.before.if1.false, eq-eqb _ _ c.if2.true))
-    (λ c. simp (c.before.if1.false, ne_eqb _ _ c.if2.false)))
+    (λ c. simp c.if-kind.true)
+    (λ c. simp (c.before.if-kind.false, eq-eqb _ _ c.if-taken-eq0.true))
+    (λ c. simp (c.before.if-kind.false, ne_eqb _ _ c.if-taken-eq0.false)))

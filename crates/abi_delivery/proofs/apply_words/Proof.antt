@@ -5,16 +5,16 @@ use borrow.Author.Rules.{rules}
 use Rattle.abi_delivery.proofs.apply_words.Statement.{statement}
 use Rattle.abi_delivery.proofs.apply_words.Tie as tie
 
-returns : tie.Need-returns
+returns : tie.Need-returns-in-Nothing
 returns c =
     let z = c.before.before.before.args in
     let h : length z.ws ≡ 2 = search rules in
-    nothing-done z.ws z.handles.now z.request h c.before.enum_told.given.1 c.no-effect.ensures
+    nothing-done z.ws z.handles.now z.request h c.before.enum_told-1.given.1 c.no_effect.ensures
 
-returns-2 : tie.Need-returns-2
+returns-2 : tie.Need-returns-in_default
 returns-2 c =
     let z = c.before.before.before.before.before.before.before.args in
-    something_done z.ws z.handles.now z.request c.before.before.before.before.session-of.ensures c.before.before.before.apply.ensures c.before.session-numbers.ensures c.effect_words.ensures
+    something_done z.ws z.handles.now z.request c.before.before.before.before.session_of.ensures c.before.before.before.apply-d.ensures c.before.session_numbers.ensures c.effect_words.ensures
 
 pub apply_words_spec : {M : Type 1} → statement M
 apply_words_spec =

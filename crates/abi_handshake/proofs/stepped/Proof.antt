@@ -6,24 +6,24 @@ use borrow.Author.Rules.{rules}
 use Rattle.abi_handshake.proofs.stepped.Statement.{statement}
 use Rattle.abi_handshake.proofs.stepped.Tie as tie
 
-returns : tie.Need-returns
+returns : tie.Need-returns-then-not-fits
 returns c =
     let f = c.before.before.before.fits2 in
-    step-beyond _ _ _ _ _ (sym f.ensures ∙ not-true f.result c.before.before.if1.true) (c.refusal-words.ensures ∙ ap refusal_words c.before.Numbers-of.ensures)
+    step-beyond _ _ _ _ _ (sym f.ensures ∙ not-true f.result c.before.before.if-not-fits.true) (c.refusal_words.ensures ∙ ap refusal_words c.before.numbers_of.ensures)
 
-returns-2 : tie.Need-returns-2
+returns-2 : tie.Need-returns-then-at_server
 returns-2 c =
     let s = c.before.before.before in
     let k = s.before.before in
     let f = k.before.fits2 in
-    rw s.before.if2.true (step_words _ _ _ _ s.state_of_lem.result c.before.before.verdict-of.result c.before.server-step.result _ _ (sym f.ensures ∙ not-false f.result k.if1.false) s.state_of_lem.ensures c.before.before.verdict-of.ensures c.before.server-step.ensures c.step_words.ensures)
+    rw s.before.if-at_server.true (step_words _ _ _ _ s.state_of_lem.result c.before.before.verdict_of.result c.before.server_step.result _ _ (sym f.ensures ∙ not-false f.result k.if-not-fits.false) s.state_of_lem.ensures c.before.before.verdict_of.ensures c.before.server_step.ensures c.step_words.ensures)
 
-returns-3 : tie.Need-returns-3
+returns-3 : tie.Need-returns
 returns-3 c =
     let s = c.before.before.before in
     let k = s.before.before in
     let f = k.before.fits2 in
-    rw s.before.if2.false (step_words _ _ _ _ s.state-of2.result c.before.before.verdict-of2.result c.before.client-step.result _ _ (sym f.ensures ∙ not-false f.result k.if1.false) s.state-of2.ensures c.before.before.verdict-of2.ensures c.before.client-step.ensures c.step-words2.ensures)
+    rw s.before.if-at_server.false (step_words _ _ _ _ s.state_of-2.result c.before.before.verdict_of-2.result c.before.client_step.result _ _ (sym f.ensures ∙ not-false f.result k.if-not-fits.false) s.state_of-2.ensures c.before.before.verdict_of-2.ensures c.before.client_step.ensures c.step_words-2.ensures)
 
 pub stepped_spec : {M : Type 1} → statement M
 stepped_spec =

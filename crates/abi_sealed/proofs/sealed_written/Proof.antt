@@ -5,17 +5,17 @@ use borrow.Author.Rules.{rules}
 use Rattle.abi_sealed.proofs.sealed_written.Statement.{statement}
 use Rattle.abi_sealed.proofs.sealed_written.Tie as tie
 
-returns : tie.Need-returns
+returns : tie.Need-returns-then-not-both
 returns c =
     let f = c.before.before in
-    sealed-beyond _ _ _ _ _ _ _ _ _ (both_as f.both.ensures f.before.before.sending-fits.ensures f.before.header-fits.ensures ∙ not-true f.both.result c.before.if1.true) c.abi-refused.ensures
+    sealed-beyond _ _ _ _ _ _ _ _ _ (both_as f.both.ensures f.before.before.sending_fits.ensures f.before.header_fits.ensures ∙ not-true f.both.result c.before.if-not-both.true) c.abi_refused.ensures
 
-returns-2 : tie.Need-returns-2
+returns-2 : tie.Need-returns
 returns-2 c =
     let b = c.before.before.before in
     let k = b.before.before.before.before in
     let f = k.before in
-    sealed-built _ _ _ _ _ _ _ _ b.before.before.sending-of.result b.before.header_of.result b.build-sealed.result _ _ _ _ (both_as f.both.ensures f.before.before.sending-fits.ensures f.before.header-fits.ensures ∙ not-false f.both.result k.if1.false) b.before.before.sending-of.ensures b.before.header_of.ensures b.build-sealed.ensures c.sealed-words.ensures.0 c.sealed-words.ensures.1 c.sealed-words.ensures.2
+    sealed-built _ _ _ _ _ _ _ _ b.before.before.sending_of.result b.before.header_of.result b.build_sealed.result _ _ _ _ (both_as f.both.ensures f.before.before.sending_fits.ensures f.before.header_fits.ensures ∙ not-false f.both.result k.if-not-both.false) b.before.before.sending_of.ensures b.before.header_of.ensures b.build_sealed.ensures c.sealed_words.ensures.0 c.sealed_words.ensures.1 c.sealed_words.ensures.2
 
 pub sealed_written_spec : {M : Type 1} → statement M
 sealed_written_spec =

@@ -6,7 +6,7 @@ use Rattle.abi_session.proofs.abi_session_call.Tie as tie
 returns : tie.Need-returns
 returns c =
     let o = c.before.before.before in
-    called-words o.before.before.session-of.ensures o.before.called.ensures o.outcome-words.ensures
+    called-words o.before.before.session_of.ensures o.before.called.ensures o.outcome_words-t.ensures
 
 pub abi_session_call_spec : {M : Type 1} → statement M
 abi_session_call_spec =

@@ -2,17 +2,17 @@ use borrow.Author.Rules.{rules}
 use Rattle.abi_session.proofs.held_words.Statement.{statement}
 use Rattle.abi_session.proofs.held_words.Tie as tie
 
-enum_told : tie.Need-enum-told
+enum_told : tie.Need-enum_told-1
 enum_told c = search rules
 
-returns : tie.Need-returns
-returns c = rw c.before.held.given.1
+returns : tie.Need-returns-in-At
+returns c = rw c.before.held-1.given.1
 
-returns-2 : tie.Need-returns-2
-returns-2 c = rw c.enum_told.given.1
+returns-2 : tie.Need-returns-in-Beyond
+returns-2 c = rw c.enum_told-1.given.1
 
-returns-3 : tie.Need-returns-3
-returns-3 c = rw c.before.before.held2.given.1
+returns-3 : tie.Need-returns-in-Refused
+returns-3 c = rw c.before.before.held-in-Refused-1.given.1
 
 pub held_words_spec : {M : Type 1} → statement M
 held_words_spec =

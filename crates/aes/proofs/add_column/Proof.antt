@@ -7,8 +7,8 @@ use Rattle.aes.proofs.add_column.Tie as tie
 returns : tie.Need-returns
 returns c =
     let a = c.before.before.before.args in
-    c.u32-bytes.ensures
-    ∙ add_packed a.a a.b c.before.before.pack.result c.before.pack2.result c.before.before.pack.ensures c.before.pack2.ensures
+    c.u32_bytes.ensures
+    ∙ add_packed a.a a.b c.before.before.pack.result c.before.pack-2.result c.before.before.pack.ensures c.before.pack-2.ensures
 
 pub add_column_spec : {M : Type 1} → statement M
 add_column_spec = tie.close (tie.spec (λ c κs. search rules) (λ c κs. search rules) (λ c κs. search rules) returns)

@@ -7,8 +7,8 @@ use Rattle.aes.proofs.mix_column.Tie as tie
 
 returns : tie.Need-returns
 returns c =
-    c.u32-bytes.ensures
-    ∙ ap (le 4) c.before.mix-word.ensures
+    c.u32_bytes.ensures
+    ∙ ap (le 4) c.before.mix_word.ensures
     ∙ mix_packed c.before.before.before.args.c c.before.before.pack.result c.before.before.pack.ensures
 
 pub mix_column_spec : {M : Type 1} → statement M

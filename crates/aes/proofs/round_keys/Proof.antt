@@ -9,7 +9,7 @@ use Rattle.aes.proofs.Keys.{key-next, rcon-next, keys-more, expanded}
 use Rattle.aes.proofs.round_keys.Statement.{statement}
 use Rattle.aes.proofs.round_keys.Tie as tie
 
-abbrev invariant-loop : tie.invariant-loop
+abbrev invariant-loop : tie.invariant-loop-i
 invariant-loop t w₀ k₀ rc₀ i₀ w k rc i =
     (i ≤ 10)
     × (length w ≡ 11)
@@ -17,25 +17,25 @@ invariant-loop t w₀ k₀ rc₀ i₀ w k rc i =
     × (k ≡ round_key i k₀)
     × (rc ≡ rcon i)
 
-abbrev decreases-loop : tie.decreases-loop
+abbrev decreases-loop : tie.decreases-loop-i
 decreases-loop t w₀ k₀ rc₀ i₀ w k rc i = 10 - i
 
-loop-again : tie.Need-loop-preserved invariant-loop decreases-loop
+loop-again : tie.Need-loop-i-preserved invariant-loop decreases-loop
 loop-again c =
-    let l = c.before.before.before.loop in
+    let l = c.before.before.before.loop-i in
     let key = c.before.before.before.before.args.key in
-    let next : c.before.next-key.result ≡ round_key (l.i + 1) key = cc (key-next l.i key) in
+    let next : c.before.next_key-next.result ≡ round_key (l.i + 1) key = cc (key-next l.i key) in
     let h : l.i + 1 < length l.w = omega arith in (
       search rules,
-      length-set l.w (l.i + 1) c.before.next-key.result ∙ l.invariant.1,
-      keys-more l.w key c.before.next-key.result (l.i + 1) h next l.invariant.2,
+      length-set l.w (l.i + 1) c.before.next_key-next.result ∙ l.invariant.1,
+      keys-more l.w key c.before.next_key-next.result (l.i + 1) h next l.invariant.2,
       next,
       cc (rcon-next l.i),
     )
 
 returns : tie.Need-returns invariant-loop decreases-loop
 returns c =
-    let l = c.before.loop in
+    let l = c.before.loop-i in
     expanded l.w c.before.before.args.key l.invariant.1 (λ j h. l.invariant.2 j (omega arith))
 
 pub round_keys_spec : {M : Type 1} → statement M

@@ -12,19 +12,19 @@ use Rattle.aes.proofs.Counters.{xor_more, front_length}
 use Rattle.aes.proofs.xor_block.Statement.{statement}
 use Rattle.aes.proofs.xor_block.Tie as tie
 
-abbrev invariant-loop : tie.invariant-loop
+abbrev invariant-loop : tie.invariant-loop-k
 invariant-loop s buf₀ i n k₀ buf k =
     (k ≤ n)
     × (length buf ≡ length buf₀)
     × ((w : List State) (nonce d : List ℕ) → s ≡ keystream_block w nonce (i / 16 + 2) → buf₀ ≡ take i (gctr w nonce d) ++ drop i d
     → buf ≡ take (i + k) (gctr w nonce d) ++ drop (i + k) d)
 
-abbrev decreases-loop : tie.decreases-loop
+abbrev decreases-loop : tie.decreases-loop-k
 decreases-loop s buf₀ i n k₀ buf k = n - k
 
-loop-again : tie.Need-loop-preserved invariant-loop decreases-loop
+loop-again : tie.Need-loop-k-preserved invariant-loop decreases-loop
 loop-again c =
-    let l = c.before.before.before.loop in
+    let l = c.before.before.before.loop-k in
     let a = c.before.before.before.before.before.args in (
       search rules,
       length-set l.buf (a.i + l.k) (bit_xor (get_or l.buf (a.i + l.k) 0) c.byte_of.result) ∙ l.invariant.1,
@@ -36,7 +36,7 @@ loop-again c =
 
 returns : tie.Need-returns invariant-loop decreases-loop
 returns c =
-    let l = c.before.loop in
+    let l = c.before.loop-k in
     let a = c.before.before.before.args in
     let k : l.k ≡ a.n = omega arith in
     λ w nonce d es e. l.invariant.2 w nonce d es e ∙ rw k
@@ -56,5 +56,5 @@ xor_block_spec =
     (λ c. search rules)
     (λ c. search rules)
     loop-again
-    (λ c. c.before.loop.invariant.1)
+    (λ c. c.before.loop-k.invariant.1)
     returns)

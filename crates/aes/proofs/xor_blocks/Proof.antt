@@ -8,20 +8,20 @@ use Rattle.aes.proofs.Counters.{front_length}
 use Rattle.aes.proofs.xor_blocks.Statement.{statement}
 use Rattle.aes.proofs.xor_blocks.Tie as tie
 
-abbrev invariant-loop : tie.invariant-loop
+abbrev invariant-loop : tie.invariant-loop-i
 invariant-loop t w nonce buf₀ n i₀ buf i =
     (i ≤ n) × (i % 16 ≡ 0) × (length buf ≡ length buf₀) × (buf ≡ take i (gctr w nonce buf₀) ++ drop i buf₀)
 
-abbrev decreases-loop : tie.decreases-loop
+abbrev decreases-loop : tie.decreases-loop-i
 decreases-loop t w nonce buf₀ n i₀ buf i = n - i
 
-loop-again : tie.Need-loop-preserved invariant-loop decreases-loop
+loop-again : tie.Need-loop-i-preserved invariant-loop decreases-loop
 loop-again c =
     let at = c.before.before.before.before.before.before in
-    let l = at.loop in
+    let l = at.loop-i in
     let a = at.before.before.args in
-    let e = c.before.before.xor_block.ensures a.w.now a.nonce a.buf.now c.before.before.before.before.keystream.ensures l.invariant.3 in
-    (search rules, search rules, front_length a.w.now a.nonce a.buf.now _ (l.i + 16) e, e)
+    let e = c.before.before.xor_block.ensures a.w.now a.nonce a.buf-1.now c.before.before.before.before.keystream-s.ensures l.invariant.3 in
+    (search rules, search rules, front_length a.w.now a.nonce a.buf-1.now _ (l.i + 16) e, e)
 
 pub xor_blocks_spec : {M : Type 1} → statement M
 xor_blocks_spec =
@@ -37,5 +37,5 @@ xor_blocks_spec =
     (λ c. search rules)
     (λ c. search rules)
     loop-again
-    (λ c. c.before.loop.invariant.2)
-    (λ c. (search rules, search rules, search rules, c.before.loop.invariant.3)))
+    (λ c. c.before.loop-i.invariant.2)
+    (λ c. (search rules, search rules, search rules, c.before.loop-i.invariant.3)))

@@ -8,5 +8,5 @@ revision_of_spec =
     tie.close
     (tie.spec
     (λ c κs. search rules)
-    (λ c. simp (sym c.before.both.ensures ∙ c.if1.true))
-    (λ c. simp (sym c.before.both.ensures ∙ c.if1.false)))
+    (λ c. simp (sym c.before.both.ensures ∙ c.if-both.true))
+    (λ c. simp (sym c.before.both.ensures ∙ c.if-both.false)))

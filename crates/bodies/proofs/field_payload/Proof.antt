@@ -10,5 +10,5 @@ field_payload_spec =
     (λ c κs. search rules)
     (λ c. search rules)
     (λ c. search rules)
-    (λ c. took-read (rw c.before.value.given.1 at c.before.before.before.read-payload.ensures))
-    (λ c. took-failed (rw c.before.next.given.1 at c.before.before.before.read-payload.ensures)))
+    (λ c. took-read (rw c.before.value-1.given.1 at c.before.before.before.read_payload.ensures))
+    (λ c. took-failed (rw c.before.next-1.given.1 at c.before.before.before.read_payload.ensures)))

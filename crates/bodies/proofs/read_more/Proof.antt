@@ -6,7 +6,7 @@ use Rattle.bodies.proofs.read_more.Tie as tie
 
 returns : tie.Need-returns
 returns c = row_read (more-is _) c.before.before.before.start.ensures
-    (step _ c.before.before.field-payload.ensures end)
+    (step _ c.before.before.field_payload-p.ensures end)
     c.settle.ensures
 
 pub read_more_spec : {M : Type 1} → statement M

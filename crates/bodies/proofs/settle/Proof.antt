@@ -8,6 +8,6 @@ unfolding settled_body
 settle_spec =
     tie.close
     (tie.spec
-    (λ c. rw c.if1.true)
-    (λ c. rw (c.before.if1.false, ne_eqb _ _ c.if2.true))
-    (λ c. rw (c.before.if1.false, eq-eqb _ _ c.if2.false)))
+    (λ c. rw c.if-c.true)
+    (λ c. rw (c.before.if-c.false, ne_eqb _ _ c.if-at-s.true))
+    (λ c. rw (c.before.if-c.false, eq-eqb _ _ c.if-at-s.false)))

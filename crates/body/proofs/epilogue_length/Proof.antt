@@ -9,16 +9,16 @@ use borrow.Author.Rules.{rules}
 use Rattle.body.proofs.epilogue_length.Statement.{statement}
 use Rattle.body.proofs.epilogue_length.Tie as tie
 
-returns : tie.Need-returns
+returns : tie.Need-returns-then-no_epilogue
 returns c =
     let a = c.before.before.args in
-    (sym (no_length a.revision a.h (sym c.before.no-epilogue.ensures ∙ c.if1.true)), omega arith)
+    (sym (no_length a.revision a.h (sym c.before.no_epilogue.ensures ∙ c.if-no_epilogue.true)), omega arith)
 
-returns-3 : tie.Need-returns-3
+returns-3 : tie.Need-returns-in-Msgr21
 returns-3 c =
     let h = c.before.before.before.before.args.h in
-    let q : no_epilogue Msgr21 h ≡ false = ap (λ (v : Revision). no_epilogue v h) (sym c.enum-told2.given.1) ∙ sym c.before.before.before.no-epilogue.ensures ∙ c.before.before.if1.false in
-    (rw (c.enum-told2.given.1, q), omega arith)
+    let q : no_epilogue Msgr21 h ≡ false = ap (λ (v : Revision). no_epilogue v h) (sym c.enum_told-in-Msgr21-1.given.1) ∙ sym c.before.before.before.no_epilogue.ensures ∙ c.before.before.if-no_epilogue.false in
+    (rw (c.enum_told-in-Msgr21-1.given.1, q), omega arith)
 
 pub epilogue_length_spec : {M : Type 1} → statement M
 epilogue_length_spec =
@@ -28,5 +28,5 @@ epilogue_length_spec =
     returns
     (λ c. search rules)
     (λ c. search rules)
-    (λ c. (rw c.enum_told.given.1, omega arith))
+    (λ c. (rw c.enum_told-1.given.1, omega arith))
     returns-3)

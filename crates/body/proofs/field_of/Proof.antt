@@ -7,8 +7,8 @@ pub field_of_spec : {M : Type 1} → statement M
 field_of_spec =
     tie.close
     (tie.spec
-    (λ c. simp (lt-leb _ _ c.if1.true))
+    (λ c. simp (lt-leb _ _ c.if-count-k.true))
     (λ c κs. search rules)
-    (λ c. simp (le-leb _ _ c.before.before.if1.false, c.before.if2.true, c.checksum-zeros.ensures))
+    (λ c. simp (le-leb _ _ c.before.before.if-count-k.false, c.before.if-zeros.true, c.checksum_zeros.ensures))
     (λ c κs. search rules)
-    (λ c. simp (le-leb _ _ c.before.before.if1.false, c.before.if2.false, c.segment-sum.ensures)))
+    (λ c. simp (le-leb _ _ c.before.before.if-count-k.false, c.before.if-zeros.false, c.segment_sum.ensures)))

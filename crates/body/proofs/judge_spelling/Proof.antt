@@ -16,5 +16,5 @@ judge_spelling_spec =
     (λ c. search rules)
     (λ c κs. search rules)
     (λ c κs. search rules)
-    (λ c. simp (c.or-else2.ensures, c.before.or_else.ensures, c.before.before.unused.ensures, c.before.before.before.unused-rest.ensures, c.before.before.before.before.before.before.judge-late-flags.ensures, c.before.before.before.before.before.before.before.byte_at.ensures, c.before.before.before.before.enum_told.given.1))
-    (λ c. simp (c.or-else3.ensures, c.before.unused-rest2.ensures, c.before.before.before.before.judge-late-flags.ensures, c.before.before.before.before.before.byte_at.ensures, c.before.before.enum-told2.given.1)))
+    (λ c. simp (c.or_else-in-Msgr20.ensures, c.before.or_else.ensures, c.before.before.unused.ensures, c.before.before.before.unused_rest-rest.ensures, c.before.before.before.before.before.before.judge_late_flags-flags.ensures, c.before.before.before.before.before.before.before.byte_at.ensures, c.before.before.before.before.enum_told-1.given.1))
+    (λ c. simp (c.or_else-in-Msgr21.ensures, c.before.unused_rest.ensures, c.before.before.before.before.judge_late_flags-flags.ensures, c.before.before.before.before.before.byte_at.ensures, c.before.before.enum_told-in-Msgr21-1.given.1)))

@@ -12,18 +12,18 @@ use borrow.Author.Rules.{rules}
 use Rattle.builder.proofs.build_frame.Statement.{statement}
 use Rattle.builder.proofs.build_frame.Tie as tie
 
-put-frame-requires : tie.Need-put-frame-requires
+put-frame-requires : tie.Need-put_frame-requires
 put-frame-requires c κs =
     let g = c.before.before.before.before.before.before.args in
-    let f = accepted _ _ _ _ _ _ (sym c.before.before.before.judge-frame.ensures ∙ ap judged_by c.before.enum_told.given.1) in
-    (f.whole, omega (arith, length_rest g.buf.now g.queued))
+    let f = accepted _ _ _ _ _ _ (sym c.before.before.before.judge_frame-judgement.ensures ∙ ap judged_by c.before.enum_told-1.given.1) in
+    (f.whole, omega (arith, length_rest g.buf-1.now g.queued))
 
-returns-2 : tie.Need-returns-2
+returns-2 : tie.Need-returns-in-Fine
 unfolding frame_done
 returns-2 c =
     let g = c.before.before.before.before.before.before.before.before.before.before.args in
-    let put = placed g.buf.now (frame_bytes g.revision g.header g.abort g.source.now) c.before.before.before.put-frame.new.0 g.queued c.before.before.before.put-frame.ensures in
-    record { promise = rw (sym c.before.before.before.before.before.before.before.judge-frame.ensures ∙ ap judged_by c.before.before.before.before.before.enum_told.given.1) (ap₂ (λ (n : ℕ) (b : List ℕ). done (wrote n) b) c.wire-length.ensures put) }
+    let put = placed g.buf-1.now (frame_bytes g.revision g.header g.abort g.source.now) c.before.before.before.put_frame.new.0 g.queued c.before.before.before.put_frame.ensures in
+    record { promise = rw (sym c.before.before.before.before.before.before.before.judge_frame-judgement.ensures ∙ ap judged_by c.before.before.before.before.before.enum_told-1.given.1) (ap₂ (λ (n : ℕ) (b : List ℕ). done (wrote n) b) c.wire_length.ensures put) }
 
 pub build_frame_spec : {M : Type 1} → statement M
 unfolding frame_done
@@ -33,11 +33,11 @@ build_frame_spec =
     (λ c κs. search rules)
     (λ c. search rules)
     (λ c. search rules)
-    (λ c. omega (arith, accepted _ _ _ _ _ _ (sym c.before.before.judge-frame.ensures ∙ ap judged_by c.enum_told.given.1)))
-    (λ c. omega (arith, accepted _ _ _ _ _ _ (sym c.before.before.judge-frame.ensures ∙ ap judged_by c.enum_told.given.1)))
+    (λ c. omega (arith, accepted _ _ _ _ _ _ (sym c.before.before.judge_frame-judgement.ensures ∙ ap judged_by c.enum_told-1.given.1)))
+    (λ c. omega (arith, accepted _ _ _ _ _ _ (sym c.before.before.judge_frame-judgement.ensures ∙ ap judged_by c.enum_told-1.given.1)))
     (λ c. search rules)
     put-frame-requires
     (λ c κs. search rules)
-    (λ c. record { promise = rw (sym c.before.before.before.judge-frame.ensures ∙ ap judged_by c.before.judgement.given.1) })
+    (λ c. record { promise = rw (sym c.before.before.before.judge_frame-judgement.ensures ∙ ap judged_by c.before.judgement-1.given.1) })
     (λ c. search rules)
     returns-2)

@@ -11,13 +11,13 @@ use borrow.Author.Rules.{rules}
 use Rattle.builder.proofs.put_first_sum.Statement.{statement}
 use Rattle.builder.proofs.put_first_sum.Tie as tie
 
-returns-2 : tie.Need-returns-2
+returns-2 : tie.Need-returns
 returns-2 c =
     let g = c.before.before.before.before.before.before.before.before.before.before.before.args in
     let sum : List ℕ = le 4 (segment_sum g.first.now) in
-    let there = sym c.before.before.before.before.before.before.before.before.no-first-sum.ensures ∙ c.before.before.before.before.before.before.before.if1.false in
-    overwrite_as _ (first_sum g.revision g.h g.first.now) g.out.now _ c.before.before.put.ensures
-    (c.before.before.before.before.before.u32-bytes.ensures ∙ ap (le 4) c.before.before.before.before.before.before.segment-sum.ensures ∙ sym (ap (λ (x : Bool). cond x [] sum) there))
+    let there = sym c.before.before.before.before.before.before.before.before.no_first_sum.ensures ∙ c.before.before.before.before.before.before.before.if-no_first_sum.false in
+    overwrite_as _ (first_sum g.revision g.h g.first.now) g.out-1.now _ c.before.before.put.ensures
+    (c.before.before.before.before.before.u32_bytes-sum.ensures ∙ ap (le 4) c.before.before.before.before.before.before.segment_sum.ensures ∙ sym (ap (λ (x : Bool). cond x [] sum) there))
     (omega (arith, c.before.before.before.before.before.before.before.before.before.before.before.requires, length-first-sum g.revision g.h g.first.now))
 
 pub put_first_sum_spec : {M : Type 1} → statement M
@@ -25,7 +25,7 @@ put_first_sum_spec =
     tie.close
     (tie.spec
     (λ c κs. search rules)
-    (λ c. simp (sym c.before.no-first-sum.ensures ∙ c.if1.true))
+    (λ c. simp (sym c.before.no_first_sum.ensures ∙ c.if-no_first_sum.true))
     (λ c κs. search rules)
     (λ c κs. search rules)
     (λ c. search rules)

@@ -6,10 +6,10 @@ use Rattle.cases.specs.LoopInvariant.{LoopInvariant}
 use Rattle.cases.proofs.run.Statement.{statement}
 use Rattle.cases.proofs.run.Tie as tie
 
-abbrev invariant-loop : tie.invariant-loop
+abbrev invariant-loop : tie.invariant-loop-s
 invariant-loop held₀ space₀ text₀ s₀ held space text s = LoopInvariant s (length held₀) (length space₀) × (length held ≡ length held₀) × (length space ≡ length space₀) × (length text ≡ length text₀)
 
-abbrev decreases-loop : tie.decreases-loop
+abbrev decreases-loop : tie.decreases-loop-s
 decreases-loop held₀ space₀ text₀ s₀ held space text s = s.left
 
 pub run_spec : {M : Type 1} → statement M
@@ -22,10 +22,10 @@ run_spec =
     (λ c. (omega arith, refl, refl, refl))
     (λ c κs. omega arith)
     (λ c. omega arith)
-    (λ c. (omega (arith, c.before.before.before.before.before.before.run-one.ensures.0), c.before.before.before.before.before.before.run-one.auto.0 ∙ c.before.before.before.before.before.before.before.before.before.before.before.before.loop.invariant.1, c.before.before.before.before.before.before.run-one.auto.1.0 ∙ c.before.before.before.before.before.before.before.before.before.before.before.before.loop.invariant.2, c.before.before.before.before.before.before.run-one.auto.1.1.0 ∙ c.before.before.before.before.before.before.before.before.before.before.before.before.loop.invariant.3))
+    (λ c. (omega (arith, c.before.before.before.before.before.before.run_one-next.ensures.0), c.before.before.before.before.before.before.run_one-next.auto.0 ∙ c.before.before.before.before.before.before.before.before.before.before.before.before.loop-s.invariant.1, c.before.before.before.before.before.before.run_one-next.auto.1.0 ∙ c.before.before.before.before.before.before.before.before.before.before.before.before.loop-s.invariant.2, c.before.before.before.before.before.before.run_one-next.auto.1.1.0 ∙ c.before.before.before.before.before.before.before.before.before.before.before.before.loop-s.invariant.3))
     (λ c κs. search rules)
     (λ c κs. search rules)
-    (λ c. c.before.before.before.before.before.loop.invariant.1)
-    (λ c. c.before.before.before.before.before.loop.invariant.2)
-    (λ c. c.before.before.before.before.before.loop.invariant.3)
+    (λ c. c.before.before.before.before.before.loop-s.invariant.1)
+    (λ c. c.before.before.before.before.before.loop-s.invariant.2)
+    (λ c. c.before.before.before.before.before.loop-s.invariant.3)
     (λ c. search rules))

@@ -8,10 +8,10 @@ use Rattle.link.proofs.Outcomes.{remaining, falls, wanted-few}
 use Rattle.check_link.proofs.run.Statement.{statement}
 use Rattle.check_link.proofs.run.Tie as tie
 
-abbrev invariant-loop : tie.invariant-loop
+abbrev invariant-loop : tie.invariant-loop-n
 invariant-loop held₀ store₀ text₀ link₀ n₀ held store text link n = (n ≡ wanted_of link) × (length held ≡ length held₀) × (length store ≡ length store₀) × (length text ≡ length text₀)
 
-abbrev decreases-loop : tie.decreases-loop
+abbrev decreases-loop : tie.decreases-loop-n
 decreases-loop held₀ store₀ text₀ link₀ n₀ held store text link n = remaining link
 
 pub run_spec : {M : Type 1} → statement M
@@ -22,16 +22,16 @@ run_spec =
     decreases-loop
     (search rules)
     (search rules)
-    (λ c. (c.wanted.ensures, refl, refl, refl))
-    (λ c. omega (arith, wanted-few c.before.loop.link.part c.before.loop.link.left, c.before.loop.invariant.0, c.before.loop.invariant.1, c.before.before.before.before.before.before.before.requires.0))
-    (λ c. omega (arith, length-take-le c.before.before.loop.n c.before.before.loop.held (omega (arith, wanted-few c.before.before.loop.link.part c.before.before.loop.link.left, c.before.before.loop.invariant.0, c.before.before.loop.invariant.1, c.before.before.before.before.before.before.before.before.requires.0))))
+    (λ c. (c.wanted-n.ensures, refl, refl, refl))
+    (λ c. omega (arith, wanted-few c.before.loop-n.link.part c.before.loop-n.link.left, c.before.loop-n.invariant.0, c.before.loop-n.invariant.1, c.before.before.before.before.before.before.before.requires.0))
+    (λ c. omega (arith, length-take-le c.before.before.loop-n.n c.before.before.loop-n.held (omega (arith, wanted-few c.before.before.loop-n.link.part c.before.before.loop-n.link.left, c.before.before.loop-n.invariant.0, c.before.before.loop-n.invariant.1, c.before.before.before.before.before.before.before.before.requires.0))))
     (search rules)
     (search rules)
     (search rules)
     (search rules)
     (search rules)
     (search rules)
-    (λ c. falls c.before.before.before.before.before.before.before.before.before.before.before.before.before.before.before.before.before.before.loop.link _ _ _ c.before.before.before.before.before.before.before.before.read.result _ _ c.before.before.before.before.before.before.before.before.read.ensures (omega (arith, c.before.before.before.before.before.before.before.before.before.before.before.before.before.before.before.before.before.before.loop.invariant.0, c.before.before.before.before.before.before.before.before.before.before.before.before.before.before.before.before.before.loop-test.true)) (omega (arith, c.before.before.before.before.before.before.before.before.read.type-inv)))
+    (λ c. falls c.before.before.before.before.before.before.before.before.before.before.before.before.before.before.before.before.before.before.loop-n.link _ _ _ c.before.before.before.before.before.before.before.before.read-next.result _ _ c.before.before.before.before.before.before.before.before.read-next.ensures (omega (arith, c.before.before.before.before.before.before.before.before.before.before.before.before.before.before.before.before.before.before.loop-n.invariant.0, c.before.before.before.before.before.before.before.before.before.before.before.before.before.before.before.before.before.loop-n-test.true)) (omega (arith, c.before.before.before.before.before.before.before.before.read-next.type-inv)))
     (search rules)
     (search rules)
     (search rules)

@@ -7,25 +7,25 @@ use borrow.Author.Tests.{not-true, not-false}
 use Rattle.connection.proofs.receive.Statement.{statement}
 use Rattle.connection.proofs.receive.Tie as tie
 
-returns : tie.Need-returns
+returns : tie.Need-returns-then-not-ready_rule
 returns c =
     let z = c.before.before.before.before.before.args in
-    let e : ready_rule z.state ≡ false = sym c.before.before.ready-rule.ensures ∙ not-true _ c.before.if1.true in
-    contradicted z.state z.store.now z.piece.now _ e c.Numbers-of.ensures
+    let e : ready_rule z.state ≡ false = sym c.before.before.ready_rule.ensures ∙ not-true _ c.before.if-not-ready_rule.true in
+    contradicted z.state z.store-1.now z.piece.now _ e c.numbers_of-n.ensures
 
-returns-2 : tie.Need-returns-2
+returns-2 : tie.Need-returns-then-is_secure
 returns-2 c =
     let z = c.before.before.before.before.before.before.before.before.before.before.args in
-    let e : ready_rule z.state ≡ true = sym c.before.before.before.before.before.before.before.ready-rule.ensures ∙ not-false _ c.before.before.before.before.before.before.if1.false in
-    let m : is_secure z.state.mode ≡ true = sym c.before.before.before.before.before.is-secure.ensures ∙ c.before.before.before.before.if2.true in
-    answered_by_lem z.state z.store.now z.piece.now true e m c.before.before.receive-secure.ensures
+    let e : ready_rule z.state ≡ true = sym c.before.before.before.before.before.before.before.ready_rule.ensures ∙ not-false _ c.before.before.before.before.before.before.if-not-ready_rule.false in
+    let m : is_secure z.state.mode ≡ true = sym c.before.before.before.before.before.is_secure.ensures ∙ c.before.before.before.before.if-is_secure.true in
+    answered_by_lem z.state z.store-1.now z.piece.now true e m c.before.before.receive_secure.ensures
 
-returns-3 : tie.Need-returns-3
+returns-3 : tie.Need-returns
 returns-3 c =
     let z = c.before.before.before.before.before.before.before.before.before.before.args in
-    let e : ready_rule z.state ≡ true = sym c.before.before.before.before.before.before.before.ready-rule.ensures ∙ not-false _ c.before.before.before.before.before.before.if1.false in
-    let m : is_secure z.state.mode ≡ false = sym c.before.before.before.before.before.is-secure.ensures ∙ c.before.before.before.before.if2.false in
-    answered_by_lem z.state z.store.now z.piece.now false e m c.before.before.receive-crc.ensures
+    let e : ready_rule z.state ≡ true = sym c.before.before.before.before.before.before.before.ready_rule.ensures ∙ not-false _ c.before.before.before.before.before.before.if-not-ready_rule.false in
+    let m : is_secure z.state.mode ≡ false = sym c.before.before.before.before.before.is_secure.ensures ∙ c.before.before.before.before.if-is_secure.false in
+    answered_by_lem z.state z.store-1.now z.piece.now false e m c.before.before.receive_crc.ensures
 
 pub receive_spec : {M : Type 1} → statement M
 receive_spec =

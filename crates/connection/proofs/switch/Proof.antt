@@ -5,24 +5,24 @@ use borrow.Author.Rules.{rules}
 use Rattle.connection.proofs.switch.Statement.{statement}
 use Rattle.connection.proofs.switch.Tie as tie
 
-returns : tie.Need-returns
+returns : tie.Need-returns-in-Fine
 returns c =
     let z = c.before.before.before.before.before.args in
-    let e = sym c.before.before.before.before.judge-switch.ensures ∙ ap judged_by c.before.before.enum_told.given.1 in
+    let e = sym c.before.before.before.before.judge_switch-judgement.ensures ∙ ap judged_by c.before.before.enum_told-1.given.1 in
     record {
       judgement = sym e;
-      state = c.before.secure-from.ensures ∙ ap (λ (j : Judged). switched_state j z.state z.key z.receiving) (sym e);
-      sends = c.fresh-sending.ensures ∙ ap (λ (j : Judged). switched_sending j z.key z.sending) (sym e);
+      state = c.before.secure_from.ensures ∙ ap (λ (j : Judged). switched_state j z.state z.key z.receiving) (sym e);
+      sends = c.fresh_sending.ensures ∙ ap (λ (j : Judged). switched_sending j z.key z.sending) (sym e);
     }
 
-returns-2 : tie.Need-returns-2
+returns-2 : tie.Need-returns-in-Refused
 returns-2 c =
     let z = c.before.before.before.before.before.args in
-    let e = sym c.before.before.before.before.judge-switch.ensures ∙ ap judged_by c.before.before.judgement.given.1 in
+    let e = sym c.before.before.before.before.judge_switch-judgement.ensures ∙ ap judged_by c.before.before.judgement-1.given.1 in
     record {
       judgement = sym e;
       state = ap (λ (j : Judged). switched_state j z.state z.key z.receiving) (sym e);
-      sends = c.refused-sending.ensures ∙ ap (λ (j : Judged). switched_sending j z.key z.sending) (sym e);
+      sends = c.refused_sending.ensures ∙ ap (λ (j : Judged). switched_sending j z.key z.sending) (sym e);
     }
 
 pub switch_spec : {M : Type 1} → statement M

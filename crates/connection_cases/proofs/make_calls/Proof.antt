@@ -13,7 +13,7 @@ use Rattle.connection_cases.proofs.Laws.{calls-none, calls-on}
 use Rattle.connection_cases.proofs.make_calls.Statement.{statement}
 use Rattle.connection_cases.proofs.make_calls.Tie as tie
 
-abbrev invariant-loop : tie.invariant-loop
+abbrev invariant-loop : tie.invariant-loop-left
 invariant-loop l s n from stream store₀ text₀ at width state₀ taken₀ end₀ place₀ left₀ store text state taken end place left =
     (place + 8 * left ≤ 600000)
     × (width ≤ 8)
@@ -22,18 +22,18 @@ invariant-loop l s n from stream store₀ text₀ at width state₀ taken₀ end
     × (length store ≡ length store₀)
     × (length text ≡ length text₀)
 
-abbrev decreases-loop : tie.decreases-loop
+abbrev decreases-loop : tie.decreases-loop-left
 decreases-loop l s n from stream store₀ text₀ at width state₀ taken₀ end₀ place₀ left₀ store text state taken end place left = left
 
-loop-again : tie.Need-loop-preserved invariant-loop decreases-loop
+loop-again : tie.Need-loop-left-preserved invariant-loop decreases-loop
 loop-again c =
-    let l = c.before.before.before.before.before.before.before.before.before.before.before.before.loop in (
-      omega (arith, c.before.before.before.before.before.before.before.before.before.before.before.loop-test.true, l.invariant.0, l.invariant.1),
+    let l = c.before.before.before.before.before.before.before.before.before.before.before.before.loop-left in (
+      omega (arith, c.before.before.before.before.before.before.before.before.before.before.before.loop-left-test.true, l.invariant.0, l.invariant.1),
       l.invariant.1,
       l.invariant.2,
-      calls-on c.before.before.before.before.before.before.before.before.before.before.before.before.before.before.before.before.before.before.args.l c.before.before.before.before.before.before.before.before.before.before.before.before.before.before.before.before.before.before.args.s.now l.left l.place c.before.before.before.before.before.before.before.before.before.before.before.before.before.before.before.before.before.before.args.stream.now l.taken c.forward.result c.before.before.before.before.before.before.before.before.before.before.before.before.before.call-width.result l.state c.before.before.before.before.before.before.before.before.before.before.call_at.result c.before.before.before.before.before.before.before.before.before.behind.result.now l.store (omega (arith, c.before.before.before.before.before.before.before.before.before.before.before.loop-test.true)) c.before.before.before.before.before.before.before.before.before.before.call_at.ensures c.before.before.before.before.before.before.before.before.before.behind.ensures c.before.before.before.before.before.before.make-either.ensures c.forward.ensures l.invariant.2 ∙ l.invariant.3,
-      c.before.before.before.before.before.before.make-either.auto.1.1.1.1.1.0 ∙ l.invariant.4,
-      c.before.before.before.before.before.before.make-either.auto.1.1.1.1.1.1.0 ∙ l.invariant.5,
+      calls-on c.before.before.before.before.before.before.before.before.before.before.before.before.before.before.before.before.before.before.args.l c.before.before.before.before.before.before.before.before.before.before.before.before.before.before.before.before.before.before.args.s.now l.left l.place c.before.before.before.before.before.before.before.before.before.before.before.before.before.before.before.before.before.before.args.stream.now l.taken c.forward-taken.result c.before.before.before.before.before.before.before.before.before.before.before.before.before.call_width-width.result l.state c.before.before.before.before.before.before.before.before.before.before.call_at-call.result c.before.before.before.before.before.before.before.before.before.behind-rest.result.now l.store-1 (omega (arith, c.before.before.before.before.before.before.before.before.before.before.before.loop-left-test.true)) c.before.before.before.before.before.before.before.before.before.before.call_at-call.ensures c.before.before.before.before.before.before.before.before.before.behind-rest.ensures c.before.before.before.before.before.before.make_either-o.ensures c.forward-taken.ensures l.invariant.2 ∙ l.invariant.3,
+      c.before.before.before.before.before.before.make_either-o.auto.1.1.1.1.1.0 ∙ l.invariant.4,
+      c.before.before.before.before.before.before.make_either-o.auto.1.1.1.1.1.1.0 ∙ l.invariant.5,
     )
 
 pub make_calls_spec : {M : Type 1} → statement M
@@ -44,15 +44,15 @@ make_calls_spec =
     invariant-loop
     decreases-loop
     (search rules)
-    (λ c. (omega (arith, c.before.before.before.before.before.requires.0), omega (arith, c.call-width.ensures.1), c.call-width.ensures.0, refl, refl, refl))
-    (λ c κs. omega (arith, c.before.loop.invariant.0))
+    (λ c. (omega (arith, c.before.before.before.before.before.requires.0), omega (arith, c.call_width-width.ensures.1), c.call_width-width.ensures.0, refl, refl, refl))
+    (λ c κs. omega (arith, c.before.loop-left.invariant.0))
     (search rules)
     (λ c κs. c.before.before.before.before.before.before.before.before.before.before.before.requires.1)
     (search rules)
-    (λ c. omega (arith, c.before.before.before.before.before.before.before.before.before.before.before.before.loop.invariant.0, c.before.before.before.before.before.before.before.before.before.before.before.before.loop.invariant.1))
-    (λ c. omega (arith, c.before.before.before.before.before.before.before.before.before.before.before.loop-test.true))
-    (λ c. omega (arith, c.before.before.before.before.before.before.before.before.before.before.before.loop-test.true))
+    (λ c. omega (arith, c.before.before.before.before.before.before.before.before.before.before.before.before.loop-left.invariant.0, c.before.before.before.before.before.before.before.before.before.before.before.before.loop-left.invariant.1))
+    (λ c. omega (arith, c.before.before.before.before.before.before.before.before.before.before.before.loop-left-test.true))
+    (λ c. omega (arith, c.before.before.before.before.before.before.before.before.before.before.before.loop-left-test.true))
     loop-again
-    (λ c. c.before.loop.invariant.4)
-    (λ c. c.before.loop.invariant.5)
-    (λ c. ap (λ (xs : List Call). prints (call_lines c.before.before.before.before.before.before.before.args.l c.before.before.before.before.before.before.before.args.s.now xs (drop c.before.loop.taken c.before.before.before.before.before.before.before.args.stream.now) c.before.loop.state c.before.loop.store) (page c.before.loop.text c.before.loop.end)) (sym (calls-none c.before.before.before.before.before.before.before.args.l.lends c.before.before.before.before.before.before.before.args.s.now c.before.loop.left c.before.loop.place (omega arith))) ∙ c.before.loop.invariant.3))
+    (λ c. c.before.loop-left.invariant.4)
+    (λ c. c.before.loop-left.invariant.5)
+    (λ c. ap (λ (xs : List Call). prints (call_lines c.before.before.before.before.before.before.before.args.l c.before.before.before.before.before.before.before.args.s.now xs (drop c.before.loop-left.taken c.before.before.before.before.before.before.before.args.stream.now) c.before.loop-left.state c.before.loop-left.store) (page c.before.loop-left.text c.before.loop-left.end)) (sym (calls-none c.before.before.before.before.before.before.before.args.l.lends c.before.before.before.before.before.before.before.args.s.now c.before.loop-left.left c.before.loop-left.place (omega arith))) ∙ c.before.loop-left.invariant.3))

@@ -11,10 +11,10 @@ use borrow.Author.Rules.{rules}
 use Rattle.connection_cases.proofs.receive_lent.Statement.{statement}
 use Rattle.connection_cases.proofs.receive_lent.Tie as tie
 
-returns-2 : tie.Need-returns-2
+returns-2 : tie.Need-returns
 returns-2 c =
     let e = lent-whole c.before.before.before.before.before.before.before.args.state c.before.before.before.before.before.before.before.args.store.now c.before.before.before.before.before.before.before.args.piece.now c.before.before.before.before.before.before.before.args.lent (omega arith) in
-    record { received = c.before.before.receive2.ensures.received ∙ sym (ap (λ (a : Answer). a.received) e); store = c.before.before.receive2.ensures.store ∙ sym (ap (λ (a : Answer). a.store) e) }
+    record { received = c.before.before.receive-2.ensures.received ∙ sym (ap (λ (a : Answer). a.received) e); store = c.before.before.receive-2.ensures.store ∙ sym (ap (λ (a : Answer). a.store-1) e) }
 
 pub receive_lent_spec : {M : Type 1} → statement M
 unfolding lent_answer

@@ -12,28 +12,28 @@ use Rattle.connection_cases.proofs.Laws.{receiver-store, switches-there, receive
 use Rattle.connection_cases.proofs.receiver_record.Statement.{statement}
 use Rattle.connection_cases.proofs.receiver_record.Tie as tie
 
-good : (a : tie.Else1) → is_whole (receiver_size (length a.before.before.before.before.before.before.before.args.space.now) a.before.before.before.layout_of.result a.before.before.before.before.before.before.before.args.s.now) a.before.before.before.before.before.before.before.args.s.now ≡ true
-good a = seen-whole a.before.before.before.before.before.before.before.args.s.now a.before.before.receiver-size.ensures a.before.is-whole.ensures a.if1.false
+good : (a : tie.Else-not-is_whole) → is_whole (receiver_size (length a.before.before.before.before.before.before.before.args.space.now) a.before.before.before.layout_of-l.result a.before.before.before.before.before.before.before.args.s.now) a.before.before.before.before.before.before.before.args.s.now ≡ true
+good a = seen-whole a.before.before.before.before.before.before.before.args.s.now a.before.before.receiver_size-size.ensures a.before.is_whole.ensures a.if-not-is_whole.false
 
-slice_relend_prefix-store : tie.Need-slice-relend-prefix-store
+slice_relend_prefix-store : tie.Need-slice_bounds-store-end
 slice_relend_prefix-store c =
-    omega (arith, c.u32-at2.ensures, receiver-store (length c.before.before.before.before.before.before.before.before.before.before.before.before.before.args.space.now) c.before.before.before.before.before.before.before.before.before.layout_of.result c.before.before.before.before.before.before.before.before.before.before.before.before.before.args.s.now (good c.before.before.before.before.before.before))
+    omega (arith, c.u32_at-n.ensures, receiver-store (length c.before.before.before.before.before.before.before.before.before.before.before.before.before.args.space.now) c.before.before.before.before.before.before.before.before.before.layout_of-l.result c.before.before.before.before.before.before.before.before.before.before.before.before.before.args.s.now (good c.before.before.before.before.before.before))
 
-returns-2 : tie.Need-returns-2
+returns-2 : tie.Need-returns
 unfolding receiver_record
 returns-2 c =
     let a = c.before.before.before.before.before.before.before.before.before.before.before.before.before.before.before.before.before.before.before.before.before.before.before.before.before.before.before.before.before.before.before.before.before.before.args in
-    rw (← c.before.before.before.before.before.before.before.before.before.before.before.before.before.before.before.before.before.before.before.before.before.before.before.before.before.before.before.before.before.before.layout_of.ensures)
-    (did_whole _ c.before.before.before.before.before.before.before.before.before.before.before.before.before.before.before.before.before.before.before.before.before.before.before.before.before.before.before.before.before.receiver-size.ensures c.before.before.before.before.before.before.before.before.before.before.before.before.before.before.before.before.before.before.before.before.before.before.before.before.before.before.before.before.is-whole.ensures c.before.before.before.before.before.before.before.before.before.before.before.before.before.before.before.before.before.before.before.before.before.before.before.before.before.before.before.if1.false refl
-    (receiver-printed c.before.before.before.before.before.before.before.before.before.before.before.before.before.before.before.before.before.before.before.before.before.before.before.before.before.before.before.before.before.before.layout_of.result a.s.now _
-    c.before.before.before.before.before.before.before.before.before.before.before.before.before.before.before.before.before.before.before.before.before.before.before.before.before.before.calls-of.ensures.0
-    c.before.before.before.before.before.before.before.before.before.before.before.before.before.before.before.before.before.before.before.before.before.before.before.before.before.calls_at.ensures.0
-    (c.before.before.before.before.before.before.before.before.before.before.before.before.before.before.before.before.before.before.before.before.before.before.part.ensures ∙ rw (c.before.before.before.before.before.before.before.before.before.before.before.before.before.before.before.before.before.before.before.before.before.before.before.u32_at.ensures, c.before.before.before.before.before.before.before.before.before.before.before.before.before.before.before.before.before.before.before.before.before.before.before.before.stream_at.ensures.0))
-    (rw (c.before.before.before.before.before.before.before.before.before.before.before.before.before.before.u64-at.ensures, c.before.before.before.before.before.before.before.before.before.before.before.before.before.u64-at2.ensures) at c.before.before.before.before.before.before.before.before.before.before.before.before.start.ensures.state)
-    (rw (c.before.before.before.before.before.before.before.before.before.before.before.before.before.before.before.before.before.before.byte_at.ensures, length-take-le _ _ (slice_relend_prefix-store c.before.before.before.before.before.before.before.before.before.before.before.before.before.before.before.before.before.before.before.before.before), c.before.before.before.before.before.before.before.before.before.before.before.before.before.before.before.before.before.before.before.before.before.u32-at2.ensures) at c.before.before.before.before.before.before.before.before.before.before.before.before.before.before.before.before.before.count-up.ensures)
-    (rw (c.before.before.before.before.before.before.before.before.before.before.before.before.before.before.u64-at.ensures, c.before.before.before.before.before.before.before.before.before.before.before.before.before.u64-at2.ensures) at c.before.before.before.before.before.before.before.before.before.before.before.before.start.ensures.judgement)
-    c.before.before.before.before.before.before.before.before.print-judgement.ensures
-    c.before.before.before.before.make-calls.ensures))
+    rw (← c.before.before.before.before.before.before.before.before.before.before.before.before.before.before.before.before.before.before.before.before.before.before.before.before.before.before.before.before.before.before.layout_of-l.ensures)
+    (did_whole _ c.before.before.before.before.before.before.before.before.before.before.before.before.before.before.before.before.before.before.before.before.before.before.before.before.before.before.before.before.before.receiver_size-size.ensures c.before.before.before.before.before.before.before.before.before.before.before.before.before.before.before.before.before.before.before.before.before.before.before.before.before.before.before.before.is_whole.ensures c.before.before.before.before.before.before.before.before.before.before.before.before.before.before.before.before.before.before.before.before.before.before.before.before.before.before.before.if-not-is_whole.false refl
+    (receiver-printed c.before.before.before.before.before.before.before.before.before.before.before.before.before.before.before.before.before.before.before.before.before.before.before.before.before.before.before.before.before.before.layout_of-l.result a.s.now _
+    c.before.before.before.before.before.before.before.before.before.before.before.before.before.before.before.before.before.before.before.before.before.before.before.before.before.before.calls_of-calls.ensures.0
+    c.before.before.before.before.before.before.before.before.before.before.before.before.before.before.before.before.before.before.before.before.before.before.before.before.before.calls_at-from.ensures.0
+    (c.before.before.before.before.before.before.before.before.before.before.before.before.before.before.before.before.before.before.before.before.before.before.part-stream.ensures ∙ rw (c.before.before.before.before.before.before.before.before.before.before.before.before.before.before.before.before.before.before.before.before.before.before.before.u32_at.ensures, c.before.before.before.before.before.before.before.before.before.before.before.before.before.before.before.before.before.before.before.before.before.before.before.before.stream_at-end.ensures.0))
+    (rw (c.before.before.before.before.before.before.before.before.before.before.before.before.before.before.u64_at.ensures, c.before.before.before.before.before.before.before.before.before.before.before.before.before.u64_at-2.ensures) at c.before.before.before.before.before.before.before.before.before.before.before.before.start-begun.ensures.state)
+    (rw (c.before.before.before.before.before.before.before.before.before.before.before.before.before.before.before.before.before.before.byte_at.ensures, length-take-le _ _ (slice_relend_prefix-store c.before.before.before.before.before.before.before.before.before.before.before.before.before.before.before.before.before.before.before.before.before), c.before.before.before.before.before.before.before.before.before.before.before.before.before.before.before.before.before.before.before.before.before.u32_at-n.ensures) at c.before.before.before.before.before.before.before.before.before.before.before.before.before.before.before.before.before.count_up.ensures)
+    (rw (c.before.before.before.before.before.before.before.before.before.before.before.before.before.before.u64_at.ensures, c.before.before.before.before.before.before.before.before.before.before.before.before.before.u64_at-2.ensures) at c.before.before.before.before.before.before.before.before.before.before.before.before.start-begun.ensures.judgement)
+    c.before.before.before.before.before.before.before.before.print_judgement-started.ensures
+    c.before.before.before.before.make_calls.ensures))
 
 pub receiver_record_spec : {M : Type 1} → statement M
 unfolding receiver_record
@@ -45,7 +45,7 @@ receiver_record_spec =
     (search rules)
     (search rules)
     (search rules)
-    (λ c. rw (← c.before.before.before.before.before.before.before.layout_of.ensures) (did_bad _ c.before.before.before.before.before.before.receiver-size.ensures c.before.before.before.before.before.is-whole.ensures c.before.before.before.before.if1.true c.before.before.bad-record.ensures))
+    (λ c. rw (← c.before.before.before.before.before.before.before.layout_of-l.ensures) (did_bad _ c.before.before.before.before.before.before.receiver_size-size.ensures c.before.before.before.before.before.is_whole.ensures c.before.before.before.before.if-not-is_whole.true c.before.before.bad_record.ensures))
     (search rules)
     (search rules)
     (search rules)
@@ -64,7 +64,7 @@ receiver_record_spec =
     (search rules)
     (search rules)
     (search rules)
-    (λ c κs. ((omega (arith, c.before.before.before.before.before.before.before.before.before.before.before.before.before.before.before.before.before.before.before.before.before.calls-of.ensures.1), omega (arith, c.before.before.before.before.before.before.before.before.before.before.before.before.before.before.before.before.before.before.before.before.calls_at.ensures.1)), switches-there (length c.before.before.before.before.before.before.before.before.before.before.before.before.before.before.before.before.before.before.before.before.before.before.before.before.before.before.before.before.before.args.space.now) c.before.before.before.before.before.before.before.before.before.before.before.before.before.before.before.before.before.before.before.before.before.before.before.before.before.layout_of.result c.before.before.before.before.before.before.before.before.before.before.before.before.before.before.before.before.before.before.before.before.before.before.before.before.before.before.before.before.before.args.s.now (good c.before.before.before.before.before.before.before.before.before.before.before.before.before.before.before.before.before.before.before.before.before.before)))
+    (λ c κs. ((omega (arith, c.before.before.before.before.before.before.before.before.before.before.before.before.before.before.before.before.before.before.before.before.before.calls_of-calls.ensures.1), omega (arith, c.before.before.before.before.before.before.before.before.before.before.before.before.before.before.before.before.before.before.before.before.calls_at-from.ensures.1)), switches-there (length c.before.before.before.before.before.before.before.before.before.before.before.before.before.before.before.before.before.before.before.before.before.before.before.before.before.before.before.before.before.args.space.now) c.before.before.before.before.before.before.before.before.before.before.before.before.before.before.before.before.before.before.before.before.before.before.before.before.before.layout_of-l.result c.before.before.before.before.before.before.before.before.before.before.before.before.before.before.before.before.before.before.before.before.before.before.before.before.before.before.before.before.before.args.s.now (good c.before.before.before.before.before.before.before.before.before.before.before.before.before.before.before.before.before.before.before.before.before.before)))
     (search rules)
     (search rules)
     returns-2)

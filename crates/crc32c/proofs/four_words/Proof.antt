@@ -7,10 +7,10 @@ use Rattle.crc32c.proofs.Words.{far, word-length}
 use Rattle.crc32c.proofs.four_words.Statement.{statement}
 use Rattle.crc32c.proofs.four_words.Tie as tie
 
-abbrev invariant-loop : tie.invariant-loop
+abbrev invariant-loop : tie.invariant-loop-k
 invariant-loop bytes a₀ b₀ c₀ d₀ i₀ k₀ a b c d i k = (k ≤ 4) × (i ≡ i₀ + 4 * k) × ((s : ℕ) → Left s bytes a₀ b₀ c₀ d₀ i₀ → Left s bytes a b c d i)
 
-abbrev decreases-loop : tie.decreases-loop
+abbrev decreases-loop : tie.decreases-loop-k
 decreases-loop bytes a₀ b₀ c₀ d₀ i₀ k₀ a b c d i k = 4 - k
 
 pub four_words_spec : {M : Type 1} → statement M
@@ -24,9 +24,9 @@ four_words_spec =
     (λ c. search rules)
     (λ c. search rules)
     (λ c. search rules)
-    (λ c κs. omega (arith, word-length c.before.before.loop.i c.before.before.before.before.args.bytes.now (omega arith)))
+    (λ c κs. omega (arith, word-length c.before.before.loop-k.i c.before.before.before.before.args.bytes.now (omega arith)))
     (λ c κs. search rules)
     (λ c. search rules)
     (λ c. search rules)
-    (λ c. (omega arith, omega arith, λ s h. far c.before.mixed.result (c.before.before.before.before.loop.invariant.2 s h) (omega arith) c.before.mixed.ensures c.steps-128.ensures (omega arith)))
-    (λ c. (omega arith, c.before.loop.invariant.2)))
+    (λ c. (omega arith, omega arith, λ s h. far c.before.mixed.result (c.before.before.before.before.loop-k.invariant.2 s h) (omega arith) c.before.mixed.ensures c.steps_128-far.ensures (omega arith)))
+    (λ c. (omega arith, c.before.loop-k.invariant.2)))

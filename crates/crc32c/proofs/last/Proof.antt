@@ -14,4 +14,4 @@ last_spec =
     (λ c. search rules)
     (λ c κs. search rules)
     (λ c κs. search rules)
-    (λ c. c.fewer-steps.ensures ∙ c.before.mixed.ensures))
+    (λ c. c.fewer_steps.ensures ∙ c.before.mixed.ensures))

@@ -7,10 +7,10 @@ use Rattle.crc32c.proofs.Words.{begins}
 use Rattle.crc32c.proofs.over_fours.Statement.{statement}
 use Rattle.crc32c.proofs.over_fours.Tie as tie
 
-abbrev invariant-loop : tie.invariant-loop
+abbrev invariant-loop : tie.invariant-loop-l
 invariant-loop start bytes l₀ l = LeftBy start bytes l
 
-abbrev decreases-loop : tie.decreases-loop
+abbrev decreases-loop : tie.decreases-loop-l
 decreases-loop start bytes l₀ l = length bytes - l.i
 
 pub over_fours_spec : {M : Type 1} → statement M
@@ -20,8 +20,8 @@ over_fours_spec =
     invariant-loop
     decreases-loop
     (λ c. begins c.before.args.start c.before.args.bytes.now)
-    (λ c. omega (arith, c.before.loop.invariant.within))
-    (λ c κs. omega (arith, c.before.before.loop.invariant.within))
+    (λ c. omega (arith, c.before.loop-l.invariant.within))
+    (λ c κs. omega (arith, c.before.before.loop-l.invariant.within))
     (λ c. search rules)
-    (λ c. c.four-words.ensures.1 c.before.before.before.before.before.args.start c.before.before.before.loop.invariant)
-    (λ c. c.before.before.loop.invariant))
+    (λ c. c.four_words-next.ensures.1 c.before.before.before.before.before.args.start c.before.before.before.loop-l.invariant)
+    (λ c. c.before.before.loop-l.invariant))

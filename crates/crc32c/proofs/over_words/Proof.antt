@@ -7,10 +7,10 @@ use Rattle.crc32c.proofs.Words.{near, word-length}
 use Rattle.crc32c.proofs.over_words.Statement.{statement}
 use Rattle.crc32c.proofs.over_words.Tie as tie
 
-abbrev invariant-loop : tie.invariant-loop
+abbrev invariant-loop : tie.invariant-loop-i
 invariant-loop bytes a₀ b₀ c₀ d₀ i₀ a b c d i = (i ≤ length bytes) × ((s : ℕ) → Left s bytes a₀ b₀ c₀ d₀ i₀ → Left s bytes a b c d i)
 
-abbrev decreases-loop : tie.decreases-loop
+abbrev decreases-loop : tie.decreases-loop-i
 decreases-loop bytes a₀ b₀ c₀ d₀ i₀ a b c d i = length bytes - i
 
 pub over_words_spec : {M : Type 1} → statement M
@@ -25,8 +25,8 @@ over_words_spec =
     (λ c. search rules)
     (λ c. search rules)
     (λ c. search rules)
-    (λ c κs. omega (arith, word-length c.before.before.loop.i c.before.before.before.before.args.bytes.now (omega arith)))
+    (λ c κs. omega (arith, word-length c.before.before.loop-i.i c.before.before.before.before.args.bytes.now (omega arith)))
     (λ c κs. search rules)
     (λ c. search rules)
-    (λ c. (omega arith, λ s h. near c.before.mixed.result (c.before.before.before.before.loop.invariant.1 s h) (omega arith) c.before.mixed.ensures c.steps-32.ensures))
-    (λ c. (omega (arith, c.before.loop.invariant.0), omega arith, c.before.loop.invariant.1)))
+    (λ c. (omega arith, λ s h. near c.before.mixed.result (c.before.before.before.before.loop-i.invariant.1 s h) (omega arith) c.before.mixed.ensures c.steps_32.ensures))
+    (λ c. (omega (arith, c.before.loop-i.invariant.0), omega arith, c.before.loop-i.invariant.1)))

@@ -10,20 +10,20 @@ use Rattle.crc_squares.proofs.Rules.{placed_at}
 use Rattle.crc_squares.proofs.by_nibbles.Statement.{statement}
 use Rattle.crc_squares.proofs.by_nibbles.Tie as tie
 
-abbrev invariant-loop : tie.invariant-loop
+abbrev invariant-loop : tie.invariant-loop-j
 invariant-loop first x r₀ rest₀ j₀ r rest j = (j ≤ 8) × (bit_xor r (nibbles root_or_square_at (first + j) (8 - j) rest) ≡ nibbles root_or_square_at first 8 x)
 
-abbrev decreases-loop : tie.decreases-loop
+abbrev decreases-loop : tie.decreases-loop-j
 decreases-loop first x r₀ rest₀ j₀ r rest j = 8 - j
 
-loop-again : tie.Need-loop-preserved invariant-loop decreases-loop
+loop-again : tie.Need-loop-j-preserved invariant-loop decreases-loop
 loop-again c =
     let p = c.before in
-    let l = p.before.before.loop in
+    let l = p.before.before.loop-j in
     let a = p.before.before.before.args in
     let i : ℕ = (a.first + l.j) * 16 + bit_and l.rest 15 in
-    let e = c.entry.ensures ∙ placed_at p.place.result i (omega (arith, mask_lt l.rest 4)) p.place.ensures in
-    (search rules, nibbles-next root_or_square_at l.r c.entry.result l.rest a.first l.j (omega arith) e ∙ l.invariant.1)
+    let e = c.entry-r.ensures ∙ placed_at p.place.result i (omega (arith, mask_lt l.rest 4)) p.place.ensures in
+    (search rules, nibbles-next root_or_square_at l.r c.entry-r.result l.rest a.first l.j (omega arith) e ∙ l.invariant.1)
 
 pub by_nibbles_spec : {M : Type 1} → statement M
 by_nibbles_spec =
@@ -34,10 +34,10 @@ by_nibbles_spec =
     (λ c. (omega arith, ap (λ (p : ℕ). nibbles root_or_square_at p 8 c.args.x) (add-zero c.args.first)))
     (λ c. search rules)
     (λ c. search rules)
-    (λ c. omega (arith, mask_lt c.before.loop.rest 4))
+    (λ c. omega (arith, mask_lt c.before.loop-j.rest 4))
     (λ c κs. search rules)
     (λ c κs. search rules)
     (λ c. search rules)
     (λ c. search rules)
     loop-again
-    (λ c. nibbles-end root_or_square_at c.before.loop.r c.before.loop.rest (c.before.before.args.first + c.before.loop.j) c.before.loop.j (omega arith) ∙ c.before.loop.invariant.1))
+    (λ c. nibbles-end root_or_square_at c.before.loop-j.r c.before.loop-j.rest (c.before.before.args.first + c.before.loop-j.j) c.before.loop-j.j (omega arith) ∙ c.before.loop-j.invariant.1))

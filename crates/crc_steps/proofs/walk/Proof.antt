@@ -7,10 +7,10 @@ use Rattle.crc_steps.proofs.Rules.{by_byte, walked}
 use Rattle.crc_steps.proofs.walk.Statement.{statement}
 use Rattle.crc_steps.proofs.walk.Tie as tie
 
-abbrev invariant-loop : tie.invariant-loop
+abbrev invariant-loop : tie.invariant-loop-left
 invariant-loop t n k c₀ left₀ c left = steps (8 * left) c ≡ steps (8 * n) (k % 256)
 
-abbrev decreases-loop : tie.decreases-loop
+abbrev decreases-loop : tie.decreases-loop-left
 decreases-loop t n k c₀ left₀ c left = left
 
 pub walk_spec : {M : Type 1} → statement M
@@ -25,5 +25,5 @@ walk_spec =
     (λ c. search rules)
     (λ c. search rules)
     (λ c. search rules)
-    (λ c. by_byte c.before.before.before.args.t.now c.before.before.before.requires c.before.before.loop.left c.before.before.loop.c (omega arith) ∙ c.before.before.loop.invariant)
-    (λ c. walked c.before.before.args.n c.before.before.args.k c.before.loop.c c.before.loop.left (omega arith) c.before.loop.invariant))
+    (λ c. by_byte c.before.before.before.args.t.now c.before.before.before.requires c.before.before.loop-left.left c.before.before.loop-left.c (omega arith) ∙ c.before.before.loop-left.invariant)
+    (λ c. walked c.before.before.args.n c.before.before.args.k c.before.loop-left.c c.before.loop-left.left (omega arith) c.before.loop-left.invariant))

@@ -6,7 +6,7 @@ pub request_of_spec : {M : Type 1} → statement M
 request_of_spec =
     tie.close
     (tie.spec
-    (λ c. simp (eq-eqb _ _ c.if1.true))
-    (λ c. simp (ne_eqb _ _ c.before.if1.false, eq-eqb _ _ c.if2.true))
-    (λ c. simp (ne_eqb _ _ c.before.before.if1.false, ne_eqb _ _ c.before.if2.false, eq-eqb _ _ c.if3.true))
-    (λ c. simp (ne_eqb _ _ c.before.before.if1.false, ne_eqb _ _ c.before.if2.false, ne_eqb _ _ c.if3.false)))
+    (λ c. simp (eq-eqb _ _ c.if-tag-eq20.true))
+    (λ c. simp (ne_eqb _ _ c.before.if-tag-eq20.false, eq-eqb _ _ c.if-tag-eq15.true))
+    (λ c. simp (ne_eqb _ _ c.before.before.if-tag-eq20.false, ne_eqb _ _ c.before.if-tag-eq15.false, eq-eqb _ _ c.if-tag-eq12.true))
+    (λ c. simp (ne_eqb _ _ c.before.before.if-tag-eq20.false, ne_eqb _ _ c.before.if-tag-eq15.false, ne_eqb _ _ c.if-tag-eq12.false)))

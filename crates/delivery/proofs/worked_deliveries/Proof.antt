@@ -177,4 +177,4 @@ table demand = (
 
 pub worked_deliveries_spec : {M : Type 1} → statement M
 worked_deliveries_spec =
-    tie.close (tie.spec (λ c κs. search rules) (λ c. table c.every-cutting.ensures))
+    tie.close (tie.spec (λ c κs. search rules) (λ c. table c.every_cutting.ensures))

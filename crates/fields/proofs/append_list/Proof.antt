@@ -15,4 +15,4 @@ append_list_spec =
     (λ c κs. search rules)
     (λ c κs. search rules)
     (λ c. search rules)
-    (λ c. appended-counted (numbers _) _ c.before.before.append-words.ensures.1 c.before.before.before.before.before.before.before.before.before.count-bytes.ensures refl refl refl c.before.before.before.before.before.before.put.ensures c.before.before.append-words.ensures.0))
+    (λ c. appended-counted (numbers _) _ c.before.before.append_words.ensures.1 c.before.before.before.before.before.before.before.before.before.count_bytes-b.ensures refl refl refl c.before.before.before.before.before.before.put-next.ensures c.before.before.append_words.ensures.0))

@@ -10,21 +10,21 @@ use Rattle.fields.proofs.Drafts.{Sofar, one_more, none_yet, all_words}
 use Rattle.fields.proofs.append_words.Statement.{statement}
 use Rattle.fields.proofs.append_words.Tie as tie
 
-abbrev invariant-loop : tie.invariant-loop
+abbrev invariant-loop : tie.invariant-loop-i
 invariant-loop out₀ ns next₀ i₀ out next i = (i ≤ length ns) × ((p : Draft) → next₀ ≡ counted true 0 0 p → Sofar ns i p out₀ next out) × (length out ≡ length out₀)
 
-abbrev decreases-loop : tie.decreases-loop
+abbrev decreases-loop : tie.decreases-loop-i
 decreases-loop out₀ ns next₀ i₀ out next i = length ns - i
 
-loop-again : tie.Need-loop-preserved invariant-loop decreases-loop
-loop-again c = let l = c.before.before.before.before.before.before.loop in
+loop-again : tie.Need-loop-i-preserved invariant-loop decreases-loop
+loop-again c = let l = c.before.before.before.before.before.before.loop-i in
     let g = c.before.before.before.before.before.before.before.before.before.before.args in
-    (omega arith, (λ p e. one_more l.i g.ns.now (omega arith) (l.invariant.1 p e) c.before.before.append-u32.ensures), c.before.out.given ∙ l.invariant.2)
+    (omega arith, (λ p e. one_more l.i g.ns.now (omega arith) (l.invariant.1 p e) c.before.before.append_u32-next.ensures), c.before.out-1.given ∙ l.invariant.2)
 
 returns : tie.Need-returns invariant-loop decreases-loop
-returns c = let l = c.before.loop in
+returns c = let l = c.before.loop-i in
     let g = c.before.before.before.before.before.args in
-    all_words l.i g.ns.now (omega arith) l.invariant.0 (l.invariant.1 g.p c.before.before.count.ensures)
+    all_words l.i g.ns.now (omega arith) l.invariant.0 (l.invariant.1 g.p c.before.before.count-next.ensures)
 
 pub append_words_spec : {M : Type 1} → statement M
 append_words_spec =
@@ -40,5 +40,5 @@ append_words_spec =
     (λ c. search rules)
     (λ c. search rules)
     loop-again
-    (λ c. c.before.loop.invariant.2)
+    (λ c. c.before.loop-i.invariant.2)
     returns)

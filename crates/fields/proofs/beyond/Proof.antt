@@ -4,4 +4,4 @@ use Rattle.fields.proofs.beyond.Tie as tie
 
 pub beyond_spec : {M : Type 1} → statement M
 beyond_spec =
-    tie.close (tie.spec (λ c. rw (lt-ltb _ _ c.if1.true)) (λ c. rw (le-ltb _ _ c.if1.false)))
+    tie.close (tie.spec (λ c. rw (lt-ltb _ _ c.if-w-n.true)) (λ c. rw (le-ltb _ _ c.if-w-n.false)))

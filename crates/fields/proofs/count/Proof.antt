@@ -9,7 +9,7 @@ count_spec =
     tie.close
     (tie.spec
     (λ c κs. search rules)
-    (λ c. rw (c.if1.true, c.before.capped-sum.ensures))
-    (λ c. rw (c.before.if1.false, c.if2.true, c.before.before.capped-sum.ensures))
+    (λ c. rw (c.if-p.true, c.before.capped_sum-len.ensures))
+    (λ c. rw (c.before.if-p.false, c.if-sound.true, c.before.before.capped_sum-len.ensures))
     (λ c κs. search rules)
-    (λ c. rw (c.before.before.if1.false, c.before.if2.false, c.before.before.before.capped-sum.ensures, c.capped-sum2.ensures)))
+    (λ c. rw (c.before.before.if-p.false, c.before.if-sound.false, c.before.before.before.capped_sum-len.ensures, c.capped_sum.ensures)))

@@ -8,24 +8,24 @@ use Rattle.fields.proofs.Puts.{put-none, put_one, put_all}
 use Rattle.fields.proofs.put_at.Statement.{statement}
 use Rattle.fields.proofs.put_at.Tie as tie
 
-abbrev invariant-loop : tie.invariant-loop
+abbrev invariant-loop : tie.invariant-loop-i
 invariant-loop out₀ at src room n i₀ out i = (i ≤ n) × (out ≡ put_at at (take i src) out₀) × (length out ≡ length out₀)
 
-abbrev decreases-loop : tie.decreases-loop
+abbrev decreases-loop : tie.decreases-loop-i
 decreases-loop out₀ at src room n i₀ out i = n - i
 
-loop-again : tie.Need-loop-preserved invariant-loop decreases-loop
+loop-again : tie.Need-loop-i-preserved invariant-loop decreases-loop
 loop-again c =
-    let l = c.before.before.loop in
+    let l = c.before.before.loop-i in
     let g = c.before.before.before.before.before.before.before.args in
     (omega arith, rw l.invariant.1 (put_one g.at l.i g.src.now g.out.now (omega arith)), length-set l.out (g.at + l.i) _ ∙ l.invariant.2)
 
 returns : tie.Need-returns invariant-loop decreases-loop
 returns c =
-    let l = c.before.loop in
+    let l = c.before.loop-i in
     let g = c.before.before.before.before.before.before.args in
-    let e : l.i ≡ c.before.before.min2.result = omega arith in
-    l.invariant.1 ∙ ap (λ (n : ℕ). put_at g.at (take n g.src.now) g.out.now) e ∙ put_all g.at c.before.before.min2.result c.before.before.before.min.result _ g.src.now g.out.now c.before.before.before.min.ensures refl c.before.before.min2.ensures
+    let e : l.i ≡ c.before.before.min-n.result = omega arith in
+    l.invariant.1 ∙ ap (λ (n : ℕ). put_at g.at (take n g.src.now) g.out.now) e ∙ put_all g.at c.before.before.min-n.result c.before.before.before.min.result _ g.src.now g.out.now c.before.before.before.min.ensures refl c.before.before.min-n.ensures
 
 pub put_at_spec : {M : Type 1} → statement M
 put_at_spec =
@@ -43,5 +43,5 @@ put_at_spec =
     (λ c. omega arith)
     (λ c. omega arith)
     loop-again
-    (λ c. c.before.loop.invariant.2)
+    (λ c. c.before.loop-i.invariant.2)
     returns)

@@ -9,8 +9,8 @@ unfolding step_of
 skip_spec =
     tie.close
     (tie.spec
-    (λ c. rw c.if1.true)
+    (λ c. rw c.if-c.true)
     (λ c κs. search rules)
     (λ c. search rules)
-    (λ c. rw (c.before.before.if1.false, le-leb _ _ (rw c.before.remaining.ensures at c.if2.true)))
-    (λ c. rw (c.before.before.if1.false, lt-leb _ _ (rw c.before.remaining.ensures at c.if2.false))))
+    (λ c. rw (c.before.before.if-c.false, le-leb _ _ (rw c.before.remaining.ensures at c.if-w-remaining.true)))
+    (λ c. rw (c.before.before.if-c.false, lt-leb _ _ (rw c.before.remaining.ensures at c.if-w-remaining.false))))

@@ -9,10 +9,10 @@ unfolding step_of
 skip_list_spec =
     tie.close
     (tie.spec
-    (λ c. rw c.if1.true)
+    (λ c. rw c.if-c.true)
     (λ c κs. search rules)
     (λ c. search rules)
-    (λ c. rw (c.before.before.if1.false, lt-ltb _ _ (rw c.before.u32_at.ensures at c.if2.true)))
+    (λ c. rw (c.before.before.if-c.false, lt-ltb _ _ (rw c.before.u32_at-n.ensures at c.if-n-gt32.true)))
     (λ c κs. search rules)
     (λ c. search rules)
     (λ c. search rules)
@@ -21,5 +21,5 @@ skip_list_spec =
     (λ c. search rules)
     (λ c. search rules)
     (λ c. search rules)
-    (λ c. rw (c.before.before.before.before.if1.false, ← c.before.before.before.u32_at.ensures, ← c.before.remaining.ensures, le-ltb _ _ c.before.before.if2.false, le-leb _ _ c.if3.true))
-    (λ c. rw (c.before.before.before.before.if1.false, ← c.before.before.before.u32_at.ensures, ← c.before.remaining.ensures, le-ltb _ _ c.before.before.if2.false, lt-leb _ _ c.if3.false)))
+    (λ c. rw (c.before.before.before.before.if-c.false, ← c.before.before.before.u32_at-n.ensures, ← c.before.remaining-room.ensures, le-ltb _ _ c.before.before.if-n-gt32.false, le-leb _ _ c.if-n-room.true))
+    (λ c. rw (c.before.before.before.before.if-c.false, ← c.before.before.before.u32_at-n.ensures, ← c.before.remaining-room.ensures, le-ltb _ _ c.before.before.if-n-gt32.false, lt-leb _ _ c.if-n-room.false)))

@@ -10,8 +10,8 @@ unfolding step_of
 skip_negative_spec =
     tie.close
     (tie.spec
-    (λ c. rw c.if1.true)
+    (λ c. rw c.if-c.true)
     (λ c κs. search rules)
     (λ c κs. search rules)
-    (λ c. rw (c.before.before.if1.false, lt-ltb _ _ (rw c.before.u32_at.ensures at c.if2.true)))
-    (λ c. c.skip.ensures ∙ rw (c.before.before.before.if1.false, le-ltb _ _ (rw c.before.before.u32_at.ensures at c.before.if2.false))))
+    (λ c. rw (c.before.before.if-c.false, lt-ltb _ _ (rw c.before.u32_at.ensures at c.if-u32_at-lt2147483648.true)))
+    (λ c. c.skip.ensures ∙ rw (c.before.before.before.if-c.false, le-ltb _ _ (rw c.before.before.u32_at.ensures at c.before.if-u32_at-lt2147483648.false))))

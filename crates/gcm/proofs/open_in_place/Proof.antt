@@ -11,21 +11,21 @@ use Rattle.gcm.proofs.open_in_place.Statement.{statement}
 use Rattle.gcm.proofs.open_in_place.Tie as tie
 use Rattle.buffer.proofs.Parts.{overwrite-zeros}
 
-returns-3 : tie.Need-returns-3
+returns-3 : tie.Need-returns-then-tag_fits
 returns-3 c =
     let s = c.before.before.before.before.before.before.before.before.before.before.args.buf.now in
-    record { is = ap (done (wrote _)) (c.before.before.xor-keystream.ensures ∙ masked-over _ _ s (length s - 16) (omega arith)) ∙ sym (open_right _ _ _ _ (omega arith) (omega arith) (omega arith) cc) }
+    record { is = ap (done (wrote _)) (c.before.before.xor_keystream.ensures ∙ masked-over _ _ s (length s - 16) (omega arith)) ∙ sym (open_right _ _ _ _ (omega arith) (omega arith) (omega arith) cc) }
 
-returns-4 : tie.Need-returns-4
+returns-4 : tie.Need-returns
 returns-4 c =
     let s = c.before.before.before.before.before.before.before.before.before.before.args.buf.now in
-    record { is = ap (done (refused_for (row 17 0 0 0))) (c.before.before.put-zeros.ensures ∙ overwrite-zeros (length s - 16) s (omega arith)) ∙ sym (open_wrong _ _ _ _ (omega arith) (omega arith) (omega arith) cc) }
+    record { is = ap (done (refused_for (row 17 0 0 0))) (c.before.before.put_zeros.ensures ∙ overwrite-zeros (length s - 16) s (omega arith)) ∙ sym (open_wrong _ _ _ _ (omega arith) (omega arith) (omega arith) cc) }
 
 pub open_in_place_spec : {M : Type 1} → statement M
 open_in_place_spec =
     tie.close
     (tie.spec
-    (λ c. record { is = sym (open_none _ _ _ _ c.if1.true) })
+    (λ c. record { is = sym (open_none _ _ _ _ c.if-buf-lt16.true) })
     (λ c. search rules)
     (λ c. record { is = sym (open_long _ _ _ _ (omega arith) (omega arith)) })
     (λ c κs. search rules)

@@ -12,28 +12,28 @@ use Rattle.gcm.proofs.open_with.Statement.{statement}
 use Rattle.gcm.proofs.open_with.Tie as tie
 use Rattle.buffer.proofs.Parts.{overwrite-zeros}
 
-slice_aggregate_put : tie.Need-slice-aggregate-put
+slice_aggregate_put : tie.Need-slice_bounds-put-end
 slice_aggregate_put c =
     let s = c.before.before.before.before.before.before.before.before.before.args.sealed.now in
     sym (length-take-le (length s - 16) s (omega arith))
 
-returns-4 : tie.Need-returns-4
+returns-4 : tie.Need-returns-then-tag_fits
 returns-4 c =
     let m = c.before.before in
     let p = m.before.before.before.before in
     let s = p.before.before.before.before.before.before.before.before.before.before.args.sealed.now in
-    record { is = ap (done (wrote _)) (m.xor-keystream.ensures ∙ opened-over _ _ _ _ _ _ (length-take-le (length s - 16) s (omega arith)) (omega arith) p.put.ensures) ∙ sym (open_right _ _ _ _ (omega arith) (omega arith) (omega arith) cc) }
+    record { is = ap (done (wrote _)) (m.xor_keystream.ensures ∙ opened-over _ _ _ _ _ _ (length-take-le (length s - 16) s (omega arith)) (omega arith) p.put.ensures) ∙ sym (open_right _ _ _ _ (omega arith) (omega arith) (omega arith) cc) }
 
-returns-5 : tie.Need-returns-5
+returns-5 : tie.Need-returns
 returns-5 c =
     let a = c.before.before.before.before.before.before.before.before.before.before.before.args in
-    record { is = ap (done (refused_for (row 17 0 0 0))) (c.before.before.put-zeros.ensures ∙ overwrite-zeros (length a.sealed.now - 16) a.out.now (omega arith)) ∙ sym (open_wrong _ _ _ _ (omega arith) (omega arith) (omega arith) cc) }
+    record { is = ap (done (refused_for (row 17 0 0 0))) (c.before.before.put_zeros.ensures ∙ overwrite-zeros (length a.sealed.now - 16) a.out-1.now (omega arith)) ∙ sym (open_wrong _ _ _ _ (omega arith) (omega arith) (omega arith) cc) }
 
 pub open_with_spec : {M : Type 1} → statement M
 open_with_spec =
     tie.close
     (tie.spec
-    (λ c. record { is = sym (open_none _ _ _ _ c.if1.true) })
+    (λ c. record { is = sym (open_none _ _ _ _ c.if-sealed-lt16.true) })
     (λ c. search rules)
     (λ c. record { is = sym (open_long _ _ _ _ (omega arith) (omega arith)) })
     (λ c. record { is = sym (open_short _ _ _ _ (omega arith) (omega arith) (omega arith)) })

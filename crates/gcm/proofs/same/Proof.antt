@@ -10,21 +10,21 @@ use Rattle.gcm.proofs.Comparison.{same_next, same_end}
 use Rattle.gcm.proofs.same.Statement.{statement}
 use Rattle.gcm.proofs.same.Tie as tie
 
-abbrev invariant-loop : tie.invariant-loop
+abbrev invariant-loop : tie.invariant-loop-i
 invariant-loop a b d₀ i₀ d i = (i ≤ length a) × (same_as a b ≡ (eqb d 0 && same_as (drop i a) (drop i b)))
 
-abbrev decreases-loop : tie.decreases-loop
+abbrev decreases-loop : tie.decreases-loop-i
 decreases-loop a b d₀ i₀ d i = length a - i
 
-loop-again : tie.Need-loop-preserved invariant-loop decreases-loop
+loop-again : tie.Need-loop-i-preserved invariant-loop decreases-loop
 loop-again c =
-    let l = c.before.before.before.loop in
+    let l = c.before.before.before.loop-i in
     let a = c.before.before.before.before.args in
     (search rules, l.invariant.1 ∙ same_next a.a.now a.b.now l.i l.d (omega arith) (omega arith))
 
 returns : tie.Need-returns invariant-loop decreases-loop
 returns c =
-    let l = c.before.loop in
+    let l = c.before.loop-i in
     let a = c.before.before.args in
     sym (l.invariant.1 ∙ same_end a.a.now a.b.now l.i l.d (omega arith) c.before.before.requires)
 

@@ -21,12 +21,12 @@ returns c =
     let mask = tag.before.before.before.before in
     let a = mask.before.before.before.args in
     let w = a.w.now in
-    let l₀ : List ℕ = a.buf.now in
+    let l₀ : List ℕ = a.buf-1.now in
     let m : List ℕ = gctr w a.nonce (take a.n l₀) in
     let en : length m ≡ a.n = gctr-length w a.nonce 0 (take a.n l₀) ∙ length-take-le a.n l₀ (omega arith) in
-    let e₁ : mask.xor-keystream.new.1.1.0 ≡ replace_front m l₀ = mask.xor-keystream.ensures ∙ masked-over w a.nonce l₀ a.n (omega arith) in
-    let et : take a.n mask.xor-keystream.new.1.1.0 ≡ m = rw e₁ (take_at m (drop (length m) l₀) a.n en) in
-    next-overwrite l₀ _ m (tag_of w a.nonce m) _ a.n en (omega (arith, tag-length w a.nonce m)) e₁ (rw (tag.tag.ensures, et) at c.before.before.put.ensures)
+    let e₁ : mask.xor_keystream.new.1.1.0 ≡ replace_front m l₀ = mask.xor_keystream.ensures ∙ masked-over w a.nonce l₀ a.n (omega arith) in
+    let et : take a.n mask.xor_keystream.new.1.1.0 ≡ m = rw e₁ (take_at m (drop (length m) l₀) a.n en) in
+    next-overwrite l₀ _ m (tag_of w a.nonce m) _ a.n en (omega (arith, tag-length w a.nonce m)) e₁ (rw (tag.tag-t.ensures, et) at c.before.before.put.ensures)
 
 pub seal_front_spec : {M : Type 1} → statement M
 seal_front_spec =
@@ -34,7 +34,7 @@ seal_front_spec =
     (tie.spec
     (λ c κs. search rules)
     (λ c. search rules)
-    (λ c. sym (length-take-le c.before.before.before.before.before.before.args.n c.before.before.before.xor-keystream.new.1.1.0 (search rules)))
+    (λ c. sym (length-take-le c.before.before.before.before.before.before.args.n c.before.before.before.xor_keystream.new.1.1.0 (search rules)))
     (λ c κs. search rules)
     (λ c. search rules)
     (λ c. search rules)

@@ -9,18 +9,18 @@ use borrow.Author.Rules.{rules}
 use Rattle.gcm.proofs.seal_in_place.Statement.{statement}
 use Rattle.gcm.proofs.seal_in_place.Tie as tie
 
-returns-3 : tie.Need-returns-3
+returns-3 : tie.Need-returns
 returns-3 c =
     let f = c.before.before in
     let s = f.before.before.before.before.before.args.buf.now in
-    let e : length f.seal-front.new.1.1.0 ≡ length s = search rules in
-    record { is = ap₂ (λ (n : ℕ) (x : List ℕ). done (wrote n) x) e f.seal-front.ensures ∙ sym (in-place-fits _ _ s (omega arith) (omega arith)) }
+    let e : length f.seal_front.new.1.1.0 ≡ length s = search rules in
+    record { is = ap₂ (λ (n : ℕ) (x : List ℕ). done (wrote n) x) e f.seal_front.ensures ∙ sym (in-place-fits _ _ s (omega arith) (omega arith)) }
 
 pub seal_in_place_spec : {M : Type 1} → statement M
 seal_in_place_spec =
     tie.close
     (tie.spec
-    (λ c. record { is = sym (in-place-short _ _ _ c.if1.true) })
+    (λ c. record { is = sym (in-place-short _ _ _ c.if-buf-lt16.true) })
     (λ c. search rules)
     (λ c. record { is = sym (in-place-long _ _ _ (omega arith)) })
     (λ c κs. search rules)

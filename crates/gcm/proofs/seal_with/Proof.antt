@@ -11,7 +11,7 @@ pub seal_with_spec : {M : Type 1} → statement M
 seal_with_spec =
     tie.close
     (tie.spec
-    (λ c. record { is = sym (seal_long _ _ _ _ c.if1.true) })
+    (λ c. record { is = sym (seal_long _ _ _ _ c.if-n-gt-LONGEST.true) })
     (λ c. search rules)
     (λ c. search rules)
     (λ c. record { is = sym (seal_short _ _ _ _ (omega arith) (omega arith)) })
@@ -19,4 +19,4 @@ seal_with_spec =
     (λ c κs. search rules)
     (λ c. search rules)
     (λ c. search rules)
-    (λ c. record { is = ap (done (wrote _)) (c.before.before.seal-front.ensures ∙ sealed-over _ _ _ _ _ (omega arith) c.before.before.before.before.before.before.put.ensures) ∙ sym (seal_fits _ _ _ _ (omega arith) (omega arith)) }))
+    (λ c. record { is = ap (done (wrote _)) (c.before.before.seal_front.ensures ∙ sealed-over _ _ _ _ _ (omega arith) c.before.before.before.before.before.before.put.ensures) ∙ sym (seal_fits _ _ _ _ (omega arith) (omega arith)) }))

@@ -18,4 +18,4 @@ tag_fits_spec =
     (λ c. search rules)
     (λ c. search rules)
     (λ c κs. search rules)
-    (λ c. c.same.ensures ∙ rw (c.before.before.before.tag.ensures, rest-is)))
+    (λ c. c.same.ensures ∙ rw (c.before.before.before.tag-t.ensures, rest-is)))

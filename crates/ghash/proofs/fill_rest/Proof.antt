@@ -9,16 +9,16 @@ use borrow.Author.Rules.{rules}
 use Rattle.ghash.proofs.fill_rest.Statement.{statement}
 use Rattle.ghash.proofs.fill_rest.Tie as tie
 
-abbrev invariant-loop : tie.invariant-loop
+abbrev invariant-loop : tie.invariant-loop-i
 invariant-loop t m₀ n i₀ m i = (16 ≤ i) × (i ≤ length m₀ / 2) × (length m ≡ length m₀) × ((v : ℕ) → Filled v 16 m₀ → Filled v i m)
 
-abbrev decreases-loop : tie.decreases-loop
+abbrev decreases-loop : tie.decreases-loop-i
 decreases-loop t m₀ n i₀ m i = length m₀ / 2 - i
 
-loop-again : tie.Need-loop-preserved invariant-loop decreases-loop
+loop-again : tie.Need-loop-i-preserved invariant-loop decreases-loop
 loop-again c =
-    let l = c.before.before.before.before.loop in
-    let p = c.four-steps.result in
+    let l = c.before.before.before.before.loop-i in
+    let p = c.four_steps-p.result in
     let e₁ : 2 * l.i - 32 ≡ 2 * (l.i - 16) = omega arith in
     let e₂ : 2 * l.i - 31 ≡ 2 * (l.i - 16) + 1 = omega arith in (
       search rules,
@@ -26,7 +26,7 @@ loop-again c =
       length-set (set l.m (2 * l.i) p.hi) (2 * l.i + 1) p.lo ∙ length-set l.m (2 * l.i) p.hi ∙ l.invariant.2,
       λ v f.
           let g : Filled v l.i l.m = l.invariant.3 v f in
-          let e : pair p.hi p.lo ≡ entry v l.i = c.four-steps.ensures ∙ rw (e₁, e₂, g.at (l.i - 16) (omega arith)) (next-entry v l.i (omega arith)) in
+          let e : pair p.hi p.lo ≡ entry v l.i = c.four_steps-p.ensures ∙ rw (e₁, e₂, g.at (l.i - 16) (omega arith)) (next-entry v l.i (omega arith)) in
           filled_more v p.hi p.lo l.i l.m (omega arith) e g,
     )
 
@@ -56,5 +56,5 @@ fill_rest_spec =
     (λ c. search rules)
     (λ c. search rules)
     loop-again
-    (λ c. c.before.loop.invariant.2)
-    (λ c. λ v f. record { at = λ j h. (c.before.loop.invariant.3 v f).at j (omega arith) }))
+    (λ c. c.before.loop-i.invariant.2)
+    (λ c. λ v f. record { at = λ j h. (c.before.loop-i.invariant.3 v f).at j (omega arith) }))

@@ -10,31 +10,31 @@ use borrow.Author.Rules.{rules}
 use Rattle.ghash.proofs.half_by.Statement.{statement}
 use Rattle.ghash.proofs.half_by.Tie as tie
 
-abbrev invariant-loop : tie.invariant-loop
+abbrev invariant-loop : tie.invariant-loop-j
 invariant-loop m x at w₀ j₀ w j =
     (j ≤ 8)
     × ((v y n : ℕ) → Whole v m → y / 2 ^ n % 2 ^ 32 ≡ x
     → mul_from (n + 32) y (pair w₀.hi w₀.lo) (steps (4 * at) v) ≡ mul_from (n + (32 - 4 * j)) y (pair w.hi w.lo) (steps (4 * (at + j)) v))
 
-abbrev decreases-loop : tie.decreases-loop
+abbrev decreases-loop : tie.decreases-loop-j
 decreases-loop m x at w₀ j₀ w j = 8 - j
 
-loop-again : tie.Need-loop-preserved invariant-loop decreases-loop
+loop-again : tie.Need-loop-j-preserved invariant-loop decreases-loop
 loop-again c =
-    let l = c.before.before.before.before.loop in
+    let l = c.before.before.before.before.loop-j in
     let s = c.before.before.before.before.before.before in
     let a = s.args in (
       search rules,
       λ v y n f e.
           l.invariant.1 v y n f e
           ∙ turn-four v y n a.at l.j _ _ a.m.now _ f (omega (arith, s.requires)) (omega arith) (omega arith) (bits_at y n (28 - 4 * l.j) a.x (omega arith) e)
-          ∙ rw c.added.ensures,
+          ∙ rw c.added-w.ensures,
     )
 
 returns : tie.Need-returns invariant-loop decreases-loop
 returns c =
-    let e : c.before.loop.j ≡ 8 = omega arith in
-    λ v y n f h. c.before.loop.invariant.1 v y n f h ∙ rw (e, add-zero)
+    let e : c.before.loop-j.j ≡ 8 = omega arith in
+    λ v y n f h. c.before.loop-j.invariant.1 v y n f h ∙ rw (e, add-zero)
 
 pub half_by_spec : {M : Type 1} → statement M
 half_by_spec =

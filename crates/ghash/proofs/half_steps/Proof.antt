@@ -11,4 +11,4 @@ half_steps_spec =
     (λ c κs. search rules)
     (λ c. search rules)
     (λ c. record { fits = half_fits c.before.args.z.hi c.before.args.z.lo (search rules) })
-    (λ c. sym (half_steps c.before.args.z.hi c.before.args.z.lo _ (search rules) c.fallen.ensures)))
+    (λ c. sym (half_steps c.before.args.z.hi c.before.args.z.lo _ (search rules) c.fallen-r.ensures)))

@@ -9,30 +9,30 @@ use borrow.Author.Rules.{rules}
 use Rattle.ghash.proofs.hash_blocks.Statement.{statement}
 use Rattle.ghash.proofs.hash_blocks.Tie as tie
 
-abbrev invariant-loop : tie.invariant-loop
+abbrev invariant-loop : tie.invariant-loop-i
 invariant-loop m s end y₀ i₀ y i =
     (i ≤ end)
     × (i % 16 ≡ 0)
     × ((v n : ℕ) → Whole v m → ghash_from v s (end / 16 + n) 0 0 ≡ ghash_from v s ((end - i) / 16 + n) i (pair y.hi y.lo))
 
-abbrev decreases-loop : tie.decreases-loop
+abbrev decreases-loop : tie.decreases-loop-i
 decreases-loop m s end y₀ i₀ y i = end - i
 
-loop-again : tie.Need-loop-preserved invariant-loop decreases-loop
+loop-again : tie.Need-loop-i-preserved invariant-loop decreases-loop
 loop-again c =
     let at = c.before.before.before.before in
-    let l = at.loop in
+    let l = at.loop-i in
     let a = at.before.before.before.args in (
       search rules,
       search rules,
       λ v n f.
           let e : (a.end - l.i) / 16 + n ≡ (a.end - (l.i + 16)) / 16 + n + 1 = omega arith in
-          l.invariant.2 v n f ∙ rw (e, ghash-next, c.times-by.ensures v f, c.before.added.ensures, c.before.before.block_at.ensures),
+          l.invariant.2 v n f ∙ rw (e, ghash-next, c.times_by-y.ensures v f, c.before.added.ensures, c.before.before.block_at-x.ensures),
     )
 
 returns : tie.Need-returns invariant-loop decreases-loop
 returns c =
-    let l = c.before.loop in
+    let l = c.before.loop-i in
     let a = c.before.before.before.before.args in
     λ v n f.
     let i : l.i ≡ a.end = omega arith in

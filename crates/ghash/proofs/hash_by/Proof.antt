@@ -12,7 +12,7 @@ returns c =
     let text = c.before.before.before in
     let fill = text.before.before.before.before in
     let v : ℕ = pair fill.before.before.before.before.args.h.hi fill.before.before.before.before.args.h.lo in
-    c.times-by.ensures v fill.fill.ensures ∙ rw (c.before.added.ensures, text.hash-text.ensures v fill.fill.ensures, bits_of)
+    c.times_by.ensures v fill.fill.ensures ∙ rw (c.before.added.ensures, text.hash_text-y.ensures v fill.fill.ensures, bits_of)
 
 pub hash_by_spec : {M : Type 1} → statement M
 hash_by_spec =

@@ -14,9 +14,9 @@ returns c =
     let x = h₁.before.before.before.args.x in
     let y : ℕ = pair x.hi x.lo in
     λ v f.
-    four_halves v y _ _ _ _ (h₁.half-by.ensures v y 96 f (half_96 x.hi x.lo (search rules) (search rules))) (h₂.half-by2.ensures v y 64 f (half_64 x.hi x.lo (search rules)))
-    (h₃.half-by3.ensures v y 32 f (half_32 x.hi x.lo (search rules)))
-    (c.half-by4.ensures v y 0 f (half_0 x.hi x.lo))
+    four_halves v y _ _ _ _ (h₁.half_by-a.ensures v y 96 f (half_96 x.hi x.lo (search rules) (search rules))) (h₂.half_by-b.ensures v y 64 f (half_64 x.hi x.lo (search rules)))
+    (h₃.half_by-c.ensures v y 32 f (half_32 x.hi x.lo (search rules)))
+    (c.half_by.ensures v y 0 f (half_0 x.hi x.lo))
 
 pub times_by_large_spec : {M : Type 1} → statement M
 times_by_large_spec =

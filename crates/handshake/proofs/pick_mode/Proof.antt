@@ -9,10 +9,10 @@ use Rattle.handshake.proofs.Choice.{on-here, on-next, on_none, picked, passed, s
 use Rattle.handshake.proofs.pick_mode.Statement.{statement}
 use Rattle.handshake.proofs.pick_mode.Tie as tie
 
-abbrev invariant-loop : tie.invariant-loop
+abbrev invariant-loop : tie.invariant-loop-j
 invariant-loop preferred allowed found₀ i mode j₀ found j = (j ≤ length allowed) × (on_list mode (drop j allowed) ≡ on_list mode allowed) × (found ≡ found₀)
 
-abbrev decreases-loop : tie.decreases-loop
+abbrev decreases-loop : tie.decreases-loop-j
 decreases-loop preferred allowed found₀ i mode j₀ found j = length allowed - j
 
 abbrev invariant-modes : tie.invariant-modes
@@ -21,22 +21,22 @@ invariant-modes preferred allowed found₀ i₀ found i = (i ≤ length preferre
 abbrev decreases-modes : tie.decreases-modes
 decreases-modes preferred allowed found₀ i₀ found i = length preferred - i
 
-loop-again : tie.Need-loop-preserved invariant-loop decreases-loop invariant-modes decreases-modes
+loop-again : tie.Need-loop-j-preserved invariant-loop decreases-loop invariant-modes decreases-modes
 loop-again c =
     let a = c.before.before.before in
-    (search rules, sym (on-next _ _ _ c.before.before.loop-test.true c.if1.false) ∙ a.loop.invariant.1, a.loop.invariant.2)
+    (search rules, sym (on-next _ _ _ c.before.before.loop-j-test.true c.if-allowed-j.false) ∙ a.loop-j.invariant.1, a.loop-j.invariant.2)
 
 modes_again : tie.Need-modes-preserved invariant-loop decreases-loop invariant-modes decreases-modes
 modes_again c =
     let a = c.before in
     let o = a.before.before.before in
-    (search rules, sym (passed _ _ _ a.before.before.modes-test.true (sym a.loop.invariant.1 ∙ on_none _ _ _ c.loop-test.false)) ∙ o.modes.invariant.1, a.loop.invariant.2 ∙ o.modes.invariant.2)
+    (search rules, sym (passed _ _ _ a.before.before.modes-test.true (sym a.loop-j.invariant.1 ∙ on_none _ _ _ c.loop-j-test.false)) ∙ o.modes.invariant.1, a.loop-j.invariant.2 ∙ o.modes.invariant.2)
 
-returns-2 : tie.Need-returns-2 invariant-loop decreases-loop invariant-modes decreases-modes
+returns-2 : tie.Need-returns-then-allowed-j invariant-loop decreases-loop invariant-modes decreases-modes
 returns-2 c =
     let a = c.before.before.before in
     let o = a.before.before.before in
-    sym (picked _ _ _ a.before.before.modes-test.true (sym a.loop.invariant.1 ∙ on-here _ _ _ c.before.before.loop-test.true c.if1.true)) ∙ o.modes.invariant.1
+    sym (picked _ _ _ a.before.before.modes-test.true (sym a.loop-j.invariant.1 ∙ on-here _ _ _ c.before.before.loop-j-test.true c.if-allowed-j.true)) ∙ o.modes.invariant.1
 
 pub pick_mode_spec : {M : Type 1} → statement M
 pick_mode_spec =

@@ -11,18 +11,18 @@ use Rattle.text.specs.Page.{page}
 use Rattle.handshake_cases.proofs.make_steps.Statement.{statement}
 use Rattle.handshake_cases.proofs.make_steps.Tie as tie
 
-abbrev invariant-loop : tie.invariant-loop
+abbrev invariant-loop : tie.invariant-loop-left
 invariant-loop s n side text₀ at state₀ place₀ end₀ left₀ text state place end left = (place ≤ length s) × (length text ≡ length text₀) × Left (steps_from s (side_of side) Hello n 4) (steps_from s (side_of side) state left place) (page text₀ at) (page text end)
 
-abbrev decreases-loop : tie.decreases-loop
+abbrev decreases-loop : tie.decreases-loop-left
 decreases-loop s n side text₀ at state₀ place₀ end₀ left₀ text state place end left = left
 
-loop-again : tie.Need-loop-preserved invariant-loop decreases-loop
+loop-again : tie.Need-loop-left-preserved invariant-loop decreases-loop
 loop-again c =
-    let l = c.before.before.before.before.before.before.before.before.before.before.loop in
+    let l = c.before.before.before.before.before.before.before.before.before.before.loop-left in
     let s = c.before.before.before.before.before.before.before.before.before.before.before.before.before.args.s.now in
-    let h = good-within s l.place c.before.before.before.before.before.before.before.before.step-good.ensures c.before.before.before.before.before.before.before.if1.false in
-    (omega arith, c.before.before.print-step.auto.0 ∙ l.invariant.1, steps_on s (side_of c.before.before.before.before.before.before.before.before.before.before.before.before.before.args.side) l.state l.left l.place c.before.before.before.before.before.before.before.before.before.loop-test.true c.before.before.before.before.before.before.before.before.step-good.ensures c.before.before.before.before.before.before.before.if1.false c.before.before.before.before.before.before.byte_at.ensures c.before.before.before.before.before.byte-at2.ensures c.before.before.before.before.make-step.ensures c.before.before.print-step.ensures l.invariant.2)
+    let h = good-within s l.place c.before.before.before.before.before.before.before.before.step_good.ensures c.before.before.before.before.before.before.before.if-not-step_good.false in
+    (omega arith, c.before.before.print_step-end.auto.0 ∙ l.invariant.1, steps_on s (side_of c.before.before.before.before.before.before.before.before.before.before.before.before.before.args.side) l.state l.left l.place c.before.before.before.before.before.before.before.before.before.loop-left-test.true c.before.before.before.before.before.before.before.before.step_good.ensures c.before.before.before.before.before.before.before.if-not-step_good.false c.before.before.before.before.before.before.byte_at.ensures c.before.before.before.before.before.byte_at-in-loop-left.ensures c.before.before.before.before.make_step-step.ensures c.before.before.print_step-end.ensures l.invariant.2)
 
 pub make_steps_spec : {M : Type 1} → statement M
 unfolding steps_from
@@ -34,16 +34,16 @@ make_steps_spec =
     (λ c. (omega arith, refl, left-all))
     (λ c κs. omega arith)
     (search rules)
-    (λ c. c.before.before.bad-record.auto.0 ∙ c.before.before.before.before.before.before.before.loop.invariant.1)
-    (λ c. did_broken (steps-broken _ _ _ _ _ c.before.before.before.before.before.before.loop-test.true c.before.before.before.before.before.step-good.ensures c.before.before.before.before.if1.true c.before.before.before.before.before.before.before.loop.invariant.2) c.before.before.bad-record.ensures)
+    (λ c. c.before.before.bad_record.auto.0 ∙ c.before.before.before.before.before.before.before.loop-left.invariant.1)
+    (λ c. did_broken (steps-broken _ _ _ _ _ c.before.before.before.before.before.before.loop-left-test.true c.before.before.before.before.before.step_good.ensures c.before.before.before.before.if-not-step_good.true c.before.before.before.before.before.before.before.loop-left.invariant.2) c.before.before.bad_record.ensures)
     (search rules)
-    (λ c. omega (arith, good-within _ _ c.before.before.step-good.ensures c.before.if1.false))
+    (λ c. omega (arith, good-within _ _ c.before.before.step_good.ensures c.before.if-not-step_good.false))
     (search rules)
     (search rules)
     (search rules)
-    (λ c. omega (arith, good-within _ _ c.before.before.before.before.before.before.before.before.step-good.ensures c.before.before.before.before.before.before.before.if1.false))
+    (λ c. omega (arith, good-within _ _ c.before.before.before.before.before.before.before.before.step_good.ensures c.before.before.before.before.before.before.before.if-not-step_good.false))
     (λ c. omega arith)
     (λ c. omega arith)
     loop-again
-    (λ c. c.before.loop.invariant.1)
-    (λ c. let e : c.before.loop.left ≡ 0 = omega arith in did_all _ (rw e at c.before.loop.invariant.2) refl c.before.loop.invariant.0))
+    (λ c. c.before.loop-left.invariant.1)
+    (λ c. let e : c.before.loop-left.left ≡ 0 = omega arith in did_all _ (rw e at c.before.loop-left.invariant.2) refl c.before.loop-left.invariant.0))

@@ -9,7 +9,7 @@ bodies_outcome_spec =
     (tie.spec
     (λ c. search rules)
     (search rules)
-    (λ c. rw (c.before.before.if1.false, ← c.before.min.ensures, lt-ltb _ _ c.if2.true))
-    (λ c. rw (c.before.before.before.if1.false, ← c.before.before.min.ensures, le-ltb _ _ c.before.if2.false, le-leb _ _ c.if3.true))
+    (λ c. rw (c.before.before.if-refused.false, ← c.before.min.ensures, lt-ltb _ _ c.if-n-min.true))
+    (λ c. rw (c.before.before.before.if-refused.false, ← c.before.before.min.ensures, le-ltb _ _ c.before.if-n-min.false, le-leb _ _ c.if-left-n.true))
     (search rules)
-    (λ c. rw (c.before.before.before.if1.false, ← c.before.before.min.ensures, le-ltb _ _ c.before.if2.false, lt-leb _ _ c.if3.false)))
+    (λ c. rw (c.before.before.before.if-refused.false, ← c.before.before.min.ensures, le-ltb _ _ c.before.if-n-min.false, lt-leb _ _ c.if-left-n.false)))

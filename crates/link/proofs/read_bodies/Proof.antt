@@ -12,4 +12,4 @@ read_bodies_spec =
     (λ c κs. search rules)
     (λ c. search rules)
     (λ c. search rules)
-    (λ c. record { walk = c.before.before.before.before.before.before.before.before.before.walk-bytes.result; text₁ = _; walked = c.before.before.before.before.before.before.before.before.before.walk-bytes.ensures; settled = rw c.before.before.before.before.bodies-outcome.ensures at c.before.before.settle.ensures }))
+    (λ c. record { walk = c.before.before.before.before.before.before.before.before.before.walk_bytes-next.result; text₁ = _; walked = c.before.before.before.before.before.before.before.before.before.walk_bytes-next.ensures; settled = rw c.before.before.before.before.bodies_outcome-outcome.ensures at c.before.before.settle.ensures }))

@@ -23,10 +23,10 @@ done n i sum table h inv =
     let m : n - i ≡ 0 = omega arith in
     omega (arith, rw m at inv)
 
-abbrev invariant-loop : tie.invariant-loop
+abbrev invariant-loop : tie.invariant-loop-i
 invariant-loop n table sum₀ i₀ sum i = (i ≤ n) × (sum + sum_of (n - i) (drop (4 * i) table) ≡ sum_of n table) × (sum ≤ i * 4294967295)
 
-abbrev decreases-loop : tie.decreases-loop
+abbrev decreases-loop : tie.decreases-loop-i
 decreases-loop n table sum₀ i₀ sum i = n - i
 
 pub sum_of_spec : {M : Type 1} → statement M
@@ -42,5 +42,5 @@ sum_of_spec =
     (λ c. omega arith)
     (λ c. omega arith)
     (λ c. omega arith)
-    (λ c. (omega arith, next c.before.before.before.before.before.args.n c.before.before.before.loop.i c.before.before.before.loop.sum c.wide.result c.before.before.before.before.before.args.table.now (omega arith) (c.wide.ensures.0 ∙ c.before.u32_at.ensures) c.before.before.before.loop.invariant.1, omega (arith, c.wide.ensures.1)))
-    (λ c. done c.before.before.before.args.n c.before.loop.i c.before.loop.sum c.before.before.before.args.table.now (omega arith) c.before.loop.invariant.1))
+    (λ c. (omega arith, next c.before.before.before.before.before.args.n c.before.before.before.loop-i.i c.before.before.before.loop-i.sum c.wide-sum.result c.before.before.before.before.before.args.table.now (omega arith) (c.wide-sum.ensures.0 ∙ c.before.u32_at.ensures) c.before.before.before.loop-i.invariant.1, omega (arith, c.wide-sum.ensures.1)))
+    (λ c. done c.before.before.before.args.n c.before.loop-i.i c.before.loop-i.sum c.before.before.before.args.table.now (omega arith) c.before.loop-i.invariant.1))

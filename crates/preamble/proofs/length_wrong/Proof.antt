@@ -9,5 +9,5 @@ length_wrong_spec =
     (tie.spec
     (λ c κs. search rules)
     (λ c κs. search rules)
-    (λ c. simp (lt-ltb _ _ c.if1.true))
-    (λ c. simp (le-ltb _ _ c.before.before.if1.false, c.both2.ensures, c.before.both.ensures)))
+    (λ c. simp (lt-ltb _ _ c.if-count-k.true))
+    (λ c. simp (le-ltb _ _ c.before.before.if-count-k.false, c.both-else-count-k.ensures, c.before.both.ensures)))

@@ -9,16 +9,16 @@ use Rattle.records.specs.Records.{counted}
 use Rattle.records.proofs.count_up.Statement.{statement}
 use Rattle.records.proofs.count_up.Tie as tie
 
-abbrev invariant-loop : tie.invariant-loop
+abbrev invariant-loop : tie.invariant-loop-i
 invariant-loop buf₀ first i₀ buf i = (i ≤ length buf₀) × (length buf ≡ length buf₀) × (buf ≡ counted first i ++ drop i buf₀)
 
-abbrev decreases-loop : tie.decreases-loop
+abbrev decreases-loop : tie.decreases-loop-i
 decreases-loop buf₀ first i₀ buf i = length buf₀ - i
 
 returns : tie.Need-returns invariant-loop decreases-loop
 returns c =
-    let e : c.before.loop.i ≡ length c.before.before.args.buf.now = omega arith in
-    c.before.loop.invariant.2 ∙ rw (e, drop-length, append-nil)
+    let e : c.before.loop-i.i ≡ length c.before.before.args.buf.now = omega arith in
+    c.before.loop-i.invariant.2 ∙ rw (e, drop-length, append-nil)
 
 pub count_up_spec : {M : Type 1} → statement M
 unfolding counted
@@ -33,6 +33,6 @@ count_up_spec =
     (λ c. omega arith)
     (λ c. omega arith)
     (λ c. omega arith)
-    (λ c. (omega arith, length-set c.before.loop.buf c.before.loop.i _ ∙ c.before.loop.invariant.1, rw c.before.loop.invariant.2 (counted-more c.before.before.args.buf.now c.before.before.args.first c.before.loop.i (omega arith))))
-    (λ c. c.before.loop.invariant.1)
+    (λ c. (omega arith, length-set c.before.loop-i.buf c.before.loop-i.i _ ∙ c.before.loop-i.invariant.1, rw c.before.loop-i.invariant.2 (counted-more c.before.before.args.buf.now c.before.before.args.first c.before.loop-i.i (omega arith))))
+    (λ c. c.before.loop-i.invariant.1)
     returns)

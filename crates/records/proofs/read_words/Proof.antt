@@ -10,20 +10,20 @@ use Rattle.records.proofs.Laws.{stored_more}
 use Rattle.records.proofs.read_words.Statement.{statement}
 use Rattle.records.proofs.read_words.Tie as tie
 
-abbrev invariant-loop : tie.invariant-loop
+abbrev invariant-loop : tie.invariant-loop-i
 invariant-loop s at all out₀ i₀ out i = (i ≤ 64) × (length out ≡ 64) × (take i out ≡ take i (words_of 64 (drop at s)))
 
-abbrev decreases-loop : tie.decreases-loop
+abbrev decreases-loop : tie.decreases-loop-i
 decreases-loop s at all out₀ i₀ out i = 64 - i
 
-loop-again : tie.Need-loop-preserved invariant-loop decreases-loop
+loop-again : tie.Need-loop-i-preserved invariant-loop decreases-loop
 loop-again c = let n = length-words 64 (drop c.before.before.before.before.args.at c.before.before.before.before.args.s.now) in
-    let l = c.before.before.loop in
+    let l = c.before.before.loop-i in
     (omega arith, length-set l.out l.i _ ∙ l.invariant.1, stored_more (words_of 64 (drop c.before.before.before.before.args.at c.before.before.before.before.args.s.now)) l.out l.i _ (omega arith) (omega arith) l.invariant.2 c.number_in.ensures)
 
 returns : tie.Need-returns invariant-loop decreases-loop
 returns c = let n = length-words 64 (drop c.before.before.before.args.at c.before.before.before.args.s.now) in
-    let l = c.before.loop in
+    let l = c.before.loop-i in
     sym (take_all l.i l.out (omega arith)) ∙ l.invariant.2 ∙ take_all l.i (words_of 64 (drop c.before.before.before.args.at c.before.before.before.args.s.now)) (omega arith)
 
 pub read_words_spec : {M : Type 1} → statement M

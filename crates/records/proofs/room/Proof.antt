@@ -5,13 +5,13 @@ use Rattle.text.specs.Page.{page}
 use Rattle.records.proofs.room.Statement.{statement}
 use Rattle.records.proofs.room.Tie as tie
 
-returns : tie.Need-returns
+returns : tie.Need-returns-then-left_from-ge-LINE
 unfolding roomed page
-returns c = rw (← c.before.left-from.ensures, le-leb 32768 _ c.if1.true)
+returns c = rw (← c.before.left_from.ensures, le-leb 32768 _ c.if-left_from-ge-LINE.true)
 
-returns-2 : tie.Need-returns-2
+returns-2 : tie.Need-returns
 unfolding roomed page
-returns-2 c = rw (← c.before.before.before.left-from.ensures, lt-leb 32768 _ c.before.before.if1.false)
+returns-2 c = rw (← c.before.before.before.left_from.ensures, lt-leb 32768 _ c.before.before.if-left_from-ge-LINE.false)
 
 pub room_spec : {M : Type 1} → statement M
 room_spec =

@@ -5,13 +5,13 @@ use Rattle.secure.proofs.Counts.{left_is}
 use Rattle.sealed_builder.proofs.nonces_left.Statement.{statement}
 use Rattle.sealed_builder.proofs.nonces_left.Tie as tie
 
-returns : tie.Need-returns
+returns : tie.Need-returns-then-s
 returns c =
-    sym (ap (λ (b : Bool). leb (cond b all_nonces c.before.args.s.spent + c.before.args.k) all_nonces) c.if1.true ∙ lt-leb (all_nonces + c.before.args.k) all_nonces (omega (arith, c.before.requires)))
+    sym (ap (λ (b : Bool). leb (cond b all_nonces c.before.args.s.spent + c.before.args.k) all_nonces) c.if-s.true ∙ lt-leb (all_nonces + c.before.args.k) all_nonces (omega (arith, c.before.requires)))
 
-returns-2 : tie.Need-returns-2
+returns-2 : tie.Need-returns
 returns-2 c =
-    left_is c.before.before.args.s.spent c.before.before.args.k c.before.before.requires.0 c.before.before.requires.1 ∙ sym (ap (λ (b : Bool). leb (cond b all_nonces c.before.before.args.s.spent + c.before.before.args.k) all_nonces) c.before.if1.false)
+    left_is c.before.before.args.s.spent c.before.before.args.k c.before.before.requires.0 c.before.before.requires.1 ∙ sym (ap (λ (b : Bool). leb (cond b all_nonces c.before.before.args.s.spent + c.before.before.args.k) all_nonces) c.before.if-s.false)
 
 pub nonces_left_spec : {M : Type 1} → statement M
 nonces_left_spec = tie.close (tie.spec returns (λ c. search rules) (λ c. search rules) returns-2)

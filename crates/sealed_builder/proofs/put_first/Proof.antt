@@ -10,8 +10,8 @@ returns : tie.Need-returns
 unfolding first_text
 returns c =
     let g = c.before.before.before.before.before.before.before.before.before.before.args in
-    next g.out.now c.before.before.before.before.before.before.put-preamble.new.0 (preamble_bytes g.h) (inlined g.first.now) c.before.before.put-inline.new.0 32
-    (length-preamble g.h) c.before.before.before.before.before.before.put-preamble.ensures c.before.before.put-inline.ensures
+    next g.out-1.now c.before.before.before.before.before.before.put_preamble.new.0 (preamble_bytes g.h) (inlined g.first.now) c.before.before.put_inline.new.0 32
+    (length-preamble g.h) c.before.before.before.before.before.before.put_preamble.ensures c.before.before.put_inline.ensures
 
 pub put_first_spec : {M : Type 1} → statement M
 put_first_spec =

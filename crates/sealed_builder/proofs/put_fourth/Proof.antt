@@ -7,7 +7,7 @@ use Rattle.sealed_builder.proofs.Texts.{padded-next}
 use Rattle.sealed_builder.proofs.put_fourth.Statement.{statement}
 use Rattle.sealed_builder.proofs.put_fourth.Tie as tie
 
-put-padded-requires : tie.Need-put-padded-requires
+put-padded-requires : tie.Need-put_padded-requires
 put-padded-requires c κs =
     let bytes : List ℕ = c.before.before.before.before.before.args.rest.now in
     let n : ℕ = c.before.before.before.before.before.args.n in
@@ -18,9 +18,9 @@ returns : tie.Need-returns
 returns c =
     let g = c.before.before.before.before.before.before.before.before.before.before.before.before.args in
     let bytes : List ℕ = g.rest.now in
-    padded-next g.abort g.n (g.n + c.before.before.before.before.before.before.before.before.before.padding.result) bytes c.before.before.before.before.before.before.before.part.result.now _ g.out.now c.before.before.before.before.before.before.put-padded.new.0 c.before.before.put-epilogue.new.0
+    padded-next g.abort g.n (g.n + c.before.before.before.before.before.before.before.before.before.padding.result) bytes c.before.before.before.before.before.before.before.part.result.now _ g.out-1.now c.before.before.before.before.before.before.put_padded.new.0 c.before.before.put_epilogue.new.0
     (λ _. epilogue16 (late_byte Msgr21 g.abort)) (omega (arith, c.before.before.before.before.before.before.before.before.before.before.before.before.requires.0)) (ap (λ (k : ℕ). g.n + k) c.before.before.before.before.before.before.before.before.before.padding.ensures.0) c.before.before.before.before.before.before.before.part.ensures refl
-    c.before.before.before.before.before.before.put-padded.ensures c.before.before.put-epilogue.ensures
+    c.before.before.before.before.before.before.put_padded.ensures c.before.before.put_epilogue.ensures
 
 pub put_fourth_spec : {M : Type 1} → statement M
 put_fourth_spec =

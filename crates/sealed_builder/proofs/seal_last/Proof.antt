@@ -11,24 +11,24 @@ use Rattle.secure.proofs.Bounds.{last-size}
 use Rattle.sealed_builder.proofs.seal_last.Statement.{statement}
 use Rattle.sealed_builder.proofs.seal_last.Tie as tie
 
-returns : tie.Need-returns
+returns : tie.Need-returns-then-no_last_part
 returns c =
-    last_none c.before.before.before.before.args.w.now c.before.before.before.before.args.nonce c.before.before.before.before.args.h (last_text c.before.before.before.before.args.h (late_byte Msgr21 c.before.before.before.before.args.abort) (rest_sent c.before.before.before.before.args.abort c.before.before.before.before.args.rest.now)) c.before.before.before.before.args.out.now (sym c.before.no-last-part.ensures ∙ c.if1.true)
+    last_none c.before.before.before.before.args.w.now c.before.before.before.before.args.nonce c.before.before.before.before.args.h (last_text c.before.before.before.before.args.h (late_byte Msgr21 c.before.before.before.before.args.abort) (rest_sent c.before.before.before.before.args.abort c.before.before.before.before.args.rest.now)) c.before.before.before.before.args.out.now (sym c.before.no_last_part.ensures ∙ c.if-no_last_part.true)
 
 -- where there is a last part
-there : (a : tie.Else1) → no_last_part a.before.before.before.before.args.h ≡ false
-there a = sym a.before.no-last-part.ensures ∙ a.if1.false
+there : (a : tie.Else-no_last_part) → no_last_part a.before.before.before.before.args.h ≡ false
+there a = sym a.before.no_last_part.ensures ∙ a.if-no_last_part.false
 
-sized : (a : tie.After-last-part-length) → a.last-part-length.result ≡ last_part a.before.before.before.before.before.args.h
-sized a = a.last-part-length.ensures.0 ∙ last-size a.before.before.before.before.before.args.h (there a.before)
+sized : (a : tie.After-last_part_length) → a.last_part_length.result ≡ last_part a.before.before.before.before.before.args.h
+sized a = a.last_part_length.ensures.0 ∙ last-size a.before.before.before.before.before.args.h (there a.before)
 
-seal-front-requires : tie.Need-seal-front-requires
+seal-front-requires : tie.Need-seal_front-requires
 seal-front-requires c κs =
     let a = c.before.before.before.before.before in
     let z = a.before.before.before.before.before in
-    (omega (arith, sized a, last-size z.args.h (there a.before), z.requires.1, c.before.before.before.put_last.auto.0), omega (arith, sized a, a.last-part-length.ensures.1))
+    (omega (arith, sized a, last-size z.args.h (there a.before), z.requires.1, c.before.before.before.put_last.auto.0), omega (arith, sized a, a.last_part_length.ensures.1))
 
-returns-2 : tie.Need-returns-2
+returns-2 : tie.Need-returns
 returns-2 c =
     let g = c.before.before.before.before.before.before.before.before.before.before.before.before.before.args in
     let some = there c.before.before.before.before.before.before.before.before.before in
@@ -36,9 +36,9 @@ returns-2 c =
     let bytes : List ℕ = rest_sent g.abort g.rest.now in
     let text : List ℕ = last_text g.h (late_byte Msgr21 g.abort) bytes in
     let len : length text + 16 ≡ last_part g.h = length-last-text g.h (late_byte Msgr21 g.abort) bytes (length-sent g.abort g.rest.now ∙ c.before.before.before.before.before.before.before.before.before.before.before.before.before.requires.0) in
-    last-there g.w.now g.nonce g.h text g.out.now c.before.before.seal-front.new.0 some
-    (sealed-laid g.w.now g.nonce text g.out.now c.before.before.before.before.before.before.put_last.new.0 c.before.before.seal-front.new.0 (c.before.before.before.before.before.before.before.before.last-part-length.result - 16)
-    (omega arith) (omega (arith, last-size g.h some, c.before.before.before.before.before.before.before.before.before.before.before.before.before.requires.1)) c.before.before.before.before.before.before.put_last.ensures c.before.before.seal-front.ensures)
+    last-there g.w.now g.nonce g.h text g.out-1.now c.before.before.seal_front.new.0 some
+    (sealed-laid g.w.now g.nonce text g.out-1.now c.before.before.before.before.before.before.put_last.new.0 c.before.before.seal_front.new.0 (c.before.before.before.before.before.before.before.before.last_part_length.result - 16)
+    (omega arith) (omega (arith, last-size g.h some, c.before.before.before.before.before.before.before.before.before.before.before.before.before.requires.1)) c.before.before.before.before.before.before.put_last.ensures c.before.before.seal_front.ensures)
 
 pub seal_last_spec : {M : Type 1} → statement M
 seal_last_spec =

@@ -7,8 +7,8 @@ use Rattle.sealed_receiver.proofs.switch_on.Tie as tie
 returns : tie.Need-returns
 unfolding switched
 returns c =
-    c.state-at.ensures
-    ∙ ap (at stage.First) (c.before.knowing.ensures ∙ ap₂ knowing c.before.before.before.fresh-receiving.ensures c.before.before.no_Header.ensures)
+    c.state_at.ensures
+    ∙ ap (at stage.First) (c.before.knowing.ensures ∙ ap₂ knowing c.before.before.before.fresh_receiving.ensures c.before.before.no_header.ensures)
 
 pub switch_on_spec : {M : Type 1} → statement M
 switch_on_spec =

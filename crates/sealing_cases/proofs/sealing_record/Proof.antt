@@ -11,13 +11,13 @@ use Rattle.sealing_cases.specs.Sealing.{sealing_size, done_of, sealing_record}
 use Rattle.sealing_cases.proofs.sealing_record.Statement.{statement}
 use Rattle.sealing_cases.proofs.sealing_record.Tie as tie
 
-good : (a : tie.Else1) → is_whole (sealing_size (length a.before.before.before.before.before.before.args.space.now) a.before.before.before.before.before.before.args.s.now) a.before.before.before.before.before.before.args.s.now ≡ true
-good a = seen-whole a.before.before.before.before.before.before.args.s.now a.before.before.sealing-size.ensures a.before.is-whole.ensures a.if1.false
+good : (a : tie.Else-not-is_whole) → is_whole (sealing_size (length a.before.before.before.before.before.before.args.space.now) a.before.before.before.before.before.before.args.s.now) a.before.before.before.before.before.before.args.s.now ≡ true
+good a = seen-whole a.before.before.before.before.before.before.args.s.now a.before.before.sealing_size-size.ensures a.before.is_whole.ensures a.if-not-is_whole.false
 
-slice_relend_prefix_buf : tie.Need-slice-relend-prefix-buf
+slice_relend_prefix_buf : tie.Need-slice_bounds-buf-end
 slice_relend_prefix_buf c =
     let h = sealing-buffer (length c.before.before.before.before.before.before.before.args.space.now) c.before.before.before.before.before.before.before.args.s.now (good c.before) in
-    omega (arith, c.u32_at.ensures)
+    omega (arith, c.u32_at-n.ensures)
 
 pub sealing_record_spec : {M : Type 1} → statement M
 unfolding sealing_record done_of
@@ -28,7 +28,7 @@ sealing_record_spec =
     (search rules)
     (search rules)
     (search rules)
-    (λ c. did_bad _ c.before.before.before.before.before.before.sealing-size.ensures c.before.before.before.before.before.is-whole.ensures c.before.before.before.before.if1.true c.before.before.bad-record.ensures)
+    (λ c. did_bad _ c.before.before.before.before.before.before.sealing_size-size.ensures c.before.before.before.before.before.is_whole.ensures c.before.before.before.before.if-not-is_whole.true c.before.before.bad_record.ensures)
     (search rules)
     (search rules)
     slice_relend_prefix_buf
@@ -45,4 +45,4 @@ sealing_record_spec =
     (search rules)
     (search rules)
     (search rules)
-    (λ c. let long = sealing-long (length c.before.before.before.before.before.before.before.before.before.before.before.before.before.before.before.before.before.before.before.before.before.before.before.before.before.before.before.before.before.args.space.now) c.before.before.before.before.before.before.before.before.before.before.before.before.before.before.before.before.before.before.before.before.before.before.before.before.before.before.before.before.before.args.s.now (good c.before.before.before.before.before.before.before.before.before.before.before.before.before.before.before.before.before.before.before.before.before.before.before) in did_done _ _ c.before.before.before.before.before.before.before.before.before.before.before.before.before.before.before.before.before.before.before.before.before.before.before.before.before.sealing-size.ensures c.before.before.before.before.before.before.before.before.before.before.before.before.before.before.before.before.before.before.before.before.before.before.before.before.is-whole.ensures c.before.before.before.before.before.before.before.before.before.before.before.before.before.before.before.before.before.before.before.before.before.before.before.if1.false refl (rw (c.before.before.before.before.before.before.before.before.before.before.before.before.before.key-at.ensures (omega arith), c.before.before.before.before.before.before.before.before.before.before.before.before.nonce-at.ensures (omega arith), c.before.before.before.before.before.before.before.before.before.before.before.before.before.before.part.ensures, c.before.before.before.before.before.before.before.before.before.before.before.before.before.before.before.u32-at2.ensures, c.before.before.before.before.before.before.before.before.before.before.before.before.before.before.before.before.before.before.count-up.ensures, c.before.before.before.before.before.before.before.before.before.before.before.before.before.before.before.before.before.before.before.byte_at.ensures, length-take-le _ _ (slice_relend_prefix_buf c.before.before.before.before.before.before.before.before.before.before.before.before.before.before.before.before.before.before.before.before.before.before), c.before.before.before.before.before.before.before.before.before.before.before.before.before.before.before.before.before.before.before.before.before.before.u32_at.ensures) at c.before.before.before.before.before.before.before.before.before.before.seal-or-open.ensures) c.before.before.before.before.before.before.checksum.ensures c.before.before.print-outcome.ensures))
+    (λ c. let long = sealing-long (length c.before.before.before.before.before.before.before.before.before.before.before.before.before.before.before.before.before.before.before.before.before.before.before.before.before.before.before.before.before.args.space.now) c.before.before.before.before.before.before.before.before.before.before.before.before.before.before.before.before.before.before.before.before.before.before.before.before.before.before.before.before.before.args.s.now (good c.before.before.before.before.before.before.before.before.before.before.before.before.before.before.before.before.before.before.before.before.before.before.before) in did_done _ _ c.before.before.before.before.before.before.before.before.before.before.before.before.before.before.before.before.before.before.before.before.before.before.before.before.before.sealing_size-size.ensures c.before.before.before.before.before.before.before.before.before.before.before.before.before.before.before.before.before.before.before.before.before.before.before.before.is_whole.ensures c.before.before.before.before.before.before.before.before.before.before.before.before.before.before.before.before.before.before.before.before.before.before.before.if-not-is_whole.false refl (rw (c.before.before.before.before.before.before.before.before.before.before.before.before.before.key_at.ensures (omega arith), c.before.before.before.before.before.before.before.before.before.before.before.before.nonce_at.ensures (omega arith), c.before.before.before.before.before.before.before.before.before.before.before.before.before.before.part-given.ensures, c.before.before.before.before.before.before.before.before.before.before.before.before.before.before.before.u32_at.ensures, c.before.before.before.before.before.before.before.before.before.before.before.before.before.before.before.before.before.before.count_up.ensures, c.before.before.before.before.before.before.before.before.before.before.before.before.before.before.before.before.before.before.before.byte_at.ensures, length-take-le _ _ (slice_relend_prefix_buf c.before.before.before.before.before.before.before.before.before.before.before.before.before.before.before.before.before.before.before.before.before.before), c.before.before.before.before.before.before.before.before.before.before.before.before.before.before.before.before.before.before.before.before.before.before.u32_at-n.ensures) at c.before.before.before.before.before.before.before.before.before.before.seal_or_open-outcome.ensures) c.before.before.before.before.before.before.checksum-sum.ensures c.before.before.print_outcome.ensures))

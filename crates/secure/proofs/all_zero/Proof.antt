@@ -4,10 +4,10 @@ use Rattle.buffer.proofs.Zeros.{zero-step, zero_stop}
 use Rattle.secure.proofs.all_zero.Statement.{statement}
 use Rattle.secure.proofs.all_zero.Tie as tie
 
-abbrev invariant-loop : tie.invariant-loop
+abbrev invariant-loop : tie.invariant-loop-i
 invariant-loop bytes i₀ i = all_zero (drop i bytes) ≡ all_zero bytes
 
-abbrev decreases-loop : tie.decreases-loop
+abbrev decreases-loop : tie.decreases-loop-i
 decreases-loop bytes i₀ i = length bytes - i
 
 pub all_zero_spec : {M : Type 1} → statement M
@@ -18,8 +18,8 @@ all_zero_spec =
     decreases-loop
     (λ c. refl)
     (λ c. omega arith)
-    (λ c. sym (zero_stop c.before.before.before.before.args.bytes.now c.before.before.before.loop.i (omega arith) (λ e. c.if1.true e)) ∙ c.before.before.before.loop.invariant)
+    (λ c. sym (zero_stop c.before.before.before.before.args.bytes.now c.before.before.before.loop-i.i (omega arith) (λ e. c.if-bytes-i-ne0.true e)) ∙ c.before.before.before.loop-i.invariant)
     (λ c. omega arith)
     (λ c. omega arith)
-    (λ c. rw (add-one c.before.before.before.loop.i) (zero-step c.before.before.before.before.args.bytes.now c.before.before.before.loop.i (omega arith) c.if1.false ∙ c.before.before.before.loop.invariant))
-    (λ c. sym (ap all_zero (drop_of_length-le c.before.before.args.bytes.now {i = c.before.loop.i} c.loop-test.false)) ∙ c.before.loop.invariant))
+    (λ c. rw (add-one c.before.before.before.loop-i.i) (zero-step c.before.before.before.before.args.bytes.now c.before.before.before.loop-i.i (omega arith) c.if-bytes-i-ne0.false ∙ c.before.before.before.loop-i.invariant))
+    (λ c. sym (ap all_zero (drop_of_length-le c.before.before.args.bytes.now {i = c.before.loop-i.i} c.loop-i-test.false)) ∙ c.before.loop-i.invariant))

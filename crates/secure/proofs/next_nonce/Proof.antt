@@ -6,9 +6,9 @@ use Rattle.secure.proofs.next_nonce.Tie as tie
 returns : tie.Need-returns
 unfolding next_nonce
 returns c =
-    c.nonce-of.ensures
+    c.nonce_of.ensures
     ∙ ap (nonce_of c.before.before.before.before.args.t1)
-    (c.before.wrapping-add-u64.ensures ∙ ap (λ (n : ℕ). (n + 1) % 2 ^ 64) c.before.before.u64-at.ensures)
+    (c.before.wrapping_add_u64.ensures ∙ ap (λ (n : ℕ). (n + 1) % 2 ^ 64) c.before.before.u64_at-c.ensures)
 
 pub next_nonce_spec : {M : Type 1} → statement M
 next_nonce_spec =

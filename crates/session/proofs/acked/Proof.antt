@@ -7,6 +7,6 @@ pub acked_spec : {M : Type 1} → statement M
 acked_spec =
     tie.close
     (tie.spec
-    (λ c. simp (le-leb _ _ c.if1.true))
+    (λ c. simp (le-leb _ _ c.if-number-s.true))
     (λ c κs. search rules)
-    (λ c. simp (lt-leb _ _ c.before.if1.false, c.release.ensures)))
+    (λ c. simp (lt-leb _ _ c.before.if-number-s.false, c.release.ensures)))

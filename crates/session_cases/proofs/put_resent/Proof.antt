@@ -10,26 +10,26 @@ use Rattle.text.specs.Page.{page, puts}
 use Rattle.session_cases.proofs.put_resent.Statement.{statement}
 use Rattle.session_cases.proofs.put_resent.Tie as tie
 
-abbrev invariant-loop : tie.invariant-loop
+abbrev invariant-loop : tie.invariant-loop-i
 invariant-loop text₀ at s k end₀ i₀ text end i = (i ≤ k) × (length text ≡ length text₀) × (puts (resent_pieces (held_answers s i (k - i))) (page text end) ≡ puts (resent_pieces (held_answers s 0 k)) (page text₀ at))
 
-abbrev decreases-loop : tie.decreases-loop
+abbrev decreases-loop : tie.decreases-loop-i
 decreases-loop text₀ at s k end₀ i₀ text end i = k - i
 
-loop-holds : tie.Need-loop-init invariant-loop decreases-loop
+loop-holds : tie.Need-loop-i-init invariant-loop decreases-loop
 loop-holds c = let e : c.before.args.k - 0 ≡ c.before.args.k = omega arith in
     (omega arith, refl, rw e)
 
-loop-again : tie.Need-loop-preserved invariant-loop decreases-loop
+loop-again : tie.Need-loop-i-preserved invariant-loop decreases-loop
 loop-again c = (
   omega arith,
-  c.before.before.put-held.auto.0 ∙ c.before.before.before.before.before.before.loop.invariant.1,
-  resent-on c.before.before.before.before.before.before.before.before.args.s c.before.before.before.before.before.before.loop.i c.before.before.before.before.before.before.before.before.args.k (page c.before.before.before.before.before.before.loop.text c.before.before.before.before.before.before.loop.end) c.before.before.before.before.before.loop-test.true (cc) ∙ c.before.before.before.before.before.before.loop.invariant.2,
+  c.before.before.put_held-end.auto.0 ∙ c.before.before.before.before.before.before.loop-i.invariant.1,
+  resent-on c.before.before.before.before.before.before.before.before.args.s c.before.before.before.before.before.before.loop-i.i c.before.before.before.before.before.before.before.before.args.k (page c.before.before.before.before.before.before.loop-i.text c.before.before.before.before.before.before.loop-i.end) c.before.before.before.before.before.loop-i-test.true (cc) ∙ c.before.before.before.before.before.before.loop-i.invariant.2,
 )
 
 returns : tie.Need-returns invariant-loop decreases-loop
-returns c = let e : c.before.loop.i ≡ c.before.before.before.args.k = omega arith in
-    sym (resent-none c.before.before.before.args.s c.before.before.before.args.k (page c.before.loop.text c.before.loop.end)) ∙ rw e at c.before.loop.invariant.2
+returns c = let e : c.before.loop-i.i ≡ c.before.before.before.args.k = omega arith in
+    sym (resent-none c.before.before.before.args.s c.before.before.before.args.k (page c.before.loop-i.text c.before.loop-i.end)) ∙ rw e at c.before.loop-i.invariant.2
 
 pub put_resent_spec : {M : Type 1} → statement M
 put_resent_spec =
@@ -43,5 +43,5 @@ put_resent_spec =
     (λ c. omega arith)
     (λ c. omega arith)
     loop-again
-    (λ c. c.before.loop.invariant.1)
+    (λ c. c.before.loop-i.invariant.1)
     returns)

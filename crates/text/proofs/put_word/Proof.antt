@@ -9,24 +9,24 @@ use Rattle.buffer.proofs.Sets.{sets_more, sets-room}
 use Rattle.text.proofs.put_word.Statement.{statement}
 use Rattle.text.proofs.put_word.Tie as tie
 
-abbrev invariant-loop : tie.invariant-loop
+abbrev invariant-loop : tie.invariant-loop-i
 invariant-loop text₀ at letters n i₀ text i = (i ≤ n) × (text ≡ sets text₀ at (take i letters)) × (length text ≡ length text₀)
 
-abbrev decreases-loop : tie.decreases-loop
+abbrev decreases-loop : tie.decreases-loop-i
 decreases-loop text₀ at letters n i₀ text i = n - i
 
-loop-again : tie.Need-loop-preserved invariant-loop decreases-loop
+loop-again : tie.Need-loop-i-preserved invariant-loop decreases-loop
 loop-again c =
-    let l = c.before.before.loop in
+    let l = c.before.before.loop-i in
     let a = c.before.before.before.before.before.before.before.args in
-    (omega arith, rw l.invariant.1 (sets_more a.letters.now a.text.now a.at l.i (omega (arith, c.before.before.before.room_for.ensures))), length-set l.text _ _ ∙ l.invariant.2)
+    (omega arith, rw l.invariant.1 (sets_more a.letters.now a.text.now a.at l.i (omega (arith, c.before.before.before.room_for-n.ensures))), length-set l.text _ _ ∙ l.invariant.2)
 
 returns : tie.Need-returns invariant-loop decreases-loop
 unfolding put write page
 returns c =
-    let l = c.before.loop in
+    let l = c.before.loop-i in
     let a = c.before.before.before.before.before.before.args in
-    let e = c.before.before.room_for.ensures in
+    let e = c.before.before.room_for-n.ensures in
     ap₂ page (l.invariant.1 ∙ sets-room a.letters.now a.text.now a.at l.i (omega (arith, e))) (omega (arith, e))
 
 pub put_word_spec : {M : Type 1} → statement M
@@ -37,12 +37,12 @@ put_word_spec =
     decreases-loop
     (λ c κs. search rules)
     (λ c. (zero-le, refl, refl))
-    (λ c. omega (arith, c.before.before.before.room_for.ensures))
-    (λ c. omega (arith, c.before.before.before.room_for.ensures))
-    (λ c. omega (arith, c.before.before.before.room_for.ensures))
+    (λ c. omega (arith, c.before.before.before.room_for-n.ensures))
+    (λ c. omega (arith, c.before.before.before.room_for-n.ensures))
+    (λ c. omega (arith, c.before.before.before.room_for-n.ensures))
     (λ c. omega arith)
     (λ c. omega arith)
     loop-again
-    (λ c. omega (arith, c.before.before.room_for.ensures))
-    (λ c. c.before.loop.invariant.2)
+    (λ c. omega (arith, c.before.before.room_for-n.ensures))
+    (λ c. c.before.loop-i.invariant.2)
     returns)

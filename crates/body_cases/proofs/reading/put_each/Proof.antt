@@ -11,21 +11,21 @@ use Rattle.text.specs.Page.{page, puts}
 use Rattle.body_cases.proofs.reading.put_each.Statement.{statement}
 use Rattle.body_cases.proofs.reading.put_each.Tie as tie
 
-abbrev invariant-loop : tie.invariant-loop
+abbrev invariant-loop : tie.invariant-loop-i
 invariant-loop text₀ at s l end₀ i₀ text end i = (i ≤ l.count) × (length text ≡ length text₀) × (puts (each_number (drop i (numbers_in s l))) (page text end) ≡ puts (each_number (numbers_in s l)) (page text₀ at))
 
-abbrev decreases-loop : tie.decreases-loop
+abbrev decreases-loop : tie.decreases-loop-i
 decreases-loop text₀ at s l end₀ i₀ text end i = l.count - i
 
-loop-again : tie.Need-loop-preserved invariant-loop decreases-loop
-loop-again c = let l = c.before.before.before.before.before.before.before.loop in
+loop-again : tie.Need-loop-i-preserved invariant-loop decreases-loop
+loop-again c = let l = c.before.before.before.before.before.before.before.loop-i in
     let n : length (numbers_in c.before.before.before.before.before.before.before.before.before.before.args.s.now c.before.before.before.before.before.before.before.before.before.before.args.l) ≡ c.before.before.before.before.before.before.before.before.before.before.args.l.count = length-words c.before.before.before.before.before.before.before.before.before.before.args.l.count (drop c.before.before.before.before.before.before.before.before.before.before.args.l.at c.before.before.before.before.before.before.before.before.before.before.args.s.now) in
-    (omega arith, c.before.before.put-number.auto.0 ∙ l.invariant.1, each_more (numbers_in c.before.before.before.before.before.before.before.before.before.before.args.s.now c.before.before.before.before.before.before.before.before.before.before.args.l) l.i c.before.before.before.number_in.result (page l.text l.end) (omega arith) c.before.before.before.number_in.ensures c.before.before.put-number.ensures ∙ l.invariant.2)
+    (omega arith, c.before.before.put_number-end.auto.0 ∙ l.invariant.1, each_more (numbers_in c.before.before.before.before.before.before.before.before.before.before.args.s.now c.before.before.before.before.before.before.before.before.before.before.args.l) l.i c.before.before.before.number_in.result (page l.text-1 l.end) (omega arith) c.before.before.before.number_in.ensures c.before.before.put_number-end.ensures ∙ l.invariant.2)
 
 returns : tie.Need-returns invariant-loop decreases-loop
-returns c = let l = c.before.before.loop in
+returns c = let l = c.before.before.loop-i in
     let n : length (numbers_in c.before.before.before.before.before.args.s.now c.before.before.before.before.before.args.l) ≡ c.before.before.before.before.before.args.l.count = length-words c.before.before.before.before.before.args.l.count (drop c.before.before.before.before.before.args.l.at c.before.before.before.before.before.args.s.now) in
-    sym (each_none (numbers_in c.before.before.before.before.before.args.s.now c.before.before.before.before.before.args.l) l.i (page l.text l.end) (omega arith)) ∙ l.invariant.2
+    sym (each_none (numbers_in c.before.before.before.before.before.args.s.now c.before.before.before.before.before.args.l) l.i (page l.text-1 l.end) (omega arith)) ∙ l.invariant.2
 
 pub put_each_spec : {M : Type 1} → statement M
 put_each_spec =
@@ -40,5 +40,5 @@ put_each_spec =
     (λ c. omega arith)
     (λ c. omega arith)
     loop-again
-    (λ c. c.before.before.loop.invariant.1)
+    (λ c. c.before.before.loop-i.invariant.1)
     returns)

@@ -9,10 +9,10 @@ use Rattle.text.specs.Page.{page, puts}
 use Rattle.body_cases.proofs.reading.put_stamp.Statement.{statement}
 use Rattle.body_cases.proofs.reading.put_stamp.Tie as tie
 
-abbrev invariant-loop : tie.invariant-loop
+abbrev invariant-loop : tie.invariant-loop-i
 invariant-loop text₀ at bytes end₀ i₀ text end i = (i ≤ length bytes) × (length text ≡ length text₀) × (puts (each_byte (drop i bytes)) (page text end) ≡ puts (each_byte bytes) (page text₀ at))
 
-abbrev decreases-loop : tie.decreases-loop
+abbrev decreases-loop : tie.decreases-loop-i
 decreases-loop text₀ at bytes end₀ i₀ text end i = length bytes - i
 
 pub put_stamp_spec : {M : Type 1} → statement M
@@ -26,6 +26,6 @@ put_stamp_spec =
     (search rules)
     (λ c. omega arith)
     (λ c. omega arith)
-    (λ c. (omega arith, c.before.before.put_byte.auto.0 ∙ c.before.before.before.before.before.before.loop.invariant.1, stamp-more c.before.before.before.before.before.before.before.before.before.args.bytes.now c.before.before.before.before.before.before.loop.i (page c.before.before.before.before.before.before.loop.text c.before.before.before.before.before.before.loop.end) (omega arith) c.before.before.put_byte.ensures ∙ c.before.before.before.before.before.before.loop.invariant.2))
-    (λ c. c.before.loop.invariant.1)
-    (λ c. sym (stamp-none c.before.before.before.before.args.bytes.now c.before.loop.i (page c.before.loop.text c.before.loop.end) (omega arith)) ∙ c.before.loop.invariant.2))
+    (λ c. (omega arith, c.before.before.put_byte-end.auto.0 ∙ c.before.before.before.before.before.before.loop-i.invariant.1, stamp-more c.before.before.before.before.before.before.before.before.before.args.bytes.now c.before.before.before.before.before.before.loop-i.i (page c.before.before.before.before.before.before.loop-i.text c.before.before.before.before.before.before.loop-i.end) (omega arith) c.before.before.put_byte-end.ensures ∙ c.before.before.before.before.before.before.loop-i.invariant.2))
+    (λ c. c.before.loop-i.invariant.1)
+    (λ c. sym (stamp-none c.before.before.before.before.args.bytes.now c.before.loop-i.i (page c.before.loop-i.text c.before.loop-i.end) (omega arith)) ∙ c.before.loop-i.invariant.2))

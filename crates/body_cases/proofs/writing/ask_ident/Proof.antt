@@ -20,4 +20,4 @@ ask_ident_spec =
     (search rules)
     (search rules)
     (search rules)
-    (λ c. asked c.before.before.before.before.before.before.before.before.before.before.before.before.start.ensures (step c.before.before.before.before.before.before.before.before.before.before.before.given-u32.ensures (step (opaque-given 48 c.before.before.before.before.before.before.before.before.before.before.given-bytes.ensures) (step c.before.before.before.before.before.before.before.before.before.given-u64.ensures (step c.before.before.before.before.before.before.before.before.given-u642.ensures (step c.before.before.before.before.before.before.before.given-u643.ensures (step c.before.before.before.before.before.before.given-u644.ensures (step c.before.before.before.before.before.given-u645.ensures (step c.before.before.before.before.given-u646.ensures end)))))))) refl refl (omega arith) (omega arith)))
+    (λ c. asked c.before.before.before.before.before.before.before.before.before.before.before.before.start.ensures (step c.before.before.before.before.before.before.before.before.before.before.before.given_u32-n.ensures (step (opaque-given 48 c.before.before.before.before.before.before.before.before.before.before.given_bytes-p.ensures) (step c.before.before.before.before.before.before.before.before.before.given_u64-a.ensures (step c.before.before.before.before.before.before.before.before.given_u64-b.ensures (step c.before.before.before.before.before.before.before.given_u64-d.ensures (step c.before.before.before.before.before.before.given_u64-e.ensures (step c.before.before.before.before.before.given_u64-f.ensures (step c.before.before.before.before.given_u64-g.ensures end)))))))) refl refl (omega arith) (omega arith)))

@@ -8,9 +8,9 @@ use Rattle.body_cases.proofs.writing.given_list.Tie as tie
 returns : tie.Need-returns
 returns c = (
   list_by c.before.before.behind.result _ _
-      (c.before.before.before.before.before.byte_at.ensures ∙ byte_there _ _)
+      (c.before.before.before.before.before.byte_at-n.ensures ∙ byte_there _ _)
       c.before.before.before.before.past.ensures
-      c.before.before.before.past2.ensures
+      c.before.before.before.past-end.ensures
       c.limit.ensures
       c.before.at_most.ensures.0
       c.before.before.behind.ensures,

@@ -12,6 +12,6 @@ print_judgement_spec =
     (search rules)
     (search rules)
     (search rules)
-    (λ c. rw c.before.before.before.before.enum_told.given.1 c.before.before.print-fine.ensures)
+    (λ c. rw c.before.before.before.before.enum_told-1.given.1 c.before.before.print_fine.ensures)
     (search rules)
-    (λ c. rw c.before.before.before.before.before.before.judgement.given.1 (rw c.before.before.before.Numbers-of.ensures at c.before.before.print-judgement-refused.ensures)))
+    (λ c. rw c.before.before.before.before.before.before.judgement-1.given.1 (rw c.before.before.before.numbers_of.ensures at c.before.before.print_judgement_refused.ensures)))

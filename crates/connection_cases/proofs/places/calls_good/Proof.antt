@@ -8,10 +8,10 @@ use Rattle.connection_cases.proofs.Laws.{calls-none, good-next, good_stop}
 use Rattle.connection_cases.proofs.places.calls_good.Statement.{statement}
 use Rattle.connection_cases.proofs.places.calls_good.Tie as tie
 
-abbrev invariant-loop : tie.invariant-loop
+abbrev invariant-loop : tie.invariant-loop-left
 invariant-loop l s n from width place₀ left₀ place left = (place + 8 * left ≤ 600000) × (width ≤ 8) × (width ≡ call_width l.lends) × (calls_good l (calls_from l.lends s left place) ≡ calls_good l (calls_from l.lends s n from))
 
-abbrev decreases-loop : tie.decreases-loop
+abbrev decreases-loop : tie.decreases-loop-left
 decreases-loop l s n from width place₀ left₀ place left = left
 
 pub calls_good_spec : {M : Type 1} → statement M
@@ -22,12 +22,12 @@ calls_good_spec =
     invariant-loop
     decreases-loop
     (search rules)
-    (λ c. (omega (arith, c.before.before.requires), omega (arith, c.call-width.ensures.1), c.call-width.ensures.0, refl))
+    (λ c. (omega (arith, c.before.before.requires), omega (arith, c.call_width-width.ensures.1), c.call_width-width.ensures.0, refl))
     (λ c κs. omega arith)
     (search rules)
-    (λ c. sym (good_stop c.before.before.before.before.before.before.before.args.l c.before.before.before.before.before.before.before.args.s.now c.before.before.before.before.loop.left c.before.before.before.before.loop.place (omega arith) (sym (ap (call_good c.before.before.before.before.before.before.before.args.l) c.before.before.call_at.ensures) ∙ sym c.before.call-good.ensures ∙ not-true _ c.if1.true)) ∙ c.before.before.before.before.loop.invariant.3)
+    (λ c. sym (good_stop c.before.before.before.before.before.before.before.args.l c.before.before.before.before.before.before.before.args.s.now c.before.before.before.before.loop-left.left c.before.before.before.before.loop-left.place (omega arith) (sym (ap (call_good c.before.before.before.before.before.before.before.args.l) c.before.before.call_at.ensures) ∙ sym c.before.call_good.ensures ∙ not-true _ c.if-not-call_good.true)) ∙ c.before.before.before.before.loop-left.invariant.3)
     (λ c. omega arith)
     (λ c. omega arith)
     (λ c. omega arith)
-    (λ c. (omega arith, c.before.before.before.before.loop.invariant.1, c.before.before.before.before.loop.invariant.2, rw c.before.before.before.before.loop.invariant.2 (sym (good-next c.before.before.before.before.before.before.before.args.l c.before.before.before.before.before.before.before.args.s.now c.before.before.before.before.loop.left c.before.before.before.before.loop.place (omega arith) (sym (ap (call_good c.before.before.before.before.before.before.before.args.l) c.before.before.call_at.ensures) ∙ sym c.before.call-good.ensures ∙ not-false _ c.if1.false))) ∙ c.before.before.before.before.loop.invariant.3))
-    (λ c. ap (calls_good c.before.before.before.before.args.l) (sym (calls-none c.before.before.before.before.args.l.lends c.before.before.before.before.args.s.now c.before.loop.left c.before.loop.place (omega arith))) ∙ c.before.loop.invariant.3))
+    (λ c. (omega arith, c.before.before.before.before.loop-left.invariant.1, c.before.before.before.before.loop-left.invariant.2, rw c.before.before.before.before.loop-left.invariant.2 (sym (good-next c.before.before.before.before.before.before.before.args.l c.before.before.before.before.before.before.before.args.s.now c.before.before.before.before.loop-left.left c.before.before.before.before.loop-left.place (omega arith) (sym (ap (call_good c.before.before.before.before.before.before.before.args.l) c.before.before.call_at.ensures) ∙ sym c.before.call_good.ensures ∙ not-false _ c.if-not-call_good.false))) ∙ c.before.before.before.before.loop-left.invariant.3))
+    (λ c. ap (calls_good c.before.before.before.before.args.l) (sym (calls-none c.before.before.before.before.args.l.lends c.before.before.before.before.args.s.now c.before.loop-left.left c.before.loop-left.place (omega arith))) ∙ c.before.loop-left.invariant.3))

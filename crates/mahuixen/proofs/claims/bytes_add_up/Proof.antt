@@ -5,4 +5,4 @@ use Rattle.mahuixen.proofs.claims.bytes_add_up.Tie as tie
 
 pub bytes_add_up_spec : {M : Type 1} → statement M
 bytes_add_up_spec =
-    tie.close (tie.spec (λ c κs. search rules) (λ c. adds_in_c c.bytes-add-up.ensures))
+    tie.close (tie.spec (λ c κs. search rules) (λ c. adds_in_c c.bytes_add_up.ensures))

@@ -11,23 +11,23 @@ use Rattle.receiver.proofs.FeedLoop.{lasting, Midway, Turn, turn, reported, fini
 use Rattle.receiver.proofs.pieces.feed.Statement.{statement}
 use Rattle.receiver.proofs.pieces.feed.Tie as tie
 
-abbrev invariant-loop : tie.invariant-loop
+abbrev invariant-loop : tie.invariant-loop-at
 invariant-loop came block₀ piece store₀ stage₀ got₀ known₀ at₀ block store stage got known at = Midway piece store₀ (state_at stage₀ got₀ block₀ known₀) store (state_at stage got block known) at
 
-abbrev decreases-loop : tie.decreases-loop
+abbrev decreases-loop : tie.decreases-loop-at
 decreases-loop came block₀ piece store₀ stage₀ got₀ known₀ at₀ block store stage got known at = length piece - at
 
 -- a turn of the loop, where its step is done
 abbrev Stepped : Type 0
-Stepped = tie.After-step invariant-loop decreases-loop
+Stepped = tie.After-step-o invariant-loop decreases-loop
 
 abbrev start : Stepped → tie.Start invariant-loop decreases-loop
 start a = a.before.before.before.before.before.before.before.before
 
 done : (a : Stepped)
-    → (let z = (start a).args in let m = a.before.before.before.before.before.loop in
-    Turn z.piece.now z.store.now (state_at z.from z.came z.block.now z.knew) m.store (state_at m.stage m.got m.block m.known) m.at (moved_to a.step.result a.step.last.1.1.1.0) a.step.last.1.1.1.1.1.0)
-done a = turn a.before.before.before.before.before.loop.inv a.before.before.before.before.loop-test.taken a.step.ensures a.step.kept.1.1.1.1.1.0
+    → (let z = (start a).args in let m = a.before.before.before.before.before.loop-at in
+    Turn z.piece.now z.store-1.now (state_at z.from z.came z.block.now z.knew) m.store-1 (state_at m.stage m.got m.block m.known) m.at (moved_to a.step-o.result a.step-o.last.1.1.1.0) a.step-o.last.1.1.1.1.1.0)
+done a = turn a.before.before.before.before.before.loop-at.inv a.before.before.before.before.loop-at-test.taken a.step-o.ensures a.step-o.kept.1.1.1.1.1.0
 
 pub feed_spec : {M : Type 1} → statement M
 feed_spec =
@@ -39,12 +39,12 @@ feed_spec =
     (λ c. search rules)
     (λ c. search rules)
     (λ c. search rules)
-    (λ c κs. (let r = c.before.before.before.before.loop.invariant.running in (inside_of r, r.fits)))
-    (λ c. (let a = c.before.before.before.before in omega (arith, within (done a), (start a).well-formed.1.1.1.1.0.0)))
+    (λ c κs. (let r = c.before.before.before.before.loop-at.invariant.running in (inside_of r, r.fits)))
+    (λ c. (let a = c.before.before.before.before in omega (arith, within (done a), (start a).well_formed.1.1.1.1.0.0)))
     (λ c κs. search rules)
     (λ c. (let t = done c.before.before.before.before.before.before in t.kept ∙ t.midway.same))
-    (λ c. reported (done c.before.before.before.before.before.before) (sym c.before.is-more.ensures ∙ not-true c.before.is-more.result c.if1.true))
+    (λ c. reported (done c.before.before.before.before.before.before) (sym c.before.is_more.ensures ∙ not-true c.before.is_more.result c.if-not-is_more.true))
     (λ c. (let t = done c.before.before.before.before.before.before in omega (arith, within t, progress t)))
-    (λ c. again (done c.before.before.before.before.before.before) (sym c.before.is-more.ensures ∙ not-false c.before.is-more.result c.if1.false))
-    (λ c. c.before.loop.invariant.same)
-    (λ c. finished c.before.loop.invariant c.loop-test.false))
+    (λ c. again (done c.before.before.before.before.before.before) (sym c.before.is_more.ensures ∙ not-false c.before.is_more.result c.if-not-is_more.false))
+    (λ c. c.before.loop-at.invariant.same)
+    (λ c. finished c.before.loop-at.invariant c.loop-at-test.false))

@@ -19,8 +19,8 @@ given z = state_at z.args.stage z.args.got z.args.block.now z.args.known
 abbrev taking : tie.Start → List ℕ
 taking z = take (fitting (given z) z.args.piece.now) z.args.piece.now
 
-counted : (a : tie.After-min) → (let z = a.before.before.before.before in a.min.result ≡ fitting (given z) z.args.piece.now)
-counted a = a.min.ensures ∙ rw a.before.type_size.ensures
+counted : (a : tie.After-min-m) → (let z = a.before.before.before.before in a.min-m.result ≡ fitting (given z) z.args.piece.now)
+counted a = a.min-m.ensures ∙ rw a.before.size_of-n.ensures
 
 taking-length : (z : tie.Start) → length (taking z) ≡ fitting (given z) z.args.piece.now
 taking-length z = length-take-le (fitting (given z) z.args.piece.now) z.args.piece.now (omega arith)
@@ -30,31 +30,31 @@ filled : (a : tie.After-fill)
     → (let z = a.before.before.before.before.before.before.before.before.before in (a.fill.new.1.1.0 ≡ (absorbed (given z) (taking z)).position.block) × (a.fill.new.1.1.1.1.0 ≡ stored (given z) z.args.store.now (taking z)))
 filled a =
     let p = a.before.before.before.place_of.ensures in
-    (a.fill.ensures.0 ∙ rw (p, a.before.before.before.before.part.ensures, counted a.before.before.before.before.before), a.fill.ensures.1 ∙ rw (p, a.before.before.before.before.part.ensures, counted a.before.before.before.before.before))
+    (a.fill.ensures.0 ∙ rw (p, a.before.before.before.before.part-bytes.ensures, counted a.before.before.before.before.before), a.fill.ensures.1 ∙ rw (p, a.before.before.before.before.part-bytes.ensures, counted a.before.before.before.before.before))
 
 fill-requires : tie.Need-fill-requires
 fill-requires c κs =
     let z = c.before.before.before.before.before.before.before.before in
-    let n : length c.before.before.before.part.result.now ≡ c.before.before.before.before.min.result = rw (c.before.before.before.part.ensures, counted c.before.before.before.before) (taking-length z) in
+    let n : length c.before.before.before.part-bytes.result.now ≡ c.before.before.before.before.min-m.result = rw (c.before.before.before.part-bytes.ensures, counted c.before.before.before.before) (taking-length z) in
     let p = c.before.before.place_of.ensures in
-    (λ e. omega (arith, n, counted c.before.before.before.before, z.requires.0, c.before.fill-arg.given.0, block_room z.args.stage z.args.known (sym p ∙ e)), λ e. omega (arith, n, counted c.before.before.before.before, z.requires.0, z.requires.1, store-room z.args.stage z.args.known (sym p ∙ e)))
+    (λ e. omega (arith, n, counted c.before.before.before.before, z.requires.0, c.before.fill-arg-1.given.0, block_room z.args.stage z.args.known (sym p ∙ e)), λ e. omega (arith, n, counted c.before.before.before.before, z.requires.0, z.requires.1, store-room z.args.stage z.args.known (sym p ∙ e)))
 
-returns : tie.Need-returns
+returns : tie.Need-returns-then-to-n
 returns c =
     let z = c.before.before.before.before.before.before.before.before.before.before.before.before in
     let m = counted c.before.before.before.before.before.before.before.before in
     let f = filled c.before.before.before in
     let l = taking-length z in
-    let t : z.args.got + length (taking z) < size (given z) = omega (arith, m, l, c.before.before.before.before.before.before.before.before.before.type_size.ensures, c.if1.true) in
+    let t : z.args.got + length (taking z) < size (given z) = omega (arith, m, l, c.before.before.before.before.before.before.before.before.before.size_of-n.ensures, c.if-to-n.true) in
     record { taken = m; step = rw (lt-ltb _ _ t) (rw (f.0, f.1, m, l)) }
 
-returns-2 : tie.Need-returns-2
+returns-2 : tie.Need-returns
 returns-2 c =
     let z = c.before.before.before.before.before.before.before.before.before.before.before.before.before.before.before.before.before.before.before in
     let m = counted c.before.before.before.before.before.before.before.before.before.before.before.before.before.before.before in
     let f = filled c.before.before.before.before.before.before.before.before.before.before in
-    let t : size (given z) ≤ z.args.got + length (taking z) = omega (arith, m, taking-length z, c.before.before.before.before.before.before.before.before.before.before.before.before.before.before.before.before.type_size.ensures, c.before.before.before.before.before.before.before.if1.false) in
-    record { taken = m; step = rw (le-ltb _ _ t) (c.before.before.before.before.end-stage.ensures ∙ rw (f.0, f.1)) }
+    let t : size (given z) ≤ z.args.got + length (taking z) = omega (arith, m, taking-length z, c.before.before.before.before.before.before.before.before.before.before.before.before.before.before.before.before.size_of-n.ensures, c.before.before.before.before.before.before.before.if-to-n.false) in
+    record { taken = m; step = rw (le-ltb _ _ t) (c.before.before.before.before.end_stage-t.ensures ∙ rw (f.0, f.1)) }
 
 pub step_spec : {M : Type 1} → statement M
 step_spec =

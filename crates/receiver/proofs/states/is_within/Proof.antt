@@ -5,10 +5,10 @@ use native.Mathlib.Omega.{arith}
 use Rattle.receiver.proofs.states.is_within.Statement.{statement}
 use Rattle.receiver.proofs.states.is_within.Tie as tie
 
-returns-9 : tie.Need-returns-9
+returns-9 : tie.Need-returns-in_default
 returns-9 c =
     let m = c.before.args.n in
-    let r = c.match.rest in
+    let r = c.in_default.rest in
     let h : 4 ≤ m = omega (arith, r.0.0.0.0.1, r.0.0.0.0.0.1, r.0.0.0.0.0.0.1, r.0.0.0.0.0.0.0.1) in
     let l : 8 ≤ m = omega (arith, h, r.1, r.0.1, r.0.0.1, r.0.0.0.1) in
     rw (le-leb 8 m l)

@@ -18,5 +18,5 @@ least_of_spec =
     (λ c κs. search rules)
     (λ c κs. search rules)
     (λ c. search rules)
-    (λ c. rw (test c.before.before ∙ c.before.if1.true))
-    (λ c. rw (test c.before ∙ c.if1.false)))
+    (λ c. rw (test c.before.before ∙ c.before.if-both.true))
+    (λ c. rw (test c.before ∙ c.if-both.false)))

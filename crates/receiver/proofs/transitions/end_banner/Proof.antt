@@ -12,4 +12,4 @@ end_banner_spec =
     (λ c κs. search rules)
     (λ c κs. search rules)
     (λ c κs. search rules)
-    (λ c s. c.unless-refused.ensures s ∙ rw (c.before.judge-features.ensures, c.before.before.begin-preamble.ensures s, c.before.before.before.with-revision.ensures, c.before.before.before.before.revision-of.ensures)))
+    (λ c s. c.unless_refused.ensures s ∙ rw (c.before.judge_features.ensures, c.before.before.begin_preamble-t.ensures s, c.before.before.before.with_revision.ensures, c.before.before.before.before.revision_of-revision.ensures)))

@@ -14,4 +14,4 @@ end_length_spec =
     (λ c κs. search rules)
     (λ c κs. search rules)
     (λ c κs. search rules)
-    (λ c s. c.unless-refused.ensures s ∙ rw (c.before.judge-length.ensures, c.before.before.more.ensures s, c.before.before.before.with-payload.ensures, c.before.before.before.before.u16-at.ensures)))
+    (λ c s. c.unless_refused.ensures s ∙ rw (c.before.judge_length.ensures, c.before.before.more-next.ensures s, c.before.before.before.with_payload.ensures, c.before.before.before.before.u16_at-n.ensures)))

@@ -8,33 +8,33 @@ use Rattle.sealed_receiver.proofs.parts.after_last_part.Statement.{statement}
 use Rattle.sealed_receiver.proofs.parts.after_last_part.Tie as tie
 
 -- where it is known how the frame ends: the length of the text, and the end
-abbrev start : tie.After-end-of-last → tie.Start
+abbrev start : tie.After-end_of_last-end → tie.Start
 start a = a.before.before.before.before.before.before.before
 
-sized : (a : tie.After-end-of-last) → a.before.before.before.last-part-length.result - 16 ≡ last_part (start a).args.v.header - 16
-sized a = ap (λ (k : ℕ). k - 16) (a.before.before.before.last-part-length.ensures.0 ∙ last-size (start a).args.v.header (start a).requires.1)
+sized : (a : tie.After-end_of_last-end) → a.before.before.before.last_part_length.result - 16 ≡ last_part (start a).args.v.header - 16
+sized a = ap (λ (k : ℕ). k - 16) (a.before.before.before.last_part_length.ensures.0 ∙ last-size (start a).args.v.header (start a).requires.1)
 
-returns : tie.Need-returns
+returns : tie.Need-returns-in-Whole
 returns c =
     let a = c.before.before.before.before.before.before.before.before.before.before in
     let z = (start a).args in
-    let e = a.end-of-last.ensures ∙ ap (last_ended z.v.header) a.before.part.ensures in
+    let e = a.end_of_last-end.ensures ∙ ap (last_ended z.v.header) a.before.part.ensures in
     c.before.before.end_whole.ensures
-    ∙ last-whole z.v z.store.now (sized a) e c.before.before.before.before.before.before.close_up.new.1.0 (ap ended_as c.before.before.before.before.before.before.before.before.enum_told.given.1) c.before.before.before.before.before.before.close_up.ensures
+    ∙ last-whole z.v z.store-1.now (sized a) e c.before.before.before.before.before.before.close_up.new.1.0 (ap ended_as c.before.before.before.before.before.before.before.before.enum_told-1.given.1) c.before.before.before.before.before.before.close_up.ensures
 
-returns-2 : tie.Need-returns-2
+returns-2 : tie.Need-returns-in-Dropped
 returns-2 c =
     let a = c.before.before.before.before.before.before in
     let z = (start a).args in
-    let e = a.end-of-last.ensures ∙ ap (last_ended z.v.header) a.before.part.ensures in
-    c.before.before.drop-frame.ensures z.store.now ∙ last-ends z.v z.store.now (sized a) e dropped (ap ended_as c.before.before.before.before.enum-told2.given.1)
+    let e = a.end_of_last-end.ensures ∙ ap (last_ended z.v.header) a.before.part.ensures in
+    c.before.before.drop_frame.ensures z.store-1.now ∙ last-ends z.v z.store-1.now (sized a) e dropped (ap ended_as c.before.before.before.before.enum_told-in-Dropped-1.given.1)
 
-returns-3 : tie.Need-returns-3
+returns-3 : tie.Need-returns-in-Refused
 returns-3 c =
     let a = c.before.before.before.before.before.before.before in
     let z = (start a).args in
-    let e = a.end-of-last.ensures ∙ ap (last_ended z.v.header) a.before.part.ensures in
-    c.before.before.refuse-frame.ensures ∙ last-ends z.v z.store.now (sized a) e (refused_for _) (ap ended_as c.before.before.before.before.before.end.given.1)
+    let e = a.end_of_last-end.ensures ∙ ap (last_ended z.v.header) a.before.part.ensures in
+    c.before.before.refuse_frame.ensures ∙ last-ends z.v z.store-1.now (sized a) e (refused_for _) (ap ended_as c.before.before.before.before.before.end-1.given.1)
 
 pub after_last_part_spec : {M : Type 1} → statement M
 after_last_part_spec =
@@ -42,7 +42,7 @@ after_last_part_spec =
     (tie.spec
     (λ c. search rules)
     (λ c κs. search rules)
-    (λ c. omega (arith, last-size c.before.before.before.before.args.v.header c.before.before.before.before.requires.1, c.last-part-length.ensures.0))
+    (λ c. omega (arith, last-size c.before.before.before.before.args.v.header c.before.before.before.before.requires.1, c.last_part_length.ensures.0))
     (λ c κs. search rules)
     (λ c κs. search rules)
     (λ c. search rules)

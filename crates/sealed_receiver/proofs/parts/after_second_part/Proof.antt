@@ -5,21 +5,21 @@ use Rattle.secure.proofs.Bounds.{rest-beyond, pads-fit}
 use Rattle.sealed_receiver.proofs.parts.after_second_part.Statement.{statement}
 use Rattle.sealed_receiver.proofs.parts.after_second_part.Tie as tie
 
-returns : tie.Need-returns
+returns : tie.Need-returns-then-all_zero
 returns c =
     let g = c.before.before.before.before.before.before.before.before.before.before.before.before.before.before.before.args in
-    let s = g.store.now in
-    let pad = c.before.before.before.before.before.before.before.before.before.before.before.before.padding.result in
-    let z : all_zero (take pad (drop g.v.header.s1.len s)) ≡ true = sym (c.before.before.before.before.before.before.before.before.before.all-zero.ensures ∙ ap all_zero c.before.before.before.before.before.before.before.before.before.before.part.ensures) ∙ c.before.before.before.before.before.before.before.before.if1.true in
-    c.before.before.begin-last.ensures ∙ rest-padded g.v s pad c.before.before.before.before.before.before.before.before.before.before.before.before.padding.ensures.0 c.before.before.before.before.before.before.before.before.before.before.before.before.before.before.before.requires.2 c.before.before.before.before.before.before.before.before.before.before.before.before.before.before.before.requires.0 z c.before.before.before.before.before.before.put-zeros.new.0 c.before.before.before.before.before.before.put-zeros.ensures
+    let s = g.store-1.now in
+    let pad = c.before.before.before.before.before.before.before.before.before.before.before.before.padding-pad.result in
+    let z : all_zero (take pad (drop g.v.header.s1.len s)) ≡ true = sym (c.before.before.before.before.before.before.before.before.before.all_zero.ensures ∙ ap all_zero c.before.before.before.before.before.before.before.before.before.before.part.ensures) ∙ c.before.before.before.before.before.before.before.before.if-all_zero.true in
+    c.before.before.begin_last.ensures ∙ rest-padded g.v s pad c.before.before.before.before.before.before.before.before.before.before.before.before.padding-pad.ensures.0 c.before.before.before.before.before.before.before.before.before.before.before.before.before.before.before.requires.2 c.before.before.before.before.before.before.before.before.before.before.before.before.before.before.before.requires.0 z c.before.before.before.before.before.before.put_zeros.new.0 c.before.before.before.before.before.before.put_zeros.ensures
 
-returns-2 : tie.Need-returns-2
+returns-2 : tie.Need-returns
 returns-2 c =
     let g = c.before.before.before.before.before.before.before.before.before.before.before.args in
-    let s = g.store.now in
-    let pad = c.before.before.before.before.before.before.before.before.padding.result in
-    let z : all_zero (take pad (drop g.v.header.s1.len s)) ≡ false = sym (c.before.before.before.before.before.all-zero.ensures ∙ ap all_zero c.before.before.before.before.before.before.part.ensures) ∙ c.before.before.before.before.if1.false in
-    c.before.before.refuse-frame.ensures ∙ rest-unpadded g.v s pad c.before.before.before.before.before.before.before.before.padding.ensures.0 c.before.before.before.before.before.before.before.before.before.before.before.requires.2 z
+    let s = g.store-1.now in
+    let pad = c.before.before.before.before.before.before.before.before.padding-pad.result in
+    let z : all_zero (take pad (drop g.v.header.s1.len s)) ≡ false = sym (c.before.before.before.before.before.all_zero.ensures ∙ ap all_zero c.before.before.before.before.before.before.part.ensures) ∙ c.before.before.before.before.if-all_zero.false in
+    c.before.before.refuse_frame.ensures ∙ rest-unpadded g.v s pad c.before.before.before.before.before.before.before.before.padding-pad.ensures.0 c.before.before.before.before.before.before.before.before.before.before.before.requires.2 z
 
 pub after_second_part_spec : {M : Type 1} → statement M
 after_second_part_spec =
@@ -31,8 +31,8 @@ after_second_part_spec =
     (λ c κs. search rules)
     (λ c κs. search rules)
     (λ c. search rules)
-    (λ c. omega (arith, pads-fit c.before.before.before.before.before.before.before.args.v.header c.before.before.before.before.before.before.before.requires.2 c.before.before.before.before.padding.result c.before.before.before.before.padding.ensures.0, c.before.before.before.before.before.before.before.requires.0))
-    (λ c. omega (arith, pads-fit c.before.before.before.before.before.before.before.args.v.header c.before.before.before.before.before.before.before.requires.2 c.before.before.before.before.padding.result c.before.before.before.before.padding.ensures.0, c.before.before.before.before.before.before.before.requires.0))
+    (λ c. omega (arith, pads-fit c.before.before.before.before.before.before.before.args.v.header c.before.before.before.before.before.before.before.requires.2 c.before.before.before.before.padding-pad.result c.before.before.before.before.padding-pad.ensures.0, c.before.before.before.before.before.before.before.requires.0))
+    (λ c. omega (arith, pads-fit c.before.before.before.before.before.before.before.args.v.header c.before.before.before.before.before.before.before.requires.2 c.before.before.before.before.padding-pad.result c.before.before.before.before.padding-pad.ensures.0, c.before.before.before.before.before.before.before.requires.0))
     (λ c. search rules)
     (λ c κs. search rules)
     (λ c κs. search rules)

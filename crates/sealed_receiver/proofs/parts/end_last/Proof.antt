@@ -9,37 +9,37 @@ use Rattle.sealed_receiver.proofs.parts.end_last.Statement.{statement}
 use Rattle.sealed_receiver.proofs.parts.end_last.Tie as tie
 
 -- where the part's length is known
-abbrev start : tie.After-last-part-length → tie.Start
+abbrev start : tie.After-last_part_length-n → tie.Start
 start a = a.before.before.before.before.before
 
-region : (a : tie.After-last-part-length)
-    → (let h = (start a).args.v.header in Region h (start a).args.store.now h.s1.len a.last-part-length.result (last_part_length h) (last_part h - 16))
-region a = last-region (start a).args.v (start a).args.store.now a.last-part-length.ensures.0 (start a).requires.some (start a).requires.fits
+region : (a : tie.After-last_part_length-n)
+    → (let h = (start a).args.v.header in Region h (start a).args.store.now h.s1.len a.last_part_length-n.result (last_part_length h) (last_part h - 16))
+region a = last-region (start a).args.v (start a).args.store.now a.last_part_length-n.ensures.0 (start a).requires.some (start a).requires.fits
 
-behind-last-requires : tie.Need-after-last-part-requires
+behind-last-requires : tie.Need-after_last_part-requires
 behind-last-requires c κs =
     let a = c.before.before.before.before.before.before.before.before in
     let h = (start a).args.v.header in
-    let o = c.before.before.before.before.before.before.open-part in
-    let e : c.before.with-opened.result.header ≡ h = ap (λ (k : Known). k.header) c.before.with-opened.ensures in
+    let o = c.before.before.before.before.before.before.open_part-opened in
+    let e : c.before.with_opened.result.header ≡ h = ap (λ (k : Known). k.header) c.before.with_opened.ensures in
     (omega (arith, ap needed e, left-length (region a) o.new.1.0 o.auto.1.0, (start a).requires.fits), ap no_last_part e ∙ there (no_last_part h) (last_part h) (start a).requires.some)
 
-returns : tie.Need-returns
+returns : tie.Need-returns-in-Fine
 returns c =
     λ b.
     let a = c.before.before.before.before.before.before.before.before.before.before.before in
-    let o = c.before.before.before.before.before.before.before.before.before.open-part in
-    let j = sym o.ensures.judged ∙ ap judged_by c.before.before.before.before.before.enum_told.given.1 in
-    (rw c.before.before.before.before.with-opened.ensures at c.before.before.after-last-part.ensures)
+    let o = c.before.before.before.before.before.before.before.before.before.open_part-opened in
+    let j = sym o.ensures.judged ∙ ap judged_by c.before.before.before.before.before.enum_told-1.given.1 in
+    (rw c.before.before.before.before.with_opened.ensures at c.before.before.after_last_part.ensures)
     ∙ last-opened (start a).args.v (start a).args.store.now (region a) o.new.1.0 o.auto.1.0 b j (o.ensures.text j)
 
-returns-2 : tie.Need-returns-2
+returns-2 : tie.Need-returns-in-Refused
 returns-2 c =
     λ b.
     let a = c.before.before.before.before.before.before.before.before.before.before.before in
-    let o = c.before.before.before.before.before.before.before.before.before.open-part in
-    c.before.before.refuse-frame.ensures
-    ∙ last-refused (start a).args.v (start a).args.store.now (region a) o.new.1.0 o.auto.1.0 b _ (sym o.ensures.judged ∙ ap judged_by c.before.before.before.before.before.opened.given.1)
+    let o = c.before.before.before.before.before.before.before.before.before.open_part-opened in
+    c.before.before.refuse_frame.ensures
+    ∙ last-refused (start a).args.v (start a).args.store.now (region a) o.new.1.0 o.auto.1.0 b _ (sym o.ensures.judged ∙ ap judged_by c.before.before.before.before.before.opened-1.given.1)
 
 pub end_last_spec : {M : Type 1} → statement M
 end_last_spec =
@@ -51,7 +51,7 @@ end_last_spec =
     (λ c. search rules)
     (λ c. search rules)
     (λ c. omega (arith, region c))
-    (λ c κs. (let g = region c.before in let l = lent-size g in (omega arith, omega (arith, c.before.last-part-length.ensures.1))))
+    (λ c κs. (let g = region c.before in let l = lent-size g in (omega arith, omega (arith, c.before.last_part_length-n.ensures.1))))
     (λ c. search rules)
     (λ c κs. search rules)
     behind-last-requires

@@ -4,24 +4,24 @@ use Rattle.buffer.proofs.Splices.{moved_more, moved_all}
 use Rattle.sealed_receiver.proofs.parts.move_down.Statement.{statement}
 use Rattle.sealed_receiver.proofs.parts.move_down.Tie as tie
 
-abbrev invariant-loop : tie.invariant-loop
+abbrev invariant-loop : tie.invariant-loop-i
 invariant-loop store₀ to from n i₀ store i = (i ≤ n) × (length store ≡ length store₀) × (store ≡ paste store₀ to (drop from store₀) i)
 
-abbrev decreases-loop : tie.decreases-loop
+abbrev decreases-loop : tie.decreases-loop-i
 decreases-loop store₀ to from n i₀ store i = n - i
 
-loop-again : tie.Need-loop-preserved invariant-loop decreases-loop
+loop-again : tie.Need-loop-i-preserved invariant-loop decreases-loop
 loop-again c =
     let g = c.before.before.before.args in
-    let s = c.before.before.loop.store in
-    let i = c.before.before.loop.i in
-    (omega arith, length-set s (g.to + i) (get_or s (g.from + i) 0) ∙ c.before.before.loop.invariant.1, moved_more g.store.now g.to g.from g.n c.before.before.before.requires.0 c.before.before.before.requires.1 s i (omega arith) c.before.before.loop.invariant.2)
+    let s = c.before.before.loop-i.store in
+    let i = c.before.before.loop-i.i in
+    (omega arith, length-set s (g.to + i) (get_or s (g.from + i) 0) ∙ c.before.before.loop-i.invariant.1, moved_more g.store.now g.to g.from g.n c.before.before.before.requires.0 c.before.before.before.requires.1 s i (omega arith) c.before.before.loop-i.invariant.2)
 
 returns : tie.Need-returns invariant-loop decreases-loop
 returns c =
     let g = c.before.before.args in
-    let e : c.before.loop.i ≡ g.n = omega arith in
-    c.before.loop.invariant.2 ∙ ap (paste g.store.now g.to (drop g.from g.store.now)) e ∙ moved_all g.store.now g.to g.from g.n c.before.before.requires.0 c.before.before.requires.1
+    let e : c.before.loop-i.i ≡ g.n = omega arith in
+    c.before.loop-i.invariant.2 ∙ ap (paste g.store.now g.to (drop g.from g.store.now)) e ∙ moved_all g.store.now g.to g.from g.n c.before.before.requires.0 c.before.before.requires.1
 
 pub move_down_spec : {M : Type 1} → statement M
 move_down_spec =
@@ -30,12 +30,12 @@ move_down_spec =
     invariant-loop
     decreases-loop
     (λ c. (omega arith, refl, paste-zero c.args.store.now c.args.to (drop c.args.from c.args.store.now)))
-    (λ c. omega (arith, c.before.before.requires.1, c.before.before.well-formed.0))
-    (λ c. omega (arith, c.before.before.before.requires.1, c.before.before.loop.invariant.1))
-    (λ c. omega (arith, c.before.before.before.requires, c.before.before.before.well-formed.0))
-    (λ c. omega (arith, c.before.before.before.requires, c.before.before.loop.invariant.1))
+    (λ c. omega (arith, c.before.before.requires.1, c.before.before.well_formed.0))
+    (λ c. omega (arith, c.before.before.before.requires.1, c.before.before.loop-i.invariant.1))
+    (λ c. omega (arith, c.before.before.before.requires, c.before.before.before.well_formed.0))
+    (λ c. omega (arith, c.before.before.before.requires, c.before.before.loop-i.invariant.1))
     (λ c. omega arith)
     (λ c. omega arith)
     loop-again
-    (λ c. c.before.loop.invariant.1)
+    (λ c. c.before.loop-i.invariant.1)
     returns)

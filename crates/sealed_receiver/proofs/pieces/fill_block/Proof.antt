@@ -3,19 +3,19 @@ use Rattle.std.proofs.Common.{◌≡◌, length, arith, rules}
 use Rattle.sealed_receiver.proofs.pieces.fill_block.Statement.{statement}
 use Rattle.sealed_receiver.proofs.pieces.fill_block.Tie as tie
 
-returns : tie.Need-returns
+returns : tie.Need-returns-then-first
 returns c =
     let z = c.before.before.before.before.before in
-    let first = c.before.before.before.if1.true in
-    let n : length z.args.block ≡ 96 = z.well-formed.1.0.1.0.1 in
+    let first = c.before.before.before.if-first.true in
+    let n : length z.args.block ≡ 96 = z.well_formed.1.0.1.0.1 in
     rw first (array_put z.args.block z.args.bytes.now c.before.put.new.0 z.args.at 96 n c.before.put.ensures (z.requires first))
 
 pub fill_block_spec : {M : Type 1} → statement M
 fill_block_spec =
     tie.close
     (tie.spec
-    (λ c. omega (arith, c.before.before.requires c.if1.true))
-    (λ c. omega (arith, c.before.before.requires c.if1.true))
+    (λ c. omega (arith, c.before.before.requires c.if-first.true))
+    (λ c. omega (arith, c.before.before.requires c.if-first.true))
     (λ c. search rules)
     (λ c κs. search rules)
     returns

@@ -5,15 +5,15 @@ use Rattle.sealed_receiver.proofs.pieces.fill_store.Statement.{statement}
 use Rattle.sealed_receiver.proofs.pieces.fill_store.Tie as tie
 
 sub-put : tie.Need-overflow-sub-put
-sub-put c = omega (arith, c.before.before.before.requires c.if1.true)
+sub-put c = omega (arith, c.before.before.before.requires c.if-later.true)
 
 part-put-start : tie.Need-slice-bounds-put-start
-part-put-start c = omega (arith, c.before.before.before.requires c.if1.true)
+part-put-start c = omega (arith, c.before.before.before.requires c.if-later.true)
 
-returns : tie.Need-returns
+returns : tie.Need-returns-then-later
 returns c =
     let z = c.before.before.before.before.before.before.before in
-    let later = c.before.before.before.before.if1.true in
+    let later = c.before.before.before.before.if-later.true in
     let xs = z.args.bytes.now in
     let s = z.args.store.now in
     let n = z.args.at in
@@ -22,8 +22,8 @@ returns c =
     let e = c.before.before.put.ensures ∙ overwrite-fits xs (rest s n) (omega arith) in
     rw later (placed s xs c.before.before.put.new.0 n e ∙ sym (sets-eq xs s n k))
 
-returns-2 : tie.Need-returns-2
-returns-2 c = rw c.if1.false
+returns-2 : tie.Need-returns-else-later
+returns-2 c = rw c.if-later.false
 
 pub fill_store_spec : {M : Type 1} → statement M
 fill_store_spec =

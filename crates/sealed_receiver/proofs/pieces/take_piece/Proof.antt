@@ -6,33 +6,33 @@ use Rattle.sealed_receiver.proofs.FeedLoop.{Midway, Turn, turn, reported, finish
 use Rattle.sealed_receiver.proofs.pieces.take_piece.Statement.{statement}
 use Rattle.sealed_receiver.proofs.pieces.take_piece.Tie as tie
 
-abbrev invariant-loop : tie.invariant-loop
+abbrev invariant-loop : tie.invariant-loop-at
 invariant-loop piece store₀ st₀ at₀ store st at = Midway piece store₀ st₀ store st at
 
-abbrev decreases-loop : tie.decreases-loop
+abbrev decreases-loop : tie.decreases-loop-at
 decreases-loop piece store₀ st₀ at₀ store st at = length piece - at
 
 -- a turn of the loop, where its step is done
 abbrev Stepped : Type 0
-Stepped = tie.After-step invariant-loop decreases-loop
+Stepped = tie.After-step-o invariant-loop decreases-loop
 
 abbrev start : Stepped → tie.Start invariant-loop decreases-loop
 start a = a.before.before.before.before.before.before.before
 
 done : (a : Stepped)
-    → (let z = (start a).args in let m = a.before.before.before.before.loop in
-    Turn z.piece.now z.store.now z.state m.store m.st m.at a.step.result a.step.last.1.1.0)
-done a = turn a.before.before.before.before.loop.inv a.before.before.before.loop-test.taken a.step.ensures a.step.kept.1.1.0
+    → (let z = (start a).args in let m = a.before.before.before.before.loop-at in
+    Turn z.piece.now z.store-1.now z.state m.store-1 m.st-1 m.at a.step-o.result a.step-o.last.1.1.0)
+done a = turn a.before.before.before.before.loop-at.inv a.before.before.before.loop-at-test.taken a.step-o.ensures a.step-o.kept.1.1.0
 
-returns : tie.Need-returns invariant-loop decreases-loop
+returns : tie.Need-returns-then-not-is_more invariant-loop decreases-loop
 returns c =
     reported (done c.before.before.before.before.before.before)
-    (sym c.before.is-more.ensures ∙ not-true c.before.is-more.result c.if1.true)
+    (sym c.before.is_more.ensures ∙ not-true c.before.is_more.result c.if-not-is_more.true)
 
-loop-again : tie.Need-loop-preserved invariant-loop decreases-loop
+loop-again : tie.Need-loop-at-preserved invariant-loop decreases-loop
 loop-again c =
     again (done c.before.before.before.before.before.before)
-    (sym c.before.is-more.ensures ∙ not-false c.before.is-more.result c.if1.false)
+    (sym c.before.is_more.ensures ∙ not-false c.before.is_more.result c.if-not-is_more.false)
 
 pub take_piece_spec : {M : Type 1} → statement M
 take_piece_spec =
@@ -44,12 +44,12 @@ take_piece_spec =
     (λ c. search rules)
     (λ c. search rules)
     (λ c. search rules)
-    (λ c κs. c.before.before.before.loop.invariant.running)
-    (λ c. (let a = c.before.before.before in omega (arith, within (done a), (start a).well-formed.1.0.0)))
+    (λ c κs. c.before.before.before.loop-at.invariant.running)
+    (λ c. (let a = c.before.before.before in omega (arith, within (done a), (start a).well_formed.1.0.0)))
     (λ c κs. search rules)
     (λ c. (let t = done c.before.before.before.before.before.before in t.kept ∙ t.midway.same))
     returns
     (λ c. (let t = done c.before.before.before.before.before.before in omega (arith, within t, progress t)))
     loop-again
-    (λ c. c.before.loop.invariant.same)
-    (λ c. finished c.before.loop.invariant c.loop-test.false))
+    (λ c. c.before.loop-at.invariant.same)
+    (λ c. finished c.before.loop-at.invariant c.loop-at-test.false))

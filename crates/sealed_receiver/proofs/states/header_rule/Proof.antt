@@ -2,11 +2,11 @@ use Rattle.std.proofs.Common.{sym, ◌∙◌, rules}
 use Rattle.sealed_receiver.proofs.states.header_rule.Statement.{statement}
 use Rattle.sealed_receiver.proofs.states.header_rule.Tie as tie
 
-returns : tie.Need-returns
-returns c = rw (sym c.before.before.in_frame.ensures ∙ c.before.if1.true) c.header-is-fine.ensures
+returns : tie.Need-returns-then-in_frame
+returns c = rw (sym c.before.before.in_frame.ensures ∙ c.before.if-in_frame.true) c.header_is_fine.ensures
 
-returns-2 : tie.Need-returns-2
-returns-2 c = rw (sym c.before.before.in_frame.ensures ∙ c.before.if1.false) c.is-no-header.ensures
+returns-2 : tie.Need-returns
+returns-2 c = rw (sym c.before.before.in_frame.ensures ∙ c.before.if-in_frame.false) c.is_no_header.ensures
 
 pub header_rule_spec : {M : Type 1} → statement M
 header_rule_spec =

@@ -2,11 +2,11 @@ use Rattle.std.proofs.Common.{sym, ◌∙◌, rules}
 use Rattle.sealed_receiver.proofs.states.receiving_rule.Statement.{statement}
 use Rattle.sealed_receiver.proofs.states.receiving_rule.Tie as tie
 
-returns : tie.Need-returns
-returns c = rw (sym c.before.before.is-refused.ensures ∙ c.before.if1.true) c.is-no-receiving.ensures
+returns : tie.Need-returns-then-is_refused
+returns c = rw (sym c.before.before.is_refused.ensures ∙ c.before.if-is_refused.true) c.is_no_receiving.ensures
 
-returns-2 : tie.Need-returns-2
-returns-2 c = rw (sym c.before.before.before.before.is-refused.ensures ∙ c.before.before.before.if1.false) (cc)
+returns-2 : tie.Need-returns
+returns-2 c = rw (sym c.before.before.before.before.is_refused.ensures ∙ c.before.before.before.if-is_refused.false) (cc)
 
 pub receiving_rule_spec : {M : Type 1} → statement M
 receiving_rule_spec =

@@ -2,11 +2,11 @@ use Rattle.std.proofs.Common.{sym, ◌∙◌, rules}
 use Rattle.sealed_receiver.proofs.states.refusal_rule.Statement.{statement}
 use Rattle.sealed_receiver.proofs.states.refusal_rule.Tie as tie
 
-returns : tie.Need-returns
-returns c = rw (sym c.before.before.is-refused.ensures ∙ c.before.if1.true) c.is-given.ensures
+returns : tie.Need-returns-then-is_refused
+returns c = rw (sym c.before.before.is_refused.ensures ∙ c.before.if-is_refused.true) c.is_given.ensures
 
-returns-2 : tie.Need-returns-2
-returns-2 c = rw (sym c.before.before.is-refused.ensures ∙ c.before.if1.false) c.is-no-refusal.ensures
+returns-2 : tie.Need-returns
+returns-2 c = rw (sym c.before.before.is_refused.ensures ∙ c.before.if-is_refused.false) c.is_no_refusal.ensures
 
 pub refusal_rule_spec : {M : Type 1} → statement M
 refusal_rule_spec =
