@@ -3,7 +3,7 @@ use Rattle.abi.proofs.abi_refused.Statement.{statement}
 use Rattle.abi.proofs.abi_refused.Tie as tie
 
 returns : tie.Need-returns
-returns c = rw (c.refusal_words.ensures, c.before.numbers_of.ensures)
+returns c = rw (c.refusal_words.ensures, c.numbers_of.ensures)
 
 pub abi_refused_spec : {M : Type 1} → statement M
 abi_refused_spec =

@@ -3,10 +3,10 @@ use Rattle.abi.proofs.written_of.Statement.{statement}
 use Rattle.abi.proofs.written_of.Tie as tie
 
 returns : tie.Need-returns-in-Wrote
-returns c = rw c.before.before.r-1.given.1 c.wrote.ensures
+returns c = rw c.in-Wrote.is c.wrote.ensures
 
 returns-2 : tie.Need-returns-in-Refused
-returns-2 c = rw c.before.before.r-in-Refused-1.given.1 c.abi_refused.ensures
+returns-2 c = rw c.in-Refused.is c.abi_refused.ensures
 
 pub written_of_spec : {M : Type 1} → statement M
 written_of_spec =

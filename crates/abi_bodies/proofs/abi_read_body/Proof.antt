@@ -11,4 +11,4 @@ abi_read_body_spec =
     (λ c κs. search rules)
     (λ c κs. search rules)
     (λ c. search rules)
-    (λ c. abi-reads _ _ _ _ _ c.before.read_any.ensures c.body_words-ws.ensures refl))
+    (λ c. abi-reads _ _ _ _ _ c.read_any.ensures c.body_words-ws.ensures refl))

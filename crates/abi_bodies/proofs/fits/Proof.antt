@@ -9,7 +9,7 @@ fits_spec =
     tie.close
     (tie.spec
     (λ c. rw c.if-kind.true)
-    (λ c. rw (c.before.if-kind.false, c.if-kind-2.true))
-    (λ c. rw (c.before.before.if-kind.false, c.before.if-kind-2.false, eq-eqb _ _ c.if-kind-eq3.true))
-    (λ c. rw (c.before.before.before.if-kind.false, c.before.before.if-kind-2.false, ne_eqb _ _ c.before.if-kind-eq3.false, eq-eqb _ _ c.if-kind-eq5.true))
-    (λ c. rw (c.before.before.before.if-kind.false, c.before.before.if-kind-2.false, ne_eqb _ _ c.before.if-kind-eq3.false, ne_eqb _ _ c.if-kind-eq5.false)))
+    (λ c. rw (c.if-kind.false, c.if-kind-2.true))
+    (λ c. rw (c.if-kind.false, c.if-kind-2.false, eq-eqb _ _ c.if-kind-eq3.true))
+    (λ c. rw (c.if-kind.false, c.if-kind-2.false, ne_eqb _ _ c.if-kind-eq3.false, eq-eqb _ _ c.if-kind-eq5.true))
+    (λ c. rw (c.if-kind.false, c.if-kind-2.false, ne_eqb _ _ c.if-kind-eq3.false, ne_eqb _ _ c.if-kind-eq5.false)))

@@ -11,4 +11,4 @@ read_any_spec =
     (λ c. rw (lt-leb _ _ c.if-tag-gt255.true))
     (λ c. search rules)
     (λ c κs. search rules)
-    (λ c. read-words _ _ _ c.before.if-tag-gt255.false c.read.ensures))
+    (λ c. read-words _ _ _ c.if-tag-gt255.false c.read.ensures))

@@ -12,4 +12,4 @@ request_of_spec =
     (λ c κs. search rules)
     (λ c κs. search rules)
     (λ c κs. search rules)
-    (λ c. rw (c.request_with.ensures, c.before.before.ident_at.ensures, c.before.reconnect_at.ensures)))
+    (λ c. rw (c.request_with.ensures, c.ident_at.ensures, c.reconnect_at.ensures)))

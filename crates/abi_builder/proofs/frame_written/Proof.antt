@@ -7,15 +7,15 @@ use Rattle.abi_builder.proofs.frame_written.Tie as tie
 
 returns : tie.Need-returns-then-not-header_fits
 returns c =
-    let f = c.before.before.header_fits in
-    frame-beyond _ _ _ _ _ _ _ (sym f.ensures ∙ not-true f.result c.before.if-not-header_fits.true) c.abi_refused.ensures
+    let f = c.header_fits in
+    frame-beyond _ _ _ _ _ _ _ (sym f.ensures ∙ not-true f.result c.if-not-header_fits.true) c.abi_refused.ensures
 
 returns-2 : tie.Need-returns
 returns-2 c =
-    let b = c.before.before.before in
-    let k = b.before.before.before.before in
-    let f = k.before.header_fits in
-    frame-written _ _ _ _ _ _ b.before.before.revision_by_number.result b.before.header_of.result b.build_frame.result _ _ (sym f.ensures ∙ not-false f.result k.if-not-header_fits.false) b.before.before.revision_by_number.ensures b.before.header_of.ensures b.build_frame.ensures c.written_of_lem.ensures
+    let b = c in
+    let k = b in
+    let f = k.header_fits in
+    frame-written _ _ _ _ _ _ b.revision_by_number.result b.header_of.result b.build_frame.result _ _ (sym f.ensures ∙ not-false f.result k.if-not-header_fits.false) b.revision_by_number.ensures b.header_of.ensures b.build_frame.ensures c.written_of_lem.ensures
 
 pub frame_written_spec : {M : Type 1} → statement M
 frame_written_spec =

@@ -13,36 +13,36 @@ use Rattle.abi_connection.proofs.abi_receive.Tie as tie
 
 returns : tie.Need-returns-then-not-is_usable
 returns c =
-    let z = c.before.before.before.before.before.before.before.before.before.args in
-    let u = c.before.before.is_usable in
-    let p = abi_connection z.link-1.now z.numbers.now z.block.now z.sealed.now z.first.now z.key.now z.nonce.now in
+    let z = c.args in
+    let u = c.is_usable in
+    let p = abi_connection z.link.now z.numbers.now z.block.now z.sealed.now z.first.now z.key.now z.nonce.now in
     record {
       kind = sym (ap (λ (l : List ℕ). get_or l 0 0) c.contradicts.ensures);
-      answered = unusable p z.store-1.now z.piece.now _ (sym u.ensures ∙ not-true u.result c.before.if-not-is_usable.true) c.contradicts.ensures;
+      answered = unusable p z.store.now z.piece.now _ (sym u.ensures ∙ not-true u.result c.if-not-is_usable.true) c.contradicts.ensures;
     }
 
 returns-2 : tie.Need-returns-then-mode-eq0
 returns-2 c =
-    let z = c.before.before.before.before.before.before.before.before.before.before.before.before.before.before.before.before.before.before.before.args in
-    let u = c.before.before.before.before.before.before.before.before.before.before.before.before.is_usable in
-    let o = c.before.before.before.before.before.abi_receive-kind in
+    let z = c.args in
+    let u = c.is_usable in
+    let o = c.abi_receive-kind in
     let x = abi_secure z.sealed.now z.first.now z.key.now z.nonce.now in
     let y = abi_state z.numbers.now z.block.now in
-    let e : get_or z.link-1.now 0 0 ≡ 0 = c.before.before.before.before.before.before.before.before.before.before.if-mode-eq0.true in
-    let p = connected (get_or z.link-1.now 0 0) (get_or z.link-1.now 1 0) y x in
-    let h = is-usable p (sym u.ensures ∙ not-false u.result c.before.before.before.before.before.before.before.before.before.before.before.if-not-is_usable.false) in
-    crc-given z.link-1.now y x z.store-1.now z.piece.now _ _ _ _ e h o.ensures c.before.ready_after.ensures
+    let e : get_or z.link.now 0 0 ≡ 0 = c.if-mode-eq0.true in
+    let p = connected (get_or z.link.now 0 0) (get_or z.link.now 1 0) y x in
+    let h = is-usable p (sym u.ensures ∙ not-false u.result c.if-not-is_usable.false) in
+    crc-given z.link.now y x z.store.now z.piece.now _ _ _ _ e h o.ensures c.ready_after.ensures
 
 returns-3 : tie.Need-returns
 returns-3 c =
-    let z = c.before.before.before.before.before.before.before.before.before.before.before.before.before.before.before.before.before.before.args in
-    let u = c.before.before.before.before.before.before.before.before.before.before.before.is_usable in
-    let o = c.before.before.secure_receive in
+    let z = c.args in
+    let u = c.is_usable in
+    let o = c.secure_receive in
     let x = abi_secure z.sealed.now z.first.now z.key.now z.nonce.now in
     let y = abi_state z.numbers.now z.block.now in
-    let p = connected (get_or z.link-1.now 0 0) (get_or z.link-1.now 1 0) y x in
-    let h = is-usable p (sym u.ensures ∙ not-false u.result c.before.before.before.before.before.before.before.before.before.before.if-not-is_usable.false) in
-    secure_given z.link-1.now y x z.store-1.now z.piece.now _ _ _ c.before.before.before.before.before.before.before.before.before.if-mode-eq0.false h o.ensures
+    let p = connected (get_or z.link.now 0 0) (get_or z.link.now 1 0) y x in
+    let h = is-usable p (sym u.ensures ∙ not-false u.result c.if-not-is_usable.false) in
+    secure_given z.link.now y x z.store.now z.piece.now _ _ _ c.if-mode-eq0.false h o.ensures
 
 pub abi_receive_spec : {M : Type 1} → statement M
 abi_receive_spec =

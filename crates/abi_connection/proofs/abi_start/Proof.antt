@@ -7,10 +7,10 @@ use Rattle.abi_connection.proofs.abi_start.Tie as tie
 
 returns : tie.Need-returns
 returns c =
-    let o = c.before.before.before.before.before.before.before.before.before.before.before.before.before.start-o in
+    let o = c.start-o in
     record {
       number = c.number_of_lem.ensures ∙ ap number_of o.ensures.judgement;
-      state = begun-words _ o.result.state _ _ o.ensures.state c.before.before.before.before.before.before.state_numbers.ensures c.before.before.before.before.before.secure_words-w.ensures;
+      state = begun-words _ o.result.state _ _ o.ensures.state c.state_numbers.ensures c.secure_words-w.ensures;
     }
 
 pub abi_start_spec : {M : Type 1} → statement M

@@ -7,5 +7,5 @@ ready_after_spec =
     tie.close
     (tie.spec
     (λ c. simp c.if-kind.true)
-    (λ c. simp (c.before.if-kind.false, eq-eqb _ _ c.if-taken-eq0.true))
-    (λ c. simp (c.before.if-kind.false, ne_eqb _ _ c.if-taken-eq0.false)))
+    (λ c. simp (c.if-kind.false, eq-eqb _ _ c.if-taken-eq0.true))
+    (λ c. simp (c.if-kind.false, ne_eqb _ _ c.if-taken-eq0.false)))

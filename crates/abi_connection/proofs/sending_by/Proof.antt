@@ -10,5 +10,5 @@ sending_by_spec =
     (λ c κs. search rules)
     (λ c. search rules)
     (λ c κs. search rules)
-    (λ c. rw c.before.enum_told-1.given.1 c.fresh_sending.ensures)
+    (λ c. rw c.in-Fine.is c.fresh_sending.ensures)
     (λ c. search rules))

@@ -5,10 +5,10 @@ use Rattle.abi_delivery.proofs.abi_deliver.Tie as tie
 
 returns : tie.Need-returns
 returns c =
-    let r = c.before.before.before.before.before.before.before.before.before.abi_receive-kind in
+    let r = c.abi_receive-kind in
     record {
       received = r.ensures;
-      done = joined _ _ r.ensures.answered.tells c.before.before.before.request_by_words.ensures c.before.before.apply_words-d.ensures;
+      done = joined _ _ r.ensures.answered.tells c.request_by_words.ensures c.apply_words-d.ensures;
     }
 
 pub abi_deliver_spec : {M : Type 1} → statement M

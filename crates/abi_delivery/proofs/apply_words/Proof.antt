@@ -7,14 +7,14 @@ use Rattle.abi_delivery.proofs.apply_words.Tie as tie
 
 returns : tie.Need-returns-in-Nothing
 returns c =
-    let z = c.before.before.before.args in
+    let z = c.args in
     let h : length z.ws ≡ 2 = search rules in
-    nothing-done z.ws z.handles.now z.request h c.before.enum_told-1.given.1 c.no_effect.ensures
+    nothing-done z.ws z.handles.now z.request h c.in-Nothing.is c.no_effect.ensures
 
 returns-2 : tie.Need-returns-in_default
 returns-2 c =
-    let z = c.before.before.before.before.before.before.before.args in
-    something_done z.ws z.handles.now z.request c.before.before.before.before.session_of.ensures c.before.before.before.apply-d.ensures c.before.session_numbers.ensures c.effect_words.ensures
+    let z = c.args in
+    something_done z.ws z.handles.now z.request c.session_of.ensures c.apply-d.ensures c.session_numbers.ensures c.effect_words.ensures
 
 pub apply_words_spec : {M : Type 1} → statement M
 apply_words_spec =

@@ -13,5 +13,5 @@ effect_words_spec =
     (λ c. search rules)
     (λ c κs. search rules)
     (λ c. search rules)
-    (λ c. rw c.before.before.effect-1.given.1 c.answering.ensures)
+    (λ c. rw c.in-Malformed.is c.answering.ensures)
     (λ c. search rules))

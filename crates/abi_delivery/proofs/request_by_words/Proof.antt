@@ -6,8 +6,8 @@ use Rattle.abi_delivery.proofs.request_by_words.Tie as tie
 
 returns : tie.Need-returns-then-q-eq2
 returns c =
-    let z = c.before.before.before.before.before.before.before.before.before.before.before.before.before.before.before.args in
-    frame-requests z.q.now z.store.now c.before.before.before.before.before.before.before.before.before.before.before.before.if-q-eq2.true c.before.header_of.ensures c.request_by_frame.ensures
+    let z = c.args in
+    frame-requests z.q.now z.store.now c.if-q-eq2.true c.header_of.ensures c.request_by_frame.ensures
 
 pub request_by_words_spec : {M : Type 1} → statement M
 request_by_words_spec =
@@ -27,4 +27,4 @@ request_by_words_spec =
     (λ c κs. search rules)
     (λ c κs. search rules)
     returns
-    (λ c. others-request c.before.before.before.args.q.now c.before.before.before.args.store.now (ne_eqb _ _ c.if-q-eq2.false)))
+    (λ c. others-request c.args.q.now c.args.store.now (ne_eqb _ _ c.if-q-eq2.false)))

@@ -12,5 +12,5 @@ abi_pick_mode_spec =
     (λ c. search rules)
     (λ c. search rules)
     (λ c. search rules)
-    (λ c. ap mode_number (sym c.before.p-1.given.1 ∙ c.before.before.before.pick_mode-p.ensures))
-    (λ c. ap mode_number (sym c.enum_told-1.given.1 ∙ c.before.before.pick_mode-p.ensures)))
+    (λ c. ap mode_number (sym c.in-Mode.is ∙ c.pick_mode-p.ensures))
+    (λ c. ap mode_number (sym c.in-NoMode.is ∙ c.pick_mode-p.ensures)))

@@ -9,5 +9,5 @@ report_words_spec =
     (λ c. search rules)
     (λ c. search rules)
     (λ c κs. search rules)
-    (λ c. rw c.enum_told-1.given.1)
-    (λ c. rw c.before.before.report-1.given.1 c.refusal_words.ensures))
+    (λ c. rw c.in-Taken.is)
+    (λ c. rw c.in-Refused.is c.refusal_words.ensures))

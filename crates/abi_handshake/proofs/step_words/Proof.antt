@@ -8,4 +8,4 @@ step_words_spec =
     (tie.spec
     (λ c κs. search rules)
     (λ c κs. search rules)
-    (λ c. rw (c.before.state_number.ensures, c.report_words.ensures)))
+    (λ c. rw (c.state_number.ensures, c.report_words.ensures)))

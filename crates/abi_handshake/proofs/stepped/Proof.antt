@@ -8,22 +8,22 @@ use Rattle.abi_handshake.proofs.stepped.Tie as tie
 
 returns : tie.Need-returns-then-not-fits
 returns c =
-    let f = c.before.before.before.fits2 in
-    step-beyond _ _ _ _ _ (sym f.ensures ∙ not-true f.result c.before.before.if-not-fits.true) (c.refusal_words.ensures ∙ ap refusal_words c.before.numbers_of.ensures)
+    let f = c.fits2 in
+    step-beyond _ _ _ _ _ (sym f.ensures ∙ not-true f.result c.if-not-fits.true) (c.refusal_words.ensures ∙ ap refusal_words c.numbers_of.ensures)
 
 returns-2 : tie.Need-returns-then-at_server
 returns-2 c =
-    let s = c.before.before.before in
-    let k = s.before.before in
-    let f = k.before.fits2 in
-    rw s.before.if-at_server.true (step_words _ _ _ _ s.state_of_lem.result c.before.before.verdict_of.result c.before.server_step.result _ _ (sym f.ensures ∙ not-false f.result k.if-not-fits.false) s.state_of_lem.ensures c.before.before.verdict_of.ensures c.before.server_step.ensures c.step_words.ensures)
+    let s = c in
+    let k = s in
+    let f = k.fits2 in
+    rw s.if-at_server.true (step_words _ _ _ _ s.state_of_lem.result c.verdict_of.result c.server_step.result _ _ (sym f.ensures ∙ not-false f.result k.if-not-fits.false) s.state_of_lem.ensures c.verdict_of.ensures c.server_step.ensures c.step_words.ensures)
 
 returns-3 : tie.Need-returns
 returns-3 c =
-    let s = c.before.before.before in
-    let k = s.before.before in
-    let f = k.before.fits2 in
-    rw s.before.if-at_server.false (step_words _ _ _ _ s.state_of-2.result c.before.before.verdict_of-2.result c.before.client_step.result _ _ (sym f.ensures ∙ not-false f.result k.if-not-fits.false) s.state_of-2.ensures c.before.before.verdict_of-2.ensures c.before.client_step.ensures c.step_words-2.ensures)
+    let s = c in
+    let k = s in
+    let f = k.fits2 in
+    rw s.if-at_server.false (step_words _ _ _ _ s.state_of-2.result c.verdict_of-2.result c.client_step.result _ _ (sym f.ensures ∙ not-false f.result k.if-not-fits.false) s.state_of-2.ensures c.verdict_of-2.ensures c.client_step.ensures c.step_words-2.ensures)
 
 pub stepped_spec : {M : Type 1} → statement M
 stepped_spec =

@@ -12,47 +12,47 @@ use Rattle.abi_receiver.proofs.abi_receive.Tie as tie
 
 returns : tie.Need-returns-then-not-fits
 returns c =
-    let g = c.before.before.before.before.before.before.args in
-    let f = c.before.before.fits2 in
+    let g = c.args in
+    let f = c.fits2 in
     record {
       kind = rw c.contradicts.ensures;
-      answered = words-refused g.numbers.now g.block.now g.store-1.now g.piece.now _ (sym f.ensures ∙ not-true f.result c.before.if-not-fits.true) c.contradicts.ensures;
+      answered = words-refused g.numbers.now g.block.now g.store.now g.piece.now _ (sym f.ensures ∙ not-true f.result c.if-not-fits.true) c.contradicts.ensures;
     }
 
 returns-2 : tie.Need-returns-in-Partial
 unfolding words.state_of
 returns-2 c =
-    let g = c.before.before.before.before.before.before.before.before.before.before.before.before.before.before.before.before.before.args in
+    let g = c.args in
     let ws = g.numbers.now in
     let b = g.block.now in
-    let f = c.before.before.before.before.before.before.before.before.before.before.before.before.before.fits2 in
-    let e = sym f.ensures ∙ not-false f.result c.before.before.before.before.before.before.before.before.before.before.before.before.if-not-fits.false in
-    let k = c.before.before.before.before.before.before.before.before.before.before.stage_of.ensures in
-    let v = c.before.before.before.before.before.before.before.before.before.before.before.known_of-known.ensures.0 in
-    let d : state_at c.before.before.before.before.before.before.before.before.before.before.stage_of.result (get_or ws 18 0) b c.before.before.before.before.before.before.before.before.before.before.before.known_of-known.result ≡ words.state_of (abi_state ws b) = rw (k, v) in
-    let to = c.before.before.before.t-1.given.0.0 in
-    let b' = c.before.before.before.before.before.before.before.receive_in-t.new.1.1.1.0 in
-    let a = rw c.before.before.before.t-1.given.1 at c.before.before.before.before.before.before.before.receive_in-t.ensures in
-    let st = state_at c.before.before.before.before.before.before.before.before.before.before.stage_of.result to b' c.before.before.before.before.before.before.before.before.before.before.before.known_of-known.result in
-    let w : set ws 18 to ≡ words.state_numbers st = counted ws b' to c.before.before.before.before.before.before.before.before.before.before.before.known_of-known.ensures.1 e ∙ rw (k, v) in
+    let f = c.fits2 in
+    let e = sym f.ensures ∙ not-false f.result c.if-not-fits.false in
+    let k = c.stage_of.ensures in
+    let v = c.known_of-known.ensures.0 in
+    let d : state_at c.stage_of.result (get_or ws 18 0) b c.known_of-known.result ≡ words.state_of (abi_state ws b) = rw (k, v) in
+    let to = c.in-Partial.to in
+    let b' = c.receive_in-t.new.1.1.1.0 in
+    let a = rw c.in-Partial.is at c.receive_in-t.ensures in
+    let st = state_at c.stage_of.result to b' c.known_of-known.result in
+    let w : set ws 18 to ≡ words.state_numbers st = counted ws b' to c.known_of-known.ensures.1 e ∙ rw (k, v) in
     record {
       kind = rw c.report_words.ensures.words;
-      answered = answered (abi_state ws b) g.store-1.now g.piece.now (set ws 18 to) _ _ _ _ e d a (abi_of_lem st (set ws 18 to) (c.before.typed_known.ensures st.position.stage to b') w) c.report_words.ensures;
+      answered = answered (abi_state ws b) g.store.now g.piece.now (set ws 18 to) _ _ _ _ e d a (abi_of_lem st (set ws 18 to) (c.typed_known.ensures st.position.stage to b') w) c.report_words.ensures;
     }
 
 returns-3 : tie.Need-returns-in-Moved
 unfolding words.state_of
 returns-3 c =
-    let g = c.before.before.before.before.before.before.before.before.before.before.before.before.before.before.before.before.before.before.args in
+    let g = c.args in
     let ws = g.numbers.now in
     let b = g.block.now in
-    let f = c.before.before.before.before.before.before.before.before.before.before.before.before.before.before.fits2 in
-    let e = sym f.ensures ∙ not-false f.result c.before.before.before.before.before.before.before.before.before.before.before.before.before.if-not-fits.false in
-    let d : state_at c.before.before.before.before.before.before.before.before.before.before.before.stage_of.result (get_or ws 18 0) b c.before.before.before.before.before.before.before.before.before.before.before.before.known_of-known.result ≡ words.state_of (abi_state ws b) = rw (c.before.before.before.before.before.before.before.before.before.before.before.stage_of.ensures, c.before.before.before.before.before.before.before.before.before.before.before.before.known_of-known.ensures.0) in
-    let a = rw c.before.before.before.before.t-in-Moved-1.given.1 at c.before.before.before.before.before.before.before.before.receive_in-t.ensures in
+    let f = c.fits2 in
+    let e = sym f.ensures ∙ not-false f.result c.if-not-fits.false in
+    let d : state_at c.stage_of.result (get_or ws 18 0) b c.known_of-known.result ≡ words.state_of (abi_state ws b) = rw (c.stage_of.ensures, c.known_of-known.ensures.0) in
+    let a = rw c.in-Moved.is at c.receive_in-t.ensures in
     record {
       kind = refl;
-      answered = answered (abi_state ws b) g.store-1.now g.piece.now _ _ _ _ _ e d a (c.before.numbers_of.ensures c.before.before.before.before.before.before.before.before.receive_in-t.new.1.1.1.0) c.report_words-said.ensures;
+      answered = answered (abi_state ws b) g.store.now g.piece.now _ _ _ _ _ e d a (c.numbers_of.ensures c.receive_in-t.new.1.1.1.0) c.report_words-said.ensures;
     }
 
 pub abi_receive_spec : {M : Type 1} → statement M

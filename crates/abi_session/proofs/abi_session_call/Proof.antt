@@ -5,8 +5,8 @@ use Rattle.abi_session.proofs.abi_session_call.Tie as tie
 
 returns : tie.Need-returns
 returns c =
-    let o = c.before.before.before in
-    called-words o.before.before.session_of.ensures o.before.called.ensures o.outcome_words-t.ensures
+    let o = c in
+    called-words o.session_of.ensures o.called.ensures o.outcome_words-t.ensures
 
 pub abi_session_call_spec : {M : Type 1} → statement M
 abi_session_call_spec =

@@ -10,4 +10,4 @@ abi_session_held_spec =
     (λ c κs. search rules)
     (λ c κs. search rules)
     (λ c κs. search rules)
-    (λ c. found-words c.before.before.before.session_of.ensures c.before.before.held_at.ensures c.before.held_words-f.ensures))
+    (λ c. found-words c.session_of.ensures c.held_at.ensures c.held_words-f.ensures))

@@ -10,4 +10,4 @@ abi_session_start_spec =
     (tie.spec
     (λ c κs. search rules)
     (λ c κs. search rules)
-    (λ c. rw c.session_numbers.ensures (ap abi_of c.before.before.start-s.ensures)))
+    (λ c. rw c.session_numbers.ensures (ap abi_of c.start-s.ensures)))

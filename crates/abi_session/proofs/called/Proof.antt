@@ -8,10 +8,10 @@ called_spec =
     tie.close
     (tie.spec
     (λ c κs. search rules)
-    (λ c. rw (eq-eqb _ _ c.before.if-call-eq0.true) c.accept.ensures)
+    (λ c. rw (eq-eqb _ _ c.if-call-eq0.true) c.accept.ensures)
     (λ c κs. search rules)
-    (λ c. rw (ne_eqb _ _ c.before.before.if-call-eq0.false, eq-eqb _ _ c.before.if-call-eq1.true) c.ack.ensures)
+    (λ c. rw (ne_eqb _ _ c.if-call-eq0.false, eq-eqb _ _ c.if-call-eq1.true) c.ack.ensures)
     (λ c κs. search rules)
-    (λ c. rw (ne_eqb _ _ c.before.before.before.if-call-eq0.false, ne_eqb _ _ c.before.before.if-call-eq1.false, eq-eqb _ _ c.before.if-call-eq2.true) c.reconnect.ensures)
+    (λ c. rw (ne_eqb _ _ c.if-call-eq0.false, ne_eqb _ _ c.if-call-eq1.false, eq-eqb _ _ c.if-call-eq2.true) c.reconnect.ensures)
     (λ c κs. search rules)
-    (λ c. rw (ne_eqb _ _ c.before.before.before.if-call-eq0.false, ne_eqb _ _ c.before.before.if-call-eq1.false, ne_eqb _ _ c.before.if-call-eq2.false) c.reset.ensures))
+    (λ c. rw (ne_eqb _ _ c.if-call-eq0.false, ne_eqb _ _ c.if-call-eq1.false, ne_eqb _ _ c.if-call-eq2.false) c.reset.ensures))

@@ -6,13 +6,13 @@ enum_told : tie.Need-enum_told-1
 enum_told c = search rules
 
 returns : tie.Need-returns-in-At
-returns c = rw c.before.held-1.given.1
+returns c = rw c.in-At.is
 
 returns-2 : tie.Need-returns-in-Beyond
-returns-2 c = rw c.enum_told-1.given.1
+returns-2 c = rw c.in-Beyond.is
 
 returns-3 : tie.Need-returns-in-Refused
-returns-3 c = rw c.before.before.held-in-Refused-1.given.1
+returns-3 c = rw c.in-Refused.is
 
 pub held_words_spec : {M : Type 1} → statement M
 held_words_spec =

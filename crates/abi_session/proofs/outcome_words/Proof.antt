@@ -8,4 +8,4 @@ outcome_words_spec =
     (tie.spec
     (λ c κs. search rules)
     (λ c κs. search rules)
-    (λ c. rw (c.before.session_numbers.ensures, c.answer_words.ensures)))
+    (λ c. rw (c.session_numbers.ensures, c.answer_words.ensures)))

@@ -10,4 +10,4 @@ encrypt_spec =
     (λ c. search rules)
     (λ c κs. search rules)
     (λ c κs. search rules)
-    (λ c. c.rounds.ensures c.before.before.before.before.before.args.block c.before.add_round_key.ensures))
+    (λ c. c.rounds.ensures c.args.block c.add_round_key.ensures))

@@ -12,4 +12,4 @@ keystream_spec =
     (λ c κs. search rules)
     (λ c κs. search rules)
     (λ c κs. search rules)
-    (λ c. cc (c.rounds.ensures c.before.before.counter_block.result c.before.add_round_key.ensures)))
+    (λ c. cc (c.rounds.ensures c.counter_block.result c.add_round_key.ensures)))

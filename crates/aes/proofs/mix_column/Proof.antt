@@ -8,8 +8,8 @@ use Rattle.aes.proofs.mix_column.Tie as tie
 returns : tie.Need-returns
 returns c =
     c.u32_bytes.ensures
-    ∙ ap (le 4) c.before.mix_word.ensures
-    ∙ mix_packed c.before.before.before.args.c c.before.before.pack.result c.before.before.pack.ensures
+    ∙ ap (le 4) c.mix_word.ensures
+    ∙ mix_packed c.args.c c.pack.result c.pack.ensures
 
 pub mix_column_spec : {M : Type 1} → statement M
 mix_column_spec = tie.close (tie.spec (λ c κs. search rules) (λ c κs. search rules) (λ c κs. search rules) returns)

@@ -22,21 +22,21 @@ decreases-loop t w₀ k₀ rc₀ i₀ w k rc i = 10 - i
 
 loop-again : tie.Need-loop-i-preserved invariant-loop decreases-loop
 loop-again c =
-    let l = c.before.before.before.loop-i in
-    let key = c.before.before.before.before.args.key in
-    let next : c.before.next_key-next.result ≡ round_key (l.i + 1) key = cc (key-next l.i key) in
+    let l = c.loop-i in
+    let key = c.args.key in
+    let next : c.next_key-next.result ≡ round_key (l.i + 1) key = cc (key-next l.i key) in
     let h : l.i + 1 < length l.w = omega arith in (
       search rules,
-      length-set l.w (l.i + 1) c.before.next_key-next.result ∙ l.invariant.1,
-      keys-more l.w key c.before.next_key-next.result (l.i + 1) h next l.invariant.2,
+      length-set l.w (l.i + 1) c.next_key-next.result ∙ l.invariant.1,
+      keys-more l.w key c.next_key-next.result (l.i + 1) h next l.invariant.2,
       next,
       cc (rcon-next l.i),
     )
 
 returns : tie.Need-returns invariant-loop decreases-loop
 returns c =
-    let l = c.before.loop-i in
-    expanded l.w c.before.before.args.key l.invariant.1 (λ j h. l.invariant.2 j (omega arith))
+    let l = c.loop-i in
+    expanded l.w c.args.key l.invariant.1 (λ j h. l.invariant.2 j (omega arith))
 
 pub round_keys_spec : {M : Type 1} → statement M
 unfolding round_key rcon

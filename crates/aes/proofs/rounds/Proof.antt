@@ -15,14 +15,14 @@ decreases-loop t w s₀ i₀ s i = 9 - i
 
 loop-again : tie.Need-loop-i-preserved invariant-loop decreases-loop
 loop-again c =
-    let l = c.before.before.before.before.before.before.loop-i in
-    let a = c.before.before.before.before.before.before.before.args in
+    let l = c.loop-i in
+    let a = c.args in
     (search rules, cc (rounds-next l.i a.w.now a.keyed, l.invariant.1))
 
 returns : tie.Need-returns invariant-loop decreases-loop
 returns c =
-    let l = c.before.before.before.before.before.loop-i in
-    let a = c.before.before.before.before.before.before.args in
+    let l = c.loop-i in
+    let a = c.args in
     let e : l.i ≡ 9 = omega arith in
     λ block h. cc (cipher-last a.w.now block, l.invariant.1, e, h)
 

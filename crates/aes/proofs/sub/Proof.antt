@@ -4,4 +4,4 @@ use Rattle.aes.proofs.sub.Tie as tie
 
 pub sub_spec : {M : Type 1} → statement M
 sub_spec =
-    tie.close (tie.spec (λ c. search rules) (λ c. c.before.requires.at c.before.args.b (search rules)))
+    tie.close (tie.spec (λ c. search rules) (λ c. c.requires.at c.args.b (search rules)))

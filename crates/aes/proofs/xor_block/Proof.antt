@@ -24,8 +24,8 @@ decreases-loop s buf₀ i n k₀ buf k = n - k
 
 loop-again : tie.Need-loop-k-preserved invariant-loop decreases-loop
 loop-again c =
-    let l = c.before.before.before.loop-k in
-    let a = c.before.before.before.before.before.args in (
+    let l = c.loop-k in
+    let a = c.args in (
       search rules,
       length-set l.buf (a.i + l.k) (bit_xor (get_or l.buf (a.i + l.k) 0) c.byte_of.result) ∙ l.invariant.1,
       λ w nonce d es e.
@@ -36,8 +36,8 @@ loop-again c =
 
 returns : tie.Need-returns invariant-loop decreases-loop
 returns c =
-    let l = c.before.loop-k in
-    let a = c.before.before.before.args in
+    let l = c.loop-k in
+    let a = c.args in
     let k : l.k ≡ a.n = omega arith in
     λ w nonce d es e. l.invariant.2 w nonce d es e ∙ rw k
 
@@ -56,5 +56,5 @@ xor_block_spec =
     (λ c. search rules)
     (λ c. search rules)
     loop-again
-    (λ c. c.before.loop-k.invariant.1)
+    (λ c. c.loop-k.invariant.1)
     returns)

@@ -17,11 +17,11 @@ decreases-loop t w nonce buf₀ n i₀ buf i = n - i
 
 loop-again : tie.Need-loop-i-preserved invariant-loop decreases-loop
 loop-again c =
-    let at = c.before.before.before.before.before.before in
+    let at = c in
     let l = at.loop-i in
-    let a = at.before.before.args in
-    let e = c.before.before.xor_block.ensures a.w.now a.nonce a.buf-1.now c.before.before.before.before.keystream-s.ensures l.invariant.3 in
-    (search rules, search rules, front_length a.w.now a.nonce a.buf-1.now _ (l.i + 16) e, e)
+    let a = at.args in
+    let e = c.xor_block.ensures a.w.now a.nonce a.buf.now c.keystream-s.ensures l.invariant.3 in
+    (search rules, search rules, front_length a.w.now a.nonce a.buf.now _ (l.i + 16) e, e)
 
 pub xor_blocks_spec : {M : Type 1} → statement M
 xor_blocks_spec =
@@ -37,5 +37,5 @@ xor_blocks_spec =
     (λ c. search rules)
     (λ c. search rules)
     loop-again
-    (λ c. c.before.loop-i.invariant.2)
-    (λ c. (search rules, search rules, search rules, c.before.loop-i.invariant.3)))
+    (λ c. c.loop-i.invariant.2)
+    (λ c. (search rules, search rules, search rules, c.loop-i.invariant.3)))

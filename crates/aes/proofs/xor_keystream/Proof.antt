@@ -8,21 +8,21 @@ use Rattle.aes.proofs.xor_keystream.Tie as tie
 
 returns : tie.Need-returns-then-m-i
 returns c =
-    let b = c.before.before.before in
-    let less = b.before.before.before.before in
+    let b = c in
+    let less = b in
     let h : b.xor_blocks-i.result ≡ less.min-m.result = omega (arith, b.xor_blocks-i.ensures.0) in
-    b.xor_blocks-i.ensures.3 ∙ masked-front _ _ less.before.before.args.buf.now less.before.before.args.n b.xor_blocks-i.result (h ∙ less.min-m.ensures)
+    b.xor_blocks-i.ensures.3 ∙ masked-front _ _ less.args.buf.now less.args.n b.xor_blocks-i.result (h ∙ less.min-m.ensures)
 
 returns-2 : tie.Need-returns
 returns-2 c =
-    let stream = c.before.before.before.before in
-    let b = stream.before.before.before.before.before in
-    let less = b.before.before.before.before in
-    let a = less.before.before.args in
+    let stream = c in
+    let b = stream in
+    let less = b in
+    let a = less.args in
     let i : ℕ = b.xor_blocks-i.result in
     let h : i + (less.min-m.result - i) ≡ less.min-m.result = omega (arith, b.xor_blocks-i.ensures.0) in
-    c.before.before.xor_block.ensures a.w.now a.nonce a.buf-1.now stream.keystream-s.ensures b.xor_blocks-i.ensures.3
-    ∙ masked-front a.w.now a.nonce a.buf-1.now a.n (i + (less.min-m.result - i)) (h ∙ less.min-m.ensures)
+    c.xor_block.ensures a.w.now a.nonce a.buf.now stream.keystream-s.ensures b.xor_blocks-i.ensures.3
+    ∙ masked-front a.w.now a.nonce a.buf.now a.n (i + (less.min-m.result - i)) (h ∙ less.min-m.ensures)
 
 pub xor_keystream_spec : {M : Type 1} → statement M
 xor_keystream_spec =

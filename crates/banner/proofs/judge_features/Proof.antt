@@ -15,4 +15,4 @@ judge_features_spec =
     (λ c κs. search rules)
     (λ c κs. search rules)
     (λ c κs. search rules)
-    (λ c. cc (or_else_last (judged_by c.before.judge_lacking-ours.result))))
+    (λ c. cc (or_else_last (judged_by c.judge_lacking-ours.result))))

@@ -25,4 +25,4 @@ judge_magic_spec =
     (λ c κs. search rules)
     (λ c κs. search rules)
     (λ c κs. search rules)
-    (λ c. cc (and-true (eqb (get_or c.before.before.before.before.before.before.before.before.before.before.before.before.before.before.before.before.before.args.b.now 7 0) 10))))
+    (λ c. cc (and-true (eqb (get_or c.args.b.now 7 0) 10))))

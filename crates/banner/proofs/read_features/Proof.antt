@@ -8,4 +8,4 @@ read_features_spec =
     (tie.spec
     (λ c κs. search rules)
     (λ c κs. search rules)
-    (λ c. simp (c.before.u64_at.ensures, c.u64_at-2.ensures)))
+    (λ c. simp (c.u64_at.ensures, c.u64_at-2.ensures)))

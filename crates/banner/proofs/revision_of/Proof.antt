@@ -8,5 +8,5 @@ revision_of_spec =
     tie.close
     (tie.spec
     (λ c κs. search rules)
-    (λ c. simp (sym c.before.both.ensures ∙ c.if-both.true))
-    (λ c. simp (sym c.before.both.ensures ∙ c.if-both.false)))
+    (λ c. simp (sym c.both.ensures ∙ c.if-both.true))
+    (λ c. simp (sym c.both.ensures ∙ c.if-both.false)))

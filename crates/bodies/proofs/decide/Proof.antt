@@ -7,4 +7,4 @@ pub decide_spec : {M : Type 1} → statement M
 unfolding decided
 decide_spec =
     tie.close
-    (tie.spec (λ c κs. search rules) (λ c. rw c.before.if-served.true c.judge_draft.ensures) (λ c. rw c.if-served.false))
+    (tie.spec (λ c κs. search rules) (λ c. rw c.if-served.true c.judge_draft.ensures) (λ c. rw c.if-served.false))

@@ -10,5 +10,5 @@ field_list_spec =
     (λ c κs. search rules)
     (λ c. search rules)
     (λ c. search rules)
-    (λ c. took-read (rw c.before.value-1.given.1 at c.before.before.before.read_list.ensures))
-    (λ c. took-failed (rw c.before.next-1.given.1 at c.before.before.before.read_list.ensures)))
+    (λ c. took-read (rw c.in-Read.is at c.read_list.ensures))
+    (λ c. took-failed (rw c.in-Failed.is at c.read_list.ensures)))

@@ -10,7 +10,7 @@ judge_draft_spec =
     tie.close
     (tie.spec
     (λ c κs. search rules)
-    (λ c. rw (lt-leb _ _ (rw c.before.limit.ensures at c.if-limit-len.true)))
-    (λ c. rw (le-leb _ _ (rw c.before.before.limit.ensures at c.before.if-limit-len.false), c.if-q.true))
-    (λ c. rw (le-leb _ _ (rw c.before.before.before.limit.ensures at c.before.before.if-limit-len.false), c.before.if-q.false, le-leb _ _ c.if-len-room.true))
-    (λ c. rw (le-leb _ _ (rw c.before.before.before.limit.ensures at c.before.before.if-limit-len.false), c.before.if-q.false, lt-leb _ _ c.if-len-room.false)))
+    (λ c. rw (lt-leb _ _ (rw c.limit.ensures at c.if-limit-len.true)))
+    (λ c. rw (le-leb _ _ (rw c.limit.ensures at c.if-limit-len.false), c.if-q.true))
+    (λ c. rw (le-leb _ _ (rw c.limit.ensures at c.if-limit-len.false), c.if-q.false, le-leb _ _ c.if-len-room.true))
+    (λ c. rw (le-leb _ _ (rw c.limit.ensures at c.if-limit-len.false), c.if-q.false, lt-leb _ _ c.if-len-room.false)))

@@ -8,8 +8,8 @@ read_spec =
     tie.close
     (tie.spec
     (λ c κs. search rules)
-    (λ c. above-limit _ _ (rw c.before.limit.ensures at c.if-limit-s.true))
+    (λ c. above-limit _ _ (rw c.limit.ensures at c.if-limit-s.true))
     (λ c κs. search rules)
-    (λ c. within-limit _ _ (rw c.before.before.before.limit.ensures at c.before.before.if-limit-s.false) (c.read_auth.ensures c.before.if-tag-lt8.true))
+    (λ c. within-limit _ _ (rw c.limit.ensures at c.if-limit-s.false) (c.read_auth.ensures c.if-tag-lt8.true))
     (λ c κs. search rules)
-    (λ c. within-limit _ _ (rw c.before.before.before.limit.ensures at c.before.before.if-limit-s.false) (c.read_session.ensures c.before.if-tag-lt8.false)))
+    (λ c. within-limit _ _ (rw c.limit.ensures at c.if-limit-s.false) (c.read_session.ensures c.if-tag-lt8.false)))

@@ -13,6 +13,6 @@ read_auth_done_spec =
     (λ c κs. search rules)
     (λ c κs. search rules)
     (λ c κs. search rules)
-    (λ c. row_read (auth-done-is _) c.before.before.before.before.before.start.ensures
-    (step _ c.before.before.before.before.field_u64-a.ensures (step _ c.before.before.before.field_u32-b.ensures (step _ c.before.before.field_rest-p.ensures end)))
+    (λ c. row_read (auth-done-is _) c.start.ensures
+    (step _ c.before.before.before.before.field-u64.ensures (step _ c.before.before.before.field-u32.ensures (step _ c.before.before.field-rest.ensures end)))
     c.settle.ensures))

@@ -13,4 +13,4 @@ read_auth_request_spec =
     (λ c κs. search rules)
     (λ c κs. search rules)
     (λ c κs. search rules)
-    (λ c. row_read (auth-request-is _) c.before.before.before.before.before.before.start.ensures (step _ c.before.before.before.before.before.field_u32-a.ensures (step _ c.before.before.before.before.field_list-b.ensures (step _ c.before.before.before.field_rest-p.ensures end))) c.settle.ensures))
+    (λ c. row_read (auth-request-is _) c.start.ensures (step _ c.field_u32-a.ensures (step _ c.field_list-b.ensures (step _ c.field_rest-p.ensures end))) c.settle.ensures))

@@ -14,6 +14,6 @@ read_bad_method_spec =
     (λ c κs. search rules)
     (λ c κs. search rules)
     (λ c κs. search rules)
-    (λ c. row_read (bad_method_is _) c.before.before.before.before.before.before.before.start.ensures
-    (step _ c.before.before.before.before.before.before.field_u32-a.ensures (step _ c.before.before.before.before.before.field_negative-e.ensures (step _ c.before.before.before.before.field_list-f.ensures (step _ c.before.before.before.field_list-g.ensures end))))
+    (λ c. row_read (bad_method_is _) c.start.ensures
+    (step _ c.before.before.before.before.before.before.field-u32.ensures (step _ c.before.before.before.before.before.field-negative.ensures (step _ c.before.before.before.before.field-list.ensures (step _ c.before.before.before.field-list2.ensures end))))
     c.settle.ensures))

@@ -6,8 +6,8 @@ use Rattle.bodies.proofs.read_hello.Tie as tie
 
 returns : tie.Need-returns
 returns c =
-    row_read (hello-is _) c.before.before.before.before.start.ensures
-    (step _ c.before.before.before.field_u8-a.ensures (step _ c.before.before.field_rest-p.ensures end))
+    row_read (hello-is _) c.start.ensures
+    (step _ c.field_u8-a.ensures (step _ c.field_rest-p.ensures end))
     c.settle.ensures
 
 pub read_hello_spec : {M : Type 1} → statement M

@@ -5,8 +5,8 @@ use Rattle.bodies.proofs.read_more.Statement.{statement}
 use Rattle.bodies.proofs.read_more.Tie as tie
 
 returns : tie.Need-returns
-returns c = row_read (more-is _) c.before.before.before.start.ensures
-    (step _ c.before.before.field_payload-p.ensures end)
+returns c = row_read (more-is _) c.start.ensures
+    (step _ c.field_payload-p.ensures end)
     c.settle.ensures
 
 pub read_more_spec : {M : Type 1} → statement M

@@ -5,8 +5,8 @@ use Rattle.bodies.proofs.read_one_number.Statement.{statement}
 use Rattle.bodies.proofs.read_one_number.Tie as tie
 
 returns : tie.Need-returns
-returns c = row_read (one-number-is _) c.before.before.start.ensures
-    (step _ c.before.field_u64-a.ensures end)
+returns c = row_read (one-number-is _) c.start.ensures
+    (step _ c.field_u64-a.ensures end)
     c.settle.ensures
 
 pub read_one_number_spec : {M : Type 1} → statement M

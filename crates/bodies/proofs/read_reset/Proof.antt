@@ -6,8 +6,8 @@ use Rattle.bodies.proofs.read_reset.Tie as tie
 
 returns : tie.Need-returns
 returns c =
-    row_read (reset-is _) c.before.before.start.ensures
-    (step _ c.before.field_u8-a.ensures end)
+    row_read (reset-is _) c.start.ensures
+    (step _ c.field_u8-a.ensures end)
     c.settle.ensures
 
 pub read_reset_spec : {M : Type 1} → statement M

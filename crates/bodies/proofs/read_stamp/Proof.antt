@@ -6,8 +6,8 @@ use Rattle.bodies.proofs.read_stamp.Tie as tie
 
 returns : tie.Need-returns
 returns c =
-    row_read (stamp-is _) c.before.before.before.start.ensures
-    (step _ c.before.before.field_bytes-p.ensures end)
+    row_read (stamp-is _) c.start.ensures
+    (step _ c.field_bytes-p.ensures end)
     c.settle.ensures
 
 pub read_stamp_spec : {M : Type 1} → statement M

@@ -6,8 +6,8 @@ use Rattle.bodies.proofs.row_hello.Tie as tie
 
 returns : tie.Need-returns
 returns c =
-    from_empty c.before.before.before.before.before.before.before.start_draft.ensures
-    (w.step c.before.before.before.before.before.before.append_u8-a.ensures (w.step c.before.before.append_rest.ensures w.end))
+    from_empty c.start_draft.ensures
+    (w.step c.append_u8-a.ensures (w.step c.append_rest.ensures w.end))
 
 pub row_hello_spec : {M : Type 1} → statement M
 row_hello_spec =

@@ -6,8 +6,8 @@ use Rattle.bodies.proofs.row_one_number.Tie as tie
 
 returns : tie.Need-returns
 returns c =
-    from_empty c.before.before.before.start_draft.ensures
-    (w.step c.before.before.append_u64.ensures w.end)
+    from_empty c.start_draft.ensures
+    (w.step c.append_u64.ensures w.end)
 
 pub row_one_number_spec : {M : Type 1} → statement M
 row_one_number_spec =

@@ -9,5 +9,5 @@ settle_spec =
     tie.close
     (tie.spec
     (λ c. rw c.if-c.true)
-    (λ c. rw (c.before.if-c.false, ne_eqb _ _ c.if-at-s.true))
-    (λ c. rw (c.before.if-c.false, eq-eqb _ _ c.if-at-s.false)))
+    (λ c. rw (c.if-c.false, ne_eqb _ _ c.if-at-s.true))
+    (λ c. rw (c.if-c.false, eq-eqb _ _ c.if-at-s.false)))

@@ -6,13 +6,13 @@ use Rattle.bodies.proofs.write.Tie as tie
 
 returns : tie.Need-returns-then-is_wrote
 returns c =
-    let g = c.before.before.before.before.before.before.before.before.before.before.before.before.before.before.before.args in
-    write-wrote g.tag g.r g.first.now g.second.now g.bytes.now g.out-1.now c.before.before.before.before.before.before.before.serves.ensures c.before.before.before.before.before.before.before.before.before.row-q.ensures c.before.before.before.before.before.before.decide-result.ensures (sym c.before.before.before.before.before.is_wrote.ensures ∙ c.before.before.before.before.if-is_wrote.true) c.before.before.row.ensures
+    let g = c.args in
+    write-wrote g.tag g.r g.first.now g.second.now g.bytes.now g.out.now c.serves.ensures c.row-q.ensures c.decide-result.ensures (sym c.is_wrote.ensures ∙ c.if-is_wrote.true) c.row.ensures
 
 returns-2 : tie.Need-returns
 returns-2 c =
-    let g = c.before.before.before.before.before.before.before.before.before.before.before.args in
-    write-refused g.tag g.r g.first.now g.second.now g.bytes.now g.out-1.now c.before.before.before.serves.ensures c.before.before.before.before.before.row-q.ensures c.before.before.decide-result.ensures (sym c.before.is_wrote.ensures ∙ c.if-is_wrote.false)
+    let g = c.args in
+    write-refused g.tag g.r g.first.now g.second.now g.bytes.now g.out.now c.serves.ensures c.row-q.ensures c.decide-result.ensures (sym c.is_wrote.ensures ∙ c.if-is_wrote.false)
 
 pub write_spec : {M : Type 1} → statement M
 write_spec =

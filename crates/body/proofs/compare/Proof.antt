@@ -10,4 +10,4 @@ compare_spec =
     (λ c κs. search rules)
     (λ c κs. search rules)
     (λ c κs. search rules)
-    (λ c. simp (c.unless.ensures, c.before.either.ensures, c.before.before.segment_sum.ensures, c.before.before.before.u32_at-stored.ensures)))
+    (λ c. simp (c.unless.ensures, c.either.ensures, c.segment_sum.ensures, c.u32_at-stored.ensures)))

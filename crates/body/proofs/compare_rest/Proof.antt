@@ -22,4 +22,4 @@ compare_rest_spec =
     (λ c κs. search rules)
     (λ c κs. search rules)
     (λ c κs. search rules)
-    (λ c. simp (c.or_else-2.ensures, c.before.or_else.ensures, c.before.before.compare-v4.ensures, c.before.before.before.before.compare-v3.ensures, c.before.before.before.before.before.before.compare-v2.ensures, c.before.before.before.part-3.ensures, c.before.before.before.before.before.part-2.ensures, c.before.before.before.before.before.before.before.part.ensures, c.before.before.before.before.before.before.before.before.behind-from4.ensures, c.before.before.before.before.before.before.before.before.before.behind-from3.ensures, or_else_last)))
+    (λ c. simp (c.or_else-2.ensures, c.or_else.ensures, c.compare-v4.ensures, c.compare-v3.ensures, c.compare-v2.ensures, c.part-3.ensures, c.part-2.ensures, c.part.ensures, c.behind-from4.ensures, c.behind-from3.ensures, or_else_last)))

@@ -15,5 +15,5 @@ compare_sums_spec =
     (λ c κs. search rules)
     (λ c. search rules)
     (λ c κs. search rules)
-    (λ c. simp (c.or_else.ensures, c.before.compare_rest.ensures, c.before.before.compare-first.ensures, c.before.before.before.part.ensures, c.before.before.before.before.enum_told-1.given.1, c.before.before.before.before.before.before.behind-rest.ensures))
-    (λ c. simp (c.compare_rest-in-Msgr21.ensures, c.before.enum_told-in-Msgr21-1.given.1, c.before.before.before.behind-rest.ensures)))
+    (λ c. simp (c.or_else.ensures, c.compare_rest.ensures, c.compare-first.ensures, c.part.ensures, c.in-Msgr20.is, c.behind-rest.ensures))
+    (λ c. simp (c.compare_rest-in-Msgr21.ensures, c.in-Msgr21.is, c.behind-rest.ensures)))

@@ -11,10 +11,10 @@ end_of_spec =
     tie.close
     (tie.spec
     (λ c κs. search rules)
-    (λ c. rw (sym c.before.no_epilogue.ensures ∙ c.if-no_epilogue.true))
+    (λ c. rw (sym c.no_epilogue.ensures ∙ c.if-no_epilogue.true))
     (λ c κs. search rules)
     (λ c. search rules)
     (λ c. search rules)
     (λ c κs. search rules)
-    (λ c. rw (sym c.before.before.before.before.before.no_epilogue.ensures ∙ c.before.before.before.before.if-no_epilogue.false, sym c.before.before.before.judge_spelling-spelling.ensures ∙ ap judged_by c.before.spelling-1.given.1))
-    (λ c. rw (sym c.before.before.before.before.before.no_epilogue.ensures ∙ c.before.before.before.before.if-no_epilogue.false, sym c.before.before.before.judge_spelling-spelling.ensures ∙ ap judged_by c.before.enum_told-1.given.1) c.end_by_late.ensures))
+    (λ c. rw (sym c.no_epilogue.ensures ∙ c.if-no_epilogue.false, sym c.judge_spelling-spelling.ensures ∙ ap judged_by c.in-Refused.is))
+    (λ c. rw (sym c.no_epilogue.ensures ∙ c.if-no_epilogue.false, sym c.judge_spelling-spelling.ensures ∙ ap judged_by c.in-Fine.is) c.end_by_late.ensures))

@@ -13,4 +13,4 @@ ended_spec =
     (λ c. search rules)
     (λ c. search rules)
     (λ c. search rules)
-    (λ c. sym (ap (λ (v : Judgement). ended_by (judged_by v)) c.before.v-1.given.1)))
+    (λ c. sym (ap (λ (v : Judgement). ended_by (judged_by v)) c.in-Refused.is)))

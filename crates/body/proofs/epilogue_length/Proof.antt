@@ -11,14 +11,14 @@ use Rattle.body.proofs.epilogue_length.Tie as tie
 
 returns : tie.Need-returns-then-no_epilogue
 returns c =
-    let a = c.before.before.args in
-    (sym (no_length a.revision a.h (sym c.before.no_epilogue.ensures ∙ c.if-no_epilogue.true)), omega arith)
+    let a = c.args in
+    (sym (no_length a.revision a.h (sym c.no_epilogue.ensures ∙ c.if-no_epilogue.true)), omega arith)
 
 returns-3 : tie.Need-returns-in-Msgr21
 returns-3 c =
-    let h = c.before.before.before.before.args.h in
-    let q : no_epilogue Msgr21 h ≡ false = ap (λ (v : Revision). no_epilogue v h) (sym c.enum_told-in-Msgr21-1.given.1) ∙ sym c.before.before.before.no_epilogue.ensures ∙ c.before.before.if-no_epilogue.false in
-    (rw (c.enum_told-in-Msgr21-1.given.1, q), omega arith)
+    let h = c.args.h in
+    let q : no_epilogue Msgr21 h ≡ false = ap (λ (v : Revision). no_epilogue v h) (sym c.in-Msgr21.is) ∙ sym c.no_epilogue.ensures ∙ c.if-no_epilogue.false in
+    (rw (c.in-Msgr21.is, q), omega arith)
 
 pub epilogue_length_spec : {M : Type 1} → statement M
 epilogue_length_spec =
@@ -28,5 +28,5 @@ epilogue_length_spec =
     returns
     (λ c. search rules)
     (λ c. search rules)
-    (λ c. (rw c.enum_told-1.given.1, omega arith))
+    (λ c. (rw c.in-Msgr20.is, omega arith))
     returns-3)

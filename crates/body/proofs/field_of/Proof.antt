@@ -9,6 +9,6 @@ field_of_spec =
     (tie.spec
     (λ c. simp (lt-leb _ _ c.if-count-k.true))
     (λ c κs. search rules)
-    (λ c. simp (le-leb _ _ c.before.before.if-count-k.false, c.before.if-zeros.true, c.checksum_zeros.ensures))
+    (λ c. simp (le-leb _ _ c.if-count-k.false, c.if-zeros.true, c.checksum_zeros.ensures))
     (λ c κs. search rules)
-    (λ c. simp (le-leb _ _ c.before.before.if-count-k.false, c.before.if-zeros.false, c.segment_sum.ensures)))
+    (λ c. simp (le-leb _ _ c.if-count-k.false, c.if-zeros.false, c.segment_sum.ensures)))

@@ -9,5 +9,5 @@ first_sum_length_spec =
     tie.close
     (tie.spec
     (λ c κs. search rules)
-    (λ c. (simp (sym c.before.no_first_sum.ensures ∙ c.if-no_first_sum.true), omega arith))
-    (λ c. (simp (sym c.before.no_first_sum.ensures ∙ c.if-no_first_sum.false), omega arith)))
+    (λ c. (simp (sym c.no_first_sum.ensures ∙ c.if-no_first_sum.true), omega arith))
+    (λ c. (simp (sym c.no_first_sum.ensures ∙ c.if-no_first_sum.false), omega arith)))

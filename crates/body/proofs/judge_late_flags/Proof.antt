@@ -9,5 +9,5 @@ judge_late_flags_spec =
     (λ c. search rules)
     (λ c κs. search rules)
     (λ c. search rules)
-    (λ c. simp (c.unless.ensures, c.before.enum_told-1.given.1))
+    (λ c. simp (c.unless.ensures, c.in-Msgr20.is))
     (λ c. search rules))

@@ -16,5 +16,5 @@ judge_spelling_spec =
     (λ c. search rules)
     (λ c κs. search rules)
     (λ c κs. search rules)
-    (λ c. simp (c.or_else-in-Msgr20.ensures, c.before.or_else.ensures, c.before.before.unused.ensures, c.before.before.before.unused_rest-rest.ensures, c.before.before.before.before.before.before.judge_late_flags-flags.ensures, c.before.before.before.before.before.before.before.byte_at.ensures, c.before.before.before.before.enum_told-1.given.1))
-    (λ c. simp (c.or_else-in-Msgr21.ensures, c.before.unused_rest.ensures, c.before.before.before.before.judge_late_flags-flags.ensures, c.before.before.before.before.before.byte_at.ensures, c.before.before.enum_told-in-Msgr21-1.given.1)))
+    (λ c. simp (c.or_else-in-Msgr20.ensures, c.or_else.ensures, c.unused.ensures, c.unused_rest-rest.ensures, c.judge_late_flags-flags.ensures, c.byte_at.ensures, c.in-Msgr20.is))
+    (λ c. simp (c.or_else-in-Msgr21.ensures, c.unused_rest.ensures, c.judge_late_flags-flags.ensures, c.byte_at.ensures, c.in-Msgr21.is)))

@@ -9,4 +9,4 @@ no_epilogue_spec =
     (λ c. search rules)
     (λ c. search rules)
     (λ c. search rules)
-    (λ c. simp c.before.enum_told-in-Msgr21-1.given.1))
+    (λ c. simp c.in-Msgr21.is))

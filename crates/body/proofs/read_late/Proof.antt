@@ -9,8 +9,8 @@ read_late_spec =
     (tie.spec
     (λ c. search rules)
     (λ c. search rules)
-    (λ c. simp (c.before.enum_told-in-Msgr21-1.given.1, eq-eqb _ _ c.if-b-eq14.true))
-    (λ c. simp (c.before.before.enum_told-in-Msgr21-1.given.1, ne_eqb _ _ c.before.if-b-eq14.false, eq-eqb _ _ c.if-b-eq1-2.true))
-    (λ c. simp (c.before.enum_told-1.given.1, eq-eqb _ _ c.if-b-eq1.true))
-    (λ c. simp (c.before.enum_told-1.given.1, ne_eqb _ _ c.if-b-eq1.false))
-    (λ c. simp (c.before.before.enum_told-in-Msgr21-1.given.1, ne_eqb _ _ c.before.if-b-eq14.false, ne_eqb _ _ c.if-b-eq1-2.false)))
+    (λ c. simp (c.in-Msgr21.is, eq-eqb _ _ c.if-b-eq14.true))
+    (λ c. simp (c.in-Msgr21.is, ne_eqb _ _ c.if-b-eq14.false, eq-eqb _ _ c.if-b-eq1-2.true))
+    (λ c. simp (c.in-Msgr20.is, eq-eqb _ _ c.if-b-eq1.true))
+    (λ c. simp (c.in-Msgr20.is, ne_eqb _ _ c.if-b-eq1.false))
+    (λ c. simp (c.in-Msgr21.is, ne_eqb _ _ c.if-b-eq14.false, ne_eqb _ _ c.if-b-eq1-2.false)))

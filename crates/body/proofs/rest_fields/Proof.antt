@@ -18,4 +18,4 @@ rest_fields_spec =
     (λ c κs. search rules)
     (λ c κs. search rules)
     (λ c κs. search rules)
-    (λ c. cc (fields-sent c.before.before.before.before.before.before.before.before.before.before.before.before.args.h c.before.before.before.before.before.before.before.before.before.before.before.before.args.abort c.before.before.before.before.before.before.before.before.before.before.before.before.args.rest.now)))
+    (λ c. cc (fields-sent c.args.h c.args.abort c.args.rest.now)))

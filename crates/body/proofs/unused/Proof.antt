@@ -9,4 +9,4 @@ unused_spec =
     (λ c κs. search rules)
     (λ c κs. search rules)
     (λ c κs. search rules)
-    (λ c. simp (c.unless.ensures, c.before.either.ensures, c.before.before.u32_at-stored.ensures)))
+    (λ c. simp (c.unless.ensures, c.either.ensures, c.u32_at-stored.ensures)))

@@ -14,4 +14,4 @@ unused_rest_spec =
     (λ c κs. search rules)
     (λ c κs. search rules)
     (λ c κs. search rules)
-    (λ c. simp (c.or_else-2.ensures, c.before.or_else.ensures, c.before.before.unused-u4.ensures, c.before.before.before.unused-u3.ensures, c.before.before.before.before.unused-u2.ensures, or_else_last)))
+    (λ c. simp (c.or_else-2.ensures, c.or_else.ensures, c.unused-u4.ensures, c.unused-u3.ensures, c.unused-u2.ensures, or_else_last)))

@@ -14,4 +14,4 @@ u64_at_spec =
     (λ c. search rules)
     (λ c. search rules)
     (λ c. search rules)
-    (λ c. cc (u64_read c.before.before.before.before.args.s.now c.before.before.before.before.args.i)))
+    (λ c. cc (u64_read c.args.s.now c.args.i)))

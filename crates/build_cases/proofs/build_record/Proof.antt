@@ -9,16 +9,16 @@ use Rattle.build_cases.proofs.build_record.Tie as tie
 
 slice_relend_prefix_buf : tie.Need-slice_bounds-buf-end
 slice_relend_prefix_buf c =
-    let s = c.before.before.before.before.before.before.before.args.s.now in
-    let h = build-buffer (length c.before.before.before.before.before.before.before.args.space.now) s (seen-whole s c.before.before.before.build_size-size.ensures c.before.before.is_whole.ensures c.before.if-not-is_whole.false) in
+    let s = c.args.s.now in
+    let h = build-buffer (length c.args.space.now) s (seen-whole s c.build_size-size.ensures c.is_whole.ensures c.if-not-is_whole.false) in
     omega (arith, c.u32_at-n.ensures)
 
 returns-2 : tie.Need-returns
 unfolding build_part done_by prints
 returns-2 c =
-    let d = rw (c.before.before.before.before.before.before.before.before.before.before.before.before.before.before.before.before.before.read_header-header.ensures, c.before.before.before.before.before.before.before.before.before.before.before.before.before.before.byte_at-abort.ensures, c.before.before.before.before.before.before.before.before.before.before.before.before.before.before.before.part-source.ensures, c.before.before.before.before.before.before.before.before.before.before.before.before.before.before.before.before.u32_at.ensures, c.before.before.before.before.before.before.before.before.before.before.before.before.before.before.before.before.before.before.before.before.before.count_up.ensures, c.before.before.before.before.before.before.before.before.before.before.before.before.before.before.before.before.before.before.before.before.before.before.byte_at.ensures, length-take-le _ _ (slice_relend_prefix_buf c.before.before.before.before.before.before.before.before.before.before.before.before.before.before.before.before.before.before.before.before.before.before.before.before.before), c.before.before.before.before.before.before.before.before.before.before.before.before.before.before.before.before.before.before.before.before.before.before.before.before.before.u32_at-n.ensures, c.before.before.before.before.before.before.before.before.before.before.before.before.before.before.before.before.before.before.u64_at-queued.ensures) at c.before.before.before.before.before.before.before.before.before.before.before.before.build_sealed-o.ensures.promise in
-    part-whole _ _ _ c.before.before.before.before.before.before.before.before.before.before.before.before.before.before.before.before.before.before.before.before.before.before.before.before.before.before.before.before.build_size-size.ensures c.before.before.before.before.before.before.before.before.before.before.before.before.before.before.before.before.before.before.before.before.before.before.before.before.before.before.before.is_whole.ensures c.before.before.before.before.before.before.before.before.before.before.before.before.before.before.before.before.before.before.before.before.before.before.before.before.before.before.if-not-is_whole.false refl
-    (c.before.before.before.print_outcome-filled.ensures ∙ rw (built-line _ _ _ d c.before.before.before.before.before.before.before.checksum-sum.ensures))
+    let d = rw (c.read_header-header.ensures, c.byte_at-abort.ensures, c.part-source.ensures, c.u32_at.ensures, c.count_up.ensures, c.byte_at.ensures, length-take-le _ _ (slice_relend_prefix_buf c.before.before.before.before.before.before.before.before.before.before.before.before.before.before.before.before.before.before.before.before.before.before.before.before.before), c.u32_at-n.ensures, c.u64_at-queued.ensures) at c.build_sealed-o.ensures.promise in
+    part-whole _ _ _ c.build_size-size.ensures c.is_whole.ensures c.if-not-is_whole.false refl
+    (c.print_outcome-filled.ensures ∙ rw (built-line _ _ _ d c.checksum-sum.ensures))
     (rw (c.one_less.ensures, ap (λ (y : Done). y.sending) d))
 
 pub build_record_spec : {M : Type 1} → statement M
@@ -30,7 +30,7 @@ build_record_spec =
     (search rules)
     (search rules)
     (search rules)
-    (λ c. part-bad _ _ _ c.before.before.before.before.before.before.build_size-size.ensures c.before.before.before.before.before.is_whole.ensures c.before.before.before.before.if-not-is_whole.true c.before.before.bad_record-bad.ensures refl)
+    (λ c. part-bad _ _ _ c.build_size-size.ensures c.is_whole.ensures c.if-not-is_whole.true c.bad_record-bad.ensures refl)
     (search rules)
     (search rules)
     slice_relend_prefix_buf

@@ -10,4 +10,4 @@ nonce_further_spec =
     (search rules)
     (search rules)
     (search rules)
-    (λ c. c.nonce_of.ensures ∙ rw (c.before.wrapping_add_u64.ensures, c.before.before.u64_at-c.ensures)))
+    (λ c. c.nonce_of.ensures ∙ rw (c.wrapping_add_u64.ensures, c.u64_at-c.ensures)))

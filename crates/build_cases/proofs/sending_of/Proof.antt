@@ -9,9 +9,9 @@ sending_of_spec =
     (tie.spec
     (search rules)
     (search rules)
-    (λ c. c.refused_sending.ensures ∙ sending-refused _ c.before.before.byte_at.ensures c.before.if-byte_at-eq1.true)
+    (λ c. c.refused_sending.ensures ∙ sending-refused _ c.byte_at.ensures c.if-byte_at-eq1.true)
     (search rules)
     (search rules)
     (search rules)
     (search rules)
-    (λ c. c.sending_after.ensures ∙ sending-made _ c.before.before.before.before.before.byte_at.ensures c.before.before.before.before.if-byte_at-eq1.false (c.before.before.before.key_at.ensures (omega arith)) (c.before.before.nonce_at.ensures (omega arith)) c.before.u64_at.ensures))
+    (λ c. c.sending_after.ensures ∙ sending-made _ c.byte_at.ensures c.if-byte_at-eq1.false (c.key_at.ensures (omega arith)) (c.nonce_at.ensures (omega arith)) c.u64_at.ensures))

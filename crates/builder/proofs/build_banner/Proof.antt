@@ -14,10 +14,10 @@ use Rattle.builder.proofs.build_banner.Tie as tie
 returns-2 : tie.Need-returns-in-Fine
 unfolding banner_done
 returns-2 c =
-    let g = c.before.before.before.before.before.before.before.before.before.before.args in
-    let fine = sym c.before.before.before.before.before.before.before.before.judge_banner-judgement.ensures ∙ ap judged_by c.before.before.before.before.before.before.enum_told-1.given.1 in
-    let put = placed-overwrite g.buf-1.now (banner_bytes g.supported g.required) c.before.before.put.new.0 g.queued (banner-fits _ _ _ _ fine) in
-    record { promise = rw fine (ap (done (wrote 26)) (put (rw c.before.before.before.before.before.banner_bytes-bytes.ensures at c.before.before.put.ensures))) }
+    let g = c.args in
+    let fine = sym c.judge_banner-judgement.ensures ∙ ap judged_by c.in-Fine.is in
+    let put = placed-overwrite g.buf.now (banner_bytes g.supported g.required) c.put.new.0 g.queued (banner-fits _ _ _ _ fine) in
+    record { promise = rw fine (ap (done (wrote 26)) (put (rw c.banner_bytes-bytes.ensures at c.put.ensures))) }
 
 pub build_banner_spec : {M : Type 1} → statement M
 unfolding banner_done
@@ -28,11 +28,11 @@ build_banner_spec =
     (λ c. search rules)
     (λ c. search rules)
     (λ c κs. search rules)
-    (λ c. omega (arith, banner-fits _ _ _ _ (sym c.before.before.before.judge_banner-judgement.ensures ∙ ap judged_by c.before.enum_told-1.given.1)))
-    (λ c. omega (arith, banner-fits _ _ _ _ (sym c.before.before.before.judge_banner-judgement.ensures ∙ ap judged_by c.before.enum_told-1.given.1)))
+    (λ c. omega (arith, banner-fits _ _ _ _ (sym c.judge_banner-judgement.ensures ∙ ap judged_by c.in-Fine.is)))
+    (λ c. omega (arith, banner-fits _ _ _ _ (sym c.judge_banner-judgement.ensures ∙ ap judged_by c.in-Fine.is)))
     (λ c. search rules)
     (λ c. search rules)
     (λ c κs. search rules)
-    (λ c. record { promise = rw (sym c.before.before.before.judge_banner-judgement.ensures ∙ ap judged_by c.before.judgement-1.given.1) })
+    (λ c. record { promise = rw (sym c.judge_banner-judgement.ensures ∙ ap judged_by c.in-Refused.is) })
     (λ c. search rules)
     returns-2)

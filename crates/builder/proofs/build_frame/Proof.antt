@@ -14,16 +14,16 @@ use Rattle.builder.proofs.build_frame.Tie as tie
 
 put-frame-requires : tie.Need-put_frame-requires
 put-frame-requires c κs =
-    let g = c.before.before.before.before.before.before.args in
-    let f = accepted _ _ _ _ _ _ (sym c.before.before.before.judge_frame-judgement.ensures ∙ ap judged_by c.before.enum_told-1.given.1) in
-    (f.whole, omega (arith, length_rest g.buf-1.now g.queued))
+    let g = c.args in
+    let f = accepted _ _ _ _ _ _ (sym c.judge_frame-judgement.ensures ∙ ap judged_by c.in-Fine.is) in
+    (f.whole, omega (arith, length_rest g.buf.now g.queued))
 
 returns-2 : tie.Need-returns-in-Fine
 unfolding frame_done
 returns-2 c =
-    let g = c.before.before.before.before.before.before.before.before.before.before.args in
-    let put = placed g.buf-1.now (frame_bytes g.revision g.header g.abort g.source.now) c.before.before.before.put_frame.new.0 g.queued c.before.before.before.put_frame.ensures in
-    record { promise = rw (sym c.before.before.before.before.before.before.before.judge_frame-judgement.ensures ∙ ap judged_by c.before.before.before.before.before.enum_told-1.given.1) (ap₂ (λ (n : ℕ) (b : List ℕ). done (wrote n) b) c.wire_length.ensures put) }
+    let g = c.args in
+    let put = placed g.buf.now (frame_bytes g.revision g.header g.abort g.source.now) c.put_frame.new.0 g.queued c.put_frame.ensures in
+    record { promise = rw (sym c.judge_frame-judgement.ensures ∙ ap judged_by c.in-Fine.is) (ap₂ (λ (n : ℕ) (b : List ℕ). done (wrote n) b) c.wire_length.ensures put) }
 
 pub build_frame_spec : {M : Type 1} → statement M
 unfolding frame_done
@@ -33,11 +33,11 @@ build_frame_spec =
     (λ c κs. search rules)
     (λ c. search rules)
     (λ c. search rules)
-    (λ c. omega (arith, accepted _ _ _ _ _ _ (sym c.before.before.judge_frame-judgement.ensures ∙ ap judged_by c.enum_told-1.given.1)))
-    (λ c. omega (arith, accepted _ _ _ _ _ _ (sym c.before.before.judge_frame-judgement.ensures ∙ ap judged_by c.enum_told-1.given.1)))
+    (λ c. omega (arith, accepted _ _ _ _ _ _ (sym c.judge_frame-judgement.ensures ∙ ap judged_by c.in-Fine.is)))
+    (λ c. omega (arith, accepted _ _ _ _ _ _ (sym c.judge_frame-judgement.ensures ∙ ap judged_by c.in-Fine.is)))
     (λ c. search rules)
     put-frame-requires
     (λ c κs. search rules)
-    (λ c. record { promise = rw (sym c.before.before.before.judge_frame-judgement.ensures ∙ ap judged_by c.before.judgement-1.given.1) })
+    (λ c. record { promise = rw (sym c.judge_frame-judgement.ensures ∙ ap judged_by c.in-Refused.is) })
     (λ c. search rules)
     returns-2)

@@ -11,4 +11,4 @@ judge_abort_spec =
     (λ c κs. search rules)
     (λ c κs. search rules)
     (λ c. search rules)
-    (λ c. simp (c.before.before.enum_told-in-Msgr21-1.given.1, c.unless.ensures, c.before.both.ensures)))
+    (λ c. simp (c.in-Msgr21.is, c.unless.ensures, c.both.ensures)))

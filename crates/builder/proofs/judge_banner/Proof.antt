@@ -14,4 +14,4 @@ judge_banner_spec =
     (λ c κs. search rules)
     (λ c κs. search rules)
     (λ c κs. search rules)
-    (λ c. cc (or_else_last (judged_by c.before.before.unless-last.result))))
+    (λ c. cc (or_else_last (judged_by c.unless-last.result))))

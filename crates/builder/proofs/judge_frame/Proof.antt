@@ -19,4 +19,4 @@ judge_frame_spec =
     (λ c κs. search rules)
     (λ c κs. search rules)
     (λ c κs. search rules)
-    (λ c. simp (c.or_else.ensures, c.before.judge_header.ensures, c.before.before.or_else-v13.ensures, c.before.before.before.unless.ensures, c.before.before.before.before.total_of-t.ensures, c.before.before.before.before.before.or_else-v15.ensures, c.before.before.before.before.before.before.judge_abort.ensures, c.before.before.before.before.before.before.before.unless-last.ensures, c.before.before.before.before.before.before.before.before.room.ensures, c.before.before.before.before.before.before.before.before.before.wire_length-n.ensures, or_else_last)))
+    (λ c. simp (c.or_else.ensures, c.judge_header.ensures, c.or_else-v13.ensures, c.unless.ensures, c.total_of-t.ensures, c.or_else-v15.ensures, c.judge_abort.ensures, c.unless-last.ensures, c.room.ensures, c.wire_length-n.ensures, or_else_last)))

@@ -11,38 +11,38 @@ use Rattle.builder.proofs.put_epilogue.Tie as tie
 
 returns-2 : tie.Need-returns-in-Msgr20
 returns-2 c =
-    let g = c.before.before.before.before.before.before.before.before.before.before.before.before.before.before.before.before.args in
+    let g = c.args in
     let q : List ℕ = rest_sent g.abort g.rest.now in
-    let s = c.before.before.before.before.before.before.before.before.before.rest_fields-fields.result in
-    let v = c.before.before.before.before.before.before.before.enum_told-1.given.1 in
-    overwrite_as _ (epilogue g.revision g.h (late_byte g.revision g.abort) g.first.now q) g.out-1.now _ c.before.before.put.ensures
-    (c.before.before.before.before.before.epilogue20-bytes.ensures
-    ∙ epilogue-is g.revision g.h (late_byte g.revision g.abort) g.first.now q _ (c.before.before.before.before.before.before.field_of.result ∷ s.s2 ∷ s.s3 ∷ s.s4 ∷ [])
-    (sym c.before.before.before.before.before.before.before.before.before.before.before.before.no_epilogue.ensures ∙ c.before.before.before.before.before.before.before.before.before.before.before.if-no_epilogue.false)
-    c.before.before.before.before.before.before.before.before.before.before.late_byte_lem.ensures
-    (rw v (ap₂ ◌∷◌ c.before.before.before.before.before.before.field_of.ensures c.before.before.before.before.before.before.before.before.before.rest_fields-fields.ensures)))
-    (omega (arith, c.before.before.before.before.before.before.before.before.before.before.before.before.before.before.before.before.requires, length-epilogue g.revision g.h (late_byte g.revision g.abort) g.first.now q))
+    let s = c.rest_fields-fields.result in
+    let v = c.in-Msgr20.is in
+    overwrite_as _ (epilogue g.revision g.h (late_byte g.revision g.abort) g.first.now q) g.out.now _ c.put.ensures
+    (c.epilogue20-bytes.ensures
+    ∙ epilogue-is g.revision g.h (late_byte g.revision g.abort) g.first.now q _ (c.field_of.result ∷ s.s2 ∷ s.s3 ∷ s.s4 ∷ [])
+    (sym c.no_epilogue.ensures ∙ c.if-no_epilogue.false)
+    c.late_byte_lem.ensures
+    (rw v (ap₂ ◌∷◌ c.field_of.ensures c.rest_fields-fields.ensures)))
+    (omega (arith, c.requires, length-epilogue g.revision g.h (late_byte g.revision g.abort) g.first.now q))
 
 returns-3 : tie.Need-returns-in-Msgr21
 returns-3 c =
-    let g = c.before.before.before.before.before.before.before.before.before.before.before.before.before.before.before.args in
+    let g = c.args in
     let q : List ℕ = rest_sent g.abort g.rest.now in
-    let s = c.before.before.before.before.before.before.before.before.rest_fields-fields.result in
-    let v = c.before.before.before.before.before.before.enum_told-in-Msgr21-1.given.1 in
-    overwrite_as _ (epilogue g.revision g.h (late_byte g.revision g.abort) g.first.now q) g.out-1.now _ c.before.before.put-in-Msgr21.ensures
-    (c.before.before.before.before.before.epilogue21-bytes.ensures
+    let s = c.rest_fields-fields.result in
+    let v = c.in-Msgr21.is in
+    overwrite_as _ (epilogue g.revision g.h (late_byte g.revision g.abort) g.first.now q) g.out.now _ c.put-in-Msgr21.ensures
+    (c.epilogue21-bytes.ensures
     ∙ epilogue-is g.revision g.h (late_byte g.revision g.abort) g.first.now q _ (s.s2 ∷ s.s3 ∷ s.s4 ∷ [])
-    (sym c.before.before.before.before.before.before.before.before.before.before.before.no_epilogue.ensures ∙ c.before.before.before.before.before.before.before.before.before.before.if-no_epilogue.false)
-    c.before.before.before.before.before.before.before.before.before.late_byte_lem.ensures
-    (rw v c.before.before.before.before.before.before.before.before.rest_fields-fields.ensures))
-    (omega (arith, c.before.before.before.before.before.before.before.before.before.before.before.before.before.before.before.requires, length-epilogue g.revision g.h (late_byte g.revision g.abort) g.first.now q))
+    (sym c.no_epilogue.ensures ∙ c.if-no_epilogue.false)
+    c.late_byte_lem.ensures
+    (rw v c.rest_fields-fields.ensures))
+    (omega (arith, c.requires, length-epilogue g.revision g.h (late_byte g.revision g.abort) g.first.now q))
 
 pub put_epilogue_spec : {M : Type 1} → statement M
 put_epilogue_spec =
     tie.close
     (tie.spec
     (λ c κs. search rules)
-    (λ c. simp (sym c.before.no_epilogue.ensures ∙ c.if-no_epilogue.true))
+    (λ c. simp (sym c.no_epilogue.ensures ∙ c.if-no_epilogue.true))
     (λ c κs. search rules)
     (λ c κs. search rules)
     (λ c. search rules)

@@ -9,12 +9,12 @@ use Rattle.builder.proofs.put_first.Tie as tie
 
 returns : tie.Need-returns
 returns c =
-    let g = c.before.before.before.before.before.before.before.before.before.before.args in
+    let g = c.args in
     let first = g.first.now in
-    let l₁ = c.before.before.before.before.before.before.put.new.0 in
-    next g.out-1.now l₁ first (first_sum g.revision g.h first) c.before.before.put_first_sum.new.0 (length first) refl
-    (c.before.before.before.before.before.before.put.ensures ∙ overwrite-fits first g.out-1.now (omega (arith, c.before.before.before.before.before.before.before.before.before.before.requires)))
-    c.before.before.put_first_sum.ensures
+    let l₁ = c.put.new.0 in
+    next g.out.now l₁ first (first_sum g.revision g.h first) c.put_first_sum.new.0 (length first) refl
+    (c.put.ensures ∙ overwrite-fits first g.out.now (omega (arith, c.requires)))
+    c.put_first_sum.ensures
 
 pub put_first_spec : {M : Type 1} → statement M
 put_first_spec =

@@ -13,19 +13,19 @@ use Rattle.builder.proofs.put_first_sum.Tie as tie
 
 returns-2 : tie.Need-returns
 returns-2 c =
-    let g = c.before.before.before.before.before.before.before.before.before.before.before.args in
+    let g = c.args in
     let sum : List ℕ = le 4 (segment_sum g.first.now) in
-    let there = sym c.before.before.before.before.before.before.before.before.no_first_sum.ensures ∙ c.before.before.before.before.before.before.before.if-no_first_sum.false in
-    overwrite_as _ (first_sum g.revision g.h g.first.now) g.out-1.now _ c.before.before.put.ensures
-    (c.before.before.before.before.before.u32_bytes-sum.ensures ∙ ap (le 4) c.before.before.before.before.before.before.segment_sum.ensures ∙ sym (ap (λ (x : Bool). cond x [] sum) there))
-    (omega (arith, c.before.before.before.before.before.before.before.before.before.before.before.requires, length-first-sum g.revision g.h g.first.now))
+    let there = sym c.no_first_sum.ensures ∙ c.if-no_first_sum.false in
+    overwrite_as _ (first_sum g.revision g.h g.first.now) g.out.now _ c.put.ensures
+    (c.u32_bytes-sum.ensures ∙ ap (le 4) c.segment_sum.ensures ∙ sym (ap (λ (x : Bool). cond x [] sum) there))
+    (omega (arith, c.requires, length-first-sum g.revision g.h g.first.now))
 
 pub put_first_sum_spec : {M : Type 1} → statement M
 put_first_sum_spec =
     tie.close
     (tie.spec
     (λ c κs. search rules)
-    (λ c. simp (sym c.before.no_first_sum.ensures ∙ c.if-no_first_sum.true))
+    (λ c. simp (sym c.no_first_sum.ensures ∙ c.if-no_first_sum.true))
     (λ c κs. search rules)
     (λ c κs. search rules)
     (λ c. search rules)

@@ -15,14 +15,14 @@ use Rattle.builder.proofs.put_preamble.Tie as tie
 returns : tie.Need-returns
 unfolding preamble_bytes
 returns c =
-    let out = c.before.before.before.before.before.before.before.before.before.before.before.before.before.before.before.args.out.now in
-    let h = c.before.before.before.before.before.before.before.before.before.before.before.before.before.before.before.args.h in
+    let out = c.args.out.now in
+    let h = c.args.h in
     let front : List ℕ = preamble_front h in
-    let f = c.before.before.before.before.before.before.before.before.before.before.before.before.before.preamble_front-front.ensures ∙ front-is h in
+    let f = c.preamble_front-front.ensures ∙ front-is h in
     let n = length_front h in
-    let e : c.before.before.before.before.before.before.before.before.before.before.put.new.0 ≡ replace_front front out = rw f at c.before.before.before.before.before.before.before.before.before.before.put.ensures ∙ overwrite-fits front out (omega arith) in
-    let s = c.before.before.before.before.before.u32_bytes-sum.ensures ∙ ap (le 4) (c.before.before.before.before.before.before.checksum.ensures ∙ ap (crc_of 0) f) in
-    next-overwrite out c.before.before.before.before.before.before.before.before.before.before.put.new.0 front (le 4 (crc_of 0 front)) c.before.before.put-2.new.0 28 n (omega arith) e (rw s at c.before.before.put-2.ensures)
+    let e : c.put.new.0 ≡ replace_front front out = rw f at c.put.ensures ∙ overwrite-fits front out (omega arith) in
+    let s = c.u32_bytes-sum.ensures ∙ ap (le 4) (c.checksum.ensures ∙ ap (crc_of 0) f) in
+    next-overwrite out c.put.new.0 front (le 4 (crc_of 0 front)) c.put-2.new.0 28 n (omega arith) e (rw s at c.put-2.ensures)
 
 pub put_preamble_spec : {M : Type 1} → statement M
 put_preamble_spec =

@@ -10,15 +10,15 @@ use Rattle.builder.proofs.put_rest.Tie as tie
 
 returns : tie.Need-returns-then-abort
 returns c =
-    let g = c.before.before.before.before.before.before.before.args in
-    overwrite_as _ (rest_sent g.abort g.rest.now) g.out-1.now _ c.before.before.put_zeros.ensures (sym (ap (λ (x : Bool). rest_sent x g.rest.now) c.before.before.before.before.if-abort.true))
-    (omega (arith, c.before.before.before.before.before.before.before.requires, length-sent g.abort g.rest.now))
+    let g = c.args in
+    overwrite_as _ (rest_sent g.abort g.rest.now) g.out.now _ c.put_zeros.ensures (sym (ap (λ (x : Bool). rest_sent x g.rest.now) c.if-abort.true))
+    (omega (arith, c.requires, length-sent g.abort g.rest.now))
 
 returns-2 : tie.Need-returns-else-abort
 returns-2 c =
-    let g = c.before.before.before.before.before.before.before.args in
-    overwrite_as _ (rest_sent g.abort g.rest.now) g.out-1.now _ c.before.before.put.ensures (sym (ap (λ (x : Bool). rest_sent x g.rest.now) c.before.before.before.before.if-abort.false))
-    (omega (arith, c.before.before.before.before.before.before.before.requires, length-sent g.abort g.rest.now))
+    let g = c.args in
+    overwrite_as _ (rest_sent g.abort g.rest.now) g.out.now _ c.put.ensures (sym (ap (λ (x : Bool). rest_sent x g.rest.now) c.if-abort.false))
+    (omega (arith, c.requires, length-sent g.abort g.rest.now))
 
 pub put_rest_spec : {M : Type 1} → statement M
 put_rest_spec =

@@ -6,5 +6,5 @@ pub room_spec : {M : Type 1} → statement M
 room_spec =
     tie.close
     (tie.spec
-    (λ c. inside c.before.args.n c.before.args.space c.before.args.queued c.if-queued-space.true)
-    (λ c. outside c.before.args.n c.before.args.space c.before.args.queued c.if-queued-space.false))
+    (λ c. inside c.args.n c.args.space c.args.queued c.if-queued-space.true)
+    (λ c. outside c.args.n c.args.space c.args.queued c.if-queued-space.false))

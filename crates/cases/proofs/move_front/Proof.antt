@@ -15,8 +15,8 @@ decreases-loop held₀ at n i₀ held i = n - i
 
 returns : tie.Need-returns invariant-loop decreases-loop
 returns c =
-    let e : c.before.loop-i.i ≡ c.before.before.args.n = omega arith in
-    rw e at c.before.loop-i.invariant.1
+    let e : c.loop-i.i ≡ c.args.n = omega arith in
+    rw e at c.loop-i.invariant.1
 
 pub move_front_spec : {M : Type 1} → statement M
 move_front_spec =
@@ -30,6 +30,6 @@ move_front_spec =
     (λ c. omega arith)
     (λ c. omega arith)
     (λ c. omega arith)
-    (λ c. (omega arith, rw c.before.before.loop-i.invariant.1 (moved_more c.before.before.before.args.held.now c.before.before.before.args.at c.before.before.loop-i.i (omega arith)), length-set c.before.before.loop-i.held c.before.before.loop-i.i _ ∙ c.before.before.loop-i.invariant.2))
-    (λ c. c.before.loop-i.invariant.2)
+    (λ c. (omega arith, rw c.loop-i.invariant.1 (moved_more c.args.held.now c.args.at c.loop-i.i (omega arith)), length-set c.loop-i.held c.loop-i.i _ ∙ c.loop-i.invariant.2))
+    (λ c. c.loop-i.invariant.2)
     returns)

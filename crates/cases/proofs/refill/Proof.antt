@@ -15,9 +15,9 @@ ended b n f t = let z : ◌≡◌ {A = ℕ} 0 1 = cc in omega arith
 
 returns-3 : tie.Need-returns
 returns-3 c =
-    let a = c.before.before.before.before.before.before.before.before.before.before.before.before.before.args in
+    let a = c.args in
     let n : ℕ = a.input.end - a.input.at in
-    (search rules, record { more = search rules; same = moved-kept a.held-1.now c.before.before.before.before.before.before.move_front.new.0 c.before.before.read_full.new.1.0 a.input.at n (omega arith) c.before.before.before.before.before.before.move_front.ensures; whole = λ t. let e : n + c.before.before.read_full.result ≡ length a.held-1.now = eqb-true _ _ t in omega arith })
+    (search rules, record { more = search rules; same = moved-kept a.held.now c.move_front.new.0 c.read_full.new.1.0 a.input.at n (omega arith) c.move_front.ensures; whole = λ t. let e : n + c.read_full.result ≡ length a.held.now = eqb-true _ _ t in omega arith })
 
 pub refill_spec : {M : Type 1} → statement M
 refill_spec =
@@ -25,7 +25,7 @@ refill_spec =
     (tie.spec
     (λ c. search rules)
     (λ c. search rules)
-    (λ c. (search rules, record { more = search rules; same = refl; whole = ended c.before.before.before.before.before.args.input.open _ (not-true _ c.if-not-input.true) }))
+    (λ c. (search rules, record { more = search rules; same = refl; whole = ended c.args.input.open _ (not-true _ c.if-not-input.true) }))
     (λ c κs. search rules)
     (λ c. search rules)
     (λ c. search rules)

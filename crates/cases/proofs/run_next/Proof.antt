@@ -8,8 +8,8 @@ use Rattle.cases.proofs.run_next.Tie as tie
 
 returns : tie.Need-returns-then-builds-gt0
 unfolding next_of
-returns c = let l = space-lent c.before.before.before.before.before.before.before.before.before.before.before.before.args.space.now c.before.before.before.before.before.before.before.before.before.before.before.before.requires in
-    rw (lt-ltb _ _ c.before.before.before.before.before.before.before.if-builds-gt0.true) (rw l at c.before.before.before.before.build_record.ensures)
+returns c = let l = space-lent c.args.space.now c.requires in
+    rw (lt-ltb _ _ c.if-builds-gt0.true) (rw l at c.build_record.ensures)
 
 pub run_next_spec : {M : Type 1} → statement M
 unfolding next_of
@@ -17,7 +17,7 @@ run_next_spec =
     tie.close
     (tie.spec
     (λ c. search rules)
-    (λ c. sym (space-lent c.before.before.before.before.before.before.args.space.now c.before.before.before.before.before.before.requires))
+    (λ c. sym (space-lent c.args.space.now c.requires))
     (λ c κs. search rules)
     (λ c. search rules)
     (λ c. search rules)
@@ -25,8 +25,8 @@ run_next_spec =
     (λ c κs. search rules)
     (λ c κs. search rules)
     (λ c. search rules)
-    (λ c. rw (le-ltb _ _ c.before.before.before.before.before.before.if-builds-gt0.false, kind-is c.before.before.before.before.before.byte_at.ensures c.before.before.before.before.if-byte_at-eq89.true) c.before.before.builds_record.ensures)
+    (λ c. rw (le-ltb _ _ c.if-builds-gt0.false, kind-is c.byte_at.ensures c.if-byte_at-eq89.true) c.builds_record.ensures)
     (λ c κs. search rules)
     (λ c. search rules)
     (λ c. search rules)
-    (λ c. rw (le-ltb _ _ c.before.before.before.before.before.before.before.before.before.if-builds-gt0.false, kind_isnt c.before.before.before.before.before.before.before.before.byte_at.ensures c.before.before.before.before.before.before.before.if-byte_at-eq89.false) (record { step = c.before.before.before.before.run_record-step.ensures; builds = refl })))
+    (λ c. rw (le-ltb _ _ c.if-builds-gt0.false, kind_isnt c.byte_at.ensures c.if-byte_at-eq89.false) (record { step = c.run_record-step.ensures; builds = refl })))

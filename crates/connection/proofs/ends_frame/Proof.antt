@@ -11,4 +11,4 @@ ends_frame_spec =
     (λ c. search rules)
     (λ c. search rules)
     (λ c. search rules)
-    (λ c. not_frame-end c.before.args.event c.in_default.keys3))
+    (λ c. not_frame-end c.args.event c.in-Frame.keys3))

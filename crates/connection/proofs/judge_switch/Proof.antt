@@ -14,4 +14,4 @@ judge_switch_spec =
     (λ c κs. search rules)
     (λ c κs. search rules)
     (λ c κs. search rules)
-    (λ c. cc (switch-judged c.before.before.before.before.before.before.before.args.st)))
+    (λ c. cc (switch-judged c.args.st)))

@@ -8,13 +8,13 @@ use Rattle.connection.proofs.receive_crc.Tie as tie
 
 returns : tie.Need-returns
 returns c =
-    let a = c.before.before.before.before.before.before.before.receive-o.ensures in
-    let z = c.before.before.before.before.before.before.before.before.before.before.before.args in
+    let a = c.receive-o.ensures in
+    let z = c.args in
     record {
       received =
-          crc-gave z.st (crc.answer z.st.crc z.store-1.now z.piece.now) _ _ a.received
-          (c.either-ready.ensures ∙ ap₂ ◌||◌ c.before.before.report_ends_frame.ensures c.before.both.ensures);
-      store = a.store-1;
+          crc-gave z.st (crc.answer z.st.crc z.store.now z.piece.now) _ _ a.received
+          (c.either-ready.ensures ∙ ap₂ ◌||◌ c.report_ends_frame.ensures c.both.ensures);
+      store = a.store;
     }
 
 pub receive_crc_spec : {M : Type 1} → statement M

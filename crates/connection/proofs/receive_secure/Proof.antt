@@ -6,11 +6,11 @@ use Rattle.connection.proofs.receive_secure.Tie as tie
 
 returns : tie.Need-returns
 returns c =
-    let a = c.before.before.before.before.receive-o.ensures in
-    let z = c.before.before.before.before.before.before.before.before.args in
+    let a = c.receive-o.ensures in
+    let z = c.args in
     record {
-      received = secure_gave z.st (sealed.answer z.st.sealed z.store-1.now z.piece.now) _ a.received;
-      store = a.store-1;
+      received = secure_gave z.st (sealed.answer z.st.sealed z.store.now z.piece.now) _ a.received;
+      store = a.store;
     }
 
 pub receive_secure_spec : {M : Type 1} → statement M

@@ -9,8 +9,8 @@ use Rattle.connection.proofs.secure_from.Tie as tie
 
 returns : tie.Need-returns
 returns c =
-    let st = c.before.before.args.st in
-    ap (λ (x : sealed-state.State). record { mode = mode.Secure; ready = false; crc = st.crc-1; sealed = x }) c.switch_on.ensures
+    let st = c.args.st in
+    ap (λ (x : sealed-state.State). record { mode = mode.Secure; ready = false; crc = st.crc; sealed = x }) c.switch_on.ensures
 
 pub secure_from_spec : {M : Type 1} → statement M
 secure_from_spec = tie.close (tie.spec (λ c κs. search rules) returns)

@@ -12,9 +12,9 @@ use Rattle.connection.proofs.start.Tie as tie
 returns : tie.Need-returns
 unfolding begun
 returns c =
-    let a = c.before.before.start-first.ensures in
+    let a = c.start-first.ensures in
     record {
-      state = ap₂ (λ (x : crc-state.State) (y : sealed-state.State). record { mode = mode.crc-1; ready = false; crc = x; sealed = y }) a.state c.no_secure.ensures;
+      state = ap₂ (λ (x : crc-state.State) (y : sealed-state.State). record { mode = mode.Crc; ready = false; crc = x; sealed = y }) a.state c.no_secure.ensures;
       judgement = a.judgement;
     }
 

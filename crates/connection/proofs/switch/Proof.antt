@@ -7,18 +7,18 @@ use Rattle.connection.proofs.switch.Tie as tie
 
 returns : tie.Need-returns-in-Fine
 returns c =
-    let z = c.before.before.before.before.before.args in
-    let e = sym c.before.before.before.before.judge_switch-judgement.ensures ∙ ap judged_by c.before.before.enum_told-1.given.1 in
+    let z = c.args in
+    let e = sym c.judge_switch-judgement.ensures ∙ ap judged_by c.in-Fine.is in
     record {
       judgement = sym e;
-      state = c.before.secure_from.ensures ∙ ap (λ (j : Judged). switched_state j z.state z.key z.receiving) (sym e);
+      state = c.secure_from.ensures ∙ ap (λ (j : Judged). switched_state j z.state z.key z.receiving) (sym e);
       sends = c.fresh_sending.ensures ∙ ap (λ (j : Judged). switched_sending j z.key z.sending) (sym e);
     }
 
 returns-2 : tie.Need-returns-in-Refused
 returns-2 c =
-    let z = c.before.before.before.before.before.args in
-    let e = sym c.before.before.before.before.judge_switch-judgement.ensures ∙ ap judged_by c.before.before.judgement-1.given.1 in
+    let z = c.args in
+    let e = sym c.judge_switch-judgement.ensures ∙ ap judged_by c.in-Refused.is in
     record {
       judgement = sym e;
       state = ap (λ (j : Judged). switched_state j z.state z.key z.receiving) (sym e);

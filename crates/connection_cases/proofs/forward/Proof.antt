@@ -10,8 +10,8 @@ pub forward_spec : {M : Type 1} → statement M
 forward_spec =
     tie.close
     (tie.spec
-    (λ c. drop-end c.before.args.s.now c.before.args.at c.before.args.n (omega arith))
+    (λ c. drop-end c.args.s.now c.args.at c.args.n (omega arith))
     (search rules)
     (search rules)
-    (λ c. sym (drop-drop c.before.before.args.n c.before.before.args.at c.before.before.args.s.now))
-    (λ c. drop-end c.before.before.args.s.now c.before.before.args.at c.before.before.args.n (omega arith)))
+    (λ c. sym (drop-drop c.args.n c.args.at c.args.s.now))
+    (λ c. drop-end c.args.s.now c.args.at c.args.n (omega arith)))

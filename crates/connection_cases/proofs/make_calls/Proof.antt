@@ -27,13 +27,13 @@ decreases-loop l s n from stream store₀ text₀ at width state₀ taken₀ end
 
 loop-again : tie.Need-loop-left-preserved invariant-loop decreases-loop
 loop-again c =
-    let l = c.before.before.before.before.before.before.before.before.before.before.before.before.loop-left in (
-      omega (arith, c.before.before.before.before.before.before.before.before.before.before.before.loop-left-test.true, l.invariant.0, l.invariant.1),
+    let l = c.loop-left in (
+      omega (arith, c.loop-left-test.true, l.invariant.0, l.invariant.1),
       l.invariant.1,
       l.invariant.2,
-      calls-on c.before.before.before.before.before.before.before.before.before.before.before.before.before.before.before.before.before.before.args.l c.before.before.before.before.before.before.before.before.before.before.before.before.before.before.before.before.before.before.args.s.now l.left l.place c.before.before.before.before.before.before.before.before.before.before.before.before.before.before.before.before.before.before.args.stream.now l.taken c.forward-taken.result c.before.before.before.before.before.before.before.before.before.before.before.before.before.call_width-width.result l.state c.before.before.before.before.before.before.before.before.before.before.call_at-call.result c.before.before.before.before.before.before.before.before.before.behind-rest.result.now l.store-1 (omega (arith, c.before.before.before.before.before.before.before.before.before.before.before.loop-left-test.true)) c.before.before.before.before.before.before.before.before.before.before.call_at-call.ensures c.before.before.before.before.before.before.before.before.before.behind-rest.ensures c.before.before.before.before.before.before.make_either-o.ensures c.forward-taken.ensures l.invariant.2 ∙ l.invariant.3,
-      c.before.before.before.before.before.before.make_either-o.auto.1.1.1.1.1.0 ∙ l.invariant.4,
-      c.before.before.before.before.before.before.make_either-o.auto.1.1.1.1.1.1.0 ∙ l.invariant.5,
+      calls-on c.args.l c.args.s.now l.left l.place c.args.stream.now l.taken c.forward-taken.result c.call_width-width.result l.state c.call_at-call.result c.behind-rest.result.now l.store (omega (arith, c.loop-left-test.true)) c.call_at-call.ensures c.behind-rest.ensures c.make_either-o.ensures c.forward-taken.ensures l.invariant.2 ∙ l.invariant.3,
+      c.make_either-o.auto.1.1.1.1.1.0 ∙ l.invariant.4,
+      c.make_either-o.auto.1.1.1.1.1.1.0 ∙ l.invariant.5,
     )
 
 pub make_calls_spec : {M : Type 1} → statement M
@@ -44,15 +44,15 @@ make_calls_spec =
     invariant-loop
     decreases-loop
     (search rules)
-    (λ c. (omega (arith, c.before.before.before.before.before.requires.0), omega (arith, c.call_width-width.ensures.1), c.call_width-width.ensures.0, refl, refl, refl))
-    (λ c κs. omega (arith, c.before.loop-left.invariant.0))
+    (λ c. (omega (arith, c.requires.0), omega (arith, c.call_width-width.ensures.1), c.call_width-width.ensures.0, refl, refl, refl))
+    (λ c κs. omega (arith, c.loop-left.invariant.0))
     (search rules)
-    (λ c κs. c.before.before.before.before.before.before.before.before.before.before.before.requires.1)
+    (λ c κs. c.requires.1)
     (search rules)
-    (λ c. omega (arith, c.before.before.before.before.before.before.before.before.before.before.before.before.loop-left.invariant.0, c.before.before.before.before.before.before.before.before.before.before.before.before.loop-left.invariant.1))
-    (λ c. omega (arith, c.before.before.before.before.before.before.before.before.before.before.before.loop-left-test.true))
-    (λ c. omega (arith, c.before.before.before.before.before.before.before.before.before.before.before.loop-left-test.true))
+    (λ c. omega (arith, c.loop-left.invariant.0, c.loop-left.invariant.1))
+    (λ c. omega (arith, c.loop-left-test.true))
+    (λ c. omega (arith, c.loop-left-test.true))
     loop-again
-    (λ c. c.before.loop-left.invariant.4)
-    (λ c. c.before.loop-left.invariant.5)
-    (λ c. ap (λ (xs : List Call). prints (call_lines c.before.before.before.before.before.before.before.args.l c.before.before.before.before.before.before.before.args.s.now xs (drop c.before.loop-left.taken c.before.before.before.before.before.before.before.args.stream.now) c.before.loop-left.state c.before.loop-left.store) (page c.before.loop-left.text c.before.loop-left.end)) (sym (calls-none c.before.before.before.before.before.before.before.args.l.lends c.before.before.before.before.before.before.before.args.s.now c.before.loop-left.left c.before.loop-left.place (omega arith))) ∙ c.before.loop-left.invariant.3))
+    (λ c. c.loop-left.invariant.4)
+    (λ c. c.loop-left.invariant.5)
+    (λ c. ap (λ (xs : List Call). prints (call_lines c.args.l c.args.s.now xs (drop c.loop-left.taken c.args.stream.now) c.loop-left.state c.loop-left.store) (page c.loop-left.text c.loop-left.end)) (sym (calls-none c.args.l.lends c.args.s.now c.loop-left.left c.loop-left.place (omega arith))) ∙ c.loop-left.invariant.3))

@@ -9,5 +9,5 @@ opened_by_spec =
     (search rules)
     (search rules)
     (search rules)
-    (λ c. rw c.before.enum_told-1.given.1 c.with_opened.ensures)
+    (λ c. rw c.in-Fine.is c.with_opened.ensures)
     (λ c. search rules))

@@ -19,4 +19,4 @@ print_empty_spec =
     (search rules)
     (search rules)
     (search rules)
-    (λ c. c.before.before.print_outcome.ensures ∙ rw (c.before.before.before.before.checksum-sum.ensures, ← c.before.before.before.before.before.before.before.before.before.before.before.before.count_up.ensures, ← c.before.before.before.before.before.before.before.before.before.empty_header.ensures, ← c.before.before.before.before.before.before.before.build_sealed-o.ensures.promise)))
+    (λ c. c.before.before.print-outcome.ensures ∙ rw (c.before.before.before.before.checksum.ensures, ← c.before.before.before.before.before.before.before.before.before.before.before.before.count-up.ensures, ← c.before.before.before.before.before.before.before.before.before.empty-header.ensures, ← c.before.before.before.before.before.before.before.build-sealed.ensures.promise)))

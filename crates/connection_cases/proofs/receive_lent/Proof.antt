@@ -13,8 +13,8 @@ use Rattle.connection_cases.proofs.receive_lent.Tie as tie
 
 returns-2 : tie.Need-returns
 returns-2 c =
-    let e = lent-whole c.before.before.before.before.before.before.before.args.state c.before.before.before.before.before.before.before.args.store.now c.before.before.before.before.before.before.before.args.piece.now c.before.before.before.before.before.before.before.args.lent (omega arith) in
-    record { received = c.before.before.receive-2.ensures.received ∙ sym (ap (λ (a : Answer). a.received) e); store = c.before.before.receive-2.ensures.store ∙ sym (ap (λ (a : Answer). a.store-1) e) }
+    let e = lent-whole c.args.state c.args.store.now c.args.piece.now c.args.lent (omega arith) in
+    record { received = c.receive-2.ensures.received ∙ sym (ap (λ (a : Answer). a.received) e); store = c.receive-2.ensures.store ∙ sym (ap (λ (a : Answer). a.store) e) }
 
 pub receive_lent_spec : {M : Type 1} → statement M
 unfolding lent_answer
@@ -22,10 +22,10 @@ receive_lent_spec =
     tie.close
     (tie.spec
     (search rules)
-    (λ c. sym (length-take-le c.before.before.before.before.args.lent c.before.before.before.before.args.store.now (omega arith)))
+    (λ c. sym (length-take-le c.args.lent c.args.store.now (omega arith)))
     (search rules)
     (search rules)
-    (λ c. record { received = c.before.before.receive.ensures.received; store = ap (λ (l : List ℕ). l ++ drop c.before.before.before.before.before.before.before.args.lent c.before.before.before.before.before.before.before.args.store.now) c.before.before.receive.ensures.store })
+    (λ c. record { received = c.receive.ensures.received; store = ap (λ (l : List ℕ). l ++ drop c.args.lent c.args.store.now) c.receive.ensures.store })
     (search rules)
     (search rules)
     returns-2)

@@ -12,28 +12,28 @@ use Rattle.connection_cases.proofs.Laws.{receiver-store, switches-there, receive
 use Rattle.connection_cases.proofs.receiver_record.Statement.{statement}
 use Rattle.connection_cases.proofs.receiver_record.Tie as tie
 
-good : (a : tie.Else-not-is_whole) → is_whole (receiver_size (length a.before.before.before.before.before.before.before.args.space.now) a.before.before.before.layout_of-l.result a.before.before.before.before.before.before.before.args.s.now) a.before.before.before.before.before.before.before.args.s.now ≡ true
-good a = seen-whole a.before.before.before.before.before.before.before.args.s.now a.before.before.receiver_size-size.ensures a.before.is_whole.ensures a.if-not-is_whole.false
+good : (a : tie.Else-not-is_whole) → is_whole (receiver_size (length a.args.space.now) a.layout_of-l.result a.args.s.now) a.args.s.now ≡ true
+good a = seen-whole a.args.s.now a.receiver_size-size.ensures a.is_whole.ensures a.if-not-is_whole.false
 
 slice_relend_prefix-store : tie.Need-slice_bounds-store-end
 slice_relend_prefix-store c =
-    omega (arith, c.u32_at-n.ensures, receiver-store (length c.before.before.before.before.before.before.before.before.before.before.before.before.before.args.space.now) c.before.before.before.before.before.before.before.before.before.layout_of-l.result c.before.before.before.before.before.before.before.before.before.before.before.before.before.args.s.now (good c.before.before.before.before.before.before))
+    omega (arith, c.u32_at-n.ensures, receiver-store (length c.args.space.now) c.layout_of-l.result c.args.s.now (good c.before.before.before.before.before.before))
 
 returns-2 : tie.Need-returns
 unfolding receiver_record
 returns-2 c =
-    let a = c.before.before.before.before.before.before.before.before.before.before.before.before.before.before.before.before.before.before.before.before.before.before.before.before.before.before.before.before.before.before.before.before.before.before.args in
-    rw (← c.before.before.before.before.before.before.before.before.before.before.before.before.before.before.before.before.before.before.before.before.before.before.before.before.before.before.before.before.before.before.layout_of-l.ensures)
-    (did_whole _ c.before.before.before.before.before.before.before.before.before.before.before.before.before.before.before.before.before.before.before.before.before.before.before.before.before.before.before.before.before.receiver_size-size.ensures c.before.before.before.before.before.before.before.before.before.before.before.before.before.before.before.before.before.before.before.before.before.before.before.before.before.before.before.before.is_whole.ensures c.before.before.before.before.before.before.before.before.before.before.before.before.before.before.before.before.before.before.before.before.before.before.before.before.before.before.before.if-not-is_whole.false refl
-    (receiver-printed c.before.before.before.before.before.before.before.before.before.before.before.before.before.before.before.before.before.before.before.before.before.before.before.before.before.before.before.before.before.before.layout_of-l.result a.s.now _
-    c.before.before.before.before.before.before.before.before.before.before.before.before.before.before.before.before.before.before.before.before.before.before.before.before.before.before.calls_of-calls.ensures.0
-    c.before.before.before.before.before.before.before.before.before.before.before.before.before.before.before.before.before.before.before.before.before.before.before.before.before.calls_at-from.ensures.0
-    (c.before.before.before.before.before.before.before.before.before.before.before.before.before.before.before.before.before.before.before.before.before.before.part-stream.ensures ∙ rw (c.before.before.before.before.before.before.before.before.before.before.before.before.before.before.before.before.before.before.before.before.before.before.before.u32_at.ensures, c.before.before.before.before.before.before.before.before.before.before.before.before.before.before.before.before.before.before.before.before.before.before.before.before.stream_at-end.ensures.0))
-    (rw (c.before.before.before.before.before.before.before.before.before.before.before.before.before.before.u64_at.ensures, c.before.before.before.before.before.before.before.before.before.before.before.before.before.u64_at-2.ensures) at c.before.before.before.before.before.before.before.before.before.before.before.before.start-begun.ensures.state)
-    (rw (c.before.before.before.before.before.before.before.before.before.before.before.before.before.before.before.before.before.before.byte_at.ensures, length-take-le _ _ (slice_relend_prefix-store c.before.before.before.before.before.before.before.before.before.before.before.before.before.before.before.before.before.before.before.before.before), c.before.before.before.before.before.before.before.before.before.before.before.before.before.before.before.before.before.before.before.before.before.u32_at-n.ensures) at c.before.before.before.before.before.before.before.before.before.before.before.before.before.before.before.before.before.count_up.ensures)
-    (rw (c.before.before.before.before.before.before.before.before.before.before.before.before.before.before.u64_at.ensures, c.before.before.before.before.before.before.before.before.before.before.before.before.before.u64_at-2.ensures) at c.before.before.before.before.before.before.before.before.before.before.before.before.start-begun.ensures.judgement)
-    c.before.before.before.before.before.before.before.before.print_judgement-started.ensures
-    c.before.before.before.before.make_calls.ensures))
+    let a = c.args in
+    rw (← c.layout_of-l.ensures)
+    (did_whole _ c.receiver_size-size.ensures c.is_whole.ensures c.if-not-is_whole.false refl
+    (receiver-printed c.layout_of-l.result a.s.now _
+    c.calls_of-calls.ensures.0
+    c.calls_at-from.ensures.0
+    (c.part-stream.ensures ∙ rw (c.u32_at.ensures, c.stream_at-end.ensures.0))
+    (rw (c.u64_at.ensures, c.u64_at-2.ensures) at c.start-begun.ensures.state)
+    (rw (c.byte_at.ensures, length-take-le _ _ (slice_relend_prefix-store c.before.before.before.before.before.before.before.before.before.before.before.before.before.before.before.before.before.before.before.before.before.before), c.u32_at-n.ensures) at c.count_up.ensures)
+    (rw (c.u64_at.ensures, c.u64_at-2.ensures) at c.start-begun.ensures.judgement)
+    c.print_judgement-started.ensures
+    c.make_calls.ensures))
 
 pub receiver_record_spec : {M : Type 1} → statement M
 unfolding receiver_record
@@ -45,7 +45,7 @@ receiver_record_spec =
     (search rules)
     (search rules)
     (search rules)
-    (λ c. rw (← c.before.before.before.before.before.before.before.layout_of-l.ensures) (did_bad _ c.before.before.before.before.before.before.receiver_size-size.ensures c.before.before.before.before.before.is_whole.ensures c.before.before.before.before.if-not-is_whole.true c.before.before.bad_record.ensures))
+    (λ c. rw (← c.layout_of-l.ensures) (did_bad _ c.receiver_size-size.ensures c.is_whole.ensures c.if-not-is_whole.true c.bad_record.ensures))
     (search rules)
     (search rules)
     (search rules)
@@ -64,7 +64,7 @@ receiver_record_spec =
     (search rules)
     (search rules)
     (search rules)
-    (λ c κs. ((omega (arith, c.before.before.before.before.before.before.before.before.before.before.before.before.before.before.before.before.before.before.before.before.before.calls_of-calls.ensures.1), omega (arith, c.before.before.before.before.before.before.before.before.before.before.before.before.before.before.before.before.before.before.before.before.calls_at-from.ensures.1)), switches-there (length c.before.before.before.before.before.before.before.before.before.before.before.before.before.before.before.before.before.before.before.before.before.before.before.before.before.before.before.before.before.args.space.now) c.before.before.before.before.before.before.before.before.before.before.before.before.before.before.before.before.before.before.before.before.before.before.before.before.before.layout_of-l.result c.before.before.before.before.before.before.before.before.before.before.before.before.before.before.before.before.before.before.before.before.before.before.before.before.before.before.before.before.before.args.s.now (good c.before.before.before.before.before.before.before.before.before.before.before.before.before.before.before.before.before.before.before.before.before.before)))
+    (λ c κs. ((omega (arith, c.calls_of-calls.ensures.1), omega (arith, c.calls_at-from.ensures.1)), switches-there (length c.args.space.now) c.layout_of-l.result c.args.s.now (good c.before.before.before.before.before.before.before.before.before.before.before.before.before.before.before.before.before.before.before.before.before.before.before.before.before.before.before.before)))
     (search rules)
     (search rules)
     returns-2)

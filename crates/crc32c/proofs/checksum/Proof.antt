@@ -15,5 +15,5 @@ checksum_spec =
     (λ c. search rules)
     (λ c. search rules)
     (λ c. search rules)
-    (λ c κs. omega (arith, rest-length c.before.over_words-words.result.i c.before.before.before.before.before.args.bytes.now, c.before.over_words-words.ensures.1))
-    (λ c. c.last.ensures ∙ ends (c.before.before.over_words-words.ensures.2 _ (c.before.before.before.over_pairs-pairs.ensures.1 _ c.before.before.before.before.over_fours-fours.ensures)) c.before.before.over_words-words.ensures.1))
+    (λ c κs. omega (arith, rest-length c.over_words-words.result.i c.args.bytes.now, c.over_words-words.ensures.1))
+    (λ c. c.last.ensures ∙ ends (c.over_words-words.ensures.2 _ (c.over_pairs-pairs.ensures.1 _ c.over_fours-fours.ensures)) c.over_words-words.ensures.1))

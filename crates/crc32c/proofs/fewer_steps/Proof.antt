@@ -13,4 +13,4 @@ fewer_steps_spec =
     (λ c. search rules)
     (λ c κs. search rules)
     (λ c. search rules)
-    (λ c. cc (padded c.before.args.x c.before.args.bits (32 - c.before.args.bits) (omega arith))))
+    (λ c. cc (padded c.args.x c.args.bits (32 - c.args.bits) (omega arith))))

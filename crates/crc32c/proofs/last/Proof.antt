@@ -10,8 +10,8 @@ last_spec =
     tie.close
     (tie.spec
     (λ c. search rules)
-    (λ c. crc-none c.before.before.args.c c.before.before.args.rest.now (omega arith))
+    (λ c. crc-none c.args.c c.args.rest.now (omega arith))
     (λ c. search rules)
     (λ c κs. search rules)
     (λ c κs. search rules)
-    (λ c. c.fewer_steps.ensures ∙ c.before.mixed.ensures))
+    (λ c. c.fewer_steps.ensures ∙ c.mixed.ensures))

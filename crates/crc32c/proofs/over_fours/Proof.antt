@@ -19,9 +19,9 @@ over_fours_spec =
     (tie.spec
     invariant-loop
     decreases-loop
-    (λ c. begins c.before.args.start c.before.args.bytes.now)
-    (λ c. omega (arith, c.before.loop-l.invariant.within))
-    (λ c κs. omega (arith, c.before.before.loop-l.invariant.within))
+    (λ c. begins c.args.start c.args.bytes.now)
+    (λ c. omega (arith, c.loop-l.invariant.within))
+    (λ c κs. omega (arith, c.loop-l.invariant.within))
     (λ c. search rules)
-    (λ c. c.four_words-next.ensures.1 c.before.before.before.before.before.args.start c.before.before.before.loop-l.invariant)
-    (λ c. c.before.before.loop-l.invariant))
+    (λ c. c.four_words-next.ensures.1 c.args.start c.loop-l.invariant)
+    (λ c. c.loop-l.invariant))

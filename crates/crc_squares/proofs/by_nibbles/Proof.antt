@@ -18,9 +18,9 @@ decreases-loop first x r₀ rest₀ j₀ r rest j = 8 - j
 
 loop-again : tie.Need-loop-j-preserved invariant-loop decreases-loop
 loop-again c =
-    let p = c.before in
-    let l = p.before.before.loop-j in
-    let a = p.before.before.before.args in
+    let p = c in
+    let l = p.loop-j in
+    let a = p.args in
     let i : ℕ = (a.first + l.j) * 16 + bit_and l.rest 15 in
     let e = c.entry-r.ensures ∙ placed_at p.place.result i (omega (arith, mask_lt l.rest 4)) p.place.ensures in
     (search rules, nibbles-next root_or_square_at l.r c.entry-r.result l.rest a.first l.j (omega arith) e ∙ l.invariant.1)
@@ -34,10 +34,10 @@ by_nibbles_spec =
     (λ c. (omega arith, ap (λ (p : ℕ). nibbles root_or_square_at p 8 c.args.x) (add-zero c.args.first)))
     (λ c. search rules)
     (λ c. search rules)
-    (λ c. omega (arith, mask_lt c.before.loop-j.rest 4))
+    (λ c. omega (arith, mask_lt c.loop-j.rest 4))
     (λ c κs. search rules)
     (λ c κs. search rules)
     (λ c. search rules)
     (λ c. search rules)
     loop-again
-    (λ c. nibbles-end root_or_square_at c.before.loop-j.r c.before.loop-j.rest (c.before.before.args.first + c.before.loop-j.j) c.before.loop-j.j (omega arith) ∙ c.before.loop-j.invariant.1))
+    (λ c. nibbles-end root_or_square_at c.loop-j.r c.loop-j.rest (c.args.first + c.loop-j.j) c.loop-j.j (omega arith) ∙ c.loop-j.invariant.1))

@@ -10,4 +10,4 @@ read_spec =
     (λ c. search rules)
     (λ c. search rules)
     (λ c. search rules)
-    (λ c. read_at_lem c.before.args.t.now c.before.requires c.before.args.k))
+    (λ c. read_at_lem c.args.t.now c.requires c.args.k))

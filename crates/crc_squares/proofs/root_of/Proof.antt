@@ -10,4 +10,4 @@ root_of_spec =
     tie.close
     (tie.spec
     (λ c κs. omega arith)
-    (λ c. ap square c.by_nibbles.ensures ∙ rooted c.before.args.c (omega arith)))
+    (λ c. ap square c.by_nibbles.ensures ∙ rooted c.args.c (omega arith)))

@@ -9,4 +9,4 @@ square_of_spec =
     tie.close
     (tie.spec
     (λ c κs. omega arith)
-    (λ c. c.by_nibbles.ensures ∙ squared c.before.args.c (omega arith)))
+    (λ c. c.by_nibbles.ensures ∙ squared c.args.c (omega arith)))

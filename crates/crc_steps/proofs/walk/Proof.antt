@@ -25,5 +25,5 @@ walk_spec =
     (λ c. search rules)
     (λ c. search rules)
     (λ c. search rules)
-    (λ c. by_byte c.before.before.before.args.t.now c.before.before.before.requires c.before.before.loop-left.left c.before.before.loop-left.c (omega arith) ∙ c.before.before.loop-left.invariant)
-    (λ c. walked c.before.before.args.n c.before.before.args.k c.before.loop-left.c c.before.loop-left.left (omega arith) c.before.loop-left.invariant))
+    (λ c. by_byte c.args.t.now c.requires c.loop-left.left c.loop-left.c (omega arith) ∙ c.loop-left.invariant)
+    (λ c. walked c.args.n c.args.k c.loop-left.c c.loop-left.left (omega arith) c.loop-left.invariant))

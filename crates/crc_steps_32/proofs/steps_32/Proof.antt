@@ -5,7 +5,7 @@ use Rattle.crc_steps_32.proofs.steps_32.Statement.{statement}
 use Rattle.crc_steps_32.proofs.steps_32.Tie as tie
 
 returns : tie.Need-returns
-returns c = cc (by_bytes 0 c.before.before.before.before.before.before.before.before.args.w (omega arith) c.before.before.before.before.before.before.before.place.ensures c.before.before.before.before.before.place-2.ensures c.before.before.before.place-3.ensures c.before.place-4.ensures)
+returns c = cc (by_bytes 0 c.args.w (omega arith) c.place.ensures c.place-2.ensures c.place-3.ensures c.place-4.ensures)
 
 pub steps_32_spec : {M : Type 1} → statement M
 steps_32_spec =

@@ -16,4 +16,4 @@ steps_64_spec =
     (λ c κs. search rules)
     (λ c κs. search rules)
     (λ c κs. search rules)
-    (λ c. cc (by_bytes 32 c.before.before.before.before.before.before.before.before.args.w (omega arith) c.before.before.before.before.before.before.before.place.ensures c.before.before.before.before.before.place-2.ensures c.before.before.before.place-3.ensures c.before.place-4.ensures)))
+    (λ c. cc (by_bytes 32 c.args.w (omega arith) c.place.ensures c.place-2.ensures c.place-3.ensures c.place-4.ensures)))

@@ -9,4 +9,4 @@ accept_spec =
     (tie.spec
     (λ c κs. search rules)
     (λ c κs. search rules)
-    (λ c. called c.before.before.args.state _ c.session_called.result c.before.accept.result c.session_called.ensures c.before.accept.ensures))
+    (λ c. called c.args.state _ c.session_called.result c.accept.result c.session_called.ensures c.accept.ensures))

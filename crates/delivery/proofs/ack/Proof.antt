@@ -9,4 +9,4 @@ ack_spec =
     (tie.spec
     (λ c κs. search rules)
     (λ c κs. search rules)
-    (λ c. called c.before.before.args.state _ c.session_called.result c.before.ack.result c.session_called.ensures c.before.ack.ensures))
+    (λ c. called c.args.state _ c.session_called.result c.ack.result c.session_called.ensures c.ack.ensures))

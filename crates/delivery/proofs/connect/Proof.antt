@@ -10,4 +10,4 @@ connect_spec =
     tie.close
     (tie.spec
     (λ c κs. search rules)
-    (λ c. record { state = ap (λ (t : State). delivery t c.before.before.args.s) c.before.start-begun.ensures.state; judgement = c.before.start-begun.ensures.judgement }))
+    (λ c. record { state = ap (λ (t : State). delivery t c.args.s) c.start-begun.ensures.state; judgement = c.start-begun.ensures.judgement }))

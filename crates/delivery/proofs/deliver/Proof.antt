@@ -6,10 +6,10 @@ use Rattle.delivery.proofs.deliver.Tie as tie
 
 returns : tie.Need-returns
 returns c = record {
-  received = c.before.before.before.before.before.before.before.receive-got.ensures;
+  received = c.receive-got.ensures;
   done =
-      c.before.before.apply-after.ensures
-      ∙ ap (done_to c.before.before.before.before.before.before.before.before.before.before.before.args.state.session) c.before.before.before.request_by_report.ensures;
+      c.apply-after.ensures
+      ∙ ap (done_to c.args.state.session) c.request_by_report.ensures;
 }
 
 pub deliver_spec : {M : Type 1} → statement M

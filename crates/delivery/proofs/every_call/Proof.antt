@@ -9,4 +9,4 @@ every_call_spec =
     (tie.spec
     (λ c κs. search rules)
     (λ c κs. search rules)
-    (λ c. every_call c.before.every_call.ensures c.every_call-2.ensures))
+    (λ c. every_call c.every_call.ensures c.every_call-2.ensures))

@@ -10,4 +10,4 @@ every_release_spec =
     (λ c κs. search rules)
     (λ c κs. search rules)
     (λ c κs. search rules)
-    (λ c. every_release c.before.before.every_cutting.ensures c.before.every_call.ensures c.every_history.ensures))
+    (λ c. every_release c.every_cutting.ensures c.every_call.ensures c.every_history.ensures))

@@ -9,5 +9,5 @@ request_by_event_spec =
     (tie.spec
     (λ c. search rules)
     (λ c κs. search rules)
-    (λ c. rw c.before.before.event-1.given.1 c.request_by_frame.ensures)
-    (λ c. no-frame c.before.before.args.store.now c.before.before.args.event c.in_default.keys2))
+    (λ c. rw c.in-Frame.is c.request_by_frame.ensures)
+    (λ c. no-frame c.args.store.now c.args.event c.in-Frame.keys2))

@@ -15,12 +15,12 @@ use Rattle.delivery.proofs.request_by_frame.Tie as tie
 returns-2 : tie.Need-returns
 unfolding request_by_frame
 returns-2 c =
-    let h = c.before.before.before.before.before.before.before.before.before.args.h in
-    let s = c.before.before.before.before.before.before.before.before.before.args.store.now in
-    let e = sym c.before.before.before.before.before.before.before.for_session.ensures ∙ not-false _ c.before.before.before.before.before.before.if-not-for_session.false in
+    let h = c.args.h in
+    let s = c.args.store.now in
+    let e = sym c.for_session.ensures ∙ not-false _ c.if-not-for_session.false in
     rw e
-    (c.request_by_body.ensures (take c.before.before.before.min-end.result s)
-    ∙ ap (by_body h) (c.before.read.ensures.answer ∙ ap (read_body h.tag) (take_min s h.s1.len c.before.before.before.min-end.result c.before.before.before.min-end.ensures)))
+    (c.request_by_body.ensures (take c.min-end.result s)
+    ∙ ap (by_body h) (c.read.ensures.answer ∙ ap (read_body h.tag) (take_min s h.s1.len c.min-end.result c.min-end.ensures)))
 
 pub request_by_frame_spec : {M : Type 1} → statement M
 unfolding request_by_frame
@@ -28,10 +28,10 @@ request_by_frame_spec =
     tie.close
     (tie.spec
     (λ c κs. search rules)
-    (λ c. rw (sym c.before.for_session.ensures ∙ not-true _ c.if-not-for_session.true))
+    (λ c. rw (sym c.for_session.ensures ∙ not-true _ c.if-not-for_session.true))
     (λ c. search rules)
     (λ c κs. search rules)
-    (λ c. simp length-take (omega (arith, c.before.min-end.ensures)))
+    (λ c. simp length-take (omega (arith, c.min-end.ensures)))
     (λ c κs. search rules)
     (λ c κs. search rules)
     returns-2)

@@ -10,7 +10,7 @@ request_by_number_spec =
     tie.close
     (tie.spec
     (λ c κs. search rules)
-    (λ c. rw (eq-eqb _ _ c.before.if-h-eq1.true) c.request_of.ensures)
+    (λ c. rw (eq-eqb _ _ c.if-h-eq1.true) c.request_of.ensures)
     (λ c. search rules)
     (λ c κs. search rules)
-    (λ c. rw (ne_eqb _ _ c.before.before.before.if-h-eq1.false) (ap request.Malformed c.numbers_of.ensures)))
+    (λ c. rw (ne_eqb _ _ c.if-h-eq1.false) (ap request.Malformed c.numbers_of.ensures)))

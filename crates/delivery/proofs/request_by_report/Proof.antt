@@ -10,4 +10,4 @@ request_by_report_spec =
     (λ c. search rules)
     (λ c κs. search rules)
     (λ c. search rules)
-    (λ c. rw c.before.before.report-1.given.1 c.request_by_event.ensures))
+    (λ c. rw c.in-Event.is c.request_by_event.ensures))

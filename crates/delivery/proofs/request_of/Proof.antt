@@ -7,6 +7,6 @@ request_of_spec =
     tie.close
     (tie.spec
     (λ c. simp (eq-eqb _ _ c.if-tag-eq20.true))
-    (λ c. simp (ne_eqb _ _ c.before.if-tag-eq20.false, eq-eqb _ _ c.if-tag-eq15.true))
-    (λ c. simp (ne_eqb _ _ c.before.before.if-tag-eq20.false, ne_eqb _ _ c.before.if-tag-eq15.false, eq-eqb _ _ c.if-tag-eq12.true))
-    (λ c. simp (ne_eqb _ _ c.before.before.if-tag-eq20.false, ne_eqb _ _ c.before.if-tag-eq15.false, ne_eqb _ _ c.if-tag-eq12.false)))
+    (λ c. simp (ne_eqb _ _ c.if-tag-eq20.false, eq-eqb _ _ c.if-tag-eq15.true))
+    (λ c. simp (ne_eqb _ _ c.if-tag-eq20.false, ne_eqb _ _ c.if-tag-eq15.false, eq-eqb _ _ c.if-tag-eq12.true))
+    (λ c. simp (ne_eqb _ _ c.if-tag-eq20.false, ne_eqb _ _ c.if-tag-eq15.false, ne_eqb _ _ c.if-tag-eq12.false)))

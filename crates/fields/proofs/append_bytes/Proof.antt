@@ -13,4 +13,4 @@ append_bytes_spec =
     (λ c κs. search rules)
     (λ c κs. search rules)
     (λ c. search rules)
-    (λ c. appended (fixed _ _) tt refl (rw c.before.before.before.beyond.ensures at c.before.before.put.ensures)))
+    (λ c. appended (fixed _ _) tt refl (rw c.beyond.ensures at c.put.ensures)))

@@ -15,4 +15,4 @@ append_list_spec =
     (λ c κs. search rules)
     (λ c κs. search rules)
     (λ c. search rules)
-    (λ c. appended-counted (numbers _) _ c.before.before.append_words.ensures.1 c.before.before.before.before.before.before.before.before.before.count_bytes-b.ensures refl refl refl c.before.before.before.before.before.before.put-next.ensures c.before.before.append_words.ensures.0))
+    (λ c. appended-counted (numbers _) _ c.append_words.ensures.1 c.count_bytes-b.ensures refl refl refl c.put-next.ensures c.append_words.ensures.0))

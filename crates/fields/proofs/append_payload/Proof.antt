@@ -15,4 +15,4 @@ append_payload_spec =
     (λ c κs. search rules)
     (λ c κs. search rules)
     (λ c. search rules)
-    (λ c. appended-counted (payload _) _ tt c.before.before.before.before.before.before.before.before.before.count_bytes-b.ensures refl refl refl c.before.before.before.before.before.before.put-next.ensures c.before.before.put.ensures))
+    (λ c. appended-counted (payload _) _ tt c.count_bytes-b.ensures refl refl refl c.put-next.ensures c.put.ensures))

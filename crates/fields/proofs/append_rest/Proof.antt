@@ -12,4 +12,4 @@ append_rest_spec =
     (tie.spec
     (λ c κs. search rules)
     (λ c. search rules)
-    (λ c. appended (opaque _ _) tt refl c.before.before.put.ensures))
+    (λ c. appended (opaque _ _) tt refl c.put.ensures))

@@ -6,7 +6,7 @@ use Rattle.fields.proofs.append_u8.Tie as tie
 
 returns : tie.Need-returns
 unfolding Fits
-returns c = appended (number 1 _) c.before.before.before.before.before.before.ranges.n.fits (byte_is _ c.before.before.before.before.before.before.ranges.n.fits) c.before.before.put.ensures
+returns c = appended (number 1 _) c.ranges.n.fits (byte_is _ c.ranges.n.fits) c.put.ensures
 
 pub append_u8_spec : {M : Type 1} → statement M
 append_u8_spec = tie.close (tie.spec (λ c. search rules) (λ c κs. search rules) (λ c. search rules) returns)

@@ -17,14 +17,14 @@ abbrev decreases-loop : tie.decreases-loop-i
 decreases-loop out₀ ns next₀ i₀ out next i = length ns - i
 
 loop-again : tie.Need-loop-i-preserved invariant-loop decreases-loop
-loop-again c = let l = c.before.before.before.before.before.before.loop-i in
-    let g = c.before.before.before.before.before.before.before.before.before.before.args in
-    (omega arith, (λ p e. one_more l.i g.ns.now (omega arith) (l.invariant.1 p e) c.before.before.append_u32-next.ensures), c.before.out-1.given ∙ l.invariant.2)
+loop-again c = let l = c.loop-i in
+    let g = c.args in
+    (omega arith, (λ p e. one_more l.i g.ns.now (omega arith) (l.invariant.1 p e) c.append_u32-next.ensures), c.out-1.given ∙ l.invariant.2)
 
 returns : tie.Need-returns invariant-loop decreases-loop
-returns c = let l = c.before.loop-i in
-    let g = c.before.before.before.before.before.args in
-    all_words l.i g.ns.now (omega arith) l.invariant.0 (l.invariant.1 g.p c.before.before.count-next.ensures)
+returns c = let l = c.loop-i in
+    let g = c.args in
+    all_words l.i g.ns.now (omega arith) l.invariant.0 (l.invariant.1 g.p c.count-next.ensures)
 
 pub append_words_spec : {M : Type 1} → statement M
 append_words_spec =
@@ -40,5 +40,5 @@ append_words_spec =
     (λ c. search rules)
     (λ c. search rules)
     loop-again
-    (λ c. c.before.loop-i.invariant.2)
+    (λ c. c.loop-i.invariant.2)
     returns)

@@ -7,9 +7,9 @@ pub bits_of_spec : {M : Type 1} → statement M
 bits_of_spec =
     tie.close
     (tie.spec
-    (λ c. (below c.before.args.error c.before.ranges.error c.if-error-lt0.true).fits)
-    (λ c. let b = below-read c.before.args.error c.before.ranges.error c.if-error-lt0.true in (b.above, record { fits = omega arith }))
-    (λ c. let b = below-read c.before.args.error c.before.ranges.error c.if-error-lt0.true in omega arith)
-    (λ c. let b = not_below c.before.args.error c.before.ranges.error c.if-error-lt0.false in (b.above, record { fits = omega arith }))
-    (λ c. (below-read c.before.args.error c.before.ranges.error c.if-error-lt0.true).bits)
-    (λ c. (not_below c.before.args.error c.before.ranges.error c.if-error-lt0.false).bits))
+    (λ c. (below c.args.error c.ranges.error c.if-error-lt0.true).fits)
+    (λ c. let b = below-read c.args.error c.ranges.error c.if-error-lt0.true in (b.above, record { fits = omega arith }))
+    (λ c. let b = below-read c.args.error c.ranges.error c.if-error-lt0.true in omega arith)
+    (λ c. let b = not_below c.args.error c.ranges.error c.if-error-lt0.false in (b.above, record { fits = omega arith }))
+    (λ c. (below-read c.args.error c.ranges.error c.if-error-lt0.true).bits)
+    (λ c. (not_below c.args.error c.ranges.error c.if-error-lt0.false).bits))

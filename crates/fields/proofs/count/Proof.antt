@@ -9,7 +9,7 @@ count_spec =
     tie.close
     (tie.spec
     (λ c κs. search rules)
-    (λ c. rw (c.if-p.true, c.before.capped_sum-len.ensures))
-    (λ c. rw (c.before.if-p.false, c.if-sound.true, c.before.before.capped_sum-len.ensures))
+    (λ c. rw (c.if-p.true, c.capped_sum-len.ensures))
+    (λ c. rw (c.if-p.false, c.if-sound.true, c.capped_sum-len.ensures))
     (λ c κs. search rules)
-    (λ c. rw (c.before.before.if-p.false, c.before.if-sound.false, c.before.before.before.capped_sum-len.ensures, c.capped_sum.ensures)))
+    (λ c. rw (c.if-p.false, c.if-sound.false, c.capped_sum-len.ensures, c.capped_sum.ensures)))

@@ -12,5 +12,5 @@ number_in_spec =
     (λ c. search rules)
     (λ c. search rules)
     (λ c κs. search rules)
-    (λ c. c.u32_at.ensures ∙ number-got _ _ _ _ _ c.before.min.ensures c.before.before.if-i-l.true)
-    (λ c. beyond_list c.before.before.before.args.s.now c.before.before.before.args.l.at _ _ c.if-i-l.false))
+    (λ c. c.u32_at.ensures ∙ number-got _ _ _ _ _ c.min.ensures c.if-i-l.true)
+    (λ c. beyond_list c.args.s.now c.args.l.at _ _ c.if-i-l.false))

@@ -16,16 +16,16 @@ decreases-loop out₀ at src room n i₀ out i = n - i
 
 loop-again : tie.Need-loop-i-preserved invariant-loop decreases-loop
 loop-again c =
-    let l = c.before.before.loop-i in
-    let g = c.before.before.before.before.before.before.before.args in
+    let l = c.loop-i in
+    let g = c.args in
     (omega arith, rw l.invariant.1 (put_one g.at l.i g.src.now g.out.now (omega arith)), length-set l.out (g.at + l.i) _ ∙ l.invariant.2)
 
 returns : tie.Need-returns invariant-loop decreases-loop
 returns c =
-    let l = c.before.loop-i in
-    let g = c.before.before.before.before.before.before.args in
-    let e : l.i ≡ c.before.before.min-n.result = omega arith in
-    l.invariant.1 ∙ ap (λ (n : ℕ). put_at g.at (take n g.src.now) g.out.now) e ∙ put_all g.at c.before.before.min-n.result c.before.before.before.min.result _ g.src.now g.out.now c.before.before.before.min.ensures refl c.before.before.min-n.ensures
+    let l = c.loop-i in
+    let g = c.args in
+    let e : l.i ≡ c.min-n.result = omega arith in
+    l.invariant.1 ∙ ap (λ (n : ℕ). put_at g.at (take n g.src.now) g.out.now) e ∙ put_all g.at c.min-n.result c.min.result _ g.src.now g.out.now c.min.ensures refl c.min-n.ensures
 
 pub put_at_spec : {M : Type 1} → statement M
 put_at_spec =
@@ -43,5 +43,5 @@ put_at_spec =
     (λ c. omega arith)
     (λ c. omega arith)
     loop-again
-    (λ c. c.before.loop-i.invariant.2)
+    (λ c. c.loop-i.invariant.2)
     returns)

@@ -12,5 +12,5 @@ read_bytes_spec =
     tie.close
     (tie.spec
     (λ c κs. search rules)
-    (λ c. stopped (kind.fixed _) _ _ _ c.before.skip-next.ensures c.if-next.true)
-    (λ c. went (kind.fixed _) _ _ _ _ _ c.before.skip-next.ensures c.if-next.false refl refl))
+    (λ c. stopped (kind.fixed _) _ _ _ c.skip-next.ensures c.if-next.true)
+    (λ c. went (kind.fixed _) _ _ _ _ _ c.skip-next.ensures c.if-next.false refl refl))

@@ -11,6 +11,6 @@ read_negative_spec =
     tie.close
     (tie.spec
     (λ c κs. search rules)
-    (λ c. stopped kind.negative _ _ _ c.before.skip_negative-next.ensures c.if-next.true)
+    (λ c. stopped kind.negative _ _ _ c.skip_negative-next.ensures c.if-next.true)
     (λ c κs. search rules)
-    (λ c. went kind.negative _ _ _ _ _ c.before.before.skip_negative-next.ensures c.before.if-next.false (ap negative c.u32_at.ensures) refl))
+    (λ c. went kind.negative _ _ _ _ _ c.skip_negative-next.ensures c.if-next.false (ap negative c.u32_at.ensures) refl))

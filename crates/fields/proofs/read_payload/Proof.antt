@@ -7,17 +7,17 @@ use Rattle.fields.proofs.read_payload.Tie as tie
 
 returns-2 : tie.Need-returns
 returns-2 c =
-    let next = c.before.before.before.skip_payload-next.ensures in
-    let fine = c.before.before.if-next.false in
+    let next = c.skip_payload-next.ensures in
+    let fine = c.if-next.false in
     let e = c.behind_count.ensures (payload-begins _ _ _ fine next) in
-    went kind.payload _ _ _ _ _ next fine (rw (e, c.before.u32_at-n.ensures)) (rw (e, c.before.u32_at-n.ensures))
+    went kind.payload _ _ _ _ _ next fine (rw (e, c.u32_at-n.ensures)) (rw (e, c.u32_at-n.ensures))
 
 pub read_payload_spec : {M : Type 1} → statement M
 read_payload_spec =
     tie.close
     (tie.spec
     (λ c κs. search rules)
-    (λ c. stopped kind.payload _ _ _ c.before.skip_payload-next.ensures c.if-next.true)
+    (λ c. stopped kind.payload _ _ _ c.skip_payload-next.ensures c.if-next.true)
     (λ c κs. search rules)
     (λ c. search rules)
     (λ c κs. search rules)

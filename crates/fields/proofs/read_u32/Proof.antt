@@ -11,6 +11,6 @@ read_u32_spec =
     tie.close
     (tie.spec
     (λ c κs. search rules)
-    (λ c. stopped (kind.number 4) _ _ _ c.before.skip-next.ensures c.if-next.true)
+    (λ c. stopped (kind.number 4) _ _ _ c.skip-next.ensures c.if-next.true)
     (λ c κs. search rules)
-    (λ c. went (kind.number 4) _ _ _ _ _ c.before.before.skip-next.ensures c.before.if-next.false (ap (number 4) c.u32_at.ensures) refl))
+    (λ c. went (kind.number 4) _ _ _ _ _ c.skip-next.ensures c.if-next.false (ap (number 4) c.u32_at.ensures) refl))

@@ -12,6 +12,6 @@ read_u8_spec =
     tie.close
     (tie.spec
     (λ c κs. search rules)
-    (λ c. stopped (kind.number 1) _ _ _ c.before.skip-next.ensures c.if-next.true)
+    (λ c. stopped (kind.number 1) _ _ _ c.skip-next.ensures c.if-next.true)
     (λ c κs. search rules)
-    (λ c. went (kind.number 1) _ _ _ _ _ c.before.before.skip-next.ensures c.before.if-next.false (ap (number 1) (c.byte_at.ensures ∙ byte_there _ _)) refl))
+    (λ c. went (kind.number 1) _ _ _ _ _ c.skip-next.ensures c.if-next.false (ap (number 1) (c.byte_at.ensures ∙ byte_there _ _)) refl))

@@ -13,5 +13,5 @@ skip_negative_spec =
     (λ c. rw c.if-c.true)
     (λ c κs. search rules)
     (λ c κs. search rules)
-    (λ c. rw (c.before.before.if-c.false, lt-ltb _ _ (rw c.before.u32_at.ensures at c.if-u32_at-lt2147483648.true)))
-    (λ c. c.skip.ensures ∙ rw (c.before.before.before.if-c.false, le-ltb _ _ (rw c.before.before.u32_at.ensures at c.before.if-u32_at-lt2147483648.false))))
+    (λ c. rw (c.if-c.false, lt-ltb _ _ (rw c.u32_at.ensures at c.if-u32_at-lt2147483648.true)))
+    (λ c. c.skip.ensures ∙ rw (c.if-c.false, le-ltb _ _ (rw c.u32_at.ensures at c.if-u32_at-lt2147483648.false))))

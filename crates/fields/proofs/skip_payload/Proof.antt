@@ -13,4 +13,4 @@ skip_payload_spec =
     (λ c. search rules)
     (λ c. search rules)
     (λ c κs. search rules)
-    (λ c. c.skip.ensures ∙ rw c.before.u32_at.ensures))
+    (λ c. c.skip.ensures ∙ rw c.u32_at.ensures))

@@ -12,5 +12,5 @@ skip_rest_spec =
     (λ c. rw c.if-c.true)
     (λ c κs. search rules)
     (λ c. search rules)
-    (λ c. rw (c.before.before.if-c.false, le-leb _ _ (rw c.before.remaining.ensures at c.if-closing-remaining.true)))
-    (λ c. rw (c.before.before.if-c.false, lt-leb _ _ (rw c.before.remaining.ensures at c.if-closing-remaining.false))))
+    (λ c. rw (c.if-c.false, le-leb _ _ (rw c.remaining.ensures at c.if-closing-remaining.true)))
+    (λ c. rw (c.if-c.false, lt-leb _ _ (rw c.remaining.ensures at c.if-closing-remaining.false))))

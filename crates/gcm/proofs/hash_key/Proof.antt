@@ -7,4 +7,4 @@ use Rattle.gcm.proofs.hash_key.Tie as tie
 
 pub hash_key_spec : {M : Type 1} → statement M
 unfolding hash_key state_of column_at
-hash_key_spec = tie.close (tie.spec (λ c κs. search rules) (λ c κs. search rules) (λ c. c.block_of.ensures ∙ ap block_number c.before.encrypt.ensures))
+hash_key_spec = tie.close (tie.spec (λ c κs. search rules) (λ c κs. search rules) (λ c. c.block_of.ensures ∙ ap block_number c.encrypt.ensures))

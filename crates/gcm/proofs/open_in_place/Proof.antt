@@ -13,13 +13,13 @@ use Rattle.buffer.proofs.Parts.{overwrite-zeros}
 
 returns-3 : tie.Need-returns-then-tag_fits
 returns-3 c =
-    let s = c.before.before.before.before.before.before.before.before.before.before.args.buf.now in
-    record { is = ap (done (wrote _)) (c.before.before.xor_keystream.ensures ∙ masked-over _ _ s (length s - 16) (omega arith)) ∙ sym (open_right _ _ _ _ (omega arith) (omega arith) (omega arith) cc) }
+    let s = c.args.buf.now in
+    record { is = ap (done (wrote _)) (c.xor_keystream.ensures ∙ masked-over _ _ s (length s - 16) (omega arith)) ∙ sym (open_right _ _ _ _ (omega arith) (omega arith) (omega arith) cc) }
 
 returns-4 : tie.Need-returns
 returns-4 c =
-    let s = c.before.before.before.before.before.before.before.before.before.before.args.buf.now in
-    record { is = ap (done (refused_for (row 17 0 0 0))) (c.before.before.put_zeros.ensures ∙ overwrite-zeros (length s - 16) s (omega arith)) ∙ sym (open_wrong _ _ _ _ (omega arith) (omega arith) (omega arith) cc) }
+    let s = c.args.buf.now in
+    record { is = ap (done (refused_for (row 17 0 0 0))) (c.put_zeros.ensures ∙ overwrite-zeros (length s - 16) s (omega arith)) ∙ sym (open_wrong _ _ _ _ (omega arith) (omega arith) (omega arith) cc) }
 
 pub open_in_place_spec : {M : Type 1} → statement M
 open_in_place_spec =

@@ -14,20 +14,20 @@ use Rattle.buffer.proofs.Parts.{overwrite-zeros}
 
 slice_aggregate_put : tie.Need-slice_bounds-put-end
 slice_aggregate_put c =
-    let s = c.before.before.before.before.before.before.before.before.before.args.sealed.now in
+    let s = c.args.sealed.now in
     sym (length-take-le (length s - 16) s (omega arith))
 
 returns-4 : tie.Need-returns-then-tag_fits
 returns-4 c =
-    let m = c.before.before in
-    let p = m.before.before.before.before in
-    let s = p.before.before.before.before.before.before.before.before.before.before.args.sealed.now in
+    let m = c in
+    let p = m in
+    let s = p.args.sealed.now in
     record { is = ap (done (wrote _)) (m.xor_keystream.ensures ∙ opened-over _ _ _ _ _ _ (length-take-le (length s - 16) s (omega arith)) (omega arith) p.put.ensures) ∙ sym (open_right _ _ _ _ (omega arith) (omega arith) (omega arith) cc) }
 
 returns-5 : tie.Need-returns
 returns-5 c =
-    let a = c.before.before.before.before.before.before.before.before.before.before.before.args in
-    record { is = ap (done (refused_for (row 17 0 0 0))) (c.before.before.put_zeros.ensures ∙ overwrite-zeros (length a.sealed.now - 16) a.out-1.now (omega arith)) ∙ sym (open_wrong _ _ _ _ (omega arith) (omega arith) (omega arith) cc) }
+    let a = c.args in
+    record { is = ap (done (refused_for (row 17 0 0 0))) (c.put_zeros.ensures ∙ overwrite-zeros (length a.sealed.now - 16) a.out.now (omega arith)) ∙ sym (open_wrong _ _ _ _ (omega arith) (omega arith) (omega arith) cc) }
 
 pub open_with_spec : {M : Type 1} → statement M
 open_with_spec =

@@ -18,15 +18,15 @@ decreases-loop a b d₀ i₀ d i = length a - i
 
 loop-again : tie.Need-loop-i-preserved invariant-loop decreases-loop
 loop-again c =
-    let l = c.before.before.before.loop-i in
-    let a = c.before.before.before.before.args in
+    let l = c.loop-i in
+    let a = c.args in
     (search rules, l.invariant.1 ∙ same_next a.a.now a.b.now l.i l.d (omega arith) (omega arith))
 
 returns : tie.Need-returns invariant-loop decreases-loop
 returns c =
-    let l = c.before.loop-i in
-    let a = c.before.before.args in
-    sym (l.invariant.1 ∙ same_end a.a.now a.b.now l.i l.d (omega arith) c.before.before.requires)
+    let l = c.loop-i in
+    let a = c.args in
+    sym (l.invariant.1 ∙ same_end a.a.now a.b.now l.i l.d (omega arith) c.requires)
 
 pub same_spec : {M : Type 1} → statement M
 same_spec =

@@ -11,8 +11,8 @@ use Rattle.gcm.proofs.seal_in_place.Tie as tie
 
 returns-3 : tie.Need-returns
 returns-3 c =
-    let f = c.before.before in
-    let s = f.before.before.before.before.before.args.buf.now in
+    let f = c in
+    let s = f.args.buf.now in
     let e : length f.seal_front.new.1.1.0 ≡ length s = search rules in
     record { is = ap₂ (λ (n : ℕ) (x : List ℕ). done (wrote n) x) e f.seal_front.ensures ∙ sym (in-place-fits _ _ s (omega arith) (omega arith)) }
 

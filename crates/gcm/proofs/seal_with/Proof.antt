@@ -19,4 +19,4 @@ seal_with_spec =
     (λ c κs. search rules)
     (λ c. search rules)
     (λ c. search rules)
-    (λ c. record { is = ap (done (wrote _)) (c.before.before.seal_front.ensures ∙ sealed-over _ _ _ _ _ (omega arith) c.before.before.before.before.before.before.put.ensures) ∙ sym (seal_fits _ _ _ _ (omega arith) (omega arith)) }))
+    (λ c. record { is = ap (done (wrote _)) (c.seal_front.ensures ∙ sealed-over _ _ _ _ _ (omega arith) c.put.ensures) ∙ sym (seal_fits _ _ _ _ (omega arith) (omega arith)) }))

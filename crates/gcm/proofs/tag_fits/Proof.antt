@@ -11,11 +11,11 @@ unfolding tag_fits
 tag_fits_spec =
     tie.close
     (tie.spec
-    (λ c. sym (length-take-le c.before.before.args.n c.before.before.args.s.now (search rules)))
+    (λ c. sym (length-take-le c.args.n c.args.s.now (search rules)))
     (λ c κs. search rules)
     (λ c. search rules)
     (λ c. search rules)
     (λ c. search rules)
     (λ c. search rules)
     (λ c κs. search rules)
-    (λ c. c.same.ensures ∙ rw (c.before.before.before.tag-t.ensures, rest-is)))
+    (λ c. c.same.ensures ∙ rw (c.tag-t.ensures, rest-is)))

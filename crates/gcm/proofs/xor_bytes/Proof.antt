@@ -7,7 +7,7 @@ use Rattle.gcm.proofs.xor_bytes.Tie as tie
 
 returns : tie.Need-returns
 returns c =
-    let z = c.before.before.before.before.before.args in
+    let z = c.args in
     c.block_bytes.ensures ∙ ap block_bytes (xor_pair z.a.hi z.a.lo z.b.hi z.b.lo (search rules) (search rules))
 
 pub xor_bytes_spec : {M : Type 1} → statement M

@@ -6,7 +6,7 @@ use Rattle.ghash.proofs.added.Tie as tie
 
 returns : tie.Need-returns
 returns c =
-    let a = c.before.before.before.before.args in
+    let a = c.args in
     xor_pair a.y.hi a.y.lo a.x.hi a.x.lo (search rules) (search rules)
 
 pub added_spec : {M : Type 1} → statement M

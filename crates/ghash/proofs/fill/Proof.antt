@@ -3,7 +3,7 @@ use Rattle.ghash.proofs.fill.Statement.{statement}
 use Rattle.ghash.proofs.fill.Tie as tie
 
 returns : tie.Need-returns
-returns c = c.before.before.fill_rest.ensures _ c.before.before.before.before.before.before.before.fill_first.ensures
+returns c = c.fill_rest.ensures _ c.fill_first.ensures
 
 pub fill_spec : {M : Type 1} → statement M
 fill_spec =

@@ -18,7 +18,7 @@ decreases-loop m₀ h i₀ m i = 16 - i
 
 loop-again : tie.Need-loop-i-preserved invariant-loop decreases-loop
 loop-again c =
-    let l = c.before.before.loop-i in
+    let l = c.loop-i in
     let p = c.four-p.result in (
       search rules,
       length-set (set l.m (2 * l.i) p.hi) (2 * l.i + 1) p.lo ∙ length-set l.m (2 * l.i) p.hi ∙ l.invariant.1,
@@ -43,5 +43,5 @@ fill_first_spec =
     (λ c. search rules)
     (λ c. search rules)
     loop-again
-    (λ c. c.before.loop-i.invariant.1)
-    (λ c. record { at = λ j h. c.before.loop-i.invariant.2.at j (omega arith) }))
+    (λ c. c.loop-i.invariant.1)
+    (λ c. record { at = λ j h. c.loop-i.invariant.2.at j (omega arith) }))

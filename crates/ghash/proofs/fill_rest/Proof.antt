@@ -17,7 +17,7 @@ decreases-loop t m₀ n i₀ m i = length m₀ / 2 - i
 
 loop-again : tie.Need-loop-i-preserved invariant-loop decreases-loop
 loop-again c =
-    let l = c.before.before.before.before.loop-i in
+    let l = c.loop-i in
     let p = c.four_steps-p.result in
     let e₁ : 2 * l.i - 32 ≡ 2 * (l.i - 16) = omega arith in
     let e₂ : 2 * l.i - 31 ≡ 2 * (l.i - 16) + 1 = omega arith in (
@@ -56,5 +56,5 @@ fill_rest_spec =
     (λ c. search rules)
     (λ c. search rules)
     loop-again
-    (λ c. c.before.loop-i.invariant.2)
-    (λ c. λ v f. record { at = λ j h. (c.before.loop-i.invariant.3 v f).at j (omega arith) }))
+    (λ c. c.loop-i.invariant.2)
+    (λ c. λ v f. record { at = λ j h. (c.loop-i.invariant.3 v f).at j (omega arith) }))

@@ -21,8 +21,8 @@ decreases-loop m x at w₀ j₀ w j = 8 - j
 
 loop-again : tie.Need-loop-j-preserved invariant-loop decreases-loop
 loop-again c =
-    let l = c.before.before.before.before.loop-j in
-    let s = c.before.before.before.before.before.before in
+    let l = c.loop-j in
+    let s = c in
     let a = s.args in (
       search rules,
       λ v y n f e.
@@ -33,8 +33,8 @@ loop-again c =
 
 returns : tie.Need-returns invariant-loop decreases-loop
 returns c =
-    let e : c.before.loop-j.j ≡ 8 = omega arith in
-    λ v y n f h. c.before.loop-j.invariant.1 v y n f h ∙ rw (e, add-zero)
+    let e : c.loop-j.j ≡ 8 = omega arith in
+    λ v y n f h. c.loop-j.invariant.1 v y n f h ∙ rw (e, add-zero)
 
 pub half_by_spec : {M : Type 1} → statement M
 half_by_spec =

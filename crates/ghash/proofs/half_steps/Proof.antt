@@ -10,5 +10,5 @@ half_steps_spec =
     (tie.spec
     (λ c κs. search rules)
     (λ c. search rules)
-    (λ c. record { fits = half_fits c.before.args.z.hi c.before.args.z.lo (search rules) })
-    (λ c. sym (half_steps c.before.args.z.hi c.before.args.z.lo _ (search rules) c.fallen-r.ensures)))
+    (λ c. record { fits = half_fits c.args.z.hi c.args.z.lo (search rules) })
+    (λ c. sym (half_steps c.args.z.hi c.args.z.lo _ (search rules) c.fallen-r.ensures)))

@@ -20,20 +20,20 @@ decreases-loop m s end y₀ i₀ y i = end - i
 
 loop-again : tie.Need-loop-i-preserved invariant-loop decreases-loop
 loop-again c =
-    let at = c.before.before.before.before in
+    let at = c in
     let l = at.loop-i in
-    let a = at.before.before.before.args in (
+    let a = at.args in (
       search rules,
       search rules,
       λ v n f.
           let e : (a.end - l.i) / 16 + n ≡ (a.end - (l.i + 16)) / 16 + n + 1 = omega arith in
-          l.invariant.2 v n f ∙ rw (e, ghash-next, c.times_by-y.ensures v f, c.before.added.ensures, c.before.before.block_at-x.ensures),
+          l.invariant.2 v n f ∙ rw (e, ghash-next, c.times_by-y.ensures v f, c.added.ensures, c.block_at-x.ensures),
     )
 
 returns : tie.Need-returns invariant-loop decreases-loop
 returns c =
-    let l = c.before.loop-i in
-    let a = c.before.before.before.before.args in
+    let l = c.loop-i in
+    let a = c.args in
     λ v n f.
     let i : l.i ≡ a.end = omega arith in
     let e : (a.end - a.end) / 16 + n ≡ n = omega arith in

@@ -9,10 +9,10 @@ use Rattle.ghash.proofs.hash_by.Tie as tie
 returns : tie.Need-returns
 unfolding ghash
 returns c =
-    let text = c.before.before.before in
-    let fill = text.before.before.before.before in
-    let v : ℕ = pair fill.before.before.before.before.args.h.hi fill.before.before.before.before.args.h.lo in
-    c.times_by.ensures v fill.fill.ensures ∙ rw (c.before.added.ensures, text.hash_text-y.ensures v fill.fill.ensures, bits_of)
+    let text = c in
+    let fill = text in
+    let v : ℕ = pair fill.args.h.hi fill.args.h.lo in
+    c.times_by.ensures v fill.fill.ensures ∙ rw (c.added.ensures, text.hash_text-y.ensures v fill.fill.ensures, bits_of)
 
 pub hash_by_spec : {M : Type 1} → statement M
 hash_by_spec =

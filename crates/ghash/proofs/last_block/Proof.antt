@@ -7,8 +7,8 @@ use Rattle.ghash.proofs.last_block.Tie as tie
 
 returns : tie.Need-returns
 returns c =
-    let a = c.before.before.before.before.before.before.before.args in
-    c.block_at.ensures ∙ last-is a.s.now _ a.i c.before.before.before.put.ensures
+    let a = c.args in
+    c.block_at.ensures ∙ last-is a.s.now _ a.i c.put.ensures
 
 pub last_block_spec : {M : Type 1} → statement M
 last_block_spec =

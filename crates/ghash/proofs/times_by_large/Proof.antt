@@ -8,10 +8,10 @@ use Rattle.ghash.proofs.times_by_large.Tie as tie
 
 returns : tie.Need-returns
 returns c =
-    let h₃ = c.before.before in
-    let h₂ = h₃.before.before in
-    let h₁ = h₂.before.before in
-    let x = h₁.before.before.before.args.x in
+    let h₃ = c in
+    let h₂ = h₃ in
+    let h₁ = h₂ in
+    let x = h₁.args.x in
     let y : ℕ = pair x.hi x.lo in
     λ v f.
     four_halves v y _ _ _ _ (h₁.half_by-a.ensures v y 96 f (half_96 x.hi x.lo (search rules) (search rules))) (h₂.half_by-b.ensures v y 64 f (half_64 x.hi x.lo (search rules)))

@@ -9,21 +9,21 @@ use borrow.Author.Rules.{rules}
 use Rattle.ghash.proofs.times_by_small.Statement.{statement}
 use Rattle.ghash.proofs.times_by_small.Tie as tie
 
-fits : (s : tie.After-struct_known-1) → (s.before.before.args.x.hi < 2 ^ 64) × (s.before.before.args.x.lo < 2 ^ 64)
+fits : (s : tie.After-struct_known-1) → (s.args.x.hi < 2 ^ 64) × (s.args.x.lo < 2 ^ 64)
 fits s = (search rules, search rules)
 
 returns : tie.Need-returns
 returns c =
-    let s₃ = c.before in
-    let h₃ = s₃.before.before in
-    let s₂ = h₃.before in
-    let h₂ = s₂.before.before in
-    let s₁ = h₂.before in
-    let h₁ = s₁.before.before in
-    let x = h₁.before.before.before.args.x in
+    let s₃ = c in
+    let h₃ = s₃ in
+    let s₂ = h₃ in
+    let h₂ = s₂ in
+    let s₁ = h₂ in
+    let h₁ = s₁.before.before.before.before.before.before.before.before.before.before in
+    let x = h₁.args.x in
     let y : ℕ = pair x.hi x.lo in
-    let kh : x.hi < 2 ^ 64 = (fits h₁.before).0 in
-    let kl : x.lo < 2 ^ 64 = (fits h₁.before).1 in
+    let kh : x.hi < 2 ^ 64 = (fits h₁).0 in
+    let kl : x.lo < 2 ^ 64 = (fits h₁).1 in
     λ v f.
     let p = next_half v y 0 (x.lo % 2 ^ 32) 0 _ (half_0 x.hi x.lo) (first_half_lem v y) (h₁.half_by-d.ensures v (x.lo % 2 ^ 32) 0 f (half_alone (x.lo % 2 ^ 32) (omega arith))) in
     let q = next_half v y 32 (x.lo / 2 ^ 32) _ _ (half_32 x.hi x.lo kl) (s₁.half_steps.ensures ∙ ap (steps 32) p) (h₂.half_by-c.ensures v (x.lo / 2 ^ 32) 0 f (half_alone (x.lo / 2 ^ 32) (omega arith))) in

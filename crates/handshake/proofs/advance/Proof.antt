@@ -9,5 +9,5 @@ advance_spec =
     (λ c. search rules)
     (λ c. search rules)
     (λ c κs. search rules)
-    (λ c. rw c.before.n-1.given.1)
-    (λ c. rw (c.before.enum_told-1.given.1, c.numbers_of.ensures)))
+    (λ c. rw c.in-To.is)
+    (λ c. rw (c.in-Unexpected.is, c.numbers_of.ensures)))

@@ -23,20 +23,20 @@ decreases-modes preferred allowed found₀ i₀ found i = length preferred - i
 
 loop-again : tie.Need-loop-j-preserved invariant-loop decreases-loop invariant-modes decreases-modes
 loop-again c =
-    let a = c.before.before.before in
-    (search rules, sym (on-next _ _ _ c.before.before.loop-j-test.true c.if-allowed-j.false) ∙ a.loop-j.invariant.1, a.loop-j.invariant.2)
+    let a = c in
+    (search rules, sym (on-next _ _ _ c.loop-j-test.true c.if-allowed-j.false) ∙ a.loop-j.invariant.1, a.loop-j.invariant.2)
 
 modes_again : tie.Need-modes-preserved invariant-loop decreases-loop invariant-modes decreases-modes
 modes_again c =
-    let a = c.before in
-    let o = a.before.before.before in
-    (search rules, sym (passed _ _ _ a.before.before.modes-test.true (sym a.loop-j.invariant.1 ∙ on_none _ _ _ c.loop-j-test.false)) ∙ o.modes.invariant.1, a.loop-j.invariant.2 ∙ o.modes.invariant.2)
+    let a = c in
+    let o = a in
+    (search rules, sym (passed _ _ _ a.modes-test.true (sym a.loop-j.invariant.1 ∙ on_none _ _ _ c.loop-j-test.false)) ∙ o.modes.invariant.1, a.loop-j.invariant.2 ∙ o.modes.invariant.2)
 
 returns-2 : tie.Need-returns-then-allowed-j invariant-loop decreases-loop invariant-modes decreases-modes
 returns-2 c =
-    let a = c.before.before.before in
-    let o = a.before.before.before in
-    sym (picked _ _ _ a.before.before.modes-test.true (sym a.loop-j.invariant.1 ∙ on-here _ _ _ c.before.before.loop-j-test.true c.if-allowed-j.true)) ∙ o.modes.invariant.1
+    let a = c in
+    let o = a in
+    sym (picked _ _ _ a.modes-test.true (sym a.loop-j.invariant.1 ∙ on-here _ _ _ c.loop-j-test.true c.if-allowed-j.true)) ∙ o.modes.invariant.1
 
 pub pick_mode_spec : {M : Type 1} → statement M
 pick_mode_spec =
@@ -58,5 +58,5 @@ pick_mode_spec =
     (λ c. search rules)
     (λ c. search rules)
     modes_again
-    (λ c. c.before.modes.invariant.2 ∙ sym (spent _ _ _ c.modes-test.false) ∙ c.before.modes.invariant.1)
+    (λ c. c.modes.invariant.2 ∙ sym (spent _ _ _ c.modes-test.false) ∙ c.modes.invariant.1)
     returns-2)

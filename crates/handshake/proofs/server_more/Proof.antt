@@ -7,7 +7,7 @@ use Rattle.handshake.proofs.server_more.Tie as tie
 
 returns : tie.Need-returns
 unfolding find
-returns c = c.when.ensures ∙ rw c.before.led.ensures (auth-rows c.before.before.args.v.auth _ _)
+returns c = c.when.ensures ∙ rw c.led.ensures (auth-rows c.args.v.auth _ _)
 
 pub server_more_spec : {M : Type 1} → statement M
 server_more_spec = tie.close (tie.spec (λ c κs. search rules) (λ c κs. search rules) returns)

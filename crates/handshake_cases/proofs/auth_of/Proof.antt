@@ -7,6 +7,6 @@ auth_of_spec =
     tie.close
     (tie.spec
     (λ c. rw (eq-eqb _ 0 c.if-n-eq0.true))
-    (λ c. rw (ne_eqb _ 0 c.before.if-n-eq0.false, eq-eqb _ 1 c.if-n-eq1.true))
-    (λ c. rw (ne_eqb _ 0 c.before.before.if-n-eq0.false, ne_eqb _ 1 c.before.if-n-eq1.false, eq-eqb _ 2 c.if-n-eq2.true))
-    (λ c. rw (ne_eqb _ 0 c.before.before.if-n-eq0.false, ne_eqb _ 1 c.before.if-n-eq1.false, ne_eqb _ 2 c.if-n-eq2.false)))
+    (λ c. rw (ne_eqb _ 0 c.if-n-eq0.false, eq-eqb _ 1 c.if-n-eq1.true))
+    (λ c. rw (ne_eqb _ 0 c.if-n-eq0.false, ne_eqb _ 1 c.if-n-eq1.false, eq-eqb _ 2 c.if-n-eq2.true))
+    (λ c. rw (ne_eqb _ 0 c.if-n-eq0.false, ne_eqb _ 1 c.if-n-eq1.false, ne_eqb _ 2 c.if-n-eq2.false)))

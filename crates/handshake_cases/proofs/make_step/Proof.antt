@@ -11,6 +11,6 @@ make_step_spec =
     (tie.spec
     (search rules)
     (search rules)
-    (λ c. rw (eq-eqb _ 1 c.before.if-side-eq1.true, ← c.before.before.verdict_of-v.ensures) c.server_step.ensures.step)
+    (λ c. rw (eq-eqb _ 1 c.if-side-eq1.true, ← c.verdict_of-v.ensures) c.server_step.ensures.step)
     (search rules)
-    (λ c. rw (ne_eqb _ 1 c.before.if-side-eq1.false, ← c.before.before.verdict_of-v.ensures) c.client_step.ensures.step))
+    (λ c. rw (ne_eqb _ 1 c.if-side-eq1.false, ← c.verdict_of-v.ensures) c.client_step.ensures.step))

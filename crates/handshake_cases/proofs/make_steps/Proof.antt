@@ -19,10 +19,10 @@ decreases-loop s n side text₀ at state₀ place₀ end₀ left₀ text state p
 
 loop-again : tie.Need-loop-left-preserved invariant-loop decreases-loop
 loop-again c =
-    let l = c.before.before.before.before.before.before.before.before.before.before.loop-left in
-    let s = c.before.before.before.before.before.before.before.before.before.before.before.before.before.args.s.now in
-    let h = good-within s l.place c.before.before.before.before.before.before.before.before.step_good.ensures c.before.before.before.before.before.before.before.if-not-step_good.false in
-    (omega arith, c.before.before.print_step-end.auto.0 ∙ l.invariant.1, steps_on s (side_of c.before.before.before.before.before.before.before.before.before.before.before.before.before.args.side) l.state l.left l.place c.before.before.before.before.before.before.before.before.before.loop-left-test.true c.before.before.before.before.before.before.before.before.step_good.ensures c.before.before.before.before.before.before.before.if-not-step_good.false c.before.before.before.before.before.before.byte_at.ensures c.before.before.before.before.before.byte_at-in-loop-left.ensures c.before.before.before.before.make_step-step.ensures c.before.before.print_step-end.ensures l.invariant.2)
+    let l = c.loop-left in
+    let s = c.args.s.now in
+    let h = good-within s l.place c.step_good.ensures c.if-not-step_good.false in
+    (omega arith, c.print_step-end.auto.0 ∙ l.invariant.1, steps_on s (side_of c.args.side) l.state l.left l.place c.loop-left-test.true c.step_good.ensures c.if-not-step_good.false c.byte_at.ensures c.byte_at-in-loop-left.ensures c.make_step-step.ensures c.print_step-end.ensures l.invariant.2)
 
 pub make_steps_spec : {M : Type 1} → statement M
 unfolding steps_from
@@ -34,16 +34,16 @@ make_steps_spec =
     (λ c. (omega arith, refl, left-all))
     (λ c κs. omega arith)
     (search rules)
-    (λ c. c.before.before.bad_record.auto.0 ∙ c.before.before.before.before.before.before.before.loop-left.invariant.1)
-    (λ c. did_broken (steps-broken _ _ _ _ _ c.before.before.before.before.before.before.loop-left-test.true c.before.before.before.before.before.step_good.ensures c.before.before.before.before.if-not-step_good.true c.before.before.before.before.before.before.before.loop-left.invariant.2) c.before.before.bad_record.ensures)
+    (λ c. c.bad_record.auto.0 ∙ c.loop-left.invariant.1)
+    (λ c. did_broken (steps-broken _ _ _ _ _ c.loop-left-test.true c.step_good.ensures c.if-not-step_good.true c.loop-left.invariant.2) c.bad_record.ensures)
     (search rules)
-    (λ c. omega (arith, good-within _ _ c.before.before.step_good.ensures c.before.if-not-step_good.false))
+    (λ c. omega (arith, good-within _ _ c.step_good.ensures c.if-not-step_good.false))
     (search rules)
     (search rules)
     (search rules)
-    (λ c. omega (arith, good-within _ _ c.before.before.before.before.before.before.before.before.step_good.ensures c.before.before.before.before.before.before.before.if-not-step_good.false))
+    (λ c. omega (arith, good-within _ _ c.step_good.ensures c.if-not-step_good.false))
     (λ c. omega arith)
     (λ c. omega arith)
     loop-again
-    (λ c. c.before.loop-left.invariant.1)
-    (λ c. let e : c.before.loop-left.left ≡ 0 = omega arith in did_all _ (rw e at c.before.loop-left.invariant.2) refl c.before.loop-left.invariant.0))
+    (λ c. c.loop-left.invariant.1)
+    (λ c. let e : c.loop-left.left ≡ 0 = omega arith in did_all _ (rw e at c.loop-left.invariant.2) refl c.loop-left.invariant.0))

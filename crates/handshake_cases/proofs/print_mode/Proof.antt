@@ -11,6 +11,6 @@ print_mode_spec =
     (search rules)
     (search rules)
     (search rules)
-    (λ c. rw c.before.before.before.before.before.picked-1.given.1 c.before.before.print_picked.ensures)
+    (λ c. rw c.in-Mode.is c.print_picked.ensures)
     (search rules)
-    (λ c. rw c.before.before.before.before.enum_told-1.given.1 c.before.before.print_none.ensures))
+    (λ c. rw c.in-NoMode.is c.print_none.ensures))

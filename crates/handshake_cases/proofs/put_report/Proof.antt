@@ -11,6 +11,6 @@ put_report_spec =
     (search rules)
     (search rules)
     (search rules)
-    (λ c. rw c.enum_told-1.given.1)
+    (λ c. rw c.in-Taken.is)
     (search rules)
-    (λ c. rw c.before.before.before.before.before.before.before.before.before.before.report-1.given.1 (cc)))
+    (λ c. rw c.before.before.before.before.before.before.before.before.before.before.report.given.1 (cc)))

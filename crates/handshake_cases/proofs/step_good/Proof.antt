@@ -13,7 +13,7 @@ step_good_spec =
     tie.close
     (tie.spec
     (search rules)
-    (λ c. rw (lt-leb (c.before.before.args.at + 2) (length c.before.before.args.s.now) (omega arith)))
+    (λ c. rw (lt-leb (c.args.at + 2) (length c.args.s.now) (omega arith)))
     (search rules)
     (search rules)
-    (λ c. rw (le-leb (c.before.before.before.args.at + 2) (length c.before.before.before.args.s.now) (omega arith)) (cc)))
+    (λ c. rw (le-leb (c.args.at + 2) (length c.args.s.now) (omega arith)) (cc)))

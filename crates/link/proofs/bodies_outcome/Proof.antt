@@ -9,7 +9,7 @@ bodies_outcome_spec =
     (tie.spec
     (λ c. search rules)
     (search rules)
-    (λ c. rw (c.before.before.if-refused.false, ← c.before.min.ensures, lt-ltb _ _ c.if-n-min.true))
-    (λ c. rw (c.before.before.before.if-refused.false, ← c.before.before.min.ensures, le-ltb _ _ c.before.if-n-min.false, le-leb _ _ c.if-left-n.true))
+    (λ c. rw (c.if-refused.false, ← c.min.ensures, lt-ltb _ _ c.if-n-min.true))
+    (λ c. rw (c.if-refused.false, ← c.min.ensures, le-ltb _ _ c.if-n-min.false, le-leb _ _ c.if-left-n.true))
     (search rules)
-    (λ c. rw (c.before.before.before.if-refused.false, ← c.before.before.min.ensures, le-ltb _ _ c.before.if-n-min.false, lt-leb _ _ c.if-left-n.false)))
+    (λ c. rw (c.if-refused.false, ← c.min.ensures, le-ltb _ _ c.if-n-min.false, lt-leb _ _ c.if-left-n.false)))

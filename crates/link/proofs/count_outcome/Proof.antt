@@ -9,7 +9,7 @@ count_outcome_spec =
     (tie.spec
     (λ c. rw (lt-ltb _ 2 c.if-bytes-lt2.true))
     (search rules)
-    (λ c. rw (le-ltb _ 2 c.before.before.if-bytes-lt2.false, ← c.before.u16_at-n.ensures, lt-ltb 512 _ c.if-n-gt512.true))
-    (λ c. rw (le-ltb _ 2 c.before.before.before.if-bytes-lt2.false, ← c.before.before.u16_at-n.ensures, le-ltb 512 _ c.before.if-n-gt512.false, eq-eqb _ 0 c.if-n-eq0.true))
+    (λ c. rw (le-ltb _ 2 c.if-bytes-lt2.false, ← c.u16_at-n.ensures, lt-ltb 512 _ c.if-n-gt512.true))
+    (λ c. rw (le-ltb _ 2 c.if-bytes-lt2.false, ← c.u16_at-n.ensures, le-ltb 512 _ c.if-n-gt512.false, eq-eqb _ 0 c.if-n-eq0.true))
     (search rules)
-    (λ c. rw (le-ltb _ 2 c.before.before.before.if-bytes-lt2.false, ← c.before.before.u16_at-n.ensures, le-ltb 512 _ c.before.if-n-gt512.false, ne_eqb _ 0 c.if-n-eq0.false)))
+    (λ c. rw (le-ltb _ 2 c.if-bytes-lt2.false, ← c.u16_at-n.ensures, le-ltb 512 _ c.if-n-gt512.false, ne_eqb _ 0 c.if-n-eq0.false)))

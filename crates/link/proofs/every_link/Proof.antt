@@ -9,4 +9,4 @@ every_link_spec =
     (tie.spec
     (search rules)
     (search rules)
-    (λ c. every-link c.before.every_line.ensures c.every_cutting.ensures))
+    (λ c. every-link c.every_line.ensures c.every_cutting.ensures))

@@ -10,6 +10,6 @@ settle_spec =
     (λ c. search rules)
     (λ c. search rules)
     (λ c κs. search rules)
-    (λ c. rw c.before.outcome-1.given.1 (record { link = refl; lines = refl }))
+    (λ c. rw c.in-Next.is (record { link = refl; lines = refl }))
     (λ c. search rules)
-    (λ c. rw c.before.before.before.before.before.outcome-in-Ends-1.given.1 (record { link = refl; lines = c.before.before.put_last.ensures })))
+    (λ c. rw c.in-Ends.is (record { link = refl; lines = c.put_last.ensures })))

@@ -42,5 +42,5 @@ sum_of_spec =
     (λ c. omega arith)
     (λ c. omega arith)
     (λ c. omega arith)
-    (λ c. (omega arith, next c.before.before.before.before.before.args.n c.before.before.before.loop-i.i c.before.before.before.loop-i.sum c.wide-sum.result c.before.before.before.before.before.args.table.now (omega arith) (c.wide-sum.ensures.0 ∙ c.before.u32_at.ensures) c.before.before.before.loop-i.invariant.1, omega (arith, c.wide-sum.ensures.1)))
-    (λ c. done c.before.before.before.args.n c.before.loop-i.i c.before.loop-i.sum c.before.before.before.args.table.now (omega arith) c.before.loop-i.invariant.1))
+    (λ c. (omega arith, next c.args.n c.loop-i.i c.loop-i.sum c.wide-sum.result c.args.table.now (omega arith) (c.wide-sum.ensures.0 ∙ c.u32_at.ensures) c.loop-i.invariant.1, omega (arith, c.wide-sum.ensures.1)))
+    (λ c. done c.args.n c.loop-i.i c.loop-i.sum c.args.table.now (omega arith) c.loop-i.invariant.1))

@@ -10,5 +10,5 @@ table_outcome_spec =
     (search rules)
     (λ c. rw (lt-ltb _ _ c.if-bytes-n.true))
     (search rules)
-    (λ c. rw (le-ltb _ _ c.before.before.if-bytes-n.false, ← c.before.sum_of-sum.ensures, eq-eqb _ 0 c.if-sum-eq0.true))
-    (λ c. rw (le-ltb _ _ c.before.before.if-bytes-n.false, ← c.before.sum_of-sum.ensures, ne_eqb _ 0 c.if-sum-eq0.false)))
+    (λ c. rw (le-ltb _ _ c.if-bytes-n.false, ← c.sum_of-sum.ensures, eq-eqb _ 0 c.if-sum-eq0.true))
+    (λ c. rw (le-ltb _ _ c.if-bytes-n.false, ← c.sum_of-sum.ensures, ne_eqb _ 0 c.if-sum-eq0.false)))

@@ -10,4 +10,4 @@ both_ends_spec =
     (λ c κs. search rules)
     (λ c κs. search rules)
     (λ c κs. search rules)
-    (λ c. demand2_in_c c.before.before.handed_over.ensures c.before.round_trip.ensures c.two_ends.ensures))
+    (λ c. demand2_in_c c.handed_over.ensures c.round_trip.ensures c.two_ends.ensures))

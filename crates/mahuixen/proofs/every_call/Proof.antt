@@ -9,4 +9,4 @@ every_call_spec =
     (tie.spec
     (λ c κs. search rules)
     (λ c κs. search rules)
-    (λ c. demand1_in_c c.before.every_call.ensures c.every_call-2.ensures))
+    (λ c. demand1_in_c c.every_call.ensures c.every_call-2.ensures))

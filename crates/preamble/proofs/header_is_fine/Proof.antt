@@ -12,4 +12,4 @@ header_is_fine_spec =
     (λ c κs. search rules)
     (λ c κs. search rules)
     (λ c κs. search rules)
-    (λ c. cc (header-fine c.before.before.before.before.before.before.before.args.h)))
+    (λ c. cc (header-fine c.args.h)))

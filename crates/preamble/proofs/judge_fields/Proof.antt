@@ -15,4 +15,4 @@ judge_fields_spec =
     (λ c κs. search rules)
     (λ c κs. search rules)
     (λ c κs. search rules)
-    (λ c. cc (or_else_last (judged_by c.before.before.before.before.before.judge_limits.result))))
+    (λ c. cc (or_else_last (judged_by c.judge_limits.result))))

@@ -7,4 +7,4 @@ pub judge_flags_spec : {M : Type 1} → statement M
 judge_flags_spec =
     tie.close
     (tie.spec (λ c κs. search rules) (λ c κs. search rules) (λ c κs. search rules) (λ c κs. search rules)
-    (λ c. cc (first-last c.before.before.fault_when-2.result)))
+    (λ c. cc (first-last c.fault_when-2.result)))

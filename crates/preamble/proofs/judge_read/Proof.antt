@@ -14,4 +14,4 @@ judge_read_spec =
     (λ c κs. search rules)
     (λ c κs. search rules)
     (λ c κs. search rules)
-    (λ c. cc (or_else_last (judge_store (total c.before.before.before.before.before.args.p.header) c.before.before.before.before.before.args.store), first-append (preamble_judgements c.before.before.before.before.before.args.p c.before.before.before.before.before.args.bytes.now) (judge_store (total c.before.before.before.before.before.args.p.header) c.before.before.before.before.before.args.store ∷ []))))
+    (λ c. cc (or_else_last (judge_store (total c.args.p.header) c.args.store), first-append (preamble_judgements c.args.p c.args.bytes.now) (judge_store (total c.args.p.header) c.args.store ∷ []))))

@@ -10,4 +10,4 @@ length_wrong_spec =
     (λ c κs. search rules)
     (λ c κs. search rules)
     (λ c. simp (lt-ltb _ _ c.if-count-k.true))
-    (λ c. simp (le-ltb _ _ c.before.before.if-count-k.false, c.both-else-count-k.ensures, c.before.both.ensures)))
+    (λ c. simp (le-ltb _ _ c.if-count-k.false, c.both-else-count-k.ensures, c.both.ensures)))

@@ -34,4 +34,4 @@ limit_fault_spec =
     (λ c κs. search rules)
     (λ c κs. search rules)
     (λ c κs. search rules)
-    (λ c. cc (first-last c.before.before.before.before.before.before.before.before.before.before.before.before.before.above-2.result)))
+    (λ c. cc (first-last c.above-2.result)))

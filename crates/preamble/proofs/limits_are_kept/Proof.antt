@@ -24,4 +24,4 @@ limits_are_kept_spec =
     (λ c κs. search rules)
     (λ c κs. search rules)
     (λ c κs. search rules)
-    (λ c. cc (limits-none c.before.before.before.before.before.before.before.before.before.before.before.args.h)))
+    (λ c. cc (limits-none c.args.h)))

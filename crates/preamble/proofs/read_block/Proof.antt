@@ -17,4 +17,4 @@ read_block_spec =
     (λ c κs. search rules)
     (λ c κs. search rules)
     (λ c κs. search rules)
-    (λ c. simp (c.before.before.before.before.before.before.before.before.before.before.before.before.before.before.before.before.byte_at.ensures, c.before.before.before.before.before.before.before.before.before.before.before.before.before.before.byte_at-2.ensures, c.before.before.before.before.before.before.before.before.before.before.before.before.segment_at.ensures, c.before.before.before.before.before.before.before.before.before.before.segment_at-2.ensures, c.before.before.before.before.before.before.before.before.segment_at-3.ensures, c.before.before.before.before.before.before.segment_at-4.ensures, c.before.before.before.before.byte_at-3.ensures, c.before.before.byte_at-4.ensures, c.u32_at.ensures)))
+    (λ c. simp (c.byte_at.ensures, c.byte_at-2.ensures, c.segment_at.ensures, c.segment_at-2.ensures, c.segment_at-3.ensures, c.segment_at-4.ensures, c.byte_at-3.ensures, c.byte_at-4.ensures, c.u32_at.ensures)))

@@ -14,4 +14,4 @@ read_header_spec =
     (λ c κs. search rules)
     (λ c κs. search rules)
     (λ c κs. search rules)
-    (λ c. simp (c.before.before.before.before.before.byte_at.ensures, c.before.before.before.before.byte_at-2.ensures, c.before.before.before.segment_at.ensures, c.before.before.segment_at-2.ensures, c.before.segment_at-3.ensures, c.segment_at-4.ensures)))
+    (λ c. simp (c.byte_at.ensures, c.byte_at-2.ensures, c.segment_at.ensures, c.segment_at-2.ensures, c.segment_at-3.ensures, c.segment_at-4.ensures)))

@@ -6,4 +6,4 @@ pub read_preamble_spec : {M : Type 1} → statement M
 read_preamble_spec =
     tie.close
     (tie.spec (λ c κs. search rules) (λ c κs. search rules) (λ c κs. search rules) (λ c κs. search rules)
-    (λ c. simp (c.before.before.before.read_header.ensures, c.before.before.byte_at.ensures, c.before.byte_at-2.ensures, c.u32_at.ensures)))
+    (λ c. simp (c.read_header.ensures, c.byte_at.ensures, c.byte_at-2.ensures, c.u32_at.ensures)))

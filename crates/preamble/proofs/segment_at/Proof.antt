@@ -9,4 +9,4 @@ segment_at_spec =
     (λ c κs. search rules)
     (λ c. search rules)
     (λ c κs. search rules)
-    (λ c. simp (c.before.u32_at.ensures, c.u16_at.ensures)))
+    (λ c. simp (c.u32_at.ensures, c.u16_at.ensures)))

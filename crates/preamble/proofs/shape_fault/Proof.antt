@@ -19,4 +19,4 @@ shape_fault_spec =
     (λ c κs. search rules)
     (λ c κs. search rules)
     (λ c κs. search rules)
-    (λ c. cc (first-last c.before.before.before.before.before.before.before.before.before.segment_fault-f4.result)))
+    (λ c. cc (first-last c.segment_fault-f4.result)))

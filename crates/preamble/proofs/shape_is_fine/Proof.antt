@@ -16,4 +16,4 @@ shape_is_fine_spec =
     (λ c κs. search rules)
     (λ c κs. search rules)
     (λ c κs. search rules)
-    (λ c. cc (shape-none c.before.before.before.before.before.before.before.before.before.args.h)))
+    (λ c. cc (shape-none c.args.h)))

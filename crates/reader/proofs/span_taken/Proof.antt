@@ -8,5 +8,5 @@ span_taken_spec =
     (tie.spec
     (λ c. search rules)
     (λ c. search rules)
-    (λ c. λ s f h. rw (c.before.a-1.given.1, h))
-    (λ c. λ s f h. rw c.before.a-in-Failed-1.given.1))
+    (λ c. λ s f h. rw (c.in-Read.is, h))
+    (λ c. λ s f h. rw c.in-Failed.is))

@@ -11,4 +11,4 @@ take_negative_spec =
     (λ c κs. search rules)
     (λ c κs. search rules)
     (λ c κs. search rules)
-    (λ c. taken _ _ _ c.before.before.at_place-c.ensures c.before.read_negative.ensures (c.u32_taken.ensures _ _ (λ n. refl))))
+    (λ c. taken _ _ _ c.at_place-c.ensures c.read_negative.ensures (c.u32_taken.ensures _ _ (λ n. refl))))

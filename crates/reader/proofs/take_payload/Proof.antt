@@ -11,4 +11,4 @@ take_payload_spec =
     (λ c κs. search rules)
     (λ c κs. search rules)
     (λ c κs. search rules)
-    (λ c. taken _ _ _ c.before.before.at_place-c.ensures c.before.read_payload.ensures (c.span_taken.ensures _ _ (λ bs. refl))))
+    (λ c. taken _ _ _ c.at_place-c.ensures c.read_payload.ensures (c.span_taken.ensures _ _ (λ bs. refl))))

@@ -11,4 +11,4 @@ take_reconnect_block_spec =
     (λ c κs. search rules)
     (λ c κs. search rules)
     (λ c κs. search rules)
-    (λ c. taken _ _ _ c.before.before.at_place-c.ensures c.before.read_rest.ensures (c.span_taken.ensures _ _ (λ bs. refl))))
+    (λ c. taken _ _ _ c.at_place-c.ensures c.read_rest.ensures (c.span_taken.ensures _ _ (λ bs. refl))))

@@ -10,4 +10,4 @@ take_u64_spec =
     (λ c κs. search rules)
     (λ c κs. search rules)
     (λ c κs. search rules)
-    (λ c. taken _ _ _ c.before.before.at_place-c.ensures c.before.read_u64.ensures (c.u64_taken.ensures _)))
+    (λ c. taken _ _ _ c.at_place-c.ensures c.read_u64.ensures (c.u64_taken.ensures _)))

@@ -4,7 +4,7 @@ use Rattle.reader.proofs.take_u8.Statement.{statement}
 use Rattle.reader.proofs.take_u8.Tie as tie
 
 returns : tie.Need-returns
-returns c = taken _ _ _ c.before.before.at_place-c.ensures c.before.read_u8.ensures (c.u8_taken.ensures _)
+returns c = taken _ _ _ c.at_place-c.ensures c.read_u8.ensures (c.u8_taken.ensures _)
 
 pub take_u8_spec : {M : Type 1} → statement M
 take_u8_spec =

@@ -8,5 +8,5 @@ u64_taken_spec =
     (tie.spec
     (λ c. search rules)
     (λ c. search rules)
-    (λ c. λ s. rw c.before.a-1.given.1)
-    (λ c. λ s. rw c.before.a-in-Failed-1.given.1))
+    (λ c. λ s. rw c.in-Read.is)
+    (λ c. λ s. rw c.in-Failed.is))

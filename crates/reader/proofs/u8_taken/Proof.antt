@@ -9,5 +9,5 @@ u8_taken_spec =
     (λ c. search rules)
     (λ c. search rules)
     (λ c. search rules)
-    (λ c. λ s. rw c.before.a-1.given.1)
-    (λ c. λ s. rw c.before.a-in-Failed-1.given.1))
+    (λ c. λ s. rw c.in-Read.is)
+    (λ c. λ s. rw c.in-Failed.is))

@@ -10,4 +10,4 @@ receive_spec =
     (λ c κs. search rules)
     (λ c κs. search rules)
     (λ c. search rules)
-    (λ c. record { received = c.received_with.ensures ∙ c.before.before.before.receive_in-t.ensures.received; store = c.before.before.before.receive_in-t.ensures.store }))
+    (λ c. record { received = c.received_with.ensures ∙ c.receive_in-t.ensures.received; store = c.receive_in-t.ensures.store }))

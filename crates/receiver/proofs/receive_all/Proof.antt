@@ -18,28 +18,28 @@ decreases-loop stream cuts store₀ state₀ t₀ i₀ store state t i = length 
 
 -- one more call was made
 called : (a : tie.After-receive-o invariant-loop decreases-loop)
-    → (let g = a.before.before.before.before.before.before.before.before.before.before.before.before.args in let m = a.before.before.before.before.before.before.loop-i in let o = a.receive-o.result in
-    Called g.stream.now g.cuts.now g.store-1.now a.receive-o.new.1.1.0 a.before.before.before.before.before.before.before.before.start-first.result.state o.state-1 (m.t + o.taken) (m.i + 1))
+    → (let g = a.args in let m = a.loop-i in let o = a.receive-o.result in
+    Called g.stream.now g.cuts.now g.store.now a.receive-o.new.1.1.0 a.start-first.result.state o.state (m.t + o.taken) (m.i + 1))
 called a =
-    let g = a.before.before.before.before.before.before.before.before.before.before.before.before.args in
-    let m = a.before.before.before.before.before.before.loop-i in
-    let e = clipped g.stream.now m.t (get_or g.cuts.now m.i 0) a.before.before.before.min-k.result m.invariant.within a.before.before.before.min-k.ensures in
-    called-next m.invariant a.before.before.before.before.before.loop-i-test.true a.receive-o.auto.1.1.0 (rw e at a.receive-o.ensures)
+    let g = a.args in
+    let m = a.loop-i in
+    let e = clipped g.stream.now m.t (get_or g.cuts.now m.i 0) a.min-k.result m.invariant.within a.min-k.ensures in
+    called-next m.invariant a.loop-i-test.true a.receive-o.auto.1.1.0 (rw e at a.receive-o.ensures)
 
 returns : tie.Need-returns invariant-loop decreases-loop
 unfolding Demand3
 returns c =
-    let g = c.before.before.before.before.before.before.before.args in
-    let done = rw c.before.before.before.start-first.ensures.state at c.before.loop-i.invariant in
-    let i : c.before.loop-i.i ≡ length g.cuts.now = omega arith in
+    let g = c.args in
+    let done = rw c.start-first.ensures.state at c.loop-i.invariant in
+    let i : c.loop-i.i ≡ length g.cuts.now = omega arith in
     record {
       calls = done.calls;
       sizes = done.sizes ∙ rw (i, take-length);
       chained = done.chained;
-      state = done.state-1;
+      state = done.state;
       taken = done.taken;
       final = done.final;
-      defined = demand3 g.own g.stream.now g.store-1.now done.calls done.chained;
+      defined = demand3 g.own g.stream.now g.store.now done.calls done.chained;
     }
 
 pub receive_all_spec : {M : Type 1} → statement M
@@ -49,19 +49,19 @@ receive_all_spec =
     invariant-loop
     decreases-loop
     (λ c κs. search rules)
-    (λ c. called-none c.before.before.before.before.before.args.stream.now c.before.before.before.before.before.args.cuts.now c.before.before.before.before.before.args.store.now c.before.start-first.result.state)
+    (λ c. called-none c.args.stream.now c.args.cuts.now c.args.store.now c.start-first.result.state)
     (λ c. search rules)
     (λ c. search rules)
-    (λ c. c.before.before.loop-i.invariant.within)
+    (λ c. c.loop-i.invariant.within)
     (λ c κs. search rules)
-    (λ c. omega (arith, c.min-k.ensures, c.before.before.before.loop-i.invariant.within))
+    (λ c. omega (arith, c.min-k.ensures, c.loop-i.invariant.within))
     (λ c. omega arith)
     (λ c. omega arith)
-    (λ c. omega (arith, c.min-k.ensures, c.before.before.before.loop-i.invariant.within))
+    (λ c. omega (arith, c.min-k.ensures, c.loop-i.invariant.within))
     (λ c κs. search rules)
-    (λ c. omega (arith, (called c.before.before.before.before).within, c.before.before.before.before.before.before.before.before.before.before.before.before.before.before.before.before.well_formed.1.0.0))
-    (λ c. omega (arith, c.before.before.before.before.before.before.before.before.before.loop-i-test.true, c.before.before.before.before.before.before.before.before.before.before.before.before.before.before.before.before.well_formed.1.1.0.0))
+    (λ c. omega (arith, (called c.before.before.before.before).within, c.well_formed.1.0.0))
+    (λ c. omega (arith, c.loop-i-test.true, c.well_formed.1.1.0.0))
     (λ c. omega arith)
     (λ c. called c.before.before.before.before)
-    (λ c. c.before.loop-i.invariant.same)
+    (λ c. c.loop-i.invariant.same)
     returns)

@@ -8,5 +8,5 @@ received_with_spec =
     (tie.spec
     (λ c. search rules)
     (λ c. search rules)
-    (λ c. rw c.before.t-1.given.1)
-    (λ c. rw c.before.before.t-in-Moved-1.given.1))
+    (λ c. rw c.in-Partial.is)
+    (λ c. rw c.in-Moved.is))

@@ -16,5 +16,5 @@ start_spec =
     (λ c. search rules)
     (λ c κs. search rules)
     (λ c κs. search rules)
-    (λ c. record { state = rw (sym c.before.before.before.judge_own-v.ensures ∙ ap judged_by c.before.enum_told-1.given.1) c.fresh.ensures; judgement = c.before.before.before.judge_own-v.ensures })
-    (λ c. (let e = sym c.before.before.before.before.before.judge_own-v.ensures ∙ ap judged_by c.before.before.before.v-1.given.1 in record { state = rw e (c.refused_state.ensures ∙ rw c.before.numbers_of.ensures); judgement = sym e })))
+    (λ c. record { state = rw (sym c.judge_own-v.ensures ∙ ap judged_by c.in-Fine.is) c.fresh.ensures; judgement = c.judge_own-v.ensures })
+    (λ c. (let e = sym c.judge_own-v.ensures ∙ ap judged_by c.in-Refused.is in record { state = rw e (c.refused_state.ensures ∙ rw c.numbers_of.ensures); judgement = sym e })))

@@ -17,8 +17,8 @@ decreases-loop buf₀ first i₀ buf i = length buf₀ - i
 
 returns : tie.Need-returns invariant-loop decreases-loop
 returns c =
-    let e : c.before.loop-i.i ≡ length c.before.before.args.buf.now = omega arith in
-    c.before.loop-i.invariant.2 ∙ rw (e, drop-length, append-nil)
+    let e : c.loop-i.i ≡ length c.args.buf.now = omega arith in
+    c.loop-i.invariant.2 ∙ rw (e, drop-length, append-nil)
 
 pub count_up_spec : {M : Type 1} → statement M
 unfolding counted
@@ -33,6 +33,6 @@ count_up_spec =
     (λ c. omega arith)
     (λ c. omega arith)
     (λ c. omega arith)
-    (λ c. (omega arith, length-set c.before.loop-i.buf c.before.loop-i.i _ ∙ c.before.loop-i.invariant.1, rw c.before.loop-i.invariant.2 (counted-more c.before.before.args.buf.now c.before.before.args.first c.before.loop-i.i (omega arith))))
-    (λ c. c.before.loop-i.invariant.1)
+    (λ c. (omega arith, length-set c.loop-i.buf c.loop-i.i _ ∙ c.loop-i.invariant.1, rw c.loop-i.invariant.2 (counted-more c.args.buf.now c.args.first c.loop-i.i (omega arith))))
+    (λ c. c.loop-i.invariant.1)
     returns)

@@ -12,6 +12,6 @@ print_outcome_spec =
     (search rules)
     (search rules)
     (search rules)
-    (λ c. rw c.before.before.before.before.before.outcome-1.given.1 c.before.before.print_wrote.ensures)
+    (λ c. rw c.in-Wrote.is c.print_wrote.ensures)
     (search rules)
-    (λ c. rw c.before.before.before.before.before.before.outcome-in-Refused-1.given.1 (rw c.before.before.before.numbers_of.ensures at c.before.before.print_refused.ensures)))
+    (λ c. rw c.in-Refused.is (rw c.numbers_of.ensures at c.print_refused.ensures)))

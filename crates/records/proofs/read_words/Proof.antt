@@ -17,14 +17,14 @@ abbrev decreases-loop : tie.decreases-loop-i
 decreases-loop s at all out₀ i₀ out i = 64 - i
 
 loop-again : tie.Need-loop-i-preserved invariant-loop decreases-loop
-loop-again c = let n = length-words 64 (drop c.before.before.before.before.args.at c.before.before.before.before.args.s.now) in
-    let l = c.before.before.loop-i in
-    (omega arith, length-set l.out l.i _ ∙ l.invariant.1, stored_more (words_of 64 (drop c.before.before.before.before.args.at c.before.before.before.before.args.s.now)) l.out l.i _ (omega arith) (omega arith) l.invariant.2 c.number_in.ensures)
+loop-again c = let n = length-words 64 (drop c.args.at c.args.s.now) in
+    let l = c.loop-i in
+    (omega arith, length-set l.out l.i _ ∙ l.invariant.1, stored_more (words_of 64 (drop c.args.at c.args.s.now)) l.out l.i _ (omega arith) (omega arith) l.invariant.2 c.number_in.ensures)
 
 returns : tie.Need-returns invariant-loop decreases-loop
-returns c = let n = length-words 64 (drop c.before.before.before.args.at c.before.before.before.args.s.now) in
-    let l = c.before.loop-i in
-    sym (take_all l.i l.out (omega arith)) ∙ l.invariant.2 ∙ take_all l.i (words_of 64 (drop c.before.before.before.args.at c.before.before.before.args.s.now)) (omega arith)
+returns c = let n = length-words 64 (drop c.args.at c.args.s.now) in
+    let l = c.loop-i in
+    sym (take_all l.i l.out (omega arith)) ∙ l.invariant.2 ∙ take_all l.i (words_of 64 (drop c.args.at c.args.s.now)) (omega arith)
 
 pub read_words_spec : {M : Type 1} → statement M
 read_words_spec =

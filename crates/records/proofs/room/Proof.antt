@@ -7,11 +7,11 @@ use Rattle.records.proofs.room.Tie as tie
 
 returns : tie.Need-returns-then-left_from-ge-LINE
 unfolding roomed page
-returns c = rw (← c.before.left_from.ensures, le-leb 32768 _ c.if-left_from-ge-LINE.true)
+returns c = rw (← c.left_from.ensures, le-leb 32768 _ c.if-left_from-ge-LINE.true)
 
 returns-2 : tie.Need-returns
 unfolding roomed page
-returns-2 c = rw (← c.before.before.before.left_from.ensures, lt-leb 32768 _ c.before.before.if-left_from-ge-LINE.false)
+returns-2 c = rw (← c.left_from.ensures, lt-leb 32768 _ c.if-left_from-ge-LINE.false)
 
 pub room_spec : {M : Type 1} → statement M
 room_spec =

@@ -12,4 +12,4 @@ or_else_spec =
     (λ c. search rules)
     (λ c. search rules)
     (λ c. search rules)
-    (λ c. sym (ap (λ (v : Judgement). or_else (judged_by v) (judged_by c.before.before.before.args.b)) c.before.a-1.given.1)))
+    (λ c. sym (ap (λ (v : Judgement). or_else (judged_by v) (judged_by c.args.b)) c.in-Refused.is)))

@@ -16,10 +16,10 @@ abbrev start : tie.In-Fine → tie.Start
 start a = a.before.before.before.before.before
 
 request : (a : tie.In-Fine)
-    → (let g = (start a).args in Accepted g.sending g.header g.abort (length g.source.now) (length g.buf-1.now) g.queued)
+    → (let g = (start a).args in Accepted g.sending g.header g.abort (length g.source.now) (length g.buf.now) g.queued)
 request a =
     let g = (start a).args in
-    accepted g.sending g.header g.abort (length g.source.now) (length g.buf-1.now) g.queued (sym a.before.before.judge_sealed-judgement.ensures ∙ ap judged_by a.enum_told-1.given.1)
+    accepted g.sending g.header g.abort (length g.source.now) (length g.buf.now) g.queued (sym a.judge_sealed-judgement.ensures ∙ ap judged_by a.in-Fine.is)
 
 sent-more-requires : tie.Need-sent_more-sending-requires
 sent-more-requires c κs =
@@ -30,16 +30,16 @@ sent-more-requires c κs =
 returns-2 : tie.Need-returns-in-Fine
 unfolding sealed_done
 returns-2 c =
-    let g = c.before.before.before.before.before.before.before.before.before.before.before.before.before.before.before.before.args in
+    let g = c.args in
     let parts : List State → List ℕ = λ w. sealed_parts w (frame_parts g.sending.nonce g.header g.abort g.source.now) in
     let w : List State = key_expansion g.sending.key in
-    let bytes : c.before.before.before.before.before.put_sealed.new.0 ≡ replace_front (parts w) (rest g.buf-1.now g.queued) =
-    c.before.before.before.before.before.put_sealed.ensures ∙ ap (λ (x : List State). replace_front (parts x) (rest g.buf-1.now g.queued)) c.before.before.before.before.before.before.before.before.key_expansion-w.ensures in
+    let bytes : c.put_sealed.new.0 ≡ replace_front (parts w) (rest g.buf.now g.queued) =
+    c.put_sealed.ensures ∙ ap (λ (x : List State). replace_front (parts x) (rest g.buf.now g.queued)) c.key_expansion-w.ensures in
     record {
       promise =
-          rw (sym c.before.before.before.before.before.before.before.before.before.before.before.before.before.judge_sealed-judgement.ensures ∙ ap judged_by c.before.before.before.before.before.before.before.before.before.before.before.enum_told-1.given.1)
-          (ap₂ (λ (n : ℕ) (s : Sending). done (wrote n) s (back g.buf-1.now g.queued c.before.before.before.before.before.put_sealed.new.0)) c.before.before.sealed_length.ensures (c.sent_more-sending.ensures ∙ ap (sent_more g.sending) c.before.part_count.ensures.0)
-          ∙ ap (done (wrote (sealed_length g.header)) (sent_more g.sending (part_count g.header))) (placed g.buf-1.now (parts w) c.before.before.before.before.before.put_sealed.new.0 g.queued bytes));
+          rw (sym c.judge_sealed-judgement.ensures ∙ ap judged_by c.in-Fine.is)
+          (ap₂ (λ (n : ℕ) (s : Sending). done (wrote n) s (back g.buf.now g.queued c.put_sealed.new.0)) c.sealed_length.ensures (c.sent_more-sending.ensures ∙ ap (sent_more g.sending) c.part_count.ensures.0)
+          ∙ ap (done (wrote (sealed_length g.header)) (sent_more g.sending (part_count g.header))) (placed g.buf.now (parts w) c.put_sealed.new.0 g.queued bytes));
     }
 
 pub build_sealed_spec : {M : Type 1} → statement M
@@ -58,6 +58,6 @@ build_sealed_spec =
     (λ c κs. search rules)
     (λ c κs. search rules)
     sent-more-requires
-    (λ c. record { promise = rw (sym c.before.before.before.judge_sealed-judgement.ensures ∙ ap judged_by c.before.judgement-1.given.1) })
+    (λ c. record { promise = rw (sym c.judge_sealed-judgement.ensures ∙ ap judged_by c.in-Refused.is) })
     (λ c. search rules)
     returns-2)

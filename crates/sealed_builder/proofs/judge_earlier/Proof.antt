@@ -11,16 +11,16 @@ use Rattle.sealed_builder.proofs.judge_earlier.Tie as tie
 returns : tie.Need-returns
 unfolding judge_earlier
 returns c =
-    let a = c.before.before.before.before.before.before.before.before.before.before.before.before.before.before.before.before.args in
-    let room : judged_by c.before.before.before.before.before.before.before.before.before.before.before.before.before.unless-v14.result ≡ judge_room (sealed_length a.h) a.space a.queued =
-    rw (c.before.before.before.before.before.before.before.before.before.before.before.before.before.before.room.ensures, c.before.before.before.before.before.before.before.before.before.before.before.before.before.before.before.sealed_length-n.ensures) at c.before.before.before.before.before.before.before.before.before.before.before.before.before.unless-v14.ensures in
-    let source : judged_by c.before.before.before.before.before.before.before.before.before.unless.result ≡ judge_source a.source (total a.h) = rw c.before.before.before.before.before.before.before.before.before.before.total_of-t.ensures at c.before.before.before.before.before.before.before.before.before.unless.ensures in
-    let state : judged_by c.before.unless-v26.result ≡ judge_sending a.s = rw c.before.before.agrees_with_itself.ensures at c.before.unless-v26.ensures in
-    let last = sym (or_else_last (judged_by c.before.before.before.before.before.before.before.before.before.before.before.before.before.unless-v14.result)) ∙ ap₂ or_else room refl in
-    let v15 = c.before.before.before.before.before.before.before.before.before.before.before.or_else-v15.ensures ∙ ap₂ or_else c.before.before.before.before.before.before.before.before.before.before.before.before.judge_abort.ensures last in
-    let v13 = c.before.before.before.before.before.before.before.before.or_else-v13.ensures ∙ ap₂ or_else source v15 in
-    let v6 = c.before.before.before.before.before.before.or_else-v6.ensures ∙ ap₂ or_else c.before.before.before.before.before.before.before.judge_header.ensures v13 in
-    let v27 = c.before.before.before.or_else-v27.ensures ∙ ap₂ or_else c.before.before.before.before.unless-2.ensures v6 in
+    let a = c.args in
+    let room : judged_by c.unless-v14.result ≡ judge_room (sealed_length a.h) a.space a.queued =
+    rw (c.room.ensures, c.sealed_length-n.ensures) at c.unless-v14.ensures in
+    let source : judged_by c.unless.result ≡ judge_source a.source (total a.h) = rw c.total_of-t.ensures at c.unless.ensures in
+    let state : judged_by c.unless-v26.result ≡ judge_sending a.s = rw c.agrees_with_itself.ensures at c.unless-v26.ensures in
+    let last = sym (or_else_last (judged_by c.unless-v14.result)) ∙ ap₂ or_else room refl in
+    let v15 = c.or_else-v15.ensures ∙ ap₂ or_else c.judge_abort.ensures last in
+    let v13 = c.or_else-v13.ensures ∙ ap₂ or_else source v15 in
+    let v6 = c.or_else-v6.ensures ∙ ap₂ or_else c.judge_header.ensures v13 in
+    let v27 = c.or_else-v27.ensures ∙ ap₂ or_else c.unless-2.ensures v6 in
     c.or_else.ensures ∙ ap₂ or_else state v27
 
 pub judge_earlier_spec : {M : Type 1} → statement M

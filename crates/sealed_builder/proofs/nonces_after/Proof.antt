@@ -13,4 +13,4 @@ nonces_after_spec =
     (λ c κs. search rules)
     (λ c. cc)
     (λ c κs. search rules)
-    (λ c. (let three : c.before.before.before.before.before.args.k ≡ 3 = omega (arith, c.before.before.before.before.before.requires) in cc)))
+    (λ c. (let three : c.args.k ≡ 3 = omega (arith, c.requires) in cc)))

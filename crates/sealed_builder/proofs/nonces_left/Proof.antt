@@ -7,11 +7,11 @@ use Rattle.sealed_builder.proofs.nonces_left.Tie as tie
 
 returns : tie.Need-returns-then-s
 returns c =
-    sym (ap (λ (b : Bool). leb (cond b all_nonces c.before.args.s.spent + c.before.args.k) all_nonces) c.if-s.true ∙ lt-leb (all_nonces + c.before.args.k) all_nonces (omega (arith, c.before.requires)))
+    sym (ap (λ (b : Bool). leb (cond b all_nonces c.args.s.spent + c.args.k) all_nonces) c.if-s.true ∙ lt-leb (all_nonces + c.args.k) all_nonces (omega (arith, c.requires)))
 
 returns-2 : tie.Need-returns
 returns-2 c =
-    left_is c.before.before.args.s.spent c.before.before.args.k c.before.before.requires.0 c.before.before.requires.1 ∙ sym (ap (λ (b : Bool). leb (cond b all_nonces c.before.before.args.s.spent + c.before.before.args.k) all_nonces) c.before.if-s.false)
+    left_is c.args.s.spent c.args.k c.requires.0 c.requires.1 ∙ sym (ap (λ (b : Bool). leb (cond b all_nonces c.args.s.spent + c.args.k) all_nonces) c.if-s.false)
 
 pub nonces_left_spec : {M : Type 1} → statement M
 nonces_left_spec = tie.close (tie.spec returns (λ c. search rules) (λ c. search rules) returns-2)

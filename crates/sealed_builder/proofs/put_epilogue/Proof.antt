@@ -8,8 +8,8 @@ use Rattle.sealed_builder.proofs.put_epilogue.Tie as tie
 
 returns : tie.Need-returns
 returns c =
-    let g = c.before.before.before.before.before.before.before.args in
-    overwrite_as _ (epilogue16 (late_byte Msgr21 g.abort)) g.out-1.now _ c.before.before.put.ensures (ap epilogue16 c.before.before.before.before.before.late_byte_lem.ensures) (omega (arith, c.before.before.before.before.before.before.before.requires))
+    let g = c.args in
+    overwrite_as _ (epilogue16 (late_byte Msgr21 g.abort)) g.out.now _ c.put.ensures (ap epilogue16 c.late_byte_lem.ensures) (omega (arith, c.requires))
 
 pub put_epilogue_spec : {M : Type 1} → statement M
 put_epilogue_spec =

@@ -9,9 +9,9 @@ use Rattle.sealed_builder.proofs.put_first.Tie as tie
 returns : tie.Need-returns
 unfolding first_text
 returns c =
-    let g = c.before.before.before.before.before.before.before.before.before.before.args in
-    next g.out-1.now c.before.before.before.before.before.before.put_preamble.new.0 (preamble_bytes g.h) (inlined g.first.now) c.before.before.put_inline.new.0 32
-    (length-preamble g.h) c.before.before.before.before.before.before.put_preamble.ensures c.before.before.put_inline.ensures
+    let g = c.args in
+    next g.out.now c.put_preamble.new.0 (preamble_bytes g.h) (inlined g.first.now) c.put_inline.new.0 32
+    (length-preamble g.h) c.put_preamble.ensures c.put_inline.ensures
 
 pub put_first_spec : {M : Type 1} → statement M
 put_first_spec =

@@ -9,18 +9,18 @@ use Rattle.sealed_builder.proofs.put_fourth.Tie as tie
 
 put-padded-requires : tie.Need-put_padded-requires
 put-padded-requires c κs =
-    let bytes : List ℕ = c.before.before.before.before.before.args.rest.now in
-    let n : ℕ = c.before.before.before.before.before.args.n in
-    let e : round_up (length c.part.result.now) ≡ round_up n = ap (λ (l : List ℕ). round_up (length l)) c.part.ensures ∙ ap round_up (length-take-le n bytes (omega (arith, c.before.before.before.before.before.requires.0))) in
-    omega (arith, e, c.before.before.before.before.before.requires.1)
+    let bytes : List ℕ = c.args.rest.now in
+    let n : ℕ = c.args.n in
+    let e : round_up (length c.part.result.now) ≡ round_up n = ap (λ (l : List ℕ). round_up (length l)) c.part.ensures ∙ ap round_up (length-take-le n bytes (omega (arith, c.requires.0))) in
+    omega (arith, e, c.requires.1)
 
 returns : tie.Need-returns
 returns c =
-    let g = c.before.before.before.before.before.before.before.before.before.before.before.before.args in
+    let g = c.args in
     let bytes : List ℕ = g.rest.now in
-    padded-next g.abort g.n (g.n + c.before.before.before.before.before.before.before.before.before.padding.result) bytes c.before.before.before.before.before.before.before.part.result.now _ g.out-1.now c.before.before.before.before.before.before.put_padded.new.0 c.before.before.put_epilogue.new.0
-    (λ _. epilogue16 (late_byte Msgr21 g.abort)) (omega (arith, c.before.before.before.before.before.before.before.before.before.before.before.before.requires.0)) (ap (λ (k : ℕ). g.n + k) c.before.before.before.before.before.before.before.before.before.padding.ensures.0) c.before.before.before.before.before.before.before.part.ensures refl
-    c.before.before.before.before.before.before.put_padded.ensures c.before.before.put_epilogue.ensures
+    padded-next g.abort g.n (g.n + c.padding.result) bytes c.part.result.now _ g.out.now c.put_padded.new.0 c.put_epilogue.new.0
+    (λ _. epilogue16 (late_byte Msgr21 g.abort)) (omega (arith, c.requires.0)) (ap (λ (k : ℕ). g.n + k) c.padding.ensures.0) c.part.ensures refl
+    c.put_padded.ensures c.put_epilogue.ensures
 
 pub put_fourth_spec : {M : Type 1} → statement M
 put_fourth_spec =

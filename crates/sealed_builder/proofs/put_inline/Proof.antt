@@ -6,29 +6,29 @@ use Rattle.sealed_builder.proofs.Texts.{front-short, inline-is}
 use Rattle.sealed_builder.proofs.put_inline.Statement.{statement}
 use Rattle.sealed_builder.proofs.put_inline.Tie as tie
 
-sub-put-zeros : tie.Need-overflow-sub-put-zeros
+sub-put-zeros : tie.Need-slice_bounds-put_zeros-count
 sub-put-zeros c =
-    omega (arith, front-short c.before.before.before.before.before.before.before.args.first.now c.before.before.before.before.part-inline.result.now c.before.before.before.before.part-inline.ensures)
+    omega (arith, front-short c.args.first.now c.part-inline.result.now c.part-inline.ensures)
 
 part-put-zeros-start : tie.Need-slice-bounds-put-zeros-start
 part-put-zeros-start c =
-    omega (arith, front-short c.before.before.before.before.before.before.before.args.first.now c.before.before.before.before.part-inline.result.now c.before.before.before.before.part-inline.ensures)
+    omega (arith, front-short c.before.before.before.before.before.before.before.args.first.now c.before.before.before.before.part.result.now c.before.before.before.before.part.ensures)
 
-sub-put-zeros_2 : tie.Need-overflow-sub-put-zeros-2
+sub-put-zeros_2 : tie.Need-overflow_sub-n
 sub-put-zeros_2 c =
-    omega (arith, front-short c.before.before.before.before.before.before.before.before.args.first.now c.before.before.before.before.before.part-inline.result.now c.before.before.before.before.before.part-inline.ensures)
+    omega (arith, front-short c.args.first.now c.part-inline.result.now c.part-inline.ensures)
 
 returns : tie.Need-returns
 returns c =
-    let g = c.before.before.before.before.before.before.before.before.before.before.before.args in
+    let g = c.args in
     let first : List ℕ = g.first.now in
-    let xs : List ℕ = c.before.before.before.before.before.before.before.before.part-inline.result.now in
+    let xs : List ℕ = c.part-inline.result.now in
     let zeros : List ℕ = replicate (48 - length xs) 0 in
-    let short : length xs ≤ 48 = front-short first xs c.before.before.before.before.before.before.before.before.part-inline.ensures in
-    let room : length xs + length zeros ≤ length g.out-1.now = omega (arith, length-replicate {A = ℕ} (48 - length xs) 0, c.before.before.before.before.before.before.before.before.before.before.before.requires) in
-    next-overwrite g.out-1.now c.before.before.before.before.before.before.put.new.0 xs zeros c.before.before.put_zeros.new.0 (length xs) refl room
-    (c.before.before.before.before.before.before.put.ensures ∙ overwrite-fits xs g.out-1.now (omega (arith, c.before.before.before.before.before.before.before.before.before.before.before.requires))) c.before.before.put_zeros.ensures
-    ∙ ap (λ (t : List ℕ). replace_front t g.out-1.now) (inline-is first xs c.before.before.before.before.before.before.before.before.part-inline.ensures)
+    let short : length xs ≤ 48 = front-short first xs c.part-inline.ensures in
+    let room : length xs + length zeros ≤ length g.out.now = omega (arith, length-replicate {A = ℕ} (48 - length xs) 0, c.requires) in
+    next-overwrite g.out.now c.put.new.0 xs zeros c.put_zeros.new.0 (length xs) refl room
+    (c.put.ensures ∙ overwrite-fits xs g.out.now (omega (arith, c.requires))) c.put_zeros.ensures
+    ∙ ap (λ (t : List ℕ). replace_front t g.out.now) (inline-is first xs c.part-inline.ensures)
 
 pub put_inline_spec : {M : Type 1} → statement M
 put_inline_spec =

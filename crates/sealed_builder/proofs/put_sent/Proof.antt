@@ -6,11 +6,11 @@ use Rattle.sealed_builder.proofs.put_sent.Tie as tie
 
 returns : tie.Need-returns-then-abort
 returns c =
-    c.before.before.put_zeros.ensures ∙ sym (ap (λ (b : Bool). overwrite (rest_sent b c.before.before.before.before.before.before.before.args.bytes.now) c.before.before.before.before.before.before.before.args.out.now) c.before.before.before.before.if-abort.true)
+    c.put_zeros.ensures ∙ sym (ap (λ (b : Bool). overwrite (rest_sent b c.args.bytes.now) c.args.out.now) c.if-abort.true)
 
 returns-2 : tie.Need-returns-else-abort
 returns-2 c =
-    c.before.before.put.ensures ∙ sym (ap (λ (b : Bool). overwrite (rest_sent b c.before.before.before.before.before.before.before.args.bytes.now) c.before.before.before.before.before.before.before.args.out.now) c.before.before.before.before.if-abort.false)
+    c.put.ensures ∙ sym (ap (λ (b : Bool). overwrite (rest_sent b c.args.bytes.now) c.args.out.now) c.if-abort.false)
 
 pub put_sent_spec : {M : Type 1} → statement M
 put_sent_spec =

@@ -9,28 +9,28 @@ use Rattle.sealed_builder.proofs.put_third.Tie as tie
 
 put-padded-requires : tie.Need-put_padded-requires
 put-padded-requires c κs =
-    let bytes : List ℕ = c.before.before.before.before.before.args.rest.now in
-    let n : ℕ = c.before.before.before.before.before.args.n in
-    let e : round_up (length c.part.result.now) ≡ round_up n = ap (λ (l : List ℕ). round_up (length l)) c.part.ensures ∙ ap round_up (length-take-le n bytes (omega (arith, c.before.before.before.before.before.requires.0))) in
-    omega (arith, e, c.before.before.before.before.before.requires.1)
+    let bytes : List ℕ = c.args.rest.now in
+    let n : ℕ = c.args.n in
+    let e : round_up (length c.part.result.now) ≡ round_up n = ap (λ (l : List ℕ). round_up (length l)) c.part.ensures ∙ ap round_up (length-take-le n bytes (omega (arith, c.requires.0))) in
+    omega (arith, e, c.requires.1)
 
 put-fourth-requires : tie.Need-put_fourth-requires
 put-fourth-requires c κs =
-    let bytes : List ℕ = c.before.before.before.before.before.before.before.before.before.before.args.rest.now in
-    let n : ℕ = c.before.before.before.before.before.before.before.before.before.before.args.n in
-    let l₁ : List ℕ = c.before.before.before.before.put_padded.new.0 in
+    let bytes : List ℕ = c.args.rest.now in
+    let n : ℕ = c.args.n in
+    let l₁ : List ℕ = c.put_padded.new.0 in
     let d : length c.behind.result.now ≡ length bytes - n = ap length c.behind.ensures ∙ length-drop n bytes in
-    let r : length (rest l₁ (n + c.before.before.before.before.before.before.before.padding.result)) ≡ length l₁ - (n + c.before.before.before.before.before.before.before.padding.result) = length_rest l₁ (n + c.before.before.before.before.before.before.before.padding.result) in
-    let k : length l₁ ≡ length c.before.before.before.before.before.before.before.before.before.before.args.out.now = search rules in
-    (omega (arith, c.before.before.before.before.before.before.before.before.before.before.requires.0), omega (arith, c.before.before.before.before.before.before.before.padding.ensures.0, c.before.before.before.before.before.before.before.before.before.before.requires.1))
+    let r : length (rest l₁ (n + c.padding.result)) ≡ length l₁ - (n + c.padding.result) = length_rest l₁ (n + c.padding.result) in
+    let k : length l₁ ≡ length c.args.out.now = search rules in
+    (omega (arith, c.requires.0), omega (arith, c.padding.ensures.0, c.requires.1))
 
 returns : tie.Need-returns
 returns c =
-    let g = c.before.before.before.before.before.before.before.before.before.before.before.before.before.args in
+    let g = c.args in
     let bytes : List ℕ = g.rest.now in
-    padded-next g.abort g.n (g.n + c.before.before.before.before.before.before.before.before.before.before.padding.result) bytes c.before.before.before.before.before.before.before.before.part.result.now c.before.before.before.behind.result.now g.out-1.now c.before.before.before.before.before.before.before.put_padded.new.0 c.before.before.put_fourth.new.0
-    (padded_from (g.n4 ∷ []) (late_byte Msgr21 g.abort)) (omega (arith, c.before.before.before.before.before.before.before.before.before.before.before.before.before.requires.0)) (ap (λ (k : ℕ). g.n + k) c.before.before.before.before.before.before.before.before.before.before.padding.ensures.0) c.before.before.before.before.before.before.before.before.part.ensures c.before.before.before.behind.ensures
-    c.before.before.before.before.before.before.before.put_padded.ensures c.before.before.put_fourth.ensures
+    padded-next g.abort g.n (g.n + c.padding.result) bytes c.part.result.now c.behind.result.now g.out.now c.put_padded.new.0 c.put_fourth.new.0
+    (padded_from (g.n4 ∷ []) (late_byte Msgr21 g.abort)) (omega (arith, c.requires.0)) (ap (λ (k : ℕ). g.n + k) c.padding.ensures.0) c.part.ensures c.behind.ensures
+    c.put_padded.ensures c.put_fourth.ensures
 
 pub put_third_spec : {M : Type 1} → statement M
 put_third_spec =

@@ -7,9 +7,9 @@ use Rattle.sealed_builder.proofs.seal_first.Tie as tie
 
 returns : tie.Need-returns
 returns c =
-    let g = c.before.before.before.before.before.before.before.before.before.before.args in
-    sealed-laid g.w.now g.nonce (first_text g.h g.first.now) g.out-1.now c.before.before.before.before.before.before.put_first.new.0 c.before.before.seal_front.new.0 80
-    (length-first-text g.h g.first.now) (omega (arith, c.before.before.before.before.before.before.before.before.before.before.requires)) c.before.before.before.before.before.before.put_first.ensures c.before.before.seal_front.ensures
+    let g = c.args in
+    sealed-laid g.w.now g.nonce (first_text g.h g.first.now) g.out.now c.put_first.new.0 c.seal_front.new.0 80
+    (length-first-text g.h g.first.now) (omega (arith, c.requires)) c.put_first.ensures c.seal_front.ensures
 
 pub seal_first_spec : {M : Type 1} → statement M
 seal_first_spec = tie.close (tie.spec (λ c κs. search rules) (λ c κs. search rules) (λ c. search rules) returns)

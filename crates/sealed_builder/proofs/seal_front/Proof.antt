@@ -5,11 +5,11 @@ use Rattle.sealed_builder.proofs.seal_front.Tie as tie
 
 slice_aggregate_seal_in_place : tie.Need-slice_bounds-seal_in_place-end-2
 slice_aggregate_seal_in_place c =
-    sym (length-take-le (c.before.before.args.n + 16) c.before.before.args.out.now c.before.before.requires.0)
+    sym (length-take-le (c.args.n + 16) c.args.out.now c.requires.0)
 
 returns : tie.Need-returns
 returns c =
-    sealed-part c.before.before.before.before.before.args.w.now c.before.before.before.before.before.args.nonce c.before.before.before.before.before.args.n c.before.before.before.before.before.args.out.now c.before.before.seal_in_place.new.1.1.0 c.before.before.seal_in_place.result c.before.before.before.before.before.requires.0 c.before.before.before.before.before.requires.1 c.before.before.seal_in_place.ensures
+    sealed-part c.args.w.now c.args.nonce c.args.n c.args.out.now c.seal_in_place.new.1.1.0 c.seal_in_place.result c.requires.0 c.requires.1 c.seal_in_place.ensures
 
 pub seal_front_spec : {M : Type 1} → statement M
 seal_front_spec =

@@ -13,32 +13,32 @@ use Rattle.sealed_builder.proofs.seal_last.Tie as tie
 
 returns : tie.Need-returns-then-no_last_part
 returns c =
-    last_none c.before.before.before.before.args.w.now c.before.before.before.before.args.nonce c.before.before.before.before.args.h (last_text c.before.before.before.before.args.h (late_byte Msgr21 c.before.before.before.before.args.abort) (rest_sent c.before.before.before.before.args.abort c.before.before.before.before.args.rest.now)) c.before.before.before.before.args.out.now (sym c.before.no_last_part.ensures ∙ c.if-no_last_part.true)
+    last_none c.args.w.now c.args.nonce c.args.h (last_text c.args.h (late_byte Msgr21 c.args.abort) (rest_sent c.args.abort c.args.rest.now)) c.args.out.now (sym c.no_last_part.ensures ∙ c.if-no_last_part.true)
 
 -- where there is a last part
-there : (a : tie.Else-no_last_part) → no_last_part a.before.before.before.before.args.h ≡ false
-there a = sym a.before.no_last_part.ensures ∙ a.if-no_last_part.false
+there : (a : tie.Else-no_last_part) → no_last_part a.args.h ≡ false
+there a = sym a.no_last_part.ensures ∙ a.if-no_last_part.false
 
-sized : (a : tie.After-last_part_length) → a.last_part_length.result ≡ last_part a.before.before.before.before.before.args.h
-sized a = a.last_part_length.ensures.0 ∙ last-size a.before.before.before.before.before.args.h (there a.before)
+sized : (a : tie.After-last_part_length) → a.last_part_length.result ≡ last_part a.args.h
+sized a = a.last_part_length.ensures.0 ∙ last-size a.args.h (there a.before)
 
 seal-front-requires : tie.Need-seal_front-requires
 seal-front-requires c κs =
     let a = c.before.before.before.before.before in
-    let z = a.before.before.before.before.before in
-    (omega (arith, sized a, last-size z.args.h (there a.before), z.requires.1, c.before.before.before.put_last.auto.0), omega (arith, sized a, a.last_part_length.ensures.1))
+    let z = a in
+    (omega (arith, sized a, last-size z.args.h (there a.before), z.requires.1, c.put_last.auto.0), omega (arith, sized a, a.last_part_length.ensures.1))
 
 returns-2 : tie.Need-returns
 returns-2 c =
-    let g = c.before.before.before.before.before.before.before.before.before.before.before.before.before.args in
+    let g = c.args in
     let some = there c.before.before.before.before.before.before.before.before.before in
     let n = sized c.before.before.before.before.before.before.before.before in
     let bytes : List ℕ = rest_sent g.abort g.rest.now in
     let text : List ℕ = last_text g.h (late_byte Msgr21 g.abort) bytes in
-    let len : length text + 16 ≡ last_part g.h = length-last-text g.h (late_byte Msgr21 g.abort) bytes (length-sent g.abort g.rest.now ∙ c.before.before.before.before.before.before.before.before.before.before.before.before.before.requires.0) in
-    last-there g.w.now g.nonce g.h text g.out-1.now c.before.before.seal_front.new.0 some
-    (sealed-laid g.w.now g.nonce text g.out-1.now c.before.before.before.before.before.before.put_last.new.0 c.before.before.seal_front.new.0 (c.before.before.before.before.before.before.before.before.last_part_length.result - 16)
-    (omega arith) (omega (arith, last-size g.h some, c.before.before.before.before.before.before.before.before.before.before.before.before.before.requires.1)) c.before.before.before.before.before.before.put_last.ensures c.before.before.seal_front.ensures)
+    let len : length text + 16 ≡ last_part g.h = length-last-text g.h (late_byte Msgr21 g.abort) bytes (length-sent g.abort g.rest.now ∙ c.requires.0) in
+    last-there g.w.now g.nonce g.h text g.out.now c.seal_front.new.0 some
+    (sealed-laid g.w.now g.nonce text g.out.now c.put_last.new.0 c.seal_front.new.0 (c.last_part_length.result - 16)
+    (omega arith) (omega (arith, last-size g.h some, c.requires.1)) c.put_last.ensures c.seal_front.ensures)
 
 pub seal_last_spec : {M : Type 1} → statement M
 seal_last_spec =
@@ -48,7 +48,7 @@ seal_last_spec =
     returns
     (λ c κs. search rules)
     (λ c. omega (arith, sized c))
-    (λ c κs. (let z = c.before.before.before.before.before.before in (z.requires.0, omega (arith, last-size z.args.h (there c.before.before), z.requires.1))))
+    (λ c κs. (let z = c in (z.requires.0, omega (arith, last-size z.args.h (there c.before.before), z.requires.1))))
     seal-front-requires
     (λ c. search rules)
     returns-2)

@@ -12,14 +12,14 @@ use Rattle.sealed_builder.proofs.seal_later.Tie as tie
 
 returns : tie.Need-returns-then-no_second_part
 returns c =
-    rest-none c.before.before.before.before.before.before.before.before.before.args.w.now c.before.before.before.before.before.before.before.before.before.args.nonce c.before.before.before.before.before.before.before.before.before.args.h (late_byte Msgr21 c.before.before.before.before.before.before.before.before.before.args.abort) c.before.before.before.before.before.before.before.before.before.args.first.now (rest_sent c.before.before.before.before.before.before.before.before.before.args.abort c.before.before.before.before.before.before.before.before.before.args.rest.now) c.before.before.before.before.before.before.before.before.before.args.out.now c.before.before.seal_last.new.0 (sym c.before.before.before.before.before.no_second_part.ensures ∙ c.before.before.before.before.if-no_second_part.true) c.before.before.seal_last.ensures
+    rest-none c.args.w.now c.args.nonce c.args.h (late_byte Msgr21 c.args.abort) c.args.first.now (rest_sent c.args.abort c.args.rest.now) c.args.out.now c.seal_last.new.0 (sym c.no_second_part.ensures ∙ c.if-no_second_part.true) c.seal_last.ensures
 
 -- where there is a second part: its size, by the code's numbers
 abbrev start : tie.Else-no_second_part → tie.Start
 start a = a.before.before.before.before.before
 
 there : (a : tie.Else-no_second_part) → no_second_part (start a).args.h ≡ false
-there a = sym a.before.no_second_part.ensures ∙ a.if-no_second_part.false
+there a = sym a.no_second_part.ensures ∙ a.if-no_second_part.false
 
 sized : (a : tie.Else-no_second_part) → second_part_length (start a).args.h ≡ round_up (length (start a).args.first.now - 48) + 16
 sized a = rest-size (start a).args.h (there a) ∙ sym (ap (λ (k : ℕ). round_up (k - 48) + 16) (start a).requires.0)
@@ -27,20 +27,20 @@ sized a = rest-size (start a).args.h (there a) ∙ sym (ap (λ (k : ℕ). round_
 seal-last-requires-2 : tie.Need-seal_last-requires-2
 seal-last-requires-2 c κs =
     let a = c.before.before.before.before.before.before.before in
-    let l₁ : List ℕ = c.before.before.before.seal_second_part.new.0 in
-    let r = length_rest l₁ (length (start a).args.first.now - 48 + c.before.before.before.before.before.before.padding.result + 16) in
-    ((start a).requires.2, omega (arith, r, sized a, (start a).requires.3, c.before.before.before.before.before.before.padding.ensures.0, c.before.before.before.seal_second_part.auto.0))
+    let l₁ : List ℕ = c.seal_second_part.new.0 in
+    let r = length_rest l₁ (length (start a).args.first.now - 48 + c.padding.result + 16) in
+    ((start a).requires.2, omega (arith, r, sized a, (start a).requires.3, c.padding.ensures.0, c.seal_second_part.auto.0))
 
 returns-2 : tie.Need-returns
 returns-2 c =
-    let g = c.before.before.before.before.before.before.before.before.before.before.before.before.before.before.before.args in
+    let g = c.args in
     let bytes : List ℕ = rest_sent g.abort g.rest.now in
-    let l₁ : List ℕ = c.before.before.before.before.before.before.seal_second_part.new.0 in
-    let a : ℕ = length g.first.now - 48 + c.before.before.before.before.before.before.before.before.before.padding.result + 16 in
+    let l₁ : List ℕ = c.seal_second_part.new.0 in
+    let a : ℕ = length g.first.now - 48 + c.padding.result + 16 in
     let len : length (second_text g.first.now) + 16 ≡ a =
-    ap (λ (k : ℕ). k + 16) (length-padded (drop 48 g.first.now) ∙ ap round_up (length-drop 48 g.first.now)) ∙ omega (arith, c.before.before.before.before.before.before.before.before.before.padding.ensures.0) in
-    rest-there g.w.now g.nonce g.h (late_byte Msgr21 g.abort) a g.first.now bytes g.out-1.now l₁ c.before.before.seal_last-2.new.0 (there c.before.before.before.before.before.before.before.before.before.before) len c.before.before.before.before.before.before.seal_second_part.ensures
-    (c.before.before.seal_last-2.ensures ∙ ap (λ (x : List ℕ). replace_front (sealed_parts g.w.now (parts_from x (unless_none (no_last_part g.h) (last_text g.h (late_byte Msgr21 g.abort) bytes)))) (rest l₁ a)) c.before.before.before.before.before.before.before.before.next_nonce-next.ensures)
+    ap (λ (k : ℕ). k + 16) (length-padded (drop 48 g.first.now) ∙ ap round_up (length-drop 48 g.first.now)) ∙ omega (arith, c.padding.ensures.0) in
+    rest-there g.w.now g.nonce g.h (late_byte Msgr21 g.abort) a g.first.now bytes g.out.now l₁ c.seal_last-2.new.0 (there c.before.before.before.before.before.before.before.before.before.before) len c.seal_second_part.ensures
+    (c.seal_last-2.ensures ∙ ap (λ (x : List ℕ). replace_front (sealed_parts g.w.now (parts_from x (unless_none (no_last_part g.h) (last_text g.h (late_byte Msgr21 g.abort) bytes)))) (rest l₁ a)) c.next_nonce-next.ensures)
 
 pub seal_later_spec : {M : Type 1} → statement M
 seal_later_spec =
@@ -56,8 +56,8 @@ seal_later_spec =
     (λ c. search rules)
     (λ c κs. search rules)
     (λ c κs. (let a = c.before.before.before in (omega (arith, sized a, (start a).requires.3), (start a).requires.1)))
-    (λ c. (let a = c.before.before.before.before.before.before in omega (arith, sized a, (start a).requires.3, c.before.before.before.before.before.padding.ensures.0, c.before.before.seal_second_part.auto.0)))
-    (λ c. (let a = c.before.before.before.before.before.before in omega (arith, sized a, (start a).requires.3, c.before.before.before.before.before.padding.ensures.0, c.before.before.seal_second_part.auto.0)))
+    (λ c. (let a = c.before.before.before.before.before.before in omega (arith, sized a, (start a).requires.3, c.padding.ensures.0, c.seal_second_part.auto.0)))
+    (λ c. (let a = c.before.before.before.before.before.before in omega (arith, sized a, (start a).requires.3, c.padding.ensures.0, c.seal_second_part.auto.0)))
     (λ c. search rules)
     seal-last-requires-2
     (λ c. search rules)

@@ -8,11 +8,11 @@ use Rattle.sealed_builder.proofs.sent_more.Tie as tie
 returns : tie.Need-returns
 unfolding sent_more
 returns c =
-    let s = c.before.before.before.before.args.s in
-    let k = c.before.before.before.before.args.k in
+    let s = c.args.s in
+    let k = c.args.k in
     let spent : c.wrapping_add_u64-spent.result ≡ (s.spent + k) % 2 ^ 64 = c.wrapping_add_u64-spent.ensures in
-    ap₂ (λ (n : List ℕ) (m : ℕ). sending_state s.key-1 n m (eqb m 0) s.refused) c.before.nonces_after-nonce.ensures spent
-    ∙ ap (λ (b : Bool). sending_state s.key-1 (nonce_after k s.nonce) ((s.spent + k) % 2 ^ 64) b s.refused) (came_round s.spent k c.before.before.before.before.requires.0 c.before.before.before.before.requires.2)
+    ap₂ (λ (n : List ℕ) (m : ℕ). sending_state s.key n m (eqb m 0) s.refused) c.nonces_after-nonce.ensures spent
+    ∙ ap (λ (b : Bool). sending_state s.key (nonce_after k s.nonce) ((s.spent + k) % 2 ^ 64) b s.refused) (came_round s.spent k c.requires.0 c.requires.2)
 
 pub sent_more_spec : {M : Type 1} → statement M
 sent_more_spec = tie.close (tie.spec (λ c κs. search rules) (λ c κs. search rules) returns)

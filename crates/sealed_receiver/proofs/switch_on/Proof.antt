@@ -8,7 +8,7 @@ returns : tie.Need-returns
 unfolding switched
 returns c =
     c.state_at.ensures
-    ∙ ap (at stage.First) (c.before.knowing.ensures ∙ ap₂ knowing c.before.before.before.fresh_receiving.ensures c.before.before.no_header.ensures)
+    ∙ ap (at stage.First) (c.knowing.ensures ∙ ap₂ knowing c.fresh_receiving.ensures c.no_header.ensures)
 
 pub switch_on_spec : {M : Type 1} → statement M
 switch_on_spec =

@@ -13,4 +13,4 @@ nonce_at_spec =
     (search rules)
     (search rules)
     (search rules)
-    (λ c. λ h. c.before.put.ensures ∙ rw c.before.before.part.ensures (bytes-all c.before.before.before.before.before.args.s.now (replicate 12 0) c.before.before.before.before.before.args.at 12 refl (omega arith))))
+    (λ c. λ h. c.put.ensures ∙ rw c.part.ensures (bytes-all c.args.s.now (replicate 12 0) c.args.at 12 refl (omega arith))))

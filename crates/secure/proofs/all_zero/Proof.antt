@@ -18,8 +18,8 @@ all_zero_spec =
     decreases-loop
     (λ c. refl)
     (λ c. omega arith)
-    (λ c. sym (zero_stop c.before.before.before.before.args.bytes.now c.before.before.before.loop-i.i (omega arith) (λ e. c.if-bytes-i-ne0.true e)) ∙ c.before.before.before.loop-i.invariant)
+    (λ c. sym (zero_stop c.args.bytes.now c.loop-i.i (omega arith) (λ e. c.if-bytes-i-ne0.true e)) ∙ c.loop-i.invariant)
     (λ c. omega arith)
     (λ c. omega arith)
-    (λ c. rw (add-one c.before.before.before.loop-i.i) (zero-step c.before.before.before.before.args.bytes.now c.before.before.before.loop-i.i (omega arith) c.if-bytes-i-ne0.false ∙ c.before.before.before.loop-i.invariant))
-    (λ c. sym (ap all_zero (drop_of_length-le c.before.before.args.bytes.now {i = c.before.loop-i.i} c.loop-i-test.false)) ∙ c.before.loop-i.invariant))
+    (λ c. rw (add-one c.loop-i.i) (zero-step c.args.bytes.now c.loop-i.i (omega arith) c.if-bytes-i-ne0.false ∙ c.loop-i.invariant))
+    (λ c. sym (ap all_zero (drop_of_length-le c.args.bytes.now {i = c.loop-i.i} c.loop-i-test.false)) ∙ c.loop-i.invariant))

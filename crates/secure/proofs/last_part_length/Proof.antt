@@ -5,16 +5,16 @@ use Rattle.secure.proofs.last_part_length.Tie as tie
 
 returns-2 : tie.Need-returns
 returns-2 c =
-    let e : last_part c.before.before.before.before.before.args.h ≡ last_part_length c.before.before.before.before.before.args.h =
-    sym (simp (sym c.before.before.before.before.no_last_part.ensures ∙ c.before.before.before.if-no_last_part.false)) in
-    (ap₂ (λ (m n : ℕ). m + n + 32) (ap₂ ◌+◌ c.before.before.rounded-a.ensures.0 c.before.rounded-b.ensures.0) c.rounded-c.ensures.0 ∙ e, omega arith)
+    let e : last_part c.args.h ≡ last_part_length c.args.h =
+    sym (simp (sym c.no_last_part.ensures ∙ c.if-no_last_part.false)) in
+    (ap₂ (λ (m n : ℕ). m + n + 32) (ap₂ ◌+◌ c.rounded-a.ensures.0 c.rounded-b.ensures.0) c.rounded-c.ensures.0 ∙ e, omega arith)
 
 pub last_part_length_spec : {M : Type 1} → statement M
 last_part_length_spec =
     tie.close
     (tie.spec
     (λ c κs. search rules)
-    (λ c. (simp (sym c.before.no_last_part.ensures ∙ c.if-no_last_part.true), omega arith))
+    (λ c. (simp (sym c.no_last_part.ensures ∙ c.if-no_last_part.true), omega arith))
     (λ c κs. search rules)
     (λ c κs. search rules)
     (λ c κs. search rules)

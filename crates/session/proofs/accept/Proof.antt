@@ -17,9 +17,9 @@ accept_spec =
     (tie.spec
     (λ c κs. search rules)
     (λ c. search rules)
-    (λ c. omega (arith, fine-accept c.before.before.before.before.args.s (sym c.before.before.before.judge_accept-v.ensures ∙ ap judged_by c.before.enum_told-1.given.1)))
+    (λ c. omega (arith, fine-accept c.args.s (sym c.judge_accept-v.ensures ∙ ap judged_by c.in-Fine.is)))
     (λ c κs. search rules)
     (λ c. search rules)
     (λ c κs. search rules)
-    (λ c. when_fine _ _ _ _ _ c.before.before.before.before.judge_accept-v.ensures c.before.before.enum_told-1.given.1 (ap (λ (t : Session). outcome t (Accepted (c.before.before.before.before.before.args.s.last + 1))) c.add.ensures))
-    (λ c. when_refused _ _ _ _ _ c.before.before.before.before.judge_accept-v.ensures _ c.before.before.v-1.given.1 c.refuse.ensures))
+    (λ c. when_fine _ _ _ _ _ c.judge_accept-v.ensures c.in-Fine.is (ap (λ (t : Session). outcome t (Accepted (c.args.s.last + 1))) c.add.ensures))
+    (λ c. when_refused _ _ _ _ _ c.judge_accept-v.ensures _ c.in-Refused.is c.refuse.ensures))

@@ -17,5 +17,5 @@ ack_spec =
     (λ c κs. search rules)
     (λ c. search rules)
     (λ c κs. search rules)
-    (λ c. when_fine _ _ _ _ _ c.before.before.before.judge_ack-v.ensures c.before.enum_told-1.given.1 (ap (λ (t : Session). outcome t Done) c.acked.ensures))
-    (λ c. when_refused _ _ _ _ _ c.before.before.before.before.judge_ack-v.ensures _ c.before.before.v-1.given.1 c.refuse.ensures))
+    (λ c. when_fine _ _ _ _ _ c.judge_ack-v.ensures c.in-Fine.is (ap (λ (t : Session). outcome t Done) c.acked.ensures))
+    (λ c. when_refused _ _ _ _ _ c.judge_ack-v.ensures _ c.in-Refused.is c.refuse.ensures))

@@ -9,4 +9,4 @@ acked_spec =
     (tie.spec
     (λ c. simp (le-leb _ _ c.if-number-s.true))
     (λ c κs. search rules)
-    (λ c. simp (lt-leb _ _ c.before.if-number-s.false, c.release.ensures)))
+    (λ c. simp (lt-leb _ _ c.if-number-s.false, c.release.ensures)))

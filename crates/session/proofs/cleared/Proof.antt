@@ -7,5 +7,5 @@ cleared_spec =
     tie.close
     (tie.spec
     (λ c κs. search rules)
-    (λ c. simp (c.before.if-full.true, c.release.ensures))
+    (λ c. simp (c.if-full.true, c.release.ensures))
     (λ c. simp c.if-full.false))

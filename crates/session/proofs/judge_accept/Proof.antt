@@ -18,4 +18,4 @@ judge_accept_spec =
     (λ c κs. search rules)
     (λ c κs. search rules)
     (λ c κs. search rules)
-    (λ c. cc (or_else_last (judged_by c.before.before.before.unless-full.result), held-length c.before.before.before.before.before.before.before.args.s.handles c.before.before.before.before.before.before.before.args.s.released (c.before.before.before.before.before.before.before.args.s.last - c.before.before.before.before.before.before.before.args.s.released))))
+    (λ c. cc (or_else_last (judged_by c.unless-full.result), held-length c.args.s.handles c.args.s.released (c.args.s.last - c.args.s.released))))

@@ -13,4 +13,4 @@ judge_ack_spec =
     (λ c κs. search rules)
     (λ c κs. search rules)
     (λ c κs. search rules)
-    (λ c. cc (or_else_last (judged_by c.before.unless.result))))
+    (λ c. cc (or_else_last (judged_by c.unless.result))))

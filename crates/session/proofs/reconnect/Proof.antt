@@ -15,5 +15,5 @@ reconnect_spec =
     (λ c κs. search rules)
     (λ c. search rules)
     (λ c κs. search rules)
-    (λ c. when_fine _ _ _ _ _ c.before.before.before.before.judge_ack-v.ensures c.before.before.enum_told-1.given.1 (resend_held _ _ _ c.before.acked-next.ensures c.held_count.ensures))
-    (λ c. when_refused _ _ _ _ _ c.before.before.before.before.judge_ack-v.ensures _ c.before.before.v-1.given.1 c.refuse.ensures))
+    (λ c. when_fine _ _ _ _ _ c.judge_ack-v.ensures c.in-Fine.is (resend_held _ _ _ c.acked-next.ensures c.held_count.ensures))
+    (λ c. when_refused _ _ _ _ _ c.judge_ack-v.ensures _ c.in-Refused.is c.refuse.ensures))

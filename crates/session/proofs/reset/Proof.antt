@@ -17,5 +17,5 @@ reset_spec =
     (λ c κs. search rules)
     (λ c. search rules)
     (λ c κs. search rules)
-    (λ c. when_fine _ _ _ _ _ c.before.before.before.judge_state-v.ensures c.before.enum_told-1.given.1 (ap (λ (t : Session). outcome t Done) c.cleared.ensures))
-    (λ c. when_refused _ _ _ _ _ c.before.before.before.before.judge_state-v.ensures _ c.before.before.v-1.given.1 c.refuse.ensures))
+    (λ c. when_fine _ _ _ _ _ c.judge_state-v.ensures c.in-Fine.is (ap (λ (t : Session). outcome t Done) c.cleared.ensures))
+    (λ c. when_refused _ _ _ _ _ c.judge_state-v.ensures _ c.in-Refused.is c.refuse.ensures))

@@ -7,5 +7,5 @@ pub held_count_spec : {M : Type 1} → statement M
 held_count_spec =
     tie.close
     (tie.spec
-    (λ c. omega (arith, held-size c.before.before.args.s))
-    (λ c. omega (arith, held-size c.before.before.before.args.s)))
+    (λ c. omega (arith, held-size c.args.s))
+    (λ c. omega (arith, held-size c.args.s)))

@@ -23,13 +23,13 @@ loop-holds c = let e : c.before.args.k - 0 ≡ c.before.args.k = omega arith in
 loop-again : tie.Need-loop-i-preserved invariant-loop decreases-loop
 loop-again c = (
   omega arith,
-  c.before.before.put_held-end.auto.0 ∙ c.before.before.before.before.before.before.loop-i.invariant.1,
-  resent-on c.before.before.before.before.before.before.before.before.args.s c.before.before.before.before.before.before.loop-i.i c.before.before.before.before.before.before.before.before.args.k (page c.before.before.before.before.before.before.loop-i.text c.before.before.before.before.before.before.loop-i.end) c.before.before.before.before.before.loop-i-test.true (cc) ∙ c.before.before.before.before.before.before.loop-i.invariant.2,
+  c.put_held-end.auto.0 ∙ c.loop-i.invariant.1,
+  resent-on c.args.s c.loop-i.i c.args.k (page c.loop-i.text c.loop-i.end) c.loop-i-test.true (cc) ∙ c.loop-i.invariant.2,
 )
 
 returns : tie.Need-returns invariant-loop decreases-loop
-returns c = let e : c.before.loop-i.i ≡ c.before.before.before.args.k = omega arith in
-    sym (resent-none c.before.before.before.args.s c.before.before.before.args.k (page c.before.loop-i.text c.before.loop-i.end)) ∙ rw e at c.before.loop-i.invariant.2
+returns c = let e : c.before.loop.i ≡ c.before.before.before.args.k = omega arith in
+    sym (resent-none c.before.before.before.args.s c.before.before.before.args.k (page c.before.loop.text c.before.loop.end)) ∙ rw e at c.before.loop.invariant.2
 
 pub put_resent_spec : {M : Type 1} → statement M
 put_resent_spec =
@@ -43,5 +43,5 @@ put_resent_spec =
     (λ c. omega arith)
     (λ c. omega arith)
     loop-again
-    (λ c. c.before.loop-i.invariant.1)
+    (λ c. c.loop-i.invariant.1)
     returns)

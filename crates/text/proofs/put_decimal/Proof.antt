@@ -14,4 +14,4 @@ put_decimal_spec =
     (λ c. search rules)
     (λ c κs. search rules)
     (λ c. search rules)
-    (λ c. cc (decimal_of c.before.before.before.before.before.before.before.before.args.n c.before.before.before.before.before.decimal-k.result c.before.before.before.before.before.before.before.before.ranges.n.fits c.before.before.before.before.before.decimal-k.ensures.1.0)))
+    (λ c. cc (decimal_of c.args.n c.decimal-k.result c.ranges.n.fits c.decimal-k.ensures.1.0)))

@@ -14,4 +14,4 @@ put_hex_spec =
     (λ c. search rules)
     (λ c κs. search rules)
     (λ c. search rules)
-    (λ c. cc (hex_of c.before.before.before.before.before.before.before.before.args.n c.before.before.before.before.before.hex-k.result c.before.before.before.before.before.before.before.before.ranges.n.fits c.before.before.before.before.before.hex-k.ensures.1.0)))
+    (λ c. cc (hex_of c.args.n c.hex-k.result c.ranges.n.fits c.hex-k.ensures.1.0)))

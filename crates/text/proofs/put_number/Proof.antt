@@ -11,4 +11,4 @@ unfolding put
 put_number_spec =
     tie.close
     (tie.spec (λ c. search rules) (λ c κs. search rules) (λ c κs. search rules) (λ c. search rules)
-    (λ c. cc (write-next (32 ∷ []) (decimal_by 20 c.before.before.before.before.before.before.before.before.before.before.args.n) (page c.before.before.before.before.before.before.before.before.before.before.args.text.now c.before.before.before.before.before.before.before.before.before.before.args.at))))
+    (λ c. cc (write-next (32 ∷ []) (decimal_by 20 c.args.n) (page c.args.text.now c.args.at))))

@@ -17,16 +17,16 @@ decreases-loop text₀ at letters n i₀ text i = n - i
 
 loop-again : tie.Need-loop-i-preserved invariant-loop decreases-loop
 loop-again c =
-    let l = c.before.before.loop-i in
-    let a = c.before.before.before.before.before.before.before.args in
-    (omega arith, rw l.invariant.1 (sets_more a.letters.now a.text.now a.at l.i (omega (arith, c.before.before.before.room_for-n.ensures))), length-set l.text _ _ ∙ l.invariant.2)
+    let l = c.loop-i in
+    let a = c.args in
+    (omega arith, rw l.invariant.1 (sets_more a.letters.now a.text.now a.at l.i (omega (arith, c.room_for-n.ensures))), length-set l.text _ _ ∙ l.invariant.2)
 
 returns : tie.Need-returns invariant-loop decreases-loop
 unfolding put write page
 returns c =
-    let l = c.before.loop-i in
-    let a = c.before.before.before.before.before.before.args in
-    let e = c.before.before.room_for-n.ensures in
+    let l = c.loop-i in
+    let a = c.args in
+    let e = c.room_for-n.ensures in
     ap₂ page (l.invariant.1 ∙ sets-room a.letters.now a.text.now a.at l.i (omega (arith, e))) (omega (arith, e))
 
 pub put_word_spec : {M : Type 1} → statement M
@@ -37,12 +37,12 @@ put_word_spec =
     decreases-loop
     (λ c κs. search rules)
     (λ c. (zero-le, refl, refl))
-    (λ c. omega (arith, c.before.before.before.room_for-n.ensures))
-    (λ c. omega (arith, c.before.before.before.room_for-n.ensures))
-    (λ c. omega (arith, c.before.before.before.room_for-n.ensures))
+    (λ c. omega (arith, c.room_for-n.ensures))
+    (λ c. omega (arith, c.room_for-n.ensures))
+    (λ c. omega (arith, c.room_for-n.ensures))
     (λ c. omega arith)
     (λ c. omega arith)
     loop-again
-    (λ c. omega (arith, c.before.before.room_for-n.ensures))
-    (λ c. c.before.loop-i.invariant.2)
+    (λ c. omega (arith, c.room_for-n.ensures))
+    (λ c. c.loop-i.invariant.2)
     returns)

@@ -8,8 +8,8 @@ use Rattle.abi_connection.proofs.secure.numbers_of.Tie as tie
 returns : tie.Need-returns
 unfolding secure.secure_numbers
 returns c =
-    abi_of_lem _ _ c.before.before.before.before.before.before.typed_state.ensures
-    (c.numbers_with.ensures ∙ rw (c.before.before.stage_number.ensures, c.before.mark_number.ensures))
+    abi_of_lem _ _ c.typed_state.ensures
+    (c.numbers_with.ensures ∙ rw (c.stage_number.ensures, c.mark_number.ensures))
 
 pub numbers_of_spec : {M : Type 1} → statement M
 numbers_of_spec =

@@ -10,7 +10,7 @@ unfolding secure.stage_of
 stage_of_spec =
     tie.close
     (tie.spec
-    (λ c. (let e : c.before.args.n ≡ 0 = omega arith in rw e))
-    (λ c. (let e : c.before.args.n ≡ 1 = omega arith in rw e))
-    (λ c. (let e : c.before.args.n ≡ 2 = omega arith in rw e))
-    (λ c. simp (ne_eqb _ _ c.in_default.rest.1, ne_eqb _ _ c.in_default.rest.0.1, ne_eqb _ _ c.in_default.rest.0.0.1)))
+    (λ c. (let e : c.args.n ≡ 0 = omega arith in rw e))
+    (λ c. (let e : c.args.n ≡ 1 = omega arith in rw e))
+    (λ c. (let e : c.args.n ≡ 2 = omega arith in rw e))
+    (λ c. simp (ne_eqb _ _ c.in-0.rest.1, ne_eqb _ _ c.in-0.rest.0.1, ne_eqb _ _ c.in-0.rest.0.0.1)))

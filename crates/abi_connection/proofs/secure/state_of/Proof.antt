@@ -6,7 +6,7 @@ use Rattle.abi_connection.proofs.secure.state_of.Tie as tie
 
 returns : tie.Need-returns
 unfolding secure.secure_of
-returns c = c.state_with.ensures ∙ rw c.before.stage_of.ensures
+returns c = c.state_with.ensures ∙ rw c.stage_of.ensures
 
 pub state_of_spec : {M : Type 1} → statement M
 state_of_spec =

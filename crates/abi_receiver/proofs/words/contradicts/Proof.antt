@@ -9,4 +9,4 @@ contradicts_spec =
     (tie.spec
     (λ c κs. search rules)
     (λ c κs. search rules)
-    (λ c. c.refused.ensures.0 ∙ rw c.before.numbers_of.ensures))
+    (λ c. c.refused.ensures.0 ∙ rw c.numbers_of.ensures))

@@ -11,4 +11,4 @@ framed_spec =
     (λ c κs. search rules)
     (λ c κs. search rules)
     (λ c κs. search rules)
-    (λ c. (c.reporting.ensures ∙ rw (c.before.before.no_features.ensures, c.before.no_refusal.ensures), c.before.before.before.typed_header.ensures)))
+    (λ c. (c.reporting.ensures ∙ rw (c.no_features.ensures, c.no_refusal.ensures), c.typed_header.ensures)))

@@ -10,4 +10,4 @@ known_of_spec =
     (λ c. search rules)
     (λ c κs. search rules)
     (λ c κs. search rules)
-    (λ c. (c.known_with.ensures ∙ rw c.before.revision_by_number.ensures, c.before.before.well_formed.0.1.0.1)))
+    (λ c. (c.known_with.ensures ∙ rw c.revision_by_number.ensures, c.well_formed.0.1.0.1)))

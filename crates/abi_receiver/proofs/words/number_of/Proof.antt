@@ -13,4 +13,4 @@ number_of_spec =
     (λ c κs. search rules)
     (λ c. search rules)
     (λ c. search rules)
-    (λ c. rw c.before.before.before.v-1.given.1 (ap (λ (n : Numbers). n.number) c.before.numbers_of-n.ensures)))
+    (λ c. rw c.in-Refused.is (ap (λ (n : Numbers). n.number) c.numbers_of-n.ensures)))

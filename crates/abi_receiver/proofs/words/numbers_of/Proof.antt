@@ -9,9 +9,9 @@ use Rattle.abi_receiver.proofs.words.numbers_of.Tie as tie
 returns : tie.Need-returns
 unfolding words.state_numbers
 returns c = λ b.
-    let g = c.before.before.before.before.before.args in
-    abi_of_lem (state_at g.stage g.got b g.known) _ (c.before.before.before.before.typed_known.ensures g.stage g.got b)
-    (c.numbers_with.ensures ∙ rw (c.before.before.before.rank.ensures, c.before.before.revision_number.ensures, c.before.mark_number.ensures))
+    let g = c.args in
+    abi_of_lem (state_at g.stage g.got b g.known) _ (c.typed_known.ensures g.stage g.got b)
+    (c.numbers_with.ensures ∙ rw (c.rank.ensures, c.revision_number.ensures, c.mark_number.ensures))
 
 pub numbers_of_spec : {M : Type 1} → statement M
 numbers_of_spec =

@@ -4,7 +4,7 @@ use Rattle.abi_receiver.proofs.words.refused.Statement.{statement}
 use Rattle.abi_receiver.proofs.words.refused.Tie as tie
 
 returns : tie.Need-returns
-returns c = (c.reporting.ensures ∙ rw (c.before.before.no_features.ensures, c.before.no_header.ensures), c.before.before.before.typed_u8.ensures)
+returns c = (c.reporting.ensures ∙ rw (c.no_features.ensures, c.no_header.ensures), c.typed_u8.ensures)
 
 pub refused_spec : {M : Type 1} → statement M
 refused_spec =

@@ -15,5 +15,5 @@ report_words_spec =
     (λ c κs. search rules)
     (λ c. search rules)
     (λ c κs. search rules)
-    (λ c. rw c.before.before.before.before.enum_told-1.given.1 (report_of_lem _ _ _ tt (c.reporting.ensures ∙ rw (c.before.before.before.no_features.ensures, c.before.before.no_header.ensures, c.before.no_refusal.ensures))))
-    (λ c. rw c.before.before.report-1.given.1 (report_of_lem _ _ _ c.event_words.ensures.1 c.event_words.ensures.0)))
+    (λ c. rw c.in-More.is (report_of_lem _ _ _ tt (c.reporting.ensures ∙ rw (c.no_features.ensures, c.no_header.ensures, c.no_refusal.ensures))))
+    (λ c. rw c.in-Event.is (report_of_lem _ _ _ c.event_words.ensures.1 c.event_words.ensures.0)))

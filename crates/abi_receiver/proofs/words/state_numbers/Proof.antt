@@ -7,4 +7,4 @@ state_numbers_spec =
     tie.close
     (tie.spec
     (λ c κs. search rules)
-    (λ c. c.numbers_of.ensures c.before.before.before.args.st.position.block))
+    (λ c. c.numbers_of.ensures c.args.st.position.block))

@@ -9,5 +9,5 @@ glyph_of_spec =
     (tie.spec
     (search rules)
     (search rules)
-    (λ c. rw (lt-ltb c.before.args.d 10 c.if-d-lt10.true))
-    (λ c. rw (le-ltb c.before.args.d 10 c.if-d-lt10.false)))
+    (λ c. rw (lt-ltb c.args.d 10 c.if-d-lt10.true))
+    (λ c. rw (le-ltb c.args.d 10 c.if-d-lt10.false)))

@@ -15,4 +15,4 @@ print_done_spec =
     (search rules)
     (search rules)
     (search rules)
-    (λ c. rw (c.before.before.put_end.ensures, c.before.before.before.before.before.before.put_span-d.ensures, c.before.before.before.before.before.before.before.before.before.before.before.put_field-c.ensures, c.before.before.before.before.before.before.before.before.before.before.before.before.before.before.before.before.put_field-b.ensures, c.before.before.before.before.before.before.before.before.before.before.before.before.before.before.before.before.before.before.before.before.before.put_tag-a.ensures)))
+    (λ c. rw (c.before.before.put-end.ensures, c.before.before.before.before.before.before.put-span.ensures, c.before.before.before.before.before.before.before.before.before.before.before.put-field2.ensures, c.before.before.before.before.before.before.before.before.before.before.before.before.before.before.before.before.put-field.ensures, c.before.before.before.before.before.before.before.before.before.before.before.before.before.before.before.before.before.before.before.before.before.put-tag.ensures)))

@@ -13,4 +13,4 @@ print_hello_spec =
     (search rules)
     (search rules)
     (search rules)
-    (λ c. rw (c.before.before.put_end.ensures, c.before.before.before.before.before.before.put_span-c.ensures, c.before.before.before.before.before.before.before.before.before.before.before.put_field-b.ensures, c.before.before.before.before.before.before.before.before.before.before.before.before.before.before.before.before.put_tag-a.ensures)))
+    (λ c. rw (c.before.before.put-end.ensures, c.before.before.before.before.before.before.put-span.ensures, c.before.before.before.before.before.before.before.before.before.before.before.put-field.ensures, c.before.before.before.before.before.before.before.before.before.before.before.before.before.before.before.before.put-tag.ensures)))

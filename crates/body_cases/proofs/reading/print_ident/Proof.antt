@@ -10,4 +10,4 @@ print_ident_spec =
     (search rules)
     (search rules)
     (search rules)
-    (λ c. rw (c.before.before.put_end.ensures, c.before.before.before.before.before.before.put_ident-b.ensures, c.before.before.before.before.before.before.before.before.before.before.put_block-a.ensures)))
+    (λ c. rw (c.put_end.ensures, c.put_ident-b.ensures, c.put_block-a.ensures)))

@@ -12,4 +12,4 @@ put_block_spec =
     (search rules)
     (search rules)
     (search rules)
-    (λ c. rw (c.before.before.put_span.ensures, c.before.before.before.before.before.before.before.put_field-b.ensures, c.before.before.before.before.before.before.before.before.before.before.before.before.put_tag-a.ensures)))
+    (λ c. rw (c.before.before.put-span.ensures, c.before.before.before.before.before.before.before.put-field.ensures, c.before.before.before.before.before.before.before.before.before.before.before.before.put-tag.ensures)))

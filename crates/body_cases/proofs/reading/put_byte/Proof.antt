@@ -11,4 +11,4 @@ put_byte_spec =
     (search rules)
     (search rules)
     (search rules)
-    (λ c. rw (c.before.before.put_word.ensures, c.before.before.before.before.before.before.glyph_of.ensures, c.before.before.before.before.before.glyph_of-2.ensures)))
+    (λ c. rw (c.put_word.ensures, c.glyph_of.ensures, c.glyph_of-2.ensures)))

@@ -18,14 +18,14 @@ abbrev decreases-loop : tie.decreases-loop-i
 decreases-loop text₀ at s l end₀ i₀ text end i = l.count - i
 
 loop-again : tie.Need-loop-i-preserved invariant-loop decreases-loop
-loop-again c = let l = c.before.before.before.before.before.before.before.loop-i in
-    let n : length (numbers_in c.before.before.before.before.before.before.before.before.before.before.args.s.now c.before.before.before.before.before.before.before.before.before.before.args.l) ≡ c.before.before.before.before.before.before.before.before.before.before.args.l.count = length-words c.before.before.before.before.before.before.before.before.before.before.args.l.count (drop c.before.before.before.before.before.before.before.before.before.before.args.l.at c.before.before.before.before.before.before.before.before.before.before.args.s.now) in
-    (omega arith, c.before.before.put_number-end.auto.0 ∙ l.invariant.1, each_more (numbers_in c.before.before.before.before.before.before.before.before.before.before.args.s.now c.before.before.before.before.before.before.before.before.before.before.args.l) l.i c.before.before.before.number_in.result (page l.text-1 l.end) (omega arith) c.before.before.before.number_in.ensures c.before.before.put_number-end.ensures ∙ l.invariant.2)
+loop-again c = let l = c.loop-i in
+    let n : length (numbers_in c.args.s.now c.args.l) ≡ c.args.l.count = length-words c.args.l.count (drop c.args.l.at c.args.s.now) in
+    (omega arith, c.put_number-end.auto.0 ∙ l.invariant.1, each_more (numbers_in c.args.s.now c.args.l) l.i c.number_in.result (page l.text l.end) (omega arith) c.number_in.ensures c.put_number-end.ensures ∙ l.invariant.2)
 
 returns : tie.Need-returns invariant-loop decreases-loop
-returns c = let l = c.before.before.loop-i in
-    let n : length (numbers_in c.before.before.before.before.before.args.s.now c.before.before.before.before.before.args.l) ≡ c.before.before.before.before.before.args.l.count = length-words c.before.before.before.before.before.args.l.count (drop c.before.before.before.before.before.args.l.at c.before.before.before.before.before.args.s.now) in
-    sym (each_none (numbers_in c.before.before.before.before.before.args.s.now c.before.before.before.before.before.args.l) l.i (page l.text-1 l.end) (omega arith)) ∙ l.invariant.2
+returns c = let l = c.loop-i in
+    let n : length (numbers_in c.args.s.now c.args.l) ≡ c.args.l.count = length-words c.args.l.count (drop c.args.l.at c.args.s.now) in
+    sym (each_none (numbers_in c.args.s.now c.args.l) l.i (page l.text l.end) (omega arith)) ∙ l.invariant.2
 
 pub put_each_spec : {M : Type 1} → statement M
 put_each_spec =
@@ -40,5 +40,5 @@ put_each_spec =
     (λ c. omega arith)
     (λ c. omega arith)
     loop-again
-    (λ c. c.before.before.loop-i.invariant.1)
+    (λ c. c.loop-i.invariant.1)
     returns)

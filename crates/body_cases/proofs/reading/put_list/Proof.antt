@@ -12,4 +12,4 @@ put_list_spec =
     (search rules)
     (search rules)
     (search rules)
-    (λ c. rw (c.before.before.put_each.ensures, c.before.before.before.before.before.before.put_field-a.ensures, length-words c.before.before.before.before.before.before.before.before.before.before.before.before.args.l.count (drop c.before.before.before.before.before.before.before.before.before.before.before.before.args.l.at c.before.before.before.before.before.before.before.before.before.before.before.before.args.s.now))))
+    (λ c. rw (c.put_each.ensures, c.put_field-a.ensures, length-words c.args.l.count (drop c.args.l.at c.args.s.now))))

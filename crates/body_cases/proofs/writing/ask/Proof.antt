@@ -8,6 +8,6 @@ ask_spec =
     tie.close
     (tie.spec
     (search rules)
-    (λ c. c.ask_auth.ensures c.before.if-tag-lt8.true)
+    (λ c. c.ask_auth.ensures c.if-tag-lt8.true)
     (search rules)
     (λ c. c.ask_session.ensures (omega arith)))

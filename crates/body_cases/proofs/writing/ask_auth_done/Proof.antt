@@ -15,4 +15,4 @@ ask_auth_done_spec =
     (search rules)
     (search rules)
     (search rules)
-    (λ c. asked c.before.before.before.before.before.before.before.start.ensures (step c.before.before.before.before.before.before.given_u64-a.ensures (step c.before.before.before.before.before.given_u32-b.ensures (step (opaque-given 0 c.before.before.before.before.given_bytes-p.ensures) end))) refl refl (omega arith) (omega arith)))
+    (λ c. asked c.start.ensures (step c.given_u64-a.ensures (step c.given_u32-b.ensures (step (opaque-given 0 c.given_bytes-p.ensures) end))) refl refl (omega arith) (omega arith)))

@@ -14,4 +14,4 @@ ask_auth_request_spec =
     (search rules)
     (search rules)
     (search rules)
-    (λ c. asked c.before.before.before.before.before.before.before.start.ensures (step c.before.before.before.before.before.before.given_u32-a.ensures (step c.before.before.before.before.before.given_list-b.ensures.0 (step (opaque-given 0 c.before.before.before.before.given_bytes-p.ensures) end))) refl refl c.before.before.before.before.before.given_list-b.ensures.1 (omega arith)))
+    (λ c. asked c.start.ensures (step c.given_u32-a.ensures (step c.given_list-b.ensures.0 (step (opaque-given 0 c.given_bytes-p.ensures) end))) refl refl c.given_list-b.ensures.1 (omega arith)))

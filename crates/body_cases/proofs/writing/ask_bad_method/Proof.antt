@@ -14,4 +14,4 @@ ask_bad_method_spec =
     (search rules)
     (search rules)
     (search rules)
-    (λ c. asked c.before.before.before.before.before.before.before.before.start.ensures (step c.before.before.before.before.before.before.before.given_u32-a.ensures (step (negative-given c.before.before.before.before.before.before.given_u32-e.ensures) (step c.before.before.before.before.before.given_list-f.ensures.0 (step c.before.before.before.before.given_list-g.ensures.0 end)))) refl refl c.before.before.before.before.before.given_list-f.ensures.1 c.before.before.before.before.given_list-g.ensures.1))
+    (λ c. asked c.start.ensures (step c.given_u32-a.ensures (step (negative-given c.given_u32-e.ensures) (step c.given_list-f.ensures.0 (step c.given_list-g.ensures.0 end)))) refl refl c.given_list-f.ensures.1 c.given_list-g.ensures.1))

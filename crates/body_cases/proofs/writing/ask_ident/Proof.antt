@@ -20,4 +20,4 @@ ask_ident_spec =
     (search rules)
     (search rules)
     (search rules)
-    (λ c. asked c.before.before.before.before.before.before.before.before.before.before.before.before.start.ensures (step c.before.before.before.before.before.before.before.before.before.before.before.given_u32-n.ensures (step (opaque-given 48 c.before.before.before.before.before.before.before.before.before.before.given_bytes-p.ensures) (step c.before.before.before.before.before.before.before.before.before.given_u64-a.ensures (step c.before.before.before.before.before.before.before.before.given_u64-b.ensures (step c.before.before.before.before.before.before.before.given_u64-d.ensures (step c.before.before.before.before.before.before.given_u64-e.ensures (step c.before.before.before.before.before.given_u64-f.ensures (step c.before.before.before.before.given_u64-g.ensures end)))))))) refl refl (omega arith) (omega arith)))
+    (λ c. asked c.start.ensures (step c.given_u32-n.ensures (step (opaque-given 48 c.given_bytes-p.ensures) (step c.given_u64-a.ensures (step c.given_u64-b.ensures (step c.given_u64-d.ensures (step c.given_u64-e.ensures (step c.given_u64-f.ensures (step c.given_u64-g.ensures end)))))))) refl refl (omega arith) (omega arith)))

@@ -13,4 +13,4 @@ ask_more_spec =
     (search rules)
     (search rules)
     (search rules)
-    (λ c. asked c.before.before.before.before.before.start.ensures (step (payload-given c.before.before.before.before.given_bytes-p.ensures) end) refl refl (omega arith) (omega arith)))
+    (λ c. asked c.start.ensures (step (payload-given c.given_bytes-p.ensures) end) refl refl (omega arith) (omega arith)))

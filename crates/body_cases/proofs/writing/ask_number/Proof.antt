@@ -14,4 +14,4 @@ ask_number_spec =
     (search rules)
     (search rules)
     (search rules)
-    (λ c. asked c.before.before.before.before.before.start.ensures (step c.before.before.before.before.given_u64-a.ensures end) refl refl (omega arith) (omega arith)))
+    (λ c. asked c.start.ensures (step c.given_u64-a.ensures end) refl refl (omega arith) (omega arith)))

@@ -19,4 +19,4 @@ ask_reconnect_spec =
     (search rules)
     (search rules)
     (search rules)
-    (λ c. asked c.before.before.before.before.before.before.before.before.before.before.before.start.ensures (step c.before.before.before.before.before.before.before.before.before.before.given_u32-n.ensures (step (opaque-given 40 c.before.before.before.before.before.before.before.before.before.given_bytes-p.ensures) (step c.before.before.before.before.before.before.before.before.given_u64-a.ensures (step c.before.before.before.before.before.before.before.given_u64-b.ensures (step c.before.before.before.before.before.before.given_u64-d.ensures (step c.before.before.before.before.before.given_u64-e.ensures (step c.before.before.before.before.given_u64-f.ensures end))))))) refl refl (omega arith) (omega arith)))
+    (λ c. asked c.start.ensures (step c.given_u32-n.ensures (step (opaque-given 40 c.given_bytes-p.ensures) (step c.given_u64-a.ensures (step c.given_u64-b.ensures (step c.given_u64-d.ensures (step c.given_u64-e.ensures (step c.given_u64-f.ensures end))))))) refl refl (omega arith) (omega arith)))

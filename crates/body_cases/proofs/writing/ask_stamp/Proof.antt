@@ -13,4 +13,4 @@ ask_stamp_spec =
     (search rules)
     (search rules)
     (search rules)
-    (λ c. asked c.before.before.before.before.before.start.ensures (step c.before.before.before.before.given_stamp-p.ensures end) refl refl (omega arith) (omega arith)))
+    (λ c. asked c.start.ensures (step c.given_stamp-p.ensures end) refl refl (omega arith) (omega arith)))

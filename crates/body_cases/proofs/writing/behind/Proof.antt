@@ -9,4 +9,4 @@ behind_spec =
     (tie.spec
     (search rules)
     (search rules)
-    (λ c. end-behind c.before.before.args.s.now c.before.before.args.at c.min.result c.before.before.args.k c.min.ensures))
+    (λ c. end-behind c.args.s.now c.args.at c.min.result c.args.k c.min.ensures))

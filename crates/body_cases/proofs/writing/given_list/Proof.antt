@@ -7,14 +7,14 @@ use Rattle.body_cases.proofs.writing.given_list.Tie as tie
 
 returns : tie.Need-returns
 returns c = (
-  list_by c.before.before.behind.result _ _
-      (c.before.before.before.before.before.byte_at-n.ensures ∙ byte_there _ _)
-      c.before.before.before.before.past.ensures
-      c.before.before.before.past-end.ensures
+  list_by c.behind.result _ _
+      (c.byte_at-n.ensures ∙ byte_there _ _)
+      c.past.ensures
+      c.past-end.ensures
       c.limit.ensures
-      c.before.at_most.ensures.0
-      c.before.before.behind.ensures,
-  c.before.at_most.ensures.1,
+      c.at_most.ensures.0
+      c.behind.ensures,
+  c.at_most.ensures.1,
 )
 
 pub given_list_spec : {M : Type 1} → statement M

@@ -11,4 +11,4 @@ given_u8_spec =
     (tie.spec
     (search rules)
     (search rules)
-    (λ c. number-given 1 _ (c.before.byte_at.ensures ∙ byte_there _ _) c.past.ensures))
+    (λ c. number-given 1 _ (c.byte_at.ensures ∙ byte_there _ _) c.past.ensures))

@@ -9,15 +9,15 @@ use Rattle.body_cases.specs.Writing.{write_size, write_of, write_record}
 use Rattle.body_cases.proofs.writing.write_record.Statement.{statement}
 use Rattle.body_cases.proofs.writing.write_record.Tie as tie
 
-size : (a : tie.After-sized-size) → a.sized-size.result ≡ write_size (length a.before.before.before.before.before.before.before.before.before.before.args.space.now) a.before.before.before.before.before.before.before.before.before.before.args.s.now
+size : (a : tie.After-sized-size) → a.sized-size.result ≡ write_size (length a.args.space.now) a.args.s.now
 unfolding write_size
-size a = a.sized-size.ensures ∙ rw (a.before.both.ensures, a.before.before.before.before.ask-a.ensures.end, a.before.before.before.before.before.u32_at-n.ensures, a.before.before.before.before.before.before.byte_at-tag.ensures)
+size a = a.sized-size.ensures ∙ rw (a.both.ensures, a.ask-a.ensures.end, a.u32_at-n.ensures, a.byte_at-tag.ensures)
 
 slice_relend_prefix_buf : tie.Need-slice_bounds-buf-end
 slice_relend_prefix_buf c =
-    let s = c.before.before.before.before.before.before.before.before.before.before.before.before.args.s.now in
-    let h = write-buffer (length c.before.before.before.before.before.before.before.before.before.before.before.before.args.space.now) s (seen-whole s (size c.before.before) c.before.is_whole.ensures c.if-not-is_whole.false) in
-    omega (arith, c.before.before.before.before.before.before.before.u32_at-n.ensures)
+    let s = c.args.s.now in
+    let h = write-buffer (length c.args.space.now) s (seen-whole s (size c.before.before) c.is_whole.ensures c.if-not-is_whole.false) in
+    omega (arith, c.u32_at-n.ensures)
 
 pub write_record_spec : {M : Type 1} → statement M
 unfolding write_record write_of
@@ -33,7 +33,7 @@ write_record_spec =
     (search rules)
     (search rules)
     (search rules)
-    (λ c. did_bad _ (size c.before.before.before.before.before.before) c.before.before.before.before.before.is_whole.ensures c.before.before.before.before.if-not-is_whole.true c.before.before.bad_record.ensures)
+    (λ c. did_bad _ (size c.before.before.before.before.before.before) c.is_whole.ensures c.if-not-is_whole.true c.bad_record.ensures)
     slice_relend_prefix_buf
     (λ c. sym (length-take-le _ _ (slice_relend_prefix_buf c.before)))
     (search rules)
@@ -43,4 +43,4 @@ write_record_spec =
     (search rules)
     (search rules)
     (search rules)
-    (λ c. did_done _ _ (size c.before.before.before.before.before.before.before.before.before.before.before.before.before.before.before.before.before.before.before.before) c.before.before.before.before.before.before.before.before.before.before.before.before.before.before.before.before.before.before.before.is_whole.ensures c.before.before.before.before.before.before.before.before.before.before.before.before.before.before.before.before.before.before.if-not-is_whole.false refl (rw (c.before.before.before.before.before.before.before.before.before.before.before.before.before.before.before.before.before.before.before.before.before.before.before.before.ask-a.ensures.writes c.before.before.before.before.before.before.before.before.before.before.before.before.before.before.count_up.new.0, c.before.before.before.before.before.before.before.before.before.before.before.before.before.before.before.before.before.before.before.before.before.before.before.before.before.before.byte_at-tag.ensures, c.before.before.before.before.before.before.before.before.before.before.before.before.before.before.count_up.ensures, c.before.before.before.before.before.before.before.before.before.before.before.before.before.before.before.byte_at.ensures, length-take-le _ _ (slice_relend_prefix_buf c.before.before.before.before.before.before.before.before.before.before.before.before.before.before.before.before.before.before), c.before.before.before.before.before.before.before.before.before.before.before.before.before.before.before.before.before.before.before.before.before.before.before.before.before.u32_at-n.ensures) at c.before.before.before.before.before.before.before.before.before.before.write_asked-written.ensures) c.before.before.before.before.before.before.checksum-sum.ensures c.before.before.print_outcome.ensures))
+    (λ c. did_done _ _ (size c.before.before.before.before.before.before.before.before.before.before.before.before.before.before.before.before.before.before.before) c.is_whole.ensures c.if-not-is_whole.false refl (rw (c.ask-a.ensures.writes c.count_up.new.0, c.byte_at-tag.ensures, c.count_up.ensures, c.byte_at.ensures, length-take-le _ _ (slice_relend_prefix_buf c.before.before.before.before.before.before.before.before.before.before.before.before.before.before.before.before.before), c.u32_at-n.ensures) at c.write_asked-written.ensures) c.checksum-sum.ensures c.print_outcome.ensures))

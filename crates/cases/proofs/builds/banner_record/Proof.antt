@@ -10,9 +10,9 @@ use Rattle.cases.proofs.builds.banner_record.Tie as tie
 
 slice_relend_prefix_buf : tie.Need-slice_bounds-buf-end
 slice_relend_prefix_buf c =
-    let s = c.before.before.before.before.before.before.before.args.s.now in
-    let h = banner-buffer s (seen-whole s c.before.before.before.banner_size-size.ensures c.before.before.is_whole.ensures c.before.if-not-is_whole.false) in
-    omega (arith, c.u32_at-n.ensures, c.before.before.before.before.before.before.before.requires)
+    let s = c.args.s.now in
+    let h = banner-buffer s (seen-whole s c.banner_size-size.ensures c.is_whole.ensures c.if-not-is_whole.false) in
+    omega (arith, c.u32_at-n.ensures, c.requires)
 
 pub banner_record_spec : {M : Type 1} → statement M
 unfolding banner_record banner_done_of
@@ -23,7 +23,7 @@ banner_record_spec =
     (search rules)
     (search rules)
     (search rules)
-    (λ c. did_bad _ c.before.before.before.before.before.before.banner_size-size.ensures c.before.before.before.before.before.is_whole.ensures c.before.before.before.before.if-not-is_whole.true c.before.before.bad_record.ensures)
+    (λ c. did_bad _ c.banner_size-size.ensures c.is_whole.ensures c.if-not-is_whole.true c.bad_record.ensures)
     (search rules)
     (search rules)
     slice_relend_prefix_buf
@@ -38,4 +38,4 @@ banner_record_spec =
     (search rules)
     (search rules)
     (search rules)
-    (λ c. did_done _ _ c.before.before.before.before.before.before.before.before.before.before.before.before.before.before.before.before.before.before.before.before.before.before.before.before.banner_size-size.ensures c.before.before.before.before.before.before.before.before.before.before.before.before.before.before.before.before.before.before.before.before.before.before.before.is_whole.ensures c.before.before.before.before.before.before.before.before.before.before.before.before.before.before.before.before.before.before.before.before.before.before.if-not-is_whole.false refl (rw (c.before.before.before.before.before.before.before.before.before.before.before.before.u64_at-2.ensures, c.before.before.before.before.before.before.before.before.before.before.before.u64_at-3.ensures, c.before.before.before.before.before.before.before.before.before.before.before.before.before.u64_at.ensures, c.before.before.before.before.before.before.before.before.before.before.before.before.before.before.before.before.before.count_up.ensures, c.before.before.before.before.before.before.before.before.before.before.before.before.before.before.before.before.before.before.byte_at.ensures, length-take-le _ _ (slice_relend_prefix_buf c.before.before.before.before.before.before.before.before.before.before.before.before.before.before.before.before.before.before.before.before.before), c.before.before.before.before.before.before.before.before.before.before.before.before.before.before.before.before.before.before.before.before.before.u32_at-n.ensures) at c.before.before.before.before.before.before.before.before.before.before.build_banner-built.ensures.promise) c.before.before.before.before.before.before.checksum-sum.ensures c.before.before.print_outcome.ensures))
+    (λ c. did_done _ _ c.banner_size-size.ensures c.is_whole.ensures c.if-not-is_whole.false refl (rw (c.u64_at-2.ensures, c.u64_at-3.ensures, c.u64_at.ensures, c.count_up.ensures, c.byte_at.ensures, length-take-le _ _ (slice_relend_prefix_buf c.before.before.before.before.before.before.before.before.before.before.before.before.before.before.before.before.before.before.before.before), c.u32_at-n.ensures) at c.build_banner-built.ensures.promise) c.checksum-sum.ensures c.print_outcome.ensures))

@@ -6,5 +6,5 @@ pub revision_by_byte_spec : {M : Type 1} → statement M
 revision_by_byte_spec =
     tie.close
     (tie.spec
-    (λ c. simp (eq-eqb c.before.args.b 1 c.if-b-eq1.true))
-    (λ c. simp (ne_eqb c.before.args.b 1 c.if-b-eq1.false)))
+    (λ c. simp (eq-eqb c.args.b 1 c.if-b-eq1.true))
+    (λ c. simp (ne_eqb c.args.b 1 c.if-b-eq1.false)))

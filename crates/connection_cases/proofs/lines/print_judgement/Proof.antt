@@ -12,6 +12,6 @@ print_judgement_spec =
     (search rules)
     (search rules)
     (search rules)
-    (λ c. rw c.before.before.before.before.enum_told-1.given.1 c.before.before.print_fine.ensures)
+    (λ c. rw c.in-Fine.is c.print_fine.ensures)
     (search rules)
-    (λ c. rw c.before.before.before.before.before.before.judgement-1.given.1 (rw c.before.before.before.numbers_of.ensures at c.before.before.print_judgement_refused.ensures)))
+    (λ c. rw c.in-Refused.is (rw c.numbers_of.ensures at c.print_judgement_refused.ensures)))

@@ -11,6 +11,6 @@ print_report_spec =
     (search rules)
     (search rules)
     (search rules)
-    (λ c. rw c.before.before.before.before.enum_told-1.given.1 c.before.before.print_more.ensures)
+    (λ c. rw c.in-More.is c.print_more.ensures)
     (search rules)
-    (λ c. rw c.before.before.before.before.before.report-1.given.1 c.before.before.print_event.ensures))
+    (λ c. rw c.in-Event.is c.print_event.ensures))

@@ -10,4 +10,4 @@ call_good_spec =
     (search rules)
     (search rules)
     (search rules)
-    (λ c. c.both.ensures ∙ rw (c.before.before.either.ensures, c.before.before.before.is_try.ensures)))
+    (λ c. c.both.ensures ∙ rw (c.either.ensures, c.is_try.ensures)))

@@ -22,12 +22,12 @@ calls_good_spec =
     invariant-loop
     decreases-loop
     (search rules)
-    (λ c. (omega (arith, c.before.before.requires), omega (arith, c.call_width-width.ensures.1), c.call_width-width.ensures.0, refl))
+    (λ c. (omega (arith, c.requires), omega (arith, c.call_width-width.ensures.1), c.call_width-width.ensures.0, refl))
     (λ c κs. omega arith)
     (search rules)
-    (λ c. sym (good_stop c.before.before.before.before.before.before.before.args.l c.before.before.before.before.before.before.before.args.s.now c.before.before.before.before.loop-left.left c.before.before.before.before.loop-left.place (omega arith) (sym (ap (call_good c.before.before.before.before.before.before.before.args.l) c.before.before.call_at.ensures) ∙ sym c.before.call_good.ensures ∙ not-true _ c.if-not-call_good.true)) ∙ c.before.before.before.before.loop-left.invariant.3)
+    (λ c. sym (good_stop c.args.l c.args.s.now c.loop-left.left c.loop-left.place (omega arith) (sym (ap (call_good c.args.l) c.call_at.ensures) ∙ sym c.call_good.ensures ∙ not-true _ c.if-not-call_good.true)) ∙ c.loop-left.invariant.3)
     (λ c. omega arith)
     (λ c. omega arith)
     (λ c. omega arith)
-    (λ c. (omega arith, c.before.before.before.before.loop-left.invariant.1, c.before.before.before.before.loop-left.invariant.2, rw c.before.before.before.before.loop-left.invariant.2 (sym (good-next c.before.before.before.before.before.before.before.args.l c.before.before.before.before.before.before.before.args.s.now c.before.before.before.before.loop-left.left c.before.before.before.before.loop-left.place (omega arith) (sym (ap (call_good c.before.before.before.before.before.before.before.args.l) c.before.before.call_at.ensures) ∙ sym c.before.call_good.ensures ∙ not-false _ c.if-not-call_good.false))) ∙ c.before.before.before.before.loop-left.invariant.3))
-    (λ c. ap (calls_good c.before.before.before.before.args.l) (sym (calls-none c.before.before.before.before.args.l.lends c.before.before.before.before.args.s.now c.before.loop-left.left c.before.loop-left.place (omega arith))) ∙ c.before.loop-left.invariant.3))
+    (λ c. (omega arith, c.loop-left.invariant.1, c.loop-left.invariant.2, rw c.loop-left.invariant.2 (sym (good-next c.args.l c.args.s.now c.loop-left.left c.loop-left.place (omega arith) (sym (ap (call_good c.args.l) c.call_at.ensures) ∙ sym c.call_good.ensures ∙ not-false _ c.if-not-call_good.false))) ∙ c.loop-left.invariant.3))
+    (λ c. ap (calls_good c.args.l) (sym (calls-none c.args.l.lends c.args.s.now c.loop-left.left c.loop-left.place (omega arith))) ∙ c.loop-left.invariant.3))

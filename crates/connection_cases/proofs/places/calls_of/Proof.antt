@@ -10,4 +10,4 @@ calls_of_spec =
     (search rules)
     (search rules)
     (search rules)
-    (λ c. (rw c.before.count_at.ensures.0 at c.u16_at.ensures, omega arith)))
+    (λ c. (rw c.count_at.ensures.0 at c.u16_at.ensures, omega arith)))

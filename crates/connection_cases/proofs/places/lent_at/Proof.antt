@@ -9,5 +9,5 @@ lent_at_spec =
     (search rules)
     (search rules)
     (search rules)
-    (λ c. rw c.before.if-lends.true c.u32_at.ensures)
+    (λ c. rw c.if-lends.true c.u32_at.ensures)
     (λ c. search rules))

@@ -24,4 +24,4 @@ receiver_size_spec =
     (search rules)
     (search rules)
     (search rules)
-    (λ c. c.sized.ensures ∙ rw (c.before.both-2.ensures, c.before.before.both.ensures, c.before.before.before.before.before.both-lengths.ensures, c.before.before.before.before.before.before.before.both-counts.ensures, c.before.before.before.calls_good-each.ensures, c.before.before.before.before.before.before.u32_at.ensures, c.before.before.before.before.before.before.before.before.before.u32_at-n.ensures, c.before.before.before.before.before.before.before.before.before.before.stream_at-end.ensures.0, c.before.before.before.before.calls_at.ensures.0, c.before.before.before.before.before.before.before.before.before.before.before.calls_of-calls.ensures.0)))
+    (λ c. c.sized.ensures ∙ rw (c.both-2.ensures, c.both.ensures, c.both-lengths.ensures, c.both-counts.ensures, c.calls_good-each.ensures, c.u32_at.ensures, c.u32_at-n.ensures, c.stream_at-end.ensures.0, c.calls_at.ensures.0, c.calls_of-calls.ensures.0)))

@@ -10,10 +10,10 @@ put_last_spec =
     (tie.spec
     (search rules)
     (search rules)
-    (λ c. rw (← (at-refused c.before.before.before.before.before.before.args.w c.before.before.before.before.before.before.args.bad c.before.before.before.before.if-w.true)) c.before.before.put_refused.ensures)
+    (λ c. rw (← (at-refused c.args.w c.args.bad c.if-w.true)) c.put_refused.ensures)
     (search rules)
     (search rules)
-    (λ c. rw (← (at-bad c.before.before.before.before.before.before.before.args.w c.before.before.before.before.before.before.before.args.bad c.before.before.before.before.before.if-w.false c.before.before.before.before.if-bad.true)) c.before.before.put_bad_file.ensures)
+    (λ c. rw (← (at-bad c.args.w c.args.bad c.if-w.false c.if-bad.true)) c.put_bad_file.ensures)
     (search rules)
     (search rules)
-    (λ c. rw (← (at_open c.before.before.before.before.before.before.before.args.w c.before.before.before.before.before.before.before.args.bad c.before.before.before.before.before.before.before.args.w.taken c.before.before.before.before.before.before.before.args.w.entry_end c.before.before.before.before.before.if-w.false c.before.before.before.before.if-bad.false refl refl)) c.before.before.put_open.ensures))
+    (λ c. rw (← (at_open c.args.w c.args.bad c.args.w.taken c.args.w.entry_end c.if-w.false c.if-bad.false refl refl)) c.put_open.ensures))

@@ -12,7 +12,7 @@ put_open_spec =
     (search rules)
     (search rules)
     (search rules)
-    (λ c. rw (end-ok c.before.before.before.before.before.before.before.before.before.before.before.args.taken c.before.before.before.before.before.before.before.before.before.before.before.args.entry-end c.before.before.before.before.before.before.before.before.before.if-taken-entry_end.true) cc)
+    (λ c. rw (end-ok c.args.taken c.args.entry-end c.if-taken-entry_end.true) cc)
     (search rules)
     (search rules)
     (search rules)

@@ -10,12 +10,12 @@ advance_spec =
     tie.close
     (tie.spec
     (search rules)
-    (λ c. omega (arith, c.before.before.before.before.before.before.before.before.before.requires.taken, (moves c.before.before.before.before.before.before.before.before.before.args.w.receiver c.before.before.before.before.before.before.before.before.before.args.store.now c.before.before.before.before.before.before.before.before.before.args.piece.now c.before.before.before.before.receive-o.result _ c.before.before.before.before.receive-o.ensures).within))
+    (λ c. omega (arith, c.requires.taken, (moves c.args.w.receiver c.args.store.now c.args.piece.now c.receive-o.result _ c.receive-o.ensures).within))
     (search rules)
     (search rules)
     (λ c κs. search rules)
     (search rules)
-    (λ c. advance_more c.before.before.before.before.before.before.before.before.before.before.before.args.w _ _ _ c.before.before.before.before.before.before.receive-o.result _ c.before.before.before.before.before.before.receive-o.ensures c.before.before.before.before.before.before.before.before.before.before.before.requires.live c.enum_told-1.given.1)
+    (λ c. advance_more c.args.w _ _ _ c.receive-o.result _ c.receive-o.ensures c.requires.live c.in-More.is)
     (search rules)
     (search rules)
-    (λ c. advance_event c.before.before.before.before.before.before.before.before.before.before.before.before.before.before.before.before.args.w _ _ _ c.before.before.before.before.before.before.before.before.before.before.before.receive-o.result _ c.before.before.before.before.before.before.before.before.before.before.before.receive-o.ensures _ _ _ c.before.before.before.before.before.report-1.given.1 c.before.before.note.ensures))
+    (λ c. advance_event c.args.w _ _ _ c.receive-o.result _ c.receive-o.ensures _ _ _ c.in-Event.is c.note.ensures))

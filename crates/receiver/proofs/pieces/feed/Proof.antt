@@ -25,9 +25,9 @@ abbrev start : Stepped → tie.Start invariant-loop decreases-loop
 start a = a.before.before.before.before.before.before.before.before
 
 done : (a : Stepped)
-    → (let z = (start a).args in let m = a.before.before.before.before.before.loop-at in
-    Turn z.piece.now z.store-1.now (state_at z.from z.came z.block.now z.knew) m.store-1 (state_at m.stage m.got m.block m.known) m.at (moved_to a.step-o.result a.step-o.last.1.1.1.0) a.step-o.last.1.1.1.1.1.0)
-done a = turn a.before.before.before.before.before.loop-at.inv a.before.before.before.before.loop-at-test.taken a.step-o.ensures a.step-o.kept.1.1.1.1.1.0
+    → (let z = (start a).args in let m = a.loop-at in
+    Turn z.piece.now z.store.now (state_at z.from z.came z.block.now z.knew) m.store (state_at m.stage m.got m.block m.known) m.at (moved_to a.step-o.result a.step-o.last.1.1.1.0) a.step-o.last.1.1.1.1.1.0)
+done a = turn a.loop-at.inv a.loop-at-test.taken a.step-o.ensures a.step-o.kept.1.1.1.1.1.0
 
 pub feed_spec : {M : Type 1} → statement M
 feed_spec =
@@ -35,16 +35,16 @@ feed_spec =
     (tie.spec
     invariant-loop
     decreases-loop
-    (λ c. (let z = c.before.before in begin lasting z.args.piece.now z.args.store.now (state_at z.args.from z.args.came z.args.block.now z.args.knew) z.requires))
+    (λ c. (let z = c in begin lasting z.args.piece.now z.args.store.now (state_at z.args.from z.args.came z.args.block.now z.args.knew) z.requires))
     (λ c. search rules)
     (λ c. search rules)
     (λ c. search rules)
-    (λ c κs. (let r = c.before.before.before.before.loop-at.invariant.running in (inside_of r, r.fits)))
+    (λ c κs. (let r = c.loop-at.invariant.running in (inside_of r, r.fits)))
     (λ c. (let a = c.before.before.before.before in omega (arith, within (done a), (start a).well_formed.1.1.1.1.0.0)))
     (λ c κs. search rules)
     (λ c. (let t = done c.before.before.before.before.before.before in t.kept ∙ t.midway.same))
-    (λ c. reported (done c.before.before.before.before.before.before) (sym c.before.is_more.ensures ∙ not-true c.before.is_more.result c.if-not-is_more.true))
+    (λ c. reported (done c.before.before.before.before.before.before) (sym c.is_more.ensures ∙ not-true c.is_more.result c.if-not-is_more.true))
     (λ c. (let t = done c.before.before.before.before.before.before in omega (arith, within t, progress t)))
-    (λ c. again (done c.before.before.before.before.before.before) (sym c.before.is_more.ensures ∙ not-false c.before.is_more.result c.if-not-is_more.false))
-    (λ c. c.before.loop-at.invariant.same)
-    (λ c. finished c.before.loop-at.invariant c.loop-at-test.false))
+    (λ c. again (done c.before.before.before.before.before.before) (sym c.is_more.ensures ∙ not-false c.is_more.result c.if-not-is_more.false))
+    (λ c. c.loop-at.invariant.same)
+    (λ c. finished c.loop-at.invariant c.loop-at-test.false))

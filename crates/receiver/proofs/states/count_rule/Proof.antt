@@ -8,8 +8,8 @@ count_rule_spec =
     tie.close
     (tie.spec
     (λ c κs. search rules)
-    (λ c. rw (sym c.before.is_refused.ensures ∙ c.if-is_refused.true))
+    (λ c. rw (sym c.is_refused.ensures ∙ c.if-is_refused.true))
     (λ c κs. search rules)
     (λ c κs. search rules)
     (λ c κs. search rules)
-    (λ c. rw (sym c.before.before.before.before.is_refused.ensures ∙ c.before.before.before.if-is_refused.false) (cc)))
+    (λ c. rw (sym c.is_refused.ensures ∙ c.if-is_refused.false) (cc)))

@@ -9,6 +9,6 @@ header_rule_spec =
     (tie.spec
     (λ c κs. search rules)
     (λ c κs. search rules)
-    (λ c. rw (sym c.before.before.in_body.ensures ∙ c.before.if-in_body.true) c.header_is_fine.ensures)
+    (λ c. rw (sym c.in_body.ensures ∙ c.if-in_body.true) c.header_is_fine.ensures)
     (λ c κs. search rules)
-    (λ c. rw (sym c.before.before.in_body.ensures ∙ c.before.if-in_body.false) c.is_no_header.ensures))
+    (λ c. rw (sym c.in_body.ensures ∙ c.if-in_body.false) c.is_no_header.ensures))

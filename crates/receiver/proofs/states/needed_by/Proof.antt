@@ -9,5 +9,5 @@ needed_by_spec =
     (tie.spec
     (λ c κs. search rules)
     (λ c κs. search rules)
-    (λ c. rw (sym c.before.before.in_body.ensures ∙ c.before.if-in_body.true) c.total_of.ensures)
-    (λ c. rw (sym c.before.in_body.ensures ∙ c.if-in_body.false)))
+    (λ c. rw (sym c.in_body.ensures ∙ c.if-in_body.true) c.total_of.ensures)
+    (λ c. rw (sym c.in_body.ensures ∙ c.if-in_body.false)))

@@ -12,7 +12,7 @@ own_rule_spec =
     (tie.spec
     (λ c κs. search rules)
     (λ c κs. search rules)
-    (λ c. (let t : (is_refused c.before.before.before.before.args.stage && eqb c.before.before.before.before.args.v.refusal.number 16) ≡ true = cc in rw t))
+    (λ c. (let t : (is_refused c.args.stage && eqb c.args.v.refusal.number 16) ≡ true = cc in rw t))
     (λ c κs. search rules)
     (λ c κs. search rules)
-    (λ c. (let t : (is_refused c.before.before.before.before.before.before.args.stage && eqb c.before.before.before.before.before.before.args.v.refusal.number 16) ≡ false = cc in rw t cc)))
+    (λ c. (let t : (is_refused c.args.stage && eqb c.args.v.refusal.number 16) ≡ false = cc in rw t cc)))

@@ -10,5 +10,5 @@ payload_rule_spec =
     (λ c κs. search rules)
     (λ c κs. search rules)
     (λ c κs. search rules)
-    (λ c. rw (sym c.before.before.before.live_from.ensures ∙ c.before.before.if-live_from.true) cc)
-    (λ c. rw (sym c.before.before.live_from.ensures ∙ c.before.if-live_from.false)))
+    (λ c. rw (sym c.live_from.ensures ∙ c.if-live_from.true) cc)
+    (λ c. rw (sym c.live_from.ensures ∙ c.if-live_from.false)))

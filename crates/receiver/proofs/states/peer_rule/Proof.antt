@@ -8,6 +8,6 @@ peer_rule_spec =
     tie.close
     (tie.spec
     (λ c κs. search rules)
-    (λ c. rw (sym c.before.live_from.ensures ∙ c.if-live_from.true))
+    (λ c. rw (sym c.live_from.ensures ∙ c.if-live_from.true))
     (λ c κs. search rules)
-    (λ c. rw (sym c.before.before.live_from.ensures ∙ c.before.if-live_from.false) c.is_no_features.ensures))
+    (λ c. rw (sym c.live_from.ensures ∙ c.if-live_from.false) c.is_no_features.ensures))

@@ -9,6 +9,6 @@ refusal_rule_spec =
     (tie.spec
     (λ c κs. search rules)
     (λ c κs. search rules)
-    (λ c. rw (sym c.before.before.is_refused.ensures ∙ c.before.if-is_refused.true) c.is_given.ensures)
+    (λ c. rw (sym c.is_refused.ensures ∙ c.if-is_refused.true) c.is_given.ensures)
     (λ c κs. search rules)
-    (λ c. rw (sym c.before.before.is_refused.ensures ∙ c.before.if-is_refused.false) c.is_no_refusal.ensures))
+    (λ c. rw (sym c.is_refused.ensures ∙ c.if-is_refused.false) c.is_no_refusal.ensures))

@@ -10,4 +10,4 @@ without_header_spec =
     (tie.spec
     (λ c κs. search rules)
     (λ c κs. search rules)
-    (λ c. c.with_header.ensures ∙ ap (with_header c.before.before.args.v) c.before.no_header.ensures))
+    (λ c. c.with_header.ensures ∙ ap (with_header c.args.v) c.no_header.ensures))

@@ -7,9 +7,9 @@ use Rattle.receiver.proofs.states.zeros_from.Tie as tie
 
 returns : tie.Need-returns
 returns c =
-    let g = c.before.before.before.before.before.before.before.before.before.before.before.before.before.before.before.args in
-    let b : Bytes g.block.now = record { at = λ i. omega (arith, c.before.before.before.before.before.before.before.before.before.before.before.before.before.before.shared_slice_known-1.given i) } in
-    cc (four-words g.block.now g.from b c.before.before.before.before.before.before.before.before.before.before.before.before.before.before.before.requires)
+    let g = c.args in
+    let b : Bytes g.block.now = record { at = λ i. omega (arith, c.shared_slice_known-1.given i) } in
+    cc (four-words g.block.now g.from b c.requires)
 
 pub zeros_from_spec : {M : Type 1} → statement M
 zeros_from_spec =

@@ -10,5 +10,5 @@ begin_body_spec =
     (λ c κs. search rules)
     (λ c κs. search rules)
     (λ c κs. search rules)
-    (λ c. λ s. rw (sym c.before.before.has_first_sum.ensures ∙ c.before.if-has_first_sum.true) (c.more.ensures s))
-    (λ c. λ s. rw (sym c.before.before.has_first_sum.ensures ∙ c.before.if-has_first_sum.false) (c.begin_rest.ensures s)))
+    (λ c. λ s. rw (sym c.has_first_sum.ensures ∙ c.if-has_first_sum.true) (c.more.ensures s))
+    (λ c. λ s. rw (sym c.has_first_sum.ensures ∙ c.if-has_first_sum.false) (c.begin_rest.ensures s)))

@@ -10,5 +10,5 @@ begin_epilogue_spec =
     (λ c κs. search rules)
     (λ c κs. search rules)
     (λ c κs. search rules)
-    (λ c. λ s. rw (sym c.before.before.no_epilogue.ensures ∙ c.before.if-no_epilogue.true) (c.end_whole.ensures s))
-    (λ c. λ s. rw (sym c.before.before.no_epilogue.ensures ∙ c.before.if-no_epilogue.false) (c.more.ensures s)))
+    (λ c. λ s. rw (sym c.no_epilogue.ensures ∙ c.if-no_epilogue.true) (c.end_whole.ensures s))
+    (λ c. λ s. rw (sym c.no_epilogue.ensures ∙ c.if-no_epilogue.false) (c.more.ensures s)))

@@ -10,5 +10,5 @@ begin_rest_spec =
     (λ c κs. search rules)
     (λ c κs. search rules)
     (λ c κs. search rules)
-    (λ c s. rw (lt-ltb _ _ (rw c.before.before.total_of.ensures at c.before.if-got-total_of.true)) (c.more.ensures s))
-    (λ c s. rw (le-ltb _ _ (rw c.before.before.total_of.ensures at c.before.if-got-total_of.false)) (c.begin_epilogue.ensures s)))
+    (λ c s. rw (lt-ltb _ _ (rw c.total_of.ensures at c.if-got-total_of.true)) (c.more.ensures s))
+    (λ c s. rw (le-ltb _ _ (rw c.total_of.ensures at c.if-got-total_of.false)) (c.begin_epilogue.ensures s)))

@@ -12,4 +12,4 @@ end_banner_spec =
     (λ c κs. search rules)
     (λ c κs. search rules)
     (λ c κs. search rules)
-    (λ c s. c.unless_refused.ensures s ∙ rw (c.before.judge_features.ensures, c.before.before.begin_preamble-t.ensures s, c.before.before.before.with_revision.ensures, c.before.before.before.before.revision_of-revision.ensures)))
+    (λ c s. c.unless_refused.ensures s ∙ rw (c.judge_features.ensures, c.begin_preamble-t.ensures s, c.with_revision.ensures, c.revision_of-revision.ensures)))

@@ -9,8 +9,8 @@ use Rattle.receiver.proofs.transitions.end_epilogue.Tie as tie
 
 -- how the body ends, by what the function was given
 ends : (a : tie.After-end_of-end)
-    → (let g = a.before.before.before.before.before.before.before.args in ending g.v.revision g.v.header g.block.now (take (total g.v.header) g.store-1.now) ≡ ended_as a.end_of-end.result)
-ends a = sym (a.end_of-end.ensures ∙ rw (a.before.part.ensures, a.before.before.before.total_of-n.ensures))
+    → (let g = a.args in ending g.v.revision g.v.header g.block.now (take (total g.v.header) g.store.now) ≡ ended_as a.end_of-end.result)
+ends a = sym (a.end_of-end.ensures ∙ rw (a.part.ensures, a.total_of-n.ensures))
 
 pub end_epilogue_spec : {M : Type 1} → statement M
 unfolding finish
@@ -28,8 +28,8 @@ end_epilogue_spec =
     (λ c κs. search rules)
     (λ c κs. search rules)
     (λ c. search rules)
-    (λ c. rw (ends c.before.before.before ∙ ap ended_as c.before.enum_told-1.given.1) (c.end_whole.ensures _))
+    (λ c. rw (ends c.before.before.before ∙ ap ended_as c.in-Whole.is) (c.end_whole.ensures _))
     (λ c. search rules)
-    (λ c. rw (ends c.before.before.before.before.before.before ∙ ap ended_as c.before.before.before.before.enum_told-in-Dropped-1.given.1) c.before.before.drop_frame.ensures)
+    (λ c. rw (ends c.before.before.before.before.before.before ∙ ap ended_as c.in-Dropped.is) c.drop_frame.ensures)
     (λ c. search rules)
-    (λ c. rw (ends c.before.before.before.before.before.before.before.before ∙ ap ended_as c.before.before.before.before.before.before.end-1.given.1) (c.before.before.refuse_frame.ensures ∙ rw c.before.before.before.before.numbers_of.ensures)))
+    (λ c. rw (ends c.before.before.before.before.before.before.before.before ∙ ap ended_as c.in-Refused.is) (c.refuse_frame.ensures ∙ rw c.numbers_of.ensures)))

@@ -14,4 +14,4 @@ end_length_spec =
     (λ c κs. search rules)
     (λ c κs. search rules)
     (λ c κs. search rules)
-    (λ c s. c.unless_refused.ensures s ∙ rw (c.before.judge_length.ensures, c.before.before.more-next.ensures s, c.before.before.before.with_payload.ensures, c.before.before.before.before.u16_at-n.ensures)))
+    (λ c s. c.unless_refused.ensures s ∙ rw (c.judge_length.ensures, c.more-next.ensures s, c.with_payload.ensures, c.u16_at-n.ensures)))

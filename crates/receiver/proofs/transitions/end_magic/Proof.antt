@@ -13,4 +13,4 @@ end_magic_spec =
     (λ c κs. search rules)
     (λ c κs. search rules)
     (λ c κs. search rules)
-    (λ c s. c.unless_refused.ensures s ∙ rw (c.before.before.judge_magic-judgement.ensures, c.before.before.before.part.ensures, c.before.more.ensures s)))
+    (λ c s. c.unless_refused.ensures s ∙ rw (c.judge_magic-judgement.ensures, c.part.ensures, c.more.ensures s)))

@@ -15,5 +15,5 @@ end_payload_spec =
     (λ c κs. search rules)
     (λ c κs. search rules)
     (λ c κs. search rules)
-    (λ c s. rw (le-leb _ _ c.before.if-v-le16.true) (c.end_banner.ensures s ∙ rw (c.before.before.before.with_peer-known.ensures, c.before.before.before.before.read_features.ensures, c.before.before.before.before.before.part.ensures)))
-    (λ c s. rw (lt-leb _ _ c.before.if-v-le16.false) (c.more.ensures s ∙ rw (c.before.before.before.with_peer-known.ensures, c.before.before.before.before.read_features.ensures, c.before.before.before.before.before.part.ensures))))
+    (λ c s. rw (le-leb _ _ c.if-v-le16.true) (c.end_banner.ensures s ∙ rw (c.with_peer-known.ensures, c.read_features.ensures, c.part.ensures)))
+    (λ c s. rw (lt-leb _ _ c.if-v-le16.false) (c.more.ensures s ∙ rw (c.with_peer-known.ensures, c.read_features.ensures, c.part.ensures))))

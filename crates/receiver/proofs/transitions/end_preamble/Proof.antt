@@ -10,9 +10,9 @@ use Rattle.receiver.proofs.transitions.end_preamble.Statement.{statement}
 use Rattle.receiver.proofs.transitions.end_preamble.Tie as tie
 
 -- the judgement, by what the function was given
-judges : (a : tie.After-judge_read-judgement) (s : List ℕ) → (let g = a.before.before.before.args in length s ≡ g.store → judge_preamble g.block.now (length s) ≡ judged_by a.judge_read-judgement.result)
+judges : (a : tie.After-judge_read-judgement) (s : List ℕ) → (let g = a.args in length s ≡ g.store → judge_preamble g.block.now (length s) ≡ judged_by a.judge_read-judgement.result)
 unfolding judge_preamble
-judges a s e = sym (a.judge_read-judgement.ensures ∙ rw (a.before.before.read_block-p.ensures, ← e))
+judges a s e = sym (a.judge_read-judgement.ensures ∙ rw (a.read_block-p.ensures, ← e))
 
 pub end_preamble_spec : {M : Type 1} → statement M
 unfolding finish
@@ -27,5 +27,5 @@ end_preamble_spec =
     (λ c. search rules)
     (λ c κs. search rules)
     (λ c κs. search rules)
-    (λ c s e. rw (judges c.before.before.before.before s e ∙ ap judged_by c.before.before.enum_told-1.given.1) (c.begin_body.ensures s ∙ rw (c.before.with_header.ensures, c.before.before.before.before.before.before.read_block-p.ensures)))
-    (λ c s e. rw (judges c.before.before.before.before.before s e ∙ ap judged_by c.before.before.before.judgement-1.given.1) (c.refuse.ensures s ∙ rw c.before.numbers_of.ensures)))
+    (λ c s e. rw (judges c.before.before.before.before.before s e ∙ ap judged_by c.in-Fine.is) (c.begin_body.ensures s ∙ rw (c.with_header.ensures, c.read_block-p.ensures)))
+    (λ c s e. rw (judges c.before.before.before.before.before s e ∙ ap judged_by c.in-Refused.is) (c.refuse.ensures s ∙ rw c.numbers_of.ensures)))

@@ -9,4 +9,4 @@ end_whole_spec =
     (tie.spec
     (λ c κs. search rules)
     (λ c κs. search rules)
-    (λ c. λ s. c.begin_preamble.ensures s ∙ rw c.before.without_header.ensures))
+    (λ c. λ s. c.begin_preamble.ensures s ∙ rw c.without_header.ensures))

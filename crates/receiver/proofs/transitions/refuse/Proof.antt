@@ -9,4 +9,4 @@ refuse_spec =
     (tie.spec
     (λ c κs. search rules)
     (λ c κs. search rules)
-    (λ c. λ s. c.at_stage.ensures s ∙ rw c.before.only_own.ensures))
+    (λ c. λ s. c.at_stage.ensures s ∙ rw c.only_own.ensures))

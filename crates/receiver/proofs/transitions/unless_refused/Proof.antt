@@ -11,5 +11,5 @@ unless_refused_spec =
     (λ c. search rules)
     (λ c κs. search rules)
     (λ c κs. search rules)
-    (λ c s. rw c.enum_told-1.given.1)
-    (λ c s. rw c.before.before.before.judgement-1.given.1 (c.refuse.ensures s ∙ rw c.before.numbers_of.ensures)))
+    (λ c s. rw c.in-Fine.is)
+    (λ c s. rw c.in-Refused.is (c.refuse.ensures s ∙ rw c.numbers_of.ensures)))

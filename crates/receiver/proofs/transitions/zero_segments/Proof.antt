@@ -11,10 +11,10 @@ use Rattle.receiver.proofs.transitions.zero_segments.Tie as tie
 
 returns : tie.Need-returns
 returns c =
-    let s = c.before.before.before.before.before.before.args.store.now in
-    let t : ℕ = total c.before.before.before.before.before.before.args.h in
+    let s = c.args.store.now in
+    let t : ℕ = total c.args.h in
     let n : length (replicate {A = ℕ} t 0) ≡ t = length-replicate t 0 in
-    c.before.before.put_zeros.ensures ∙ ap (λ (k : ℕ). overwrite (replicate k 0) s) c.before.before.before.total_of.ensures ∙ overwrite-fits (replicate t 0) s (omega (arith, c.before.before.before.before.before.before.requires))
+    c.put_zeros.ensures ∙ ap (λ (k : ℕ). overwrite (replicate k 0) s) c.total_of.ensures ∙ overwrite-fits (replicate t 0) s (omega (arith, c.requires))
 
 pub zero_segments_spec : {M : Type 1} → statement M
 zero_segments_spec = tie.close (tie.spec (λ c κs. search rules) (λ c κs. search rules) (λ c. search rules) returns)

@@ -9,32 +9,32 @@ use Rattle.sealed_receiver.proofs.parts.after_last_part.Tie as tie
 
 -- where it is known how the frame ends: the length of the text, and the end
 abbrev start : tie.After-end_of_last-end → tie.Start
-start a = a.before.before.before.before.before.before.before
+start a = a.before.before.before.before.before.before
 
-sized : (a : tie.After-end_of_last-end) → a.before.before.before.last_part_length.result - 16 ≡ last_part (start a).args.v.header - 16
-sized a = ap (λ (k : ℕ). k - 16) (a.before.before.before.last_part_length.ensures.0 ∙ last-size (start a).args.v.header (start a).requires.1)
+sized : (a : tie.After-end_of_last-end) → a.last_part_length.result - 16 ≡ last_part (start a).args.v.header - 16
+sized a = ap (λ (k : ℕ). k - 16) (a.last_part_length.ensures.0 ∙ last-size (start a).args.v.header (start a).requires.1)
 
 returns : tie.Need-returns-in-Whole
 returns c =
     let a = c.before.before.before.before.before.before.before.before.before.before in
     let z = (start a).args in
-    let e = a.end_of_last-end.ensures ∙ ap (last_ended z.v.header) a.before.part.ensures in
-    c.before.before.end_whole.ensures
-    ∙ last-whole z.v z.store-1.now (sized a) e c.before.before.before.before.before.before.close_up.new.1.0 (ap ended_as c.before.before.before.before.before.before.before.before.enum_told-1.given.1) c.before.before.before.before.before.before.close_up.ensures
+    let e = a.end_of_last-end.ensures ∙ ap (last_ended z.v.header) a.part.ensures in
+    c.end_whole.ensures
+    ∙ last-whole z.v z.store.now (sized a) e c.close_up.new.1.0 (ap ended_as c.in-Whole.is) c.close_up.ensures
 
 returns-2 : tie.Need-returns-in-Dropped
 returns-2 c =
     let a = c.before.before.before.before.before.before in
     let z = (start a).args in
-    let e = a.end_of_last-end.ensures ∙ ap (last_ended z.v.header) a.before.part.ensures in
-    c.before.before.drop_frame.ensures z.store-1.now ∙ last-ends z.v z.store-1.now (sized a) e dropped (ap ended_as c.before.before.before.before.enum_told-in-Dropped-1.given.1)
+    let e = a.end_of_last-end.ensures ∙ ap (last_ended z.v.header) a.part.ensures in
+    c.drop_frame.ensures z.store.now ∙ last-ends z.v z.store.now (sized a) e dropped (ap ended_as c.in-Dropped.is)
 
 returns-3 : tie.Need-returns-in-Refused
 returns-3 c =
     let a = c.before.before.before.before.before.before.before in
     let z = (start a).args in
-    let e = a.end_of_last-end.ensures ∙ ap (last_ended z.v.header) a.before.part.ensures in
-    c.before.before.refuse_frame.ensures ∙ last-ends z.v z.store-1.now (sized a) e (refused_for _) (ap ended_as c.before.before.before.before.before.end-1.given.1)
+    let e = a.end_of_last-end.ensures ∙ ap (last_ended z.v.header) a.part.ensures in
+    c.refuse_frame.ensures ∙ last-ends z.v z.store.now (sized a) e (refused_for _) (ap ended_as c.in-Refused.is)
 
 pub after_last_part_spec : {M : Type 1} → statement M
 after_last_part_spec =
@@ -42,7 +42,7 @@ after_last_part_spec =
     (tie.spec
     (λ c. search rules)
     (λ c κs. search rules)
-    (λ c. omega (arith, last-size c.before.before.before.before.args.v.header c.before.before.before.before.requires.1, c.last_part_length.ensures.0))
+    (λ c. omega (arith, last-size c.args.v.header c.requires.1, c.last_part_length.ensures.0))
     (λ c κs. search rules)
     (λ c κs. search rules)
     (λ c. search rules)

@@ -7,32 +7,32 @@ use Rattle.sealed_receiver.proofs.parts.after_second_part.Tie as tie
 
 returns : tie.Need-returns-then-all_zero
 returns c =
-    let g = c.before.before.before.before.before.before.before.before.before.before.before.before.before.before.before.args in
-    let s = g.store-1.now in
-    let pad = c.before.before.before.before.before.before.before.before.before.before.before.before.padding-pad.result in
-    let z : all_zero (take pad (drop g.v.header.s1.len s)) ≡ true = sym (c.before.before.before.before.before.before.before.before.before.all_zero.ensures ∙ ap all_zero c.before.before.before.before.before.before.before.before.before.before.part.ensures) ∙ c.before.before.before.before.before.before.before.before.if-all_zero.true in
-    c.before.before.begin_last.ensures ∙ rest-padded g.v s pad c.before.before.before.before.before.before.before.before.before.before.before.before.padding-pad.ensures.0 c.before.before.before.before.before.before.before.before.before.before.before.before.before.before.before.requires.2 c.before.before.before.before.before.before.before.before.before.before.before.before.before.before.before.requires.0 z c.before.before.before.before.before.before.put_zeros.new.0 c.before.before.before.before.before.before.put_zeros.ensures
+    let g = c.args in
+    let s = g.store.now in
+    let pad = c.padding-pad.result in
+    let z : all_zero (take pad (drop g.v.header.s1.len s)) ≡ true = sym (c.all_zero.ensures ∙ ap all_zero c.part.ensures) ∙ c.if-all_zero.true in
+    c.begin_last.ensures ∙ rest-padded g.v s pad c.padding-pad.ensures.0 c.requires.2 c.requires.0 z c.put_zeros.new.0 c.put_zeros.ensures
 
 returns-2 : tie.Need-returns
 returns-2 c =
-    let g = c.before.before.before.before.before.before.before.before.before.before.before.args in
-    let s = g.store-1.now in
-    let pad = c.before.before.before.before.before.before.before.before.padding-pad.result in
-    let z : all_zero (take pad (drop g.v.header.s1.len s)) ≡ false = sym (c.before.before.before.before.before.all_zero.ensures ∙ ap all_zero c.before.before.before.before.before.before.part.ensures) ∙ c.before.before.before.before.if-all_zero.false in
-    c.before.before.refuse_frame.ensures ∙ rest-unpadded g.v s pad c.before.before.before.before.before.before.before.before.padding-pad.ensures.0 c.before.before.before.before.before.before.before.before.before.before.before.requires.2 z
+    let g = c.args in
+    let s = g.store.now in
+    let pad = c.padding-pad.result in
+    let z : all_zero (take pad (drop g.v.header.s1.len s)) ≡ false = sym (c.all_zero.ensures ∙ ap all_zero c.part.ensures) ∙ c.if-all_zero.false in
+    c.refuse_frame.ensures ∙ rest-unpadded g.v s pad c.padding-pad.ensures.0 c.requires.2 z
 
 pub after_second_part_spec : {M : Type 1} → statement M
 after_second_part_spec =
     tie.close
     (tie.spec
     (λ c. search rules)
-    (λ c. omega (arith, rest-beyond c.before.before.args.v.header c.before.before.requires.2))
+    (λ c. omega (arith, rest-beyond c.args.v.header c.requires.2))
     (λ c κs. search rules)
     (λ c κs. search rules)
     (λ c κs. search rules)
     (λ c. search rules)
-    (λ c. omega (arith, pads-fit c.before.before.before.before.before.before.before.args.v.header c.before.before.before.before.before.before.before.requires.2 c.before.before.before.before.padding-pad.result c.before.before.before.before.padding-pad.ensures.0, c.before.before.before.before.before.before.before.requires.0))
-    (λ c. omega (arith, pads-fit c.before.before.before.before.before.before.before.args.v.header c.before.before.before.before.before.before.before.requires.2 c.before.before.before.before.padding-pad.result c.before.before.before.before.padding-pad.ensures.0, c.before.before.before.before.before.before.before.requires.0))
+    (λ c. omega (arith, pads-fit c.args.v.header c.requires.2 c.padding-pad.result c.padding-pad.ensures.0, c.requires.0))
+    (λ c. omega (arith, pads-fit c.args.v.header c.requires.2 c.padding-pad.result c.padding-pad.ensures.0, c.requires.0))
     (λ c. search rules)
     (λ c κs. search rules)
     (λ c κs. search rules)

@@ -7,8 +7,8 @@ use Rattle.sealed_receiver.proofs.parts.begin_last.Tie as tie
 
 returns : tie.Need-returns-then-no_last_part
 returns c =
-    let g = c.before.before.before.before.before.before.before.args in
-    c.before.before.end_whole.ensures ∙ whole-behind g.v g.store-1.now (fine-is (judge_header g.v.header) c.before.before.before.before.before.before.before.requires.1) (sym c.before.before.before.before.before.no_last_part.ensures ∙ c.before.before.before.before.if-no_last_part.true)
+    let g = c.args in
+    c.end_whole.ensures ∙ whole-behind g.v g.store.now (fine-is (judge_header g.v.header) c.requires.1) (sym c.no_last_part.ensures ∙ c.if-no_last_part.true)
 
 pub begin_last_spec : {M : Type 1} → statement M
 begin_last_spec =
@@ -20,4 +20,4 @@ begin_last_spec =
     returns
     (λ c κs. search rules)
     (λ c κs. search rules)
-    (λ c. rw (sym c.before.before.before.no_last_part.ensures ∙ c.before.before.if-no_last_part.false) (c.more.ensures c.before.before.before.before.before.args.store.now ∙ rw c.before.state_at.ensures)))
+    (λ c. rw (sym c.no_last_part.ensures ∙ c.if-no_last_part.false) (c.more.ensures c.args.store.now ∙ rw c.state_at.ensures)))

@@ -6,18 +6,18 @@ use Rattle.sealed_receiver.proofs.parts.close_up.Tie as tie
 
 move-down-requires : tie.Need-move_down-requires
 move-down-requires c κs =
-    let g = c.before.before.before.before.before.before.args in
-    third-fits g.h g.store-1.now g.store-1.now g.store-1.now c.before.rounded.result (round_up g.h.s3.len) c.before.before.before.before.before.before.requires c.before.rounded.ensures.0 refl
+    let g = c.args in
+    third-fits g.h g.store.now g.store.now g.store.now c.rounded.result (round_up g.h.s3.len) c.requires c.rounded.ensures.0 refl
 
 move-down-requires-2 : tie.Need-move_down-requires-2
 move-down-requires-2 c κs =
-    let g = c.before.before.before.before.before.before.before.before.before.before.before.before.args in
-    fourth_fits g.h g.store-1.now c.before.before.before.before.before.move_down.new.0 g.store-1.now c.before.before.before.before.before.before.before.rounded.result c.before.rounded-2.result c.before.before.before.before.before.before.before.before.before.before.before.before.requires c.before.before.before.before.before.before.before.rounded.ensures.0 c.before.rounded-2.ensures.0 c.before.before.before.before.before.move_down.auto.0
+    let g = c.args in
+    fourth_fits g.h g.store.now c.move_down.new.0 g.store.now c.rounded.result c.rounded-2.result c.requires c.rounded.ensures.0 c.rounded-2.ensures.0 c.move_down.auto.0
 
 returns : tie.Need-returns
 returns c =
-    let g = c.before.before.before.before.before.before.before.before.before.before.before.before.before.before.before.args in
-    closed-up g.h g.store-1.now c.before.before.before.before.before.before.before.before.move_down.new.0 c.before.before.move_down-2.new.0 c.before.before.before.before.before.before.before.before.before.before.rounded.result c.before.before.before.before.rounded-2.result c.before.before.before.before.before.before.before.before.before.before.before.before.before.before.before.requires c.before.before.before.before.before.before.before.before.before.before.rounded.ensures.0 c.before.before.before.before.rounded-2.ensures.0 c.before.before.before.before.before.before.before.before.move_down.ensures c.before.before.move_down-2.ensures
+    let g = c.args in
+    closed-up g.h g.store.now c.move_down.new.0 c.move_down-2.new.0 c.rounded.result c.rounded-2.result c.requires c.rounded.ensures.0 c.rounded-2.ensures.0 c.move_down.ensures c.move_down-2.ensures
 
 pub close_up_spec : {M : Type 1} → statement M
 close_up_spec =

@@ -9,4 +9,4 @@ drop_frame_spec =
     (λ c κs. search rules)
     (λ c κs. search rules)
     (λ c. search rules)
-    (λ c. λ segments. rw (c.next_frame.ensures, c.before.before.before.zero_needed.ensures)))
+    (λ c. λ segments. rw (c.next_frame.ensures, c.zero_needed.ensures)))

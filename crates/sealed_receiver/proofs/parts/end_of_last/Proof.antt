@@ -10,14 +10,14 @@ use Rattle.sealed_receiver.proofs.parts.end_of_last.Tie as tie
 
 returns : tie.Need-returns
 returns c =
-    let late = c.before.before.before.before.before.before.before.before.before.before.before.before.before.byte_at-late.result in
-    let padded = c.before.both.result in
+    let late = c.byte_at-late.result in
+    let padded = c.both.result in
     c.by_late_status.ensures
-    ∙ ap (λ (x : Late). by_late_status x late (unless padded refusal.Padding)) c.before.before.read_late.ensures
-    ∙ last-ended c.before.before.before.before.before.before.before.before.before.before.before.before.before.before.before.before.before.before.args.h c.before.before.before.before.before.before.before.before.before.before.before.before.before.before.before.before.before.before.args.text.now c.before.before.before.before.before.before.before.before.before.before.before.before.before.before.before.before.rounded-n2.result c.before.before.before.before.before.before.before.before.before.before.before.before.before.before.before.rounded.result c.before.before.before.before.before.before.before.before.before.before.before.before.before.before.rounded-2.result c.before.before.before.before.before.before.before.before.before.before.before.before.before.before.before.before.rounded-n2.ensures.0 c.before.before.before.before.before.before.before.before.before.before.before.before.before.before.before.rounded.ensures.0 c.before.before.before.before.before.before.before.before.before.before.before.before.before.before.rounded-2.ensures.0 late padded c.before.before.before.before.before.before.before.before.before.before.before.before.before.byte_at-late.ensures
-    (c.before.both.ensures
-    ∙ ap₂ ◌&&◌ (c.before.before.before.before.before.before.before.before.both-front.ensures ∙ ap₂ ◌&&◌ c.before.before.before.before.before.before.before.before.before.before.before.is_padded.ensures c.before.before.before.before.before.before.before.before.before.is_padded-2.ensures)
-    (c.before.before.before.both-back.ensures ∙ ap₂ ◌&&◌ c.before.before.before.before.before.before.is_padded-3.ensures (c.before.before.before.before.all_zero.ensures ∙ ap all_zero c.before.before.before.before.before.behind.ensures)))
+    ∙ ap (λ (x : Late). by_late_status x late (unless padded refusal.Padding)) c.read_late.ensures
+    ∙ last-ended c.args.h c.args.text.now c.rounded-n2.result c.rounded.result c.rounded-2.result c.rounded-n2.ensures.0 c.rounded.ensures.0 c.rounded-2.ensures.0 late padded c.byte_at-late.ensures
+    (c.both.ensures
+    ∙ ap₂ ◌&&◌ (c.both-front.ensures ∙ ap₂ ◌&&◌ c.is_padded.ensures c.is_padded-2.ensures)
+    (c.both-back.ensures ∙ ap₂ ◌&&◌ c.is_padded-3.ensures (c.all_zero.ensures ∙ ap all_zero c.behind.ensures)))
 
 pub end_of_last_spec : {M : Type 1} → statement M
 end_of_last_spec =

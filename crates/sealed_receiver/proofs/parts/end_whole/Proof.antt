@@ -10,20 +10,20 @@ use Rattle.sealed_receiver.proofs.parts.end_whole.Tie as tie
 
 returns : tie.Need-returns
 returns c =
-    let g = c.before.before.before.before.before.before.before.before.before.args in
+    let g = c.args in
     ap₂ (λ (x : State) (t : List ℕ). step.stepped x t (report.Event (event.Frame g.v.header))) c.next_frame.ensures
-    (zeros-behind g.v.header g.store-1.now c.before.before.before.put_zeros.new.0 c.before.before.before.before.before.before.total_of-n.result c.before.before.before.before.needed_of.result c.before.before.before.before.before.before.total_of-n.ensures c.before.before.before.before.needed_of.ensures.0 c.before.before.before.before.before.before.before.before.before.requires c.before.before.before.put_zeros.ensures)
+    (zeros-behind g.v.header g.store.now c.put_zeros.new.0 c.total_of-n.result c.needed_of.result c.total_of-n.ensures c.needed_of.ensures.0 c.requires c.put_zeros.ensures)
 
 pub end_whole_spec : {M : Type 1} → statement M
 end_whole_spec =
     tie.close
     (tie.spec
     (λ c κs. search rules)
-    (λ c. omega (arith, segments-fit c.before.before.before.args.v.header, c.total_of-n.ensures, c.before.before.before.requires))
-    (λ c. omega (arith, segments-fit c.before.before.before.args.v.header, c.total_of-n.ensures, c.before.before.before.requires))
+    (λ c. omega (arith, segments-fit c.args.v.header, c.total_of-n.ensures, c.requires))
+    (λ c. omega (arith, segments-fit c.args.v.header, c.total_of-n.ensures, c.requires))
     (λ c. search rules)
     (λ c κs. search rules)
-    (λ c. omega (arith, segments-fit c.before.before.before.before.before.args.v.header, c.before.before.total_of-n.ensures, c.needed_of.ensures.0))
+    (λ c. omega (arith, segments-fit c.args.v.header, c.total_of-n.ensures, c.needed_of.ensures.0))
     (λ c κs. search rules)
     (λ c κs. search rules)
     (λ c. search rules)

@@ -12,4 +12,4 @@ is_padded_spec =
     (λ c κs. search rules)
     (λ c κs. search rules)
     (λ c κs. search rules)
-    (λ c. let g = c.before.before.before.before.args in c.all_zero.ensures ∙ ap all_zero (c.before.part.ensures ∙ pads g.text.now g.at g.n c.before.before.padding.result c.before.before.padding.ensures.0)))
+    (λ c. let g = c.args in c.all_zero.ensures ∙ ap all_zero (c.part.ensures ∙ pads g.text.now g.at g.n c.padding.result c.padding.ensures.0)))

@@ -11,15 +11,15 @@ use Rattle.sealed_receiver.proofs.parts.judge_first.Tie as tie
 
 returns : tie.Need-returns
 returns c =
-    let text : List ℕ = c.before.before.before.before.before.before.before.before.before.before.before.before.args.text.now in
-    let store : ℕ = c.before.before.before.before.before.before.before.before.before.before.before.before.args.store in
-    let read : c.before.before.before.before.before.before.before.before.before.before.read_preamble-p.result ≡ preamble_of text = c.before.before.before.before.before.before.before.before.before.before.read_preamble-p.ensures in
+    let text : List ℕ = c.args.text.now in
+    let store : ℕ = c.args.store in
+    let read : c.read_preamble-p.result ≡ preamble_of text = c.read_preamble-p.ensures in
     c.or_else.ensures
-    ∙ ap₂ or_else (c.before.judge_but_store.ensures ∙ ap (λ (p : Preamble). first_of (preamble_judgements p text)) read)
-    (c.before.before.or_else-last.ensures
+    ∙ ap₂ or_else (c.judge_but_store.ensures ∙ ap (λ (p : Preamble). first_of (preamble_judgements p text)) read)
+    (c.or_else-last.ensures
     ∙ ap₂ or_else
-    (c.before.before.before.before.judge_store-room.ensures ∙ ap (λ (k : ℕ). judge_store k store) (c.before.before.before.before.before.needed_of.ensures.0 ∙ ap (λ (p : Preamble). needed p.header) read))
-    (c.before.before.before.unless.ensures ∙ ap (λ (b : Bool). unless b refusal.Padding) (c.before.before.before.before.before.before.all_zero-pad.ensures ∙ ap all_zero (c.before.before.before.before.before.before.before.behind.ensures ∙ ap (λ (p : Preamble). drop (32 + p.header.s1.len) text) read))))
+    (c.judge_store-room.ensures ∙ ap (λ (k : ℕ). judge_store k store) (c.needed_of.ensures.0 ∙ ap (λ (p : Preamble). needed p.header) read))
+    (c.unless.ensures ∙ ap (λ (b : Bool). unless b refusal.Padding) (c.all_zero-pad.ensures ∙ ap all_zero (c.behind.ensures ∙ ap (λ (p : Preamble). drop (32 + p.header.s1.len) text) read))))
     ∙ judged-first text store
 
 pub judge_first_spec : {M : Type 1} → statement M

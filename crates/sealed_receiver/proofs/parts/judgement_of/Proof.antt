@@ -10,4 +10,4 @@ judgement_of_spec =
     (λ c. search rules)
     (λ c. search rules)
     (λ c. search rules)
-    (λ c. sym (ap step.judged_as c.before.o-1.given.1)))
+    (λ c. sym (ap step.judged_as c.in-Refused.is)))

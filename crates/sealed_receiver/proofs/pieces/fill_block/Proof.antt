@@ -5,17 +5,17 @@ use Rattle.sealed_receiver.proofs.pieces.fill_block.Tie as tie
 
 returns : tie.Need-returns-then-first
 returns c =
-    let z = c.before.before.before.before.before in
-    let first = c.before.before.before.if-first.true in
+    let z = c in
+    let first = c.if-first.true in
     let n : length z.args.block ≡ 96 = z.well_formed.1.0.1.0.1 in
-    rw first (array_put z.args.block z.args.bytes.now c.before.put.new.0 z.args.at 96 n c.before.put.ensures (z.requires first))
+    rw first (array_put z.args.block z.args.bytes.now c.put.new.0 z.args.at 96 n c.put.ensures (z.requires first))
 
 pub fill_block_spec : {M : Type 1} → statement M
 fill_block_spec =
     tie.close
     (tie.spec
-    (λ c. omega (arith, c.before.before.requires c.if-first.true))
-    (λ c. omega (arith, c.before.before.requires c.if-first.true))
+    (λ c. omega (arith, c.requires c.if-first.true))
+    (λ c. omega (arith, c.requires c.if-first.true))
     (λ c. search rules)
     (λ c κs. search rules)
     returns

@@ -14,12 +14,12 @@ taking st piece = take (step.fitting st piece) piece
 taking-length : (st : State) (piece : List ℕ) → length (taking st piece) ≡ step.fitting st piece
 taking-length st piece = length-take-le (step.fitting st piece) piece (omega arith)
 
-taking-fits : (st : State) (piece : List ℕ) → st.position-1.got < step.size st → st.position-1.got + length (taking st piece) ≤ step.size st
+taking-fits : (st : State) (piece : List ℕ) → st.position.got < step.size st → st.position.got + length (taking st piece) ≤ step.size st
 taking-fits st piece l = omega (arith, taking-length st piece)
 
-held : (st : State) (s piece : List ℕ) (n : ℕ) (block store : List ℕ) → n ≡ st.position-1.got + length (taking st piece)
+held : (st : State) (s piece : List ℕ) (n : ℕ) (block store : List ℕ) → n ≡ st.position.got + length (taking st piece)
     → block ≡ (step.absorbed st (taking st piece)).position-1.block → store ≡ step.stored st s (taking st piece)
-    → step.silent (step.state_at st.position-1.stage n block st.known-1) store
+    → step.silent (step.state_at st.position.stage n block st.known) store
     ≡ step.silent (step.absorbed st (taking st piece)) (step.stored st s (taking st piece))
 held st s piece n block store en eb es = rw (en, eb, es)
 
@@ -27,10 +27,10 @@ held st s piece n block store en eb es = rw (en, eb, es)
 abbrev start : tie.After-part-bytes → tie.Start
 start a = a.before.before.before.before.before.before.before.before.before
 
-taken_is : (a : tie.After-part-bytes) → a.before.min-m.result ≡ step.fitting (start a).args.st (start a).args.piece.now
+taken_is : (a : tie.After-part-bytes) → a.min-m.result ≡ step.fitting (start a).args.st (start a).args.piece.now
 taken_is a =
     let st = (start a).args.st in
-    a.before.min-m.ensures ∙ ap (λ (n : ℕ). min (n - st.position-1.got) (length (start a).args.piece.now)) a.before.before.size_of-n.ensures.0
+    a.min-m.ensures ∙ ap (λ (n : ℕ). min (n - st.position.got) (length (start a).args.piece.now)) a.size_of-n.ensures.0
 
 bytes_are : (a : tie.After-part-bytes) → a.part-bytes.result.now ≡ taking (start a).args.st (start a).args.piece.now
 bytes_are a = a.part-bytes.ensures ∙ ap (λ (n : ℕ). take n (start a).args.piece.now) (taken_is a)
@@ -38,7 +38,7 @@ bytes_are a = a.part-bytes.ensures ∙ ap (λ (n : ℕ). take n (start a).args.p
 many_are : (a : tie.After-part-bytes) → (start a).args.st.position.got + length a.part-bytes.result.now ≤ step.size (start a).args.st
 many_are a =
     let st = (start a).args.st in
-    subst (λ (xs : List ℕ). st.position-1.got + length xs ≤ step.size st) (sym (bytes_are a))
+    subst (λ (xs : List ℕ). st.position.got + length xs ≤ step.size st) (sym (bytes_are a))
     (taking-fits st (start a).args.piece.now (inside_of (start a).requires))
 
 -- the block and the store with them
@@ -47,13 +47,13 @@ part_of f = f.before.before.before.before.before.before
 
 block-is : (f : tie.After-fill_store)
     → (let z = start (part_of f) in
-    f.before.before.before.before.fill_block-block.result ≡ (step.absorbed z.args.st (taking z.args.st z.args.piece.now)).position-1.block)
+    f.fill_block-block.result ≡ (step.absorbed z.args.st (taking z.args.st z.args.piece.now)).position-1.block)
 block-is f =
     let a = part_of f in
     let p = (start a).args.st.position in
-    f.before.before.before.before.fill_block-block.ensures
+    f.fill_block-block.ensures
     ∙ ap₂ (λ (q : Bool) (xs : List ℕ). step.block_with q p.got p.block xs)
-    f.before.before.before.before.before.is_first.ensures (bytes_are a)
+    f.is_first.ensures (bytes_are a)
 
 store_is : (f : tie.After-fill_store)
     → (let z = start (part_of f) in
@@ -63,21 +63,21 @@ store_is f =
     let st = (start a).args.st in
     let s = (start a).args.store.now in
     f.fill_store.ensures
-    ∙ ap (λ (q : Bool). step.store_with q (f.before.place_of.result + st.position-1.got) s a.part-bytes.result.now)
-    f.before.before.before.in_frame-later.ensures
-    ∙ ap₂ (λ (n : ℕ) (xs : List ℕ). step.store_with (in_frame st.position-1.stage) (n + st.position-1.got) s xs)
-    f.before.place_of.ensures.0 (bytes_are a)
+    ∙ ap (λ (q : Bool). step.store_with q (f.place_of.result + st.position.got) s a.part.result.now)
+    f.in_frame-later.ensures
+    ∙ ap₂ (λ (n : ℕ) (xs : List ℕ). step.store_with (in_frame st.position.stage) (n + st.position.got) s xs)
+    f.place_of.ensures.0 (bytes_are a)
 
 fill-block-requires : tie.Need-fill_block-block-requires
 fill-block-requires c κs =
     let a = c.before in
     let st = (start a).args.st in
-    λ e. omega (arith, many_are a, block_room st.position-1.stage st.known-1.header (sym c.is_first.ensures ∙ e))
+    λ e. omega (arith, many_are a, block_room st.position.stage st.known.header (sym c.is_first.ensures ∙ e))
 
-add_fill_store : tie.Need-overflow-add-fill-store
+add_fill_store : tie.Need-overflow_add-place_of
 add_fill_store c =
     let a = c.before.before.before.before.before in
-    omega (arith, c.place_of.ensures.1, a.before.before.size_of-n.ensures.0, a.before.before.size_of-n.ensures.1, inside_of (start a).requires)
+    omega (arith, c.place_of.ensures.1, a.size_of-n.ensures.0, a.size_of-n.ensures.1, inside_of (start a).requires)
 
 fill-store-requires : tie.Need-fill_store-requires
 fill-store-requires c κs =
@@ -85,13 +85,13 @@ fill-store-requires c κs =
     let st = (start a).args.st in
     let i = inside_of (start a).requires in
     λ e.
-    let room = store-room st.position-1.stage st.known-1.header (sym c.before.before.in_frame-later.ensures ∙ e) (omega arith) in
+    let room = store-room st.position.stage st.known.header (sym c.in_frame-later.ensures ∙ e) (omega arith) in
     omega (arith, c.place_of.ensures.0, many_are a, (start a).requires.fits, room)
 
-add-to : tie.Need-overflow-add-to
+add-to : tie.Need-overflow_add-to
 add-to c =
     let a = c.before.before.before.before.before.before.before.before in
-    omega (arith, taken_is a, a.before.before.size_of-n.ensures.0, a.before.before.size_of-n.ensures.1, inside_of (start a).requires)
+    omega (arith, taken_is a, a.size_of-n.ensures.0, a.size_of-n.ensures.1, inside_of (start a).requires)
 
 returns : tie.Need-returns-then-to-n
 returns c =
@@ -100,10 +100,10 @@ returns c =
     let st = (start a).args.st in
     let p = (start a).args.piece.now in
     let l = taking-length st p in
-    let t : ltb (st.position-1.got + length (taking st p)) (step.size st) ≡ true =
-    lt-ltb (st.position-1.got + length (taking st p)) (step.size st) (omega (arith, taken_is a, l, a.before.before.size_of-n.ensures.0, c.if-to-n.true))
+    let t : ltb (st.position.got + length (taking st p)) (step.size st) ≡ true =
+    lt-ltb (st.position.got + length (taking st p)) (step.size st) (omega (arith, taken_is a, l, a.before.before.type_size.ensures.0, c.if-to-n.true))
     in
-    let n = ap (λ (k : ℕ). st.position-1.got + k) (taken_is a ∙ sym l) in
+    let n = ap (λ (k : ℕ). st.position.got + k) (taken_is a ∙ sym l) in
     record { taken = taken_is a; step = rw t (held st (start a).args.store.now p _ _ _ n (block-is f) (store_is f)) }
 
 end-part-requires : tie.Need-end_part-t-requires
@@ -118,19 +118,19 @@ returns-2 c =
     let st = (start a).args.st in
     let p = (start a).args.piece.now in
     let l = taking-length st p in
-    let t : ltb (st.position-1.got + length (taking st p)) (step.size st) ≡ false =
-    le-ltb (st.position-1.got + length (taking st p)) (step.size st)
-    (omega (arith, taken_is a, l, a.before.before.size_of-n.ensures.0, c.before.before.before.before.before.if-to-n.false))
+    let t : ltb (st.position.got + length (taking st p)) (step.size st) ≡ false =
+    le-ltb (st.position.got + length (taking st p)) (step.size st)
+    (omega (arith, taken_is a, l, a.before.before.type_size.ensures.0, c.if-to-n.false))
     in
-    let finishes : List ℕ → List ℕ → step.Stepped = λ x y. step.finish st.position-1.stage x st.known-1 y in
-    record { taken = taken_is a; step = rw t (c.before.before.before.end_part-t.ensures ∙ ap₂ finishes (block-is f) (store_is f)) }
+    let finishes : List ℕ → List ℕ → step.Stepped = λ x y. step.finish st.position.stage x st.known y in
+    record { taken = taken_is a; step = rw t (c.end_part-t.ensures ∙ ap₂ finishes (block-is f) (store_is f)) }
 
 pub step_spec : {M : Type 1} → statement M
 step_spec =
     tie.close
     (tie.spec
     (λ c κs. search rules)
-    (λ c. omega (arith, c.size_of-n.ensures.0, inside_of c.before.before.before.before.before.before.before.requires))
+    (λ c. omega (arith, c.size_of-n.ensures.0, inside_of c.requires))
     (λ c κs. search rules)
     (λ c κs. search rules)
     (λ c κs. search rules)

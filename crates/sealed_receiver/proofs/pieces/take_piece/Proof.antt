@@ -20,19 +20,19 @@ abbrev start : Stepped → tie.Start invariant-loop decreases-loop
 start a = a.before.before.before.before.before.before.before
 
 done : (a : Stepped)
-    → (let z = (start a).args in let m = a.before.before.before.before.loop-at in
-    Turn z.piece.now z.store-1.now z.state m.store-1 m.st-1 m.at a.step-o.result a.step-o.last.1.1.0)
-done a = turn a.before.before.before.before.loop-at.inv a.before.before.before.loop-at-test.taken a.step-o.ensures a.step-o.kept.1.1.0
+    → (let z = (start a).args in let m = a.loop-at in
+    Turn z.piece.now z.store.now z.state m.store m.st m.at a.step-o.result a.step-o.last.1.1.0)
+done a = turn a.loop-at.inv a.loop-at-test.taken a.step-o.ensures a.step-o.kept.1.1.0
 
 returns : tie.Need-returns-then-not-is_more invariant-loop decreases-loop
 returns c =
     reported (done c.before.before.before.before.before.before)
-    (sym c.before.is_more.ensures ∙ not-true c.before.is_more.result c.if-not-is_more.true)
+    (sym c.is_more.ensures ∙ not-true c.is_more.result c.if-not-is_more.true)
 
 loop-again : tie.Need-loop-at-preserved invariant-loop decreases-loop
 loop-again c =
     again (done c.before.before.before.before.before.before)
-    (sym c.before.is_more.ensures ∙ not-false c.before.is_more.result c.if-not-is_more.false)
+    (sym c.is_more.ensures ∙ not-false c.is_more.result c.if-not-is_more.false)
 
 pub take_piece_spec : {M : Type 1} → statement M
 take_piece_spec =
@@ -40,16 +40,16 @@ take_piece_spec =
     (tie.spec
     invariant-loop
     decreases-loop
-    (λ c. (let z = c.before.before in begin lasting z.args.piece.now z.args.store.now z.args.state z.requires))
+    (λ c. (let z = c in begin lasting z.args.piece.now z.args.store.now z.args.state z.requires))
     (λ c. search rules)
     (λ c. search rules)
     (λ c. search rules)
-    (λ c κs. c.before.before.before.loop-at.invariant.running)
+    (λ c κs. c.loop-at.invariant.running)
     (λ c. (let a = c.before.before.before in omega (arith, within (done a), (start a).well_formed.1.0.0)))
     (λ c κs. search rules)
     (λ c. (let t = done c.before.before.before.before.before.before in t.kept ∙ t.midway.same))
     returns
     (λ c. (let t = done c.before.before.before.before.before.before in omega (arith, within t, progress t)))
     loop-again
-    (λ c. c.before.loop-at.invariant.same)
-    (λ c. finished c.before.loop-at.invariant c.loop-at-test.false))
+    (λ c. c.loop-at.invariant.same)
+    (λ c. finished c.loop-at.invariant c.loop-at-test.false))

@@ -7,5 +7,5 @@ before_last_spec =
     tie.close
     (tie.spec
     (λ c κs. search rules)
-    (λ c. (rw (sym c.before.no_second_part.ensures ∙ c.if-no_second_part.true), omega arith))
-    (λ c. (rw (sym c.before.no_second_part.ensures ∙ c.if-no_second_part.false), omega arith)))
+    (λ c. (rw (sym c.no_second_part.ensures ∙ c.if-no_second_part.true), omega arith))
+    (λ c. (rw (sym c.no_second_part.ensures ∙ c.if-no_second_part.false), omega arith)))

@@ -3,10 +3,10 @@ use Rattle.sealed_receiver.proofs.states.header_rule.Statement.{statement}
 use Rattle.sealed_receiver.proofs.states.header_rule.Tie as tie
 
 returns : tie.Need-returns-then-in_frame
-returns c = rw (sym c.before.before.in_frame.ensures ∙ c.before.if-in_frame.true) c.header_is_fine.ensures
+returns c = rw (sym c.in_frame.ensures ∙ c.if-in_frame.true) c.header_is_fine.ensures
 
 returns-2 : tie.Need-returns
-returns-2 c = rw (sym c.before.before.in_frame.ensures ∙ c.before.if-in_frame.false) c.is_no_header.ensures
+returns-2 c = rw (sym c.in_frame.ensures ∙ c.if-in_frame.false) c.is_no_header.ensures
 
 pub header_rule_spec : {M : Type 1} → statement M
 header_rule_spec =

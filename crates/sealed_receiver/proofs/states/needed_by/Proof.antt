@@ -8,5 +8,5 @@ needed_by_spec =
     (tie.spec
     (λ c κs. search rules)
     (λ c κs. search rules)
-    (λ c. rw (sym c.before.before.in_frame.ensures ∙ c.before.if-in_frame.true) c.needed_of.ensures.0)
-    (λ c. rw (sym c.before.in_frame.ensures ∙ c.if-in_frame.false)))
+    (λ c. rw (sym c.in_frame.ensures ∙ c.if-in_frame.true) c.needed_of.ensures.0)
+    (λ c. rw (sym c.in_frame.ensures ∙ c.if-in_frame.false)))

@@ -13,5 +13,5 @@ opened_before_spec =
     (λ c. search rules)
     (λ c. search rules)
     (λ c. search rules)
-    (λ c. (simp (c.before_last.ensures.0, c.before.enum_told-in-Last-1.given.1), omega (arith, c.before_last.ensures.1)))
+    (λ c. (simp (c.before_last.ensures.0, c.in-Last.is), omega (arith, c.before_last.ensures.1)))
     (λ c. search rules))

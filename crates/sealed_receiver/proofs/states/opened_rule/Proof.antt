@@ -5,8 +5,8 @@ use Rattle.sealed_receiver.proofs.states.opened_rule.Tie as tie
 
 returns : tie.Need-returns
 returns c =
-    let r = c.before.before.before.args.r in
-    let before = c.before.before.opened_before.ensures in
+    let r = c.args.r in
+    let before = c.opened_before.ensures in
     c.either.ensures ∙ enough r.exhausted r.opened before.0 before.1
 
 pub opened_rule_spec : {M : Type 1} → statement M

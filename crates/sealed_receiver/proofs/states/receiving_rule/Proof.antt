@@ -3,10 +3,10 @@ use Rattle.sealed_receiver.proofs.states.receiving_rule.Statement.{statement}
 use Rattle.sealed_receiver.proofs.states.receiving_rule.Tie as tie
 
 returns : tie.Need-returns-then-is_refused
-returns c = rw (sym c.before.before.is_refused.ensures ∙ c.before.if-is_refused.true) c.is_no_receiving.ensures
+returns c = rw (sym c.is_refused.ensures ∙ c.if-is_refused.true) c.is_no_receiving.ensures
 
 returns-2 : tie.Need-returns
-returns-2 c = rw (sym c.before.before.before.before.is_refused.ensures ∙ c.before.before.before.if-is_refused.false) (cc)
+returns-2 c = rw (sym c.is_refused.ensures ∙ c.if-is_refused.false) (cc)
 
 pub receiving_rule_spec : {M : Type 1} → statement M
 receiving_rule_spec =

@@ -13,6 +13,6 @@ size_of_spec =
     (λ c κs. search rules)
     (λ c. search rules)
     (λ c. search rules)
-    (λ c. (simp (c.second_part_length.ensures.0, c.before.enum_told-in-Second-1.given.1), omega arith))
-    (λ c. (simp (c.last_part_length.ensures.0, c.before.enum_told-in-Last-1.given.1), omega arith))
+    (λ c. (simp (c.second_part_length.ensures.0, c.in-Second.is), omega arith))
+    (λ c. (simp (c.last_part_length.ensures.0, c.in-Last.is), omega arith))
     (λ c. search rules))
