@@ -1,5 +1,4 @@
 -- What the proofs of several functions cite.
-mod InPlaceCalls
 mod Histories
 mod Single
 pub mod Table

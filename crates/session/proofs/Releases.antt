@@ -69,6 +69,7 @@ among x (session.nothing ∷ es) fs e = among x es fs e
 
 mem_above : (x : Message) (n : ℕ) (ms : List Message) → leb x.number n ≡ false → Memᴰ x ms → Memᴰ x (above n ms)
 unfolding above
+mem_above x n [] e k = elim k [ ]
 mem_above x n (y ∷ ms) e (Memᴰ.head p) =
     let l : ltb n y.number ≡ true = rw p at (lt-ltb n x.number (leb-false x.number n e)) in
     rw l (Memᴰ.head p)
