@@ -31,7 +31,7 @@ returns-2 c =
     let v = c.known_of-known.ensures.0 in
     let d : state_at c.stage_of.result (get_or ws 18 0) b c.known_of-known.result ≡ words.state_of (abi_state ws b) = rw (k, v) in
     let to = c.in-Partial.to in
-    let b' = c.receive_in-t.new.1.1.1.0 in
+    let b' = c.receive_in-t.new.block in
     let a = rw c.in-Partial.is at c.receive_in-t.ensures in
     let st = state_at c.stage_of.result to b' c.known_of-known.result in
     let w : set ws 18 to ≡ words.state_numbers st = counted ws b' to c.known_of-known.ensures.1 e ∙ rw (k, v) in
@@ -52,7 +52,7 @@ returns-3 c =
     let a = rw c.in-Moved.is at c.receive_in-t.ensures in
     record {
       kind = refl;
-      answered = answered (abi_state ws b) g.store.now g.piece.now _ _ _ _ _ e d a (c.numbers_of.ensures c.receive_in-t.new.1.1.1.0) c.report_words-said.ensures;
+      answered = answered (abi_state ws b) g.store.now g.piece.now _ _ _ _ _ e d a (c.numbers_of.ensures c.receive_in-t.new.block) c.report_words-said.ensures;
     }
 
 pub abi_receive_spec : {M : Type 1} → statement M

@@ -16,7 +16,7 @@ unfolding banner_done
 returns-2 c =
     let g = c.args in
     let fine = sym c.judge_banner-judgement.ensures ∙ ap judged_by c.in-Fine.is in
-    let put = placed-overwrite g.buf.now (banner_bytes g.supported g.required) c.put.new.0 g.queued (banner-fits _ _ _ _ fine) in
+    let put = placed-overwrite g.buf.now (banner_bytes g.supported g.required) c.put.new.out g.queued (banner-fits _ _ _ _ fine) in
     record { promise = rw fine (ap (done (wrote 26)) (put (rw c.banner_bytes-bytes.ensures at c.put.ensures))) }
 
 pub build_banner_spec : {M : Type 1} → statement M

@@ -22,7 +22,7 @@ returns-2 : tie.Need-returns-in-Fine
 unfolding frame_done
 returns-2 c =
     let g = c.args in
-    let put = placed g.buf.now (frame_bytes g.revision g.header g.abort g.source.now) c.put_frame.new.0 g.queued c.put_frame.ensures in
+    let put = placed g.buf.now (frame_bytes g.revision g.header g.abort g.source.now) c.put_frame.new.out g.queued c.put_frame.ensures in
     record { promise = rw (sym c.judge_frame-judgement.ensures ∙ ap judged_by c.in-Fine.is) (ap₂ (λ (n : ℕ) (b : List ℕ). done (wrote n) b) c.wire_length.ensures put) }
 
 pub build_frame_spec : {M : Type 1} → statement M

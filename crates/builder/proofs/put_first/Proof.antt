@@ -11,8 +11,8 @@ returns : tie.Need-returns
 returns c =
     let g = c.args in
     let first = g.first.now in
-    let l₁ = c.put.new.0 in
-    next g.out.now l₁ first (first_sum g.revision g.h first) c.put_first_sum.new.0 (length first) refl
+    let l₁ = c.put.new.out in
+    next g.out.now l₁ first (first_sum g.revision g.h first) c.put_first_sum.new.out (length first) refl
     (c.put.ensures ∙ overwrite-fits first g.out.now (omega (arith, c.requires)))
     c.put_first_sum.ensures
 

@@ -18,13 +18,13 @@ put-body-requires c κs =
     let g = c.args in
     let s = g.source.now in
     let n = g.h.s1.len in
-    let l₁ = c.put_preamble.new.0 in
+    let l₁ = c.put_preamble.new.out in
     let a = length-take-le n s (omega (arith, c.requires.0)) in
     let d = length-drop n s in
     let b : length (rest l₁ 32) ≡ length l₁ - 32 = length_rest l₁ 32 in (
       ap length c.part-first.ensures ∙ a,
       ap length c.behind-rest.ensures ∙ d ∙ omega (arith, c.requires.0),
-      omega (arith, c.requires.1, c.put_preamble.auto.0, b),
+      omega (arith, c.requires.1, c.put_preamble.auto.out, b),
     )
 
 returns : tie.Need-returns
@@ -33,9 +33,9 @@ returns c =
     let g = c.args in
     let s = g.source.now in
     let n = g.h.s1.len in
-    let l₁ = c.put_preamble.new.0 in
+    let l₁ = c.put_preamble.new.out in
     let of : List ℕ → List ℕ → List ℕ = λ first rest. body g.revision g.h (late_byte g.revision g.abort) first (rest_sent g.abort rest) in
-    next g.out.now l₁ (preamble_bytes g.h) (of (take n s) (drop n s)) c.put_body.new.0 32
+    next g.out.now l₁ (preamble_bytes g.h) (of (take n s) (drop n s)) c.put_body.new.out 32
     (length-preamble g.h)
     c.put_preamble.ensures
     (c.put_body.ensures ∙ ap₂ (λ (x y : List ℕ). replace_front (of x y) (rest l₁ 32)) c.part-first.ensures c.behind-rest.ensures)
@@ -48,8 +48,8 @@ put_frame_spec =
     (λ c. search rules)
     (λ c κs. search rules)
     (λ c κs. search rules)
-    (λ c. omega (arith, c.requires.1, c.put_preamble.auto.0))
-    (λ c. omega (arith, c.requires.1, c.put_preamble.auto.0))
+    (λ c. omega (arith, c.requires.1, c.put_preamble.auto.out))
+    (λ c. omega (arith, c.requires.1, c.put_preamble.auto.out))
     (λ c. search rules)
     put-body-requires
     (λ c. search rules)

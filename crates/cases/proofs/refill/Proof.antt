@@ -17,7 +17,7 @@ returns-3 : tie.Need-returns
 returns-3 c =
     let a = c.args in
     let n : ℕ = a.input.end - a.input.at in
-    (search rules, record { more = search rules; same = moved-kept a.held.now c.move_front.new.0 c.read_full.new.1.0 a.input.at n (omega arith) c.move_front.ensures; whole = λ t. let e : n + c.read_full.result ≡ length a.held.now = eqb-true _ _ t in omega arith })
+    (search rules, record { more = search rules; same = moved-kept a.held.now c.move_front.new.held c.read_full.new.buf a.input.at n (omega arith) c.move_front.ensures; whole = λ t. let e : n + c.read_full.result ≡ length a.held.now = eqb-true _ _ t in omega arith })
 
 pub refill_spec : {M : Type 1} → statement M
 refill_spec =

@@ -22,7 +22,7 @@ run_spec =
     (λ c. (omega arith, refl, refl, refl))
     (λ c κs. omega arith)
     (λ c. omega arith)
-    (λ c. (omega (arith, c.run_one-next.ensures.0), c.run_one-next.auto.0 ∙ c.loop-s.invariant.1, c.run_one-next.auto.1.0 ∙ c.loop-s.invariant.2, c.run_one-next.auto.1.1.0 ∙ c.loop-s.invariant.3))
+    (λ c. (omega (arith, c.run_one-next.ensures.0), c.run_one-next.auto.held ∙ c.loop-s.invariant.1, c.run_one-next.auto.space ∙ c.loop-s.invariant.2, c.run_one-next.auto.text ∙ c.loop-s.invariant.3))
     (λ c κs. search rules)
     (λ c κs. search rules)
     (λ c. c.loop-s.invariant.1)

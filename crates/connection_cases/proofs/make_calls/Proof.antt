@@ -32,8 +32,8 @@ loop-again c =
       l.invariant.1,
       l.invariant.2,
       calls-on c.args.l c.args.s.now l.left l.place c.args.stream.now l.taken c.forward-taken.result c.call_width-width.result l.state c.call_at-call.result c.behind-rest.result.now l.store (omega (arith, c.loop-left-test.true)) c.call_at-call.ensures c.behind-rest.ensures c.make_either-o.ensures c.forward-taken.ensures l.invariant.2 ∙ l.invariant.3,
-      c.make_either-o.auto.1.1.1.1.1.0 ∙ l.invariant.4,
-      c.make_either-o.auto.1.1.1.1.1.1.0 ∙ l.invariant.5,
+      c.make_either-o.auto.store ∙ l.invariant.4,
+      c.make_either-o.auto.text ∙ l.invariant.5,
     )
 
 pub make_calls_spec : {M : Type 1} → statement M

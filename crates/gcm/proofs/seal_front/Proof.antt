@@ -24,8 +24,8 @@ returns c =
     let l₀ : List ℕ = a.buf.now in
     let m : List ℕ = gctr w a.nonce (take a.n l₀) in
     let en : length m ≡ a.n = gctr-length w a.nonce 0 (take a.n l₀) ∙ length-take-le a.n l₀ (omega arith) in
-    let e₁ : mask.xor_keystream.new.1.1.0 ≡ replace_front m l₀ = mask.xor_keystream.ensures ∙ masked-over w a.nonce l₀ a.n (omega arith) in
-    let et : take a.n mask.xor_keystream.new.1.1.0 ≡ m = rw e₁ (take_at m (drop (length m) l₀) a.n en) in
+    let e₁ : mask.xor_keystream.new.buf ≡ replace_front m l₀ = mask.xor_keystream.ensures ∙ masked-over w a.nonce l₀ a.n (omega arith) in
+    let et : take a.n mask.xor_keystream.new.buf ≡ m = rw e₁ (take_at m (drop (length m) l₀) a.n en) in
     next-overwrite l₀ _ m (tag_of w a.nonce m) _ a.n en (omega (arith, tag-length w a.nonce m)) e₁ (rw (tag.tag-t.ensures, et) at c.put.ensures)
 
 pub seal_front_spec : {M : Type 1} → statement M
@@ -34,7 +34,7 @@ seal_front_spec =
     (tie.spec
     (λ c κs. search rules)
     (λ c. search rules)
-    (λ c. sym (length-take-le c.args.n c.xor_keystream.new.1.1.0 (search rules)))
+    (λ c. sym (length-take-le c.args.n c.xor_keystream.new.buf (search rules)))
     (λ c κs. search rules)
     (λ c. search rules)
     (λ c. search rules)

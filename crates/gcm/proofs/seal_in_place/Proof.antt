@@ -13,7 +13,7 @@ returns-3 : tie.Need-returns
 returns-3 c =
     let f = c in
     let s = f.args.buf.now in
-    let e : length f.seal_front.new.1.1.0 ≡ length s = search rules in
+    let e : length f.seal_front.new.buf ≡ length s = search rules in
     record { is = ap₂ (λ (n : ℕ) (x : List ℕ). done (wrote n) x) e f.seal_front.ensures ∙ sym (in-place-fits _ _ s (omega arith) (omega arith)) }
 
 pub seal_in_place_spec : {M : Type 1} → statement M

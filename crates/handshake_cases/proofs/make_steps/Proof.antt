@@ -22,7 +22,7 @@ loop-again c =
     let l = c.loop-left in
     let s = c.args.s.now in
     let h = good-within s l.place c.step_good.ensures c.if-not-step_good.false in
-    (omega arith, c.print_step-end.auto.0 ∙ l.invariant.1, steps_on s (side_of c.args.side) l.state l.left l.place c.loop-left-test.true c.step_good.ensures c.if-not-step_good.false c.byte_at.ensures c.byte_at-in-loop-left.ensures c.make_step-step.ensures c.print_step-end.ensures l.invariant.2)
+    (omega arith, c.print_step-end.auto.text ∙ l.invariant.1, steps_on s (side_of c.args.side) l.state l.left l.place c.loop-left-test.true c.step_good.ensures c.if-not-step_good.false c.byte_at.ensures c.byte_at-in-loop-left.ensures c.make_step-step.ensures c.print_step-end.ensures l.invariant.2)
 
 pub make_steps_spec : {M : Type 1} → statement M
 unfolding steps_from
@@ -34,7 +34,7 @@ make_steps_spec =
     (λ c. (omega arith, refl, left-all))
     (λ c κs. omega arith)
     (search rules)
-    (λ c. c.bad_record.auto.0 ∙ c.loop-left.invariant.1)
+    (λ c. c.bad_record.auto.text ∙ c.loop-left.invariant.1)
     (λ c. did_broken (steps-broken _ _ _ _ _ c.loop-left-test.true c.step_good.ensures c.if-not-step_good.true c.loop-left.invariant.2) c.bad_record.ensures)
     (search rules)
     (λ c. omega (arith, good-within _ _ c.step_good.ensures c.if-not-step_good.false))

@@ -19,12 +19,12 @@ decreases-loop stream cuts store₀ state₀ t₀ i₀ store state t i = length 
 -- one more call was made
 called : (a : tie.After-receive-o invariant-loop decreases-loop)
     → (let g = a.args in let m = a.loop-i in let o = a.receive-o.result in
-    Called g.stream.now g.cuts.now g.store.now a.receive-o.new.1.1.0 a.start-first.result.state o.state (m.t + o.taken) (m.i + 1))
+    Called g.stream.now g.cuts.now g.store.now a.receive-o.new.store a.start-first.result.state o.state (m.t + o.taken) (m.i + 1))
 called a =
     let g = a.args in
     let m = a.loop-i in
     let e = clipped g.stream.now m.t (get_or g.cuts.now m.i 0) a.min-k.result m.invariant.within a.min-k.ensures in
-    called-next m.invariant a.loop-i-test.true a.receive-o.auto.1.1.0 (rw e at a.receive-o.ensures)
+    called-next m.invariant a.loop-i-test.true a.receive-o.auto.store (rw e at a.receive-o.ensures)
 
 returns : tie.Need-returns invariant-loop decreases-loop
 unfolding Demand3

@@ -33,13 +33,13 @@ returns-2 c =
     let g = c.args in
     let parts : List State → List ℕ = λ w. sealed_parts w (frame_parts g.sending.nonce g.header g.abort g.source.now) in
     let w : List State = key_expansion g.sending.key in
-    let bytes : c.put_sealed.new.0 ≡ replace_front (parts w) (rest g.buf.now g.queued) =
+    let bytes : c.put_sealed.new.out ≡ replace_front (parts w) (rest g.buf.now g.queued) =
     c.put_sealed.ensures ∙ ap (λ (x : List State). replace_front (parts x) (rest g.buf.now g.queued)) c.key_expansion-w.ensures in
     record {
       promise =
           rw (sym c.judge_sealed-judgement.ensures ∙ ap judged_by c.in-Fine.is)
-          (ap₂ (λ (n : ℕ) (s : Sending). done (wrote n) s (back g.buf.now g.queued c.put_sealed.new.0)) c.sealed_length.ensures (c.sent_more-sending.ensures ∙ ap (sent_more g.sending) c.part_count.ensures.0)
-          ∙ ap (done (wrote (sealed_length g.header)) (sent_more g.sending (part_count g.header))) (placed g.buf.now (parts w) c.put_sealed.new.0 g.queued bytes));
+          (ap₂ (λ (n : ℕ) (s : Sending). done (wrote n) s (back g.buf.now g.queued c.put_sealed.new.out)) c.sealed_length.ensures (c.sent_more-sending.ensures ∙ ap (sent_more g.sending) c.part_count.ensures.0)
+          ∙ ap (done (wrote (sealed_length g.header)) (sent_more g.sending (part_count g.header))) (placed g.buf.now (parts w) c.put_sealed.new.out g.queued bytes));
     }
 
 pub build_sealed_spec : {M : Type 1} → statement M

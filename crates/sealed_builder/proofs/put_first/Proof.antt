@@ -10,7 +10,7 @@ returns : tie.Need-returns
 unfolding first_text
 returns c =
     let g = c.args in
-    next g.out.now c.put_preamble.new.0 (preamble_bytes g.h) (inlined g.first.now) c.put_inline.new.0 32
+    next g.out.now c.put_preamble.new.out (preamble_bytes g.h) (inlined g.first.now) c.put_inline.new.out 32
     (length-preamble g.h) c.put_preamble.ensures c.put_inline.ensures
 
 pub put_first_spec : {M : Type 1} → statement M

@@ -18,7 +18,7 @@ returns : tie.Need-returns
 returns c =
     let g = c.args in
     let bytes : List ℕ = g.rest.now in
-    padded-next g.abort g.n (g.n + c.padding.result) bytes c.part.result.now _ g.out.now c.put_padded.new.0 c.put_epilogue.new.0
+    padded-next g.abort g.n (g.n + c.padding.result) bytes c.part.result.now _ g.out.now c.put_padded.new.out c.put_epilogue.new.out
     (λ _. epilogue16 (late_byte Msgr21 g.abort)) (omega (arith, c.requires.0)) (ap (λ (k : ℕ). g.n + k) c.padding.ensures.0) c.part.ensures refl
     c.put_padded.ensures c.put_epilogue.ensures
 

@@ -26,7 +26,7 @@ returns c =
     let zeros : List ℕ = replicate (48 - length xs) 0 in
     let short : length xs ≤ 48 = front-short first xs c.part-inline.ensures in
     let room : length xs + length zeros ≤ length g.out.now = omega (arith, length-replicate {A = ℕ} (48 - length xs) 0, c.requires) in
-    next-overwrite g.out.now c.put.new.0 xs zeros c.put_zeros.new.0 (length xs) refl room
+    next-overwrite g.out.now c.put.new.out xs zeros c.put_zeros.new.out (length xs) refl room
     (c.put.ensures ∙ overwrite-fits xs g.out.now (omega (arith, c.requires))) c.put_zeros.ensures
     ∙ ap (λ (t : List ℕ). replace_front t g.out.now) (inline-is first xs c.part-inline.ensures)
 

@@ -18,7 +18,7 @@ put-third-requires : tie.Need-put_third-requires
 put-third-requires c κs =
     let bytes : List ℕ = c.args.rest.now in
     let n : ℕ = c.args.h.s2.len in
-    let l₁ : List ℕ = c.put_padded.new.0 in
+    let l₁ : List ℕ = c.put_padded.new.out in
     let d : length c.behind.result.now ≡ length bytes - n = ap length c.behind.ensures ∙ length-drop n bytes in
     let r : length (rest l₁ (n + c.padding.result)) ≡ length l₁ - (n + c.padding.result) = length_rest l₁ (n + c.padding.result) in
     let k : length l₁ ≡ length c.args.out.now = search rules in
@@ -29,7 +29,7 @@ unfolding last_text
 returns c =
     let g = c.args in
     let bytes : List ℕ = g.rest.now in
-    padded-next g.abort g.h.s2.len (g.h.s2.len + c.padding.result) bytes c.part.result.now c.behind.result.now g.out.now c.put_padded.new.0 c.put_third.new.0
+    padded-next g.abort g.h.s2.len (g.h.s2.len + c.padding.result) bytes c.part.result.now c.behind.result.now g.out.now c.put_padded.new.out c.put_third.new.out
     (padded_from (g.h.s3.len ∷ g.h.s4.len ∷ []) (late_byte Msgr21 g.abort)) (omega (arith, c.requires.0)) (ap (λ (k : ℕ). g.h.s2.len + k) c.padding.ensures.0) c.part.ensures c.behind.ensures
     c.put_padded.ensures c.put_third.ensures
 

@@ -16,9 +16,9 @@ returns c =
     let zeros : List ℕ = replicate (padding n) 0 in
     let en : length xs ≡ n = length-sent g.abort g.bytes.now in
     let room : n + length zeros ≤ length g.out.now = omega (arith, length-replicate {A = ℕ} (padding n) 0, c.requires) in
-    next-overwrite g.out.now c.put_sent.new.0 xs zeros c.put_zeros.new.0 n en room
+    next-overwrite g.out.now c.put_sent.new.out xs zeros c.put_zeros.new.out n en room
     (c.put_sent.ensures ∙ overwrite-fits xs g.out.now (omega (arith, c.requires)))
-    (c.put_zeros.ensures ∙ ap (λ (k : ℕ). overwrite (replicate k 0) (rest c.put_sent.new.0 n)) c.padding.ensures.0)
+    (c.put_zeros.ensures ∙ ap (λ (k : ℕ). overwrite (replicate k 0) (rest c.put_sent.new.out n)) c.padding.ensures.0)
     ∙ ap (λ (k : ℕ). replace_front (xs ++ replicate (padding k) 0) g.out.now) (sym en)
 
 pub put_padded_spec : {M : Type 1} → statement M

@@ -16,9 +16,9 @@ returns c =
     let front : List ℕ = preamble_front h in
     let f = c.preamble_front-front.ensures ∙ front-is h in
     let n = length_front h in
-    let e : c.put.new.0 ≡ replace_front front out = rw f at c.put.ensures ∙ overwrite-fits front out (omega arith) in
+    let e : c.put.new.out ≡ replace_front front out = rw f at c.put.ensures ∙ overwrite-fits front out (omega arith) in
     let s = c.u32_bytes-sum.ensures ∙ ap (le 4) (c.checksum.ensures ∙ ap (crc_of 0) f) in
-    next-overwrite out c.put.new.0 front (le 4 (crc_of 0 front)) c.put-2.new.0 28 n (omega arith) e (rw s at c.put-2.ensures)
+    next-overwrite out c.put.new.out front (le 4 (crc_of 0 front)) c.put-2.new.out 28 n (omega arith) e (rw s at c.put-2.ensures)
 
 pub put_preamble_spec : {M : Type 1} → statement M
 put_preamble_spec =

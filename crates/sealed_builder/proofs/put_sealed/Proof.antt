@@ -18,11 +18,11 @@ length-is h = refl
 seal-later-requires : tie.Need-seal_later-requires
 seal-later-requires c κs =
     let first : length c.part-first.result.now ≡ c.args.h.s1.len = ap length c.part-first.ensures ∙ length-take-le c.args.h.s1.len c.args.source.now (omega (arith, c.requires.0)) in
-    let l₁ : List ℕ = c.seal_first.new.0 in (
+    let l₁ : List ℕ = c.seal_first.new.out in (
       first,
       omega (arith, first, c.struct_known-1.given),
       ap length c.behind-rest.ensures ∙ length-drop c.args.h.s1.len c.args.source.now ∙ omega (arith, c.requires.0),
-      omega (arith, length-is c.args.h, c.requires.1, c.seal_first.auto.0, length_rest l₁ 96),
+      omega (arith, length-is c.args.h, c.requires.1, c.seal_first.auto.out, length_rest l₁ 96),
     )
 
 returns : tie.Need-returns
@@ -30,12 +30,12 @@ unfolding texts
 returns c =
     let g = c.args in
     let n : ℕ = g.h.s1.len in
-    let l₁ : List ℕ = c.seal_first.new.0 in
+    let l₁ : List ℕ = c.seal_first.new.out in
     let late : ℕ = late_byte Msgr21 g.abort in
     let of : List ℕ → List ℕ → List ℕ → List ℕ = λ nonce first bytes. sealed_parts g.w.now (parts_from nonce (later_texts g.h late first (rest_sent g.abort bytes))) in
     let head : List ℕ → List ℕ = λ first. sealed_by g.w.now g.nonce (first_text g.h first) in
     let first : List ℕ = take n g.source.now in
-    next g.out.now l₁ (head first) (of (next_nonce g.nonce) first (drop n g.source.now)) c.seal_later.new.0 96
+    next g.out.now l₁ (head first) (of (next_nonce g.nonce) first (drop n g.source.now)) c.seal_later.new.out 96
     (sealed-length g.w.now g.nonce (first_text g.h first) ∙ ap (λ (k : ℕ). k + 16) (length-first-text g.h first))
     (c.seal_first.ensures ∙ ap (λ (x : List ℕ). replace_front (head x) g.out.now) c.part-first.ensures)
     (c.seal_later.ensures
@@ -51,8 +51,8 @@ put_sealed_spec =
     (λ c κs. search rules)
     (λ c κs. search rules)
     (λ c κs. omega (arith, length-is c.args.h, c.requires.1))
-    (λ c. omega (arith, length-is c.args.h, c.requires.1, c.seal_first.auto.0))
-    (λ c. omega (arith, length-is c.args.h, c.requires.1, c.seal_first.auto.0))
+    (λ c. omega (arith, length-is c.args.h, c.requires.1, c.seal_first.auto.out))
+    (λ c. omega (arith, length-is c.args.h, c.requires.1, c.seal_first.auto.out))
     (λ c. search rules)
     seal-later-requires
     (λ c. search rules)

@@ -18,7 +18,7 @@ put-fourth-requires : tie.Need-put_fourth-requires
 put-fourth-requires c κs =
     let bytes : List ℕ = c.args.rest.now in
     let n : ℕ = c.args.n in
-    let l₁ : List ℕ = c.put_padded.new.0 in
+    let l₁ : List ℕ = c.put_padded.new.out in
     let d : length c.behind.result.now ≡ length bytes - n = ap length c.behind.ensures ∙ length-drop n bytes in
     let r : length (rest l₁ (n + c.padding.result)) ≡ length l₁ - (n + c.padding.result) = length_rest l₁ (n + c.padding.result) in
     let k : length l₁ ≡ length c.args.out.now = search rules in
@@ -28,7 +28,7 @@ returns : tie.Need-returns
 returns c =
     let g = c.args in
     let bytes : List ℕ = g.rest.now in
-    padded-next g.abort g.n (g.n + c.padding.result) bytes c.part.result.now c.behind.result.now g.out.now c.put_padded.new.0 c.put_fourth.new.0
+    padded-next g.abort g.n (g.n + c.padding.result) bytes c.part.result.now c.behind.result.now g.out.now c.put_padded.new.out c.put_fourth.new.out
     (padded_from (g.n4 ∷ []) (late_byte Msgr21 g.abort)) (omega (arith, c.requires.0)) (ap (λ (k : ℕ). g.n + k) c.padding.ensures.0) c.part.ensures c.behind.ensures
     c.put_padded.ensures c.put_fourth.ensures
 

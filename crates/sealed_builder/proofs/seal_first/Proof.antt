@@ -8,7 +8,7 @@ use Rattle.sealed_builder.proofs.seal_first.Tie as tie
 returns : tie.Need-returns
 returns c =
     let g = c.args in
-    sealed-laid g.w.now g.nonce (first_text g.h g.first.now) g.out.now c.put_first.new.0 c.seal_front.new.0 80
+    sealed-laid g.w.now g.nonce (first_text g.h g.first.now) g.out.now c.put_first.new.out c.seal_front.new.out 80
     (length-first-text g.h g.first.now) (omega (arith, c.requires)) c.put_first.ensures c.seal_front.ensures
 
 pub seal_first_spec : {M : Type 1} → statement M

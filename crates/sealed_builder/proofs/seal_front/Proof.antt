@@ -9,7 +9,7 @@ slice_aggregate_seal_in_place c =
 
 returns : tie.Need-returns
 returns c =
-    sealed-part c.args.w.now c.args.nonce c.args.n c.args.out.now c.seal_in_place.new.1.1.0 c.seal_in_place.result c.requires.0 c.requires.1 c.seal_in_place.ensures
+    sealed-part c.args.w.now c.args.nonce c.args.n c.args.out.now c.seal_in_place.new.buf c.seal_in_place.result c.requires.0 c.requires.1 c.seal_in_place.ensures
 
 pub seal_front_spec : {M : Type 1} → statement M
 seal_front_spec =

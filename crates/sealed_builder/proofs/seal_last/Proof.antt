@@ -26,7 +26,7 @@ seal-front-requires : tie.Need-seal_front-requires
 seal-front-requires c κs =
     let a = c.before.before.before.before.before in
     let z = a in
-    (omega (arith, sized a, last-size z.args.h (there a.before), z.requires.1, c.put_last.auto.0), omega (arith, sized a, a.last_part_length.ensures.1))
+    (omega (arith, sized a, last-size z.args.h (there a.before), z.requires.1, c.put_last.auto.out), omega (arith, sized a, a.last_part_length.ensures.1))
 
 returns-2 : tie.Need-returns
 returns-2 c =
@@ -36,8 +36,8 @@ returns-2 c =
     let bytes : List ℕ = rest_sent g.abort g.rest.now in
     let text : List ℕ = last_text g.h (late_byte Msgr21 g.abort) bytes in
     let len : length text + 16 ≡ last_part g.h = length-last-text g.h (late_byte Msgr21 g.abort) bytes (length-sent g.abort g.rest.now ∙ c.requires.0) in
-    last-there g.w.now g.nonce g.h text g.out.now c.seal_front.new.0 some
-    (sealed-laid g.w.now g.nonce text g.out.now c.put_last.new.0 c.seal_front.new.0 (c.last_part_length.result - 16)
+    last-there g.w.now g.nonce g.h text g.out.now c.seal_front.new.out some
+    (sealed-laid g.w.now g.nonce text g.out.now c.put_last.new.out c.seal_front.new.out (c.last_part_length.result - 16)
     (omega arith) (omega (arith, last-size g.h some, c.requires.1)) c.put_last.ensures c.seal_front.ensures)
 
 pub seal_last_spec : {M : Type 1} → statement M

@@ -14,7 +14,7 @@ seal-front-requires : tie.Need-seal_front-requires
 seal-front-requires c κs =
     let e = rounded c.before.before.before.before.before.before in
     let z = c in
-    (omega (arith, z.requires.0, c.padding.ensures.0, c.put_padded.auto.0), omega (arith, z.requires.1, c.padding.ensures.1))
+    (omega (arith, z.requires.0, c.padding.ensures.0, c.put_padded.auto.out), omega (arith, z.requires.1, c.padding.ensures.1))
 
 returns : tie.Need-returns
 returns c =
@@ -23,7 +23,7 @@ returns c =
     let e = rounded c.before.before.before.before.before.before.before.before.before in
     let len : length text ≡ length c.behind-tail.result.now + c.padding.result =
     length-padded (drop 48 g.first.now) ∙ ap round_up (length-drop 48 g.first.now) ∙ omega (arith, e, c.padding.ensures.0) in
-    sealed-laid g.w.now g.nonce text g.out.now c.put_padded.new.0 c.seal_front.new.0 (length c.behind-tail.result.now + c.padding.result)
+    sealed-laid g.w.now g.nonce text g.out.now c.put_padded.new.out c.seal_front.new.out (length c.behind-tail.result.now + c.padding.result)
     len (omega (arith, e, c.padding.ensures.0, c.requires.0))
     (c.put_padded.ensures ∙ ap (λ (t : List ℕ). replace_front (padded t) g.out.now) c.behind-tail.ensures) c.seal_front.ensures
 

@@ -21,7 +21,7 @@ loop-again c =
     let l = c.loop-left in
     let s = c.args.s.now in
     let h = good-within s l.place c.call_good.ensures c.if-not-call_good.false in
-    (omega arith, c.make_call-o.auto.1.1.1.0 ∙ l.invariant.1, calls-on s l.session l.left l.place c.loop-left-test.true c.call_good.ensures c.if-not-call_good.false c.byte_at.ensures c.u64_at.ensures c.make_call-o.ensures l.invariant.2)
+    (omega arith, c.make_call-o.auto.text ∙ l.invariant.1, calls-on s l.session l.left l.place c.loop-left-test.true c.call_good.ensures c.if-not-call_good.false c.byte_at.ensures c.u64_at.ensures c.make_call-o.ensures l.invariant.2)
 
 pub make_calls_spec : {M : Type 1} → statement M
 unfolding calls_from
@@ -33,7 +33,7 @@ make_calls_spec =
     (λ c. (omega arith, refl, left-all))
     (λ c κs. omega arith)
     (search rules)
-    (λ c. c.bad_record.auto.0 ∙ c.loop-left.invariant.1)
+    (λ c. c.bad_record.auto.text ∙ c.loop-left.invariant.1)
     (λ c. did_broken (calls-broken _ _ _ _ c.loop-left-test.true c.call_good.ensures c.if-not-call_good.true c.loop-left.invariant.2) c.bad_record.ensures)
     (search rules)
     (λ c. omega (arith, good-within _ _ c.call_good.ensures c.if-not-call_good.false))

@@ -23,7 +23,7 @@ loop-holds c = let e : c.before.args.k - 0 ≡ c.before.args.k = omega arith in
 loop-again : tie.Need-loop-i-preserved invariant-loop decreases-loop
 loop-again c = (
   omega arith,
-  c.put_held-end.auto.0 ∙ c.loop-i.invariant.1,
+  c.put_held-end.auto.text ∙ c.loop-i.invariant.1,
   resent-on c.args.s c.loop-i.i c.args.k (page c.loop-i.text c.loop-i.end) c.loop-i-test.true (cc) ∙ c.loop-i.invariant.2,
 )
 

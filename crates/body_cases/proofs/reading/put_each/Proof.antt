@@ -20,7 +20,7 @@ decreases-loop text₀ at s l end₀ i₀ text end i = l.count - i
 loop-again : tie.Need-loop-i-preserved invariant-loop decreases-loop
 loop-again c = let l = c.loop-i in
     let n : length (numbers_in c.args.s.now c.args.l) ≡ c.args.l.count = length-words c.args.l.count (drop c.args.l.at c.args.s.now) in
-    (omega arith, c.put_number-end.auto.0 ∙ l.invariant.1, each_more (numbers_in c.args.s.now c.args.l) l.i c.number_in.result (page l.text l.end) (omega arith) c.number_in.ensures c.put_number-end.ensures ∙ l.invariant.2)
+    (omega arith, c.put_number-end.auto.text ∙ l.invariant.1, each_more (numbers_in c.args.s.now c.args.l) l.i c.number_in.result (page l.text l.end) (omega arith) c.number_in.ensures c.put_number-end.ensures ∙ l.invariant.2)
 
 returns : tie.Need-returns invariant-loop decreases-loop
 returns c = let l = c.loop-i in

@@ -26,6 +26,6 @@ put_stamp_spec =
     (search rules)
     (λ c. omega arith)
     (λ c. omega arith)
-    (λ c. (omega arith, c.put_byte-end.auto.0 ∙ c.loop-i.invariant.1, stamp-more c.args.bytes.now c.loop-i.i (page c.loop-i.text c.loop-i.end) (omega arith) c.put_byte-end.ensures ∙ c.loop-i.invariant.2))
+    (λ c. (omega arith, c.put_byte-end.auto.text ∙ c.loop-i.invariant.1, stamp-more c.args.bytes.now c.loop-i.i (page c.loop-i.text c.loop-i.end) (omega arith) c.put_byte-end.ensures ∙ c.loop-i.invariant.2))
     (λ c. c.loop-i.invariant.1)
     (λ c. sym (stamp-none c.args.bytes.now c.loop-i.i (page c.loop-i.text c.loop-i.end) (omega arith)) ∙ c.loop-i.invariant.2))

@@ -43,4 +43,4 @@ write_record_spec =
     (search rules)
     (search rules)
     (search rules)
-    (λ c. did_done _ _ (size c.before.before.before.before.before.before.before.before.before.before.before.before.before.before.before.before.before.before.before) c.is_whole.ensures c.if-not-is_whole.false refl (rw (c.ask-a.ensures.writes c.count_up.new.0, c.byte_at-tag.ensures, c.count_up.ensures, c.byte_at.ensures, length-take-le _ _ (slice_relend_prefix_buf c.before.before.before.before.before.before.before.before.before.before.before.before.before.before.before.before.before), c.u32_at-n.ensures) at c.write_asked-written.ensures) c.checksum-sum.ensures c.print_outcome.ensures))
+    (λ c. did_done _ _ (size c.before.before.before.before.before.before.before.before.before.before.before.before.before.before.before.before.before.before.before) c.is_whole.ensures c.if-not-is_whole.false refl (rw (c.ask-a.ensures.writes c.count_up.new.buf, c.byte_at-tag.ensures, c.count_up.ensures, c.byte_at.ensures, length-take-le _ _ (slice_relend_prefix_buf c.before.before.before.before.before.before.before.before.before.before.before.before.before.before.before.before.before), c.u32_at-n.ensures) at c.write_asked-written.ensures) c.checksum-sum.ensures c.print_outcome.ensures))

@@ -26,8 +26,8 @@ start a = a.before.before.before.before.before.before.before.before
 
 done : (a : Stepped)
     → (let z = (start a).args in let m = a.loop-at in
-    Turn z.piece.now z.store.now (state_at z.from z.came z.block.now z.knew) m.store (state_at m.stage m.got m.block m.known) m.at (moved_to a.step-o.result a.step-o.last.1.1.1.0) a.step-o.last.1.1.1.1.1.0)
-done a = turn a.loop-at.inv a.loop-at-test.taken a.step-o.ensures a.step-o.kept.1.1.1.1.1.0
+    Turn z.piece.now z.store.now (state_at z.from z.came z.block.now z.knew) m.store (state_at m.stage m.got m.block m.known) m.at (moved_to a.step-o.result a.step-o.new.block) a.step-o.new.store)
+done a = turn a.loop-at.inv a.loop-at-test.taken a.step-o.ensures a.step-o.auto.store
 
 pub feed_spec : {M : Type 1} → statement M
 feed_spec =

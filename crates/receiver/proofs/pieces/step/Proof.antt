@@ -27,7 +27,7 @@ taking-length z = length-take-le (fitting (given z) z.args.piece.now) z.args.pie
 
 -- and what is filled with them
 filled : (a : tie.After-fill)
-    → (let z = a.before.before.before.before.before.before.before.before.before in (a.fill.new.1.1.0 ≡ (absorbed (given z) (taking z)).position.block) × (a.fill.new.1.1.1.1.0 ≡ stored (given z) z.args.store.now (taking z)))
+    → (let z = a.before.before.before.before.before.before.before.before.before in (a.fill.new.block ≡ (absorbed (given z) (taking z)).position.block) × (a.fill.new.store ≡ stored (given z) z.args.store.now (taking z)))
 filled a =
     let p = a.place_of.ensures in
     (a.fill.ensures.0 ∙ rw (p, a.part-bytes.ensures, counted a.before.before.before.before.before), a.fill.ensures.1 ∙ rw (p, a.part-bytes.ensures, counted a.before.before.before.before.before))

@@ -11,4 +11,4 @@ drop_frame_spec =
     (λ c κs. search rules)
     (λ c κs. search rules)
     (λ c. search rules)
-    (λ c. c.begin_preamble.ensures c.zero_segments.new.0 ∙ rw (c.without_header.ensures, c.zero_segments.ensures)))
+    (λ c. c.begin_preamble.ensures c.zero_segments.new.store ∙ rw (c.without_header.ensures, c.zero_segments.ensures)))

@@ -11,4 +11,4 @@ refuse_frame_spec =
     (λ c κs. search rules)
     (λ c κs. search rules)
     (λ c. search rules)
-    (λ c. c.refuse.ensures c.zero_segments.new.0 ∙ ap (step.refuse c.args.v c.args.n) c.zero_segments.ensures))
+    (λ c. c.refuse.ensures c.zero_segments.new.store ∙ ap (step.refuse c.args.v c.args.n) c.zero_segments.ensures))

@@ -18,15 +18,15 @@ begin-rest-requires c κs =
     let s = c.args.store.now in
     let j : judge_first text (length s) ≡ fine = sym c.judge_first-judged.ensures ∙ ap judged_by c.in-Fine.is in
     let h : c.with_header.result.header ≡ header_of text = ap (λ (k : Known). k.header) c.with_header.ensures ∙ c.read_header-h.ensures in
-    (omega (arith, ap needed h, first_fits text (length s) j, c.put.auto.0), ap (λ (x : Header). is_fine (judge_header x)) h ∙ ap is_fine (first-header text (length s) j))
+    (omega (arith, ap needed h, first_fits text (length s) j, c.put.auto.out), ap (λ (x : Header). is_fine (judge_header x)) h ∙ ap is_fine (first-header text (length s) j))
 
 returns : tie.Need-returns-in-Fine
 returns c =
     let g = c.args in
     let j : judge_first g.text.now (length g.store.now) ≡ fine = sym c.judge_first-judged.ensures ∙ ap judged_by c.in-Fine.is in
     c.begin_second_part.ensures
-    ∙ ap (λ (k : Known). step.begin_second_part k c.put.new.0) c.with_header.ensures
-    ∙ first-accepted g.v g.text.now g.store.now c.read_header-h.result c.part.result.now c.put.new.0 j c.read_header-h.ensures c.part.ensures c.put.ensures
+    ∙ ap (λ (k : Known). step.begin_second_part k c.put.new.out) c.with_header.ensures
+    ∙ first-accepted g.v g.text.now g.store.now c.read_header-h.result c.part.result.now c.put.new.out j c.read_header-h.ensures c.part.ensures c.put.ensures
 
 returns-2 : tie.Need-returns-in-Refused
 returns-2 c =

@@ -20,7 +20,7 @@ returns c =
     let z = (start a).args in
     let e = a.end_of_last-end.ensures ∙ ap (last_ended z.v.header) a.part.ensures in
     c.end_whole.ensures
-    ∙ last-whole z.v z.store.now (sized a) e c.close_up.new.1.0 (ap ended_as c.in-Whole.is) c.close_up.ensures
+    ∙ last-whole z.v z.store.now (sized a) e c.close_up.new.store (ap ended_as c.in-Whole.is) c.close_up.ensures
 
 returns-2 : tie.Need-returns-in-Dropped
 returns-2 c =

@@ -11,7 +11,7 @@ returns c =
     let s = g.store.now in
     let pad = c.padding-pad.result in
     let z : all_zero (take pad (drop g.v.header.s1.len s)) ≡ true = sym (c.all_zero.ensures ∙ ap all_zero c.part.ensures) ∙ c.if-all_zero.true in
-    c.begin_last.ensures ∙ rest-padded g.v s pad c.padding-pad.ensures.0 c.requires.2 c.requires.0 z c.put_zeros.new.0 c.put_zeros.ensures
+    c.begin_last.ensures ∙ rest-padded g.v s pad c.padding-pad.ensures.0 c.requires.2 c.requires.0 z c.put_zeros.new.out c.put_zeros.ensures
 
 returns-2 : tie.Need-returns
 returns-2 c =

@@ -12,12 +12,12 @@ move-down-requires c κs =
 move-down-requires-2 : tie.Need-move_down-requires-2
 move-down-requires-2 c κs =
     let g = c.args in
-    fourth_fits g.h g.store.now c.move_down.new.0 g.store.now c.rounded.result c.rounded-2.result c.requires c.rounded.ensures.0 c.rounded-2.ensures.0 c.move_down.auto.0
+    fourth_fits g.h g.store.now c.move_down.new.store g.store.now c.rounded.result c.rounded-2.result c.requires c.rounded.ensures.0 c.rounded-2.ensures.0 c.move_down.auto.store
 
 returns : tie.Need-returns
 returns c =
     let g = c.args in
-    closed-up g.h g.store.now c.move_down.new.0 c.move_down-2.new.0 c.rounded.result c.rounded-2.result c.requires c.rounded.ensures.0 c.rounded-2.ensures.0 c.move_down.ensures c.move_down-2.ensures
+    closed-up g.h g.store.now c.move_down.new.store c.move_down-2.new.store c.rounded.result c.rounded-2.result c.requires c.rounded.ensures.0 c.rounded-2.ensures.0 c.move_down.ensures c.move_down-2.ensures
 
 pub close_up_spec : {M : Type 1} → statement M
 close_up_spec =

@@ -22,7 +22,7 @@ behind-last-requires c κs =
     let h = (start a).args.v.header in
     let o = c.open_part-opened in
     let e : c.with_opened.result.header ≡ h = ap (λ (k : Known). k.header) c.with_opened.ensures in
-    (omega (arith, ap needed e, left-length (region a) o.new.1.0 o.auto.1.0, (start a).requires.fits), ap no_last_part e ∙ there (no_last_part h) (last_part h) (start a).requires.some)
+    (omega (arith, ap needed e, left-length (region a) o.new.bytes o.auto.bytes, (start a).requires.fits), ap no_last_part e ∙ there (no_last_part h) (last_part h) (start a).requires.some)
 
 returns : tie.Need-returns-in-Fine
 returns c =
@@ -31,7 +31,7 @@ returns c =
     let o = c.open_part-opened in
     let j = sym o.ensures.judged ∙ ap judged_by c.in-Fine.is in
     (rw c.with_opened.ensures at c.after_last_part.ensures)
-    ∙ last-opened (start a).args.v (start a).args.store.now (region a) o.new.1.0 o.auto.1.0 b j (o.ensures.text j)
+    ∙ last-opened (start a).args.v (start a).args.store.now (region a) o.new.bytes o.auto.bytes b j (o.ensures.text j)
 
 returns-2 : tie.Need-returns-in-Refused
 returns-2 c =
@@ -39,7 +39,7 @@ returns-2 c =
     let a = c.before.before.before.before.before.before.before.before.before.before.before in
     let o = c.open_part-opened in
     c.refuse_frame.ensures
-    ∙ last-refused (start a).args.v (start a).args.store.now (region a) o.new.1.0 o.auto.1.0 b _ (sym o.ensures.judged ∙ ap judged_by c.in-Refused.is)
+    ∙ last-refused (start a).args.v (start a).args.store.now (region a) o.new.bytes o.auto.bytes b _ (sym o.ensures.judged ∙ ap judged_by c.in-Refused.is)
 
 pub end_last_spec : {M : Type 1} → statement M
 end_last_spec =

@@ -24,7 +24,7 @@ behind-rest-requires c κs =
     let h = (start a).args.v.header in
     let o = c.open_part-opened in
     let e : c.with_opened.result.header ≡ h = ap (λ (k : Known). k.header) c.with_opened.ensures in (
-      omega (arith, ap needed e, left-length (region a) o.new.1.0 o.auto.1.0, (start a).requires.fits),
+      omega (arith, ap needed e, left-length (region a) o.new.bytes o.auto.bytes, (start a).requires.fits),
       ap (λ (x : Header). is_fine (judge_header x)) e ∙ (start a).requires.header refl,
       ap no_second_part e ∙ there (no_second_part h) (second_part h) (start a).requires.some,
     )
@@ -36,7 +36,7 @@ returns c =
     let o = c.open_part-opened in
     let j = sym o.ensures.judged ∙ ap judged_by c.in-Fine.is in
     (rw c.with_opened.ensures at c.after_second_part.ensures)
-    ∙ rest-opened (start a).args.v (start a).args.store.now (region a) o.new.1.0 o.auto.1.0 b j (o.ensures.text j)
+    ∙ rest-opened (start a).args.v (start a).args.store.now (region a) o.new.bytes o.auto.bytes b j (o.ensures.text j)
 
 returns-2 : tie.Need-returns-in-Refused
 returns-2 c =
@@ -44,7 +44,7 @@ returns-2 c =
     let a = c.before.before.before.before.before.before.before.before.before.before.before in
     let o = c.open_part-opened in
     c.refuse_frame.ensures
-    ∙ rest-refused (start a).args.v (start a).args.store.now (region a) o.new.1.0 o.auto.1.0 b _ (sym o.ensures.judged ∙ ap judged_by c.in-Refused.is)
+    ∙ rest-refused (start a).args.v (start a).args.store.now (region a) o.new.bytes o.auto.bytes b _ (sym o.ensures.judged ∙ ap judged_by c.in-Refused.is)
 
 pub end_second_part_spec : {M : Type 1} → statement M
 end_second_part_spec =

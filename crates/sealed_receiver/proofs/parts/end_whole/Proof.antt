@@ -12,7 +12,7 @@ returns : tie.Need-returns
 returns c =
     let g = c.args in
     ap₂ (λ (x : State) (t : List ℕ). step.stepped x t (report.Event (event.Frame g.v.header))) c.next_frame.ensures
-    (zeros-behind g.v.header g.store.now c.put_zeros.new.0 c.total_of-n.result c.needed_of.result c.total_of-n.ensures c.needed_of.ensures.0 c.requires c.put_zeros.ensures)
+    (zeros-behind g.v.header g.store.now c.put_zeros.new.out c.total_of-n.result c.needed_of.result c.total_of-n.ensures c.needed_of.ensures.0 c.requires c.put_zeros.ensures)
 
 pub end_whole_spec : {M : Type 1} → statement M
 end_whole_spec =

@@ -10,7 +10,7 @@ returns-2 c =
     let r = c.args.r in
     let bytes = c.args.bytes.now in
     let o = c.open_in_place.result in
-    let after = c.open_in_place.new.1.1.0 in
+    let after = c.open_in_place.new.buf in
     let opening : Opening (key_expansion r.key) r.nonce bytes bytes o after = rw c.key_expansion-w.ensures at c.open_in_place.ensures in
     opened-part r bytes after c.judgement_of.result o c.judgement_of.ensures c.if-r.false (omega (arith, c.well_formed.0)) c.requires.0 c.requires.1 opening
 

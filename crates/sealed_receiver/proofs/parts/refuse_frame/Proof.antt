@@ -4,7 +4,7 @@ use Rattle.sealed_receiver.proofs.parts.refuse_frame.Statement.{statement}
 use Rattle.sealed_receiver.proofs.parts.refuse_frame.Tie as tie
 
 returns : tie.Need-returns
-returns c = c.refuse.ensures c.zero_needed.new.0 ∙ ap₂ step.refuse c.numbers_of.ensures c.zero_needed.ensures
+returns c = c.refuse.ensures c.zero_needed.new.store ∙ ap₂ step.refuse c.numbers_of.ensures c.zero_needed.ensures
 
 pub refuse_frame_spec : {M : Type 1} → statement M
 refuse_frame_spec =

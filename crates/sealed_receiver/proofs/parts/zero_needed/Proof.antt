@@ -10,4 +10,4 @@ zero_needed_spec =
     (λ c κs. search rules)
     (λ c κs. search rules)
     (λ c. search rules)
-    (λ c. zeros-over c.args.h c.args.store.now c.put_zeros.new.0 c.needed_of.result c.needed_of.ensures.0 c.requires c.put_zeros.ensures))
+    (λ c. zeros-over c.args.h c.args.store.now c.put_zeros.new.out c.needed_of.result c.needed_of.ensures.0 c.requires c.put_zeros.ensures))

@@ -8,7 +8,7 @@ returns c =
     let z = c in
     let first = c.if-first.true in
     let n : length z.args.block ≡ 96 = z.well_formed.1.0.1.0.1 in
-    rw first (array_put z.args.block z.args.bytes.now c.put.new.0 z.args.at 96 n c.put.ensures (z.requires first))
+    rw first (array_put z.args.block z.args.bytes.now c.put.new.out z.args.at 96 n c.put.ensures (z.requires first))
 
 pub fill_block_spec : {M : Type 1} → statement M
 fill_block_spec =

@@ -20,7 +20,7 @@ returns c =
     let l : length (rest s n) ≡ length s - n = length_rest s n in
     let k : n + length xs ≤ length s = z.requires later in
     let e = c.put.ensures ∙ overwrite-fits xs (rest s n) (omega arith) in
-    rw later (placed s xs c.put.new.0 n e ∙ sym (sets-eq xs s n k))
+    rw later (placed s xs c.put.new.out n e ∙ sym (sets-eq xs s n k))
 
 returns-2 : tie.Need-returns-else-later
 returns-2 c = rw c.if-later.false

@@ -57,7 +57,7 @@ block-is f =
 
 store_is : (f : tie.After-fill_store)
     → (let z = start (part_of f) in
-    f.fill_store.new.1.0 ≡ step.stored z.args.st z.args.store.now (taking z.args.st z.args.piece.now))
+    f.fill_store.new.store ≡ step.stored z.args.st z.args.store.now (taking z.args.st z.args.piece.now))
 store_is f =
     let a = part_of f in
     let st = (start a).args.st in

@@ -21,8 +21,8 @@ start a = a.before.before.before.before.before.before.before
 
 done : (a : Stepped)
     → (let z = (start a).args in let m = a.loop-at in
-    Turn z.piece.now z.store.now z.state m.store m.st m.at a.step-o.result a.step-o.last.1.1.0)
-done a = turn a.loop-at.inv a.loop-at-test.taken a.step-o.ensures a.step-o.kept.1.1.0
+    Turn z.piece.now z.store.now z.state m.store m.st m.at a.step-o.result a.step-o.new.store)
+done a = turn a.loop-at.inv a.loop-at-test.taken a.step-o.ensures a.step-o.auto.store
 
 returns : tie.Need-returns-then-not-is_more invariant-loop decreases-loop
 returns c =
