@@ -32,7 +32,7 @@ abbrev made : Stage → Revision → Bool → ℕ → Header → ℕ → State �
 made stage revision first payload header number st = record {
   position = record { stage = stage; got = st.position.got; block = st.position.block };
   known = record {
-    own_val = st.known.own;
+    own = st.known.own;
     payload = payload;
     peer = st.known.peer;
     revision = revision;

@@ -31,7 +31,7 @@ abi_state ws b = record { numbers = ws; block = b }
 
 abbrev pub known_with : Revision → List ℕ → Known
 known_with revision ws = record {
-  own_val = features (get_or ws 19 0) (get_or ws 20 0);
+  own = features (get_or ws 19 0) (get_or ws 20 0);
   payload = low_u16 (get_or ws 3 0);
   peer = features (get_or ws 21 0) (get_or ws 22 0);
   revision = revision;

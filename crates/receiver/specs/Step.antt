@@ -45,24 +45,24 @@ at k got v = state_at k got blank v
 
 -- what a receiver knows before its first byte, and once it is refused
 abbrev pub only_own : Features → Numbers → Known
-only_own own n = record { own_val = own; payload = 0; peer = no_features; revision = Msgr20; header = no_header; first = false; refusal = n }
+only_own own n = record { own = own; payload = 0; peer = no_features; revision = Msgr20; header = no_header; first = false; refusal = n }
 
 abbrev pub with_payload : Known → ℕ → Known
-with_payload v n = record { own_val = v.own; payload = n; peer = v.peer; revision = v.revision; header = v.header; first = v.first; refusal = v.refusal }
+with_payload v n = record { own = v.own; payload = n; peer = v.peer; revision = v.revision; header = v.header; first = v.first; refusal = v.refusal }
 
 abbrev pub with_peer : Known → Features → Known
-with_peer v f = record { own_val = v.own; payload = v.payload; peer = f; revision = v.revision; header = v.header; first = v.first; refusal = v.refusal }
+with_peer v f = record { own = v.own; payload = v.payload; peer = f; revision = v.revision; header = v.header; first = v.first; refusal = v.refusal }
 
 abbrev pub with_revision : Known → Revision → Known
-with_revision v r = record { own_val = v.own; payload = v.payload; peer = v.peer; revision = r; header = v.header; first = v.first; refusal = v.refusal }
+with_revision v r = record { own = v.own; payload = v.payload; peer = v.peer; revision = r; header = v.header; first = v.first; refusal = v.refusal }
 
 -- another frame, of which nothing was reported
 abbrev pub with_header : Known → Header → Known
-with_header v h = record { own_val = v.own; payload = v.payload; peer = v.peer; revision = v.revision; header = h; first = false; refusal = v.refusal }
+with_header v h = record { own = v.own; payload = v.payload; peer = v.peer; revision = v.revision; header = h; first = false; refusal = v.refusal }
 
 -- segment 1's checksum holds
 abbrev pub with_first : Known → Known
-with_first v = record { own_val = v.own; payload = v.payload; peer = v.peer; revision = v.revision; header = v.header; first = true; refusal = v.refusal }
+with_first v = record { own = v.own; payload = v.payload; peer = v.peer; revision = v.revision; header = v.header; first = true; refusal = v.refusal }
 
 -- the next frame begins
 abbrev pub next_frame : Known → State

@@ -10,4 +10,4 @@ abi_build_banner_spec =
     (λ c κs. search rules)
     (λ c κs. search rules)
     (λ c. search rules)
-    (λ c. banner-written c.build_banner.ensures c.written_of_lem.ensures))
+    (λ c. banner-written c.build_banner.ensures c.written_of-b.ensures))

@@ -15,7 +15,7 @@ returns-2 c =
     let b = c in
     let k = b in
     let f = k.header_fits in
-    frame-written _ _ _ _ _ _ b.revision_by_number.result b.header_of.result b.build_frame.result _ _ (sym f.ensures ∙ not-false f.result k.if-not-header_fits.false) b.revision_by_number.ensures b.header_of.ensures b.build_frame.ensures c.written_of_lem.ensures
+    frame-written _ _ _ _ _ _ b.revision_by_number.result b.header_of.result b.build_frame.result _ _ (sym f.ensures ∙ not-false f.result k.if-not-header_fits.false) b.revision_by_number.ensures b.header_of.ensures b.build_frame.ensures c.written_of.ensures
 
 pub frame_written_spec : {M : Type 1} → statement M
 frame_written_spec =

@@ -9,7 +9,7 @@ returns : tie.Need-returns
 returns c =
     let o = c.start-o in
     record {
-      number = c.number_of_lem.ensures ∙ ap number_of o.ensures.judgement;
+      number = c.number_of.ensures ∙ ap number_of o.ensures.judgement;
       state = begun-words _ o.result.state _ _ o.ensures.state c.state_numbers.ensures c.secure_words-w.ensures;
     }
 

@@ -6,7 +6,7 @@ use Rattle.abi_connection.proofs.secure_agrees.Statement.{statement}
 use Rattle.abi_connection.proofs.secure_agrees.Tie as tie
 
 returns : tie.Need-returns
-returns c = c.both.ensures ∙ ap₂ ◌&&◌ c.fits2.ensures (c.agrees_with_itself.ensures ∙ ap agrees c.state_of_lem.ensures)
+returns c = c.both.ensures ∙ ap₂ ◌&&◌ c.fits.ensures (c.agrees_with_itself.ensures ∙ ap agrees c.state_of.ensures)
 
 pub secure_agrees_spec : {M : Type 1} → statement M
 secure_agrees_spec =

@@ -10,4 +10,4 @@ abi_open_spec =
     (λ c κs. search rules)
     (λ c κs. search rules)
     (λ c. search rules)
-    (λ c. opened-words c.open.ensures c.written_of_lem.ensures))
+    (λ c. opened-words c.open.ensures c.written_of-w.ensures))

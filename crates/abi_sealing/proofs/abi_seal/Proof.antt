@@ -10,4 +10,4 @@ abi_seal_spec =
     (λ c κs. search rules)
     (λ c κs. search rules)
     (λ c. search rules)
-    (λ c. sealed-words c.seal.ensures c.written_of_lem.ensures))
+    (λ c. sealed-words c.seal.ensures c.written_of-w.ensures))

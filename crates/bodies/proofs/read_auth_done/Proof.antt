@@ -14,5 +14,5 @@ read_auth_done_spec =
     (λ c κs. search rules)
     (λ c κs. search rules)
     (λ c. row_read (auth-done-is _) c.start.ensures
-    (step _ c.before.before.before.before.field-u64.ensures (step _ c.before.before.before.field-u32.ensures (step _ c.before.before.field-rest.ensures end)))
+    (step _ c.field_u64-a.ensures (step _ c.field_u32-b.ensures (step _ c.field_rest-p.ensures end)))
     c.settle.ensures))

@@ -15,5 +15,5 @@ read_bad_method_spec =
     (λ c κs. search rules)
     (λ c κs. search rules)
     (λ c. row_read (bad_method_is _) c.start.ensures
-    (step _ c.before.before.before.before.before.before.field-u32.ensures (step _ c.before.before.before.before.before.field-negative.ensures (step _ c.before.before.before.before.field-list.ensures (step _ c.before.before.before.field-list2.ensures end))))
+    (step _ c.field_u32-a.ensures (step _ c.field_negative-e.ensures (step _ c.field_list-f.ensures (step _ c.field_list-g.ensures end))))
     c.settle.ensures))

@@ -18,5 +18,5 @@ read_reconnect_spec =
     (λ c κs. search rules)
     (λ c κs. search rules)
     (λ c. row_read (reconnect-is _) c.start.ensures
-    (step _ c.before.before.before.before.before.before.before.before.field-u32.ensures (step _ c.before.before.before.before.before.before.before.field-rest.ensures (step _ c.before.before.before.before.before.before.field-u64.ensures (step _ c.before.before.before.before.before.field-u642.ensures (step _ c.before.before.before.before.field-u643.ensures (step _ c.before.before.before.field-u644.ensures (step _ c.before.before.field-u645.ensures end)))))))
+    (step _ c.field_u32-n.ensures (step _ c.field_rest-p.ensures (step _ c.field_u64-a.ensures (step _ c.field_u64-b.ensures (step _ c.field_u64-d.ensures (step _ c.field_u64-e.ensures (step _ c.field_u64-f.ensures end)))))))
     c.settle.ensures))

@@ -14,4 +14,4 @@ row_auth_done_spec =
     (λ c κs. search rules)
     (λ c. search rules)
     (λ c. from_empty c.start_draft.ensures
-    (w.step c.before.before.before.before.before.before.before.before.before.before.append-u64.ensures (w.step c.before.before.before.before.before.before.append-u32.ensures (w.step c.before.before.append-rest.ensures w.end)))))
+    (w.step c.append_u64-a.ensures (w.step c.append_u32-b.ensures (w.step c.append_rest.ensures w.end)))))

@@ -15,4 +15,4 @@ row_bad_method_spec =
     (λ c κs. search rules)
     (λ c. search rules)
     (λ c. from_empty c.start_draft.ensures
-    (w.step c.before.before.before.before.before.before.before.before.before.before.before.before.before.before.append-u32.ensures (w.step c.before.before.before.before.before.before.before.before.before.before.append-negative.ensures (w.step c.before.before.before.before.before.before.append-list.ensures (w.step c.before.before.append-list2.ensures w.end))))))
+    (w.step c.append_u32-a.ensures (w.step c.append_negative-b.ensures (w.step c.append_list-d.ensures (w.step c.append_list.ensures w.end))))))

@@ -19,4 +19,4 @@ row_reconnect_spec =
     (λ c κs. search rules)
     (λ c. c.out-7-1.given ∙ c.out-6-1.given ∙ c.out-5-1.given ∙ c.out-4-1.given ∙ c.out-3-1.given ∙ c.out-2-1.given ∙ c.out-1.given)
     (λ c. from_empty c.start_draft.ensures
-    (w.step c.before.before.before.before.before.before.before.before.before.before.before.before.before.before.before.before.before.before.before.before.before.before.before.before.before.before.append-u32.ensures (w.step c.before.before.before.before.before.before.before.before.before.before.before.before.before.before.before.before.before.before.before.before.before.before.append-rest.ensures (w.step c.before.before.before.before.before.before.before.before.before.before.before.before.before.before.before.before.before.before.append-u64.ensures (w.step c.before.before.before.before.before.before.before.before.before.before.before.before.before.before.append-u642.ensures (w.step c.before.before.before.before.before.before.before.before.before.before.append-u643.ensures (w.step c.before.before.before.before.before.before.append-u644.ensures (w.step c.before.before.append-u645.ensures w.end)))))))))
+    (w.step c.append_u32-a.ensures (w.step c.append_rest-b.ensures (w.step c.append_u64-d.ensures (w.step c.append_u64-e.ensures (w.step c.append_u64-f.ensures (w.step c.append_u64-g.ensures (w.step c.append_u64.ensures w.end)))))))))

@@ -19,7 +19,7 @@ returns-2 c =
     (c.epilogue20-bytes.ensures
     ∙ epilogue-is g.revision g.h (late_byte g.revision g.abort) g.first.now q _ (c.field_of.result ∷ s.s2 ∷ s.s3 ∷ s.s4 ∷ [])
     (sym c.no_epilogue.ensures ∙ c.if-no_epilogue.false)
-    c.late_byte_lem.ensures
+    c.late_byte-late.ensures
     (rw v (ap₂ ◌∷◌ c.field_of.ensures c.rest_fields-fields.ensures)))
     (omega (arith, c.requires, length-epilogue g.revision g.h (late_byte g.revision g.abort) g.first.now q))
 
@@ -33,7 +33,7 @@ returns-3 c =
     (c.epilogue21-bytes.ensures
     ∙ epilogue-is g.revision g.h (late_byte g.revision g.abort) g.first.now q _ (s.s2 ∷ s.s3 ∷ s.s4 ∷ [])
     (sym c.no_epilogue.ensures ∙ c.if-no_epilogue.false)
-    c.late_byte_lem.ensures
+    c.late_byte-late.ensures
     (rw v c.rest_fields-fields.ensures))
     (omega (arith, c.requires, length-epilogue g.revision g.h (late_byte g.revision g.abort) g.first.now q))
 

@@ -19,4 +19,4 @@ print_empty_spec =
     (search rules)
     (search rules)
     (search rules)
-    (λ c. c.before.before.print-outcome.ensures ∙ rw (c.before.before.before.before.checksum.ensures, ← c.before.before.before.before.before.before.before.before.before.before.before.before.count-up.ensures, ← c.before.before.before.before.before.before.before.before.before.empty-header.ensures, ← c.before.before.before.before.before.before.before.build-sealed.ensures.promise)))
+    (λ c. c.print_outcome.ensures ∙ rw (c.checksum-sum.ensures, ← c.count_up.ensures, ← c.empty_header.ensures, ← c.build_sealed-o.ensures.promise)))

@@ -56,7 +56,7 @@ receiver_record_spec =
     (search rules)
     (search rules)
     slice_relend_prefix-store
-    (λ c. sym (length-take-le _ _ (slice_relend_prefix-store c.before)))
+    (λ c. sym (length-take-le _ _ (slice_relend_prefix-store c)))
     (search rules)
     (search rules)
     (search rules)
@@ -64,7 +64,7 @@ receiver_record_spec =
     (search rules)
     (search rules)
     (search rules)
-    (λ c κs. ((omega (arith, c.calls_of-calls.ensures.1), omega (arith, c.calls_at-from.ensures.1)), switches-there (length c.args.space.now) c.layout_of-l.result c.args.s.now (good c.before.before.before.before.before.before.before.before.before.before.before.before.before.before.before.before.before.before.before.before.before.before.before.before.before.before.before.before)))
+    (λ c κs. ((omega (arith, c.calls_of-calls.ensures.1), omega (arith, c.calls_at-from.ensures.1)), switches-there (length c.args.space.now) c.layout_of-l.result c.args.s.now (good c.before.before.before.before.before.before.before.before.before.before.before.before.before.before.before.before.before.before.before.before.before.before.before)))
     (search rules)
     (search rules)
     returns-2)

@@ -15,7 +15,7 @@ returns c =
     (c.nonce_at-2.ensures (omega arith))
     c.u64_at.ensures
     c.switch-o.ensures
-    c.opened_by_lem.ensures
+    c.opened_by.ensures
     refl
     c.print_judgement-end.ensures
     c.print_empty.ensures

@@ -13,4 +13,4 @@ put_report_spec =
     (search rules)
     (λ c. rw c.in-Taken.is)
     (search rules)
-    (λ c. rw c.before.before.before.before.before.before.before.before.before.before.report.given.1 (cc)))
+    (λ c. rw c.in-Refused.is (cc)))

@@ -9,7 +9,7 @@ use Rattle.sealed_builder.proofs.put_epilogue.Tie as tie
 returns : tie.Need-returns
 returns c =
     let g = c.args in
-    overwrite_as _ (epilogue16 (late_byte Msgr21 g.abort)) g.out.now _ c.put.ensures (ap epilogue16 c.late_byte_lem.ensures) (omega (arith, c.requires))
+    overwrite_as _ (epilogue16 (late_byte Msgr21 g.abort)) g.out.now _ c.put.ensures (ap epilogue16 c.late_byte-late.ensures) (omega (arith, c.requires))
 
 pub put_epilogue_spec : {M : Type 1} → statement M
 put_epilogue_spec =

@@ -34,4 +34,4 @@ make_call_spec =
     (search rules)
     (search rules)
     (search rules)
-    (λ c. did_held c.before.before.before.held_at.ensures refl c.before.before.print-held.ensures (rw (ne_eqb _ 0 c.before.before.before.before.before.before.before.before.if1.false, ne_eqb _ 1 c.before.before.before.before.before.before.before.if2.false, ne_eqb _ 2 c.before.before.before.before.before.before.if3.false, ne_eqb _ 3 c.before.before.before.before.before.if4.false))))
+    (λ c. did_held c.held_at.ensures refl c.print_held.ensures (rw (ne_eqb _ 0 c.if-kind-eq0.false, ne_eqb _ 1 c.if-kind-eq1.false, ne_eqb _ 2 c.if-kind-eq2.false, ne_eqb _ 3 c.if-kind-eq3.false))))

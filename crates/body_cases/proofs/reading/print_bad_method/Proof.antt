@@ -23,4 +23,4 @@ print_bad_method_spec =
     (search rules)
     (search rules)
     (search rules)
-    (λ c. rw (c.before.before.put-end.ensures, c.before.before.before.before.before.before.put-list2.ensures, c.before.before.before.before.before.before.before.before.before.before.before.put-list.ensures, c.before.before.before.before.before.before.before.before.before.before.before.before.before.before.before.before.put-error.ensures, c.before.before.before.before.before.before.before.before.before.before.before.before.before.before.before.before.before.before.before.before.put-field.ensures, c.before.before.before.before.before.before.before.before.before.before.before.before.before.before.before.before.before.before.before.before.before.before.before.before.before.put-tag.ensures) (two-lists (each_number (numbers_in c.before.before.before.before.before.before.before.before.before.before.before.before.before.before.before.before.before.before.before.before.before.before.before.before.before.before.before.before.before.args.s.now c.before.before.before.before.before.before.before.before.before.before.before.before.before.before.before.before.before.before.before.before.before.before.before.before.before.before.before.before.before.args.methods)) (word " modes") (line.number (length (numbers_in c.before.before.before.before.before.before.before.before.before.before.before.before.before.before.before.before.before.before.before.before.before.before.before.before.before.before.before.before.before.args.s.now c.before.before.before.before.before.before.before.before.before.before.before.before.before.before.before.before.before.before.before.before.before.before.before.before.before.before.before.before.before.args.modes))) (each_number (numbers_in c.before.before.before.before.before.before.before.before.before.before.before.before.before.before.before.before.before.before.before.before.before.before.before.before.before.before.before.before.before.args.s.now c.before.before.before.before.before.before.before.before.before.before.before.before.before.before.before.before.before.before.before.before.before.before.before.before.before.before.before.before.before.args.modes)) (newline ∷ []) _)))
+    (λ c. rw (c.put_end.ensures, c.put_list-e.ensures, c.put_list-d.ensures, c.put_error-c.ensures, c.put_field-b.ensures, c.put_tag-a.ensures) (two-lists (each_number (numbers_in c.args.s.now c.args.methods)) (word " modes") (line.number (length (numbers_in c.args.s.now c.args.modes))) (each_number (numbers_in c.args.s.now c.args.modes)) (newline ∷ []) _)))

@@ -15,4 +15,4 @@ print_done_spec =
     (search rules)
     (search rules)
     (search rules)
-    (λ c. rw (c.before.before.put-end.ensures, c.before.before.before.before.before.before.put-span.ensures, c.before.before.before.before.before.before.before.before.before.before.before.put-field2.ensures, c.before.before.before.before.before.before.before.before.before.before.before.before.before.before.before.before.put-field.ensures, c.before.before.before.before.before.before.before.before.before.before.before.before.before.before.before.before.before.before.before.before.before.put-tag.ensures)))
+    (λ c. rw (c.put_end.ensures, c.put_span-d.ensures, c.put_field-c.ensures, c.put_field-b.ensures, c.put_tag-a.ensures)))

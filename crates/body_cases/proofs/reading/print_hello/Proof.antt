@@ -13,4 +13,4 @@ print_hello_spec =
     (search rules)
     (search rules)
     (search rules)
-    (λ c. rw (c.before.before.put-end.ensures, c.before.before.before.before.before.before.put-span.ensures, c.before.before.before.before.before.before.before.before.before.before.before.put-field.ensures, c.before.before.before.before.before.before.before.before.before.before.before.before.before.before.before.before.put-tag.ensures)))
+    (λ c. rw (c.put_end.ensures, c.put_span-c.ensures, c.put_field-b.ensures, c.put_tag-a.ensures)))

@@ -17,4 +17,4 @@ print_number_spec =
     (search rules)
     (search rules)
     (search rules)
-    (λ c. rw (ne_eqb c.before.before.before.before.before.before.before.before.before.before.before.before.before.before.before.args.tag 10 c.before.before.before.before.before.before.before.before.before.if1.false) (cc)))
+    (λ c. rw (ne_eqb c.args.tag 10 c.if-tag-eq10.false) (cc)))

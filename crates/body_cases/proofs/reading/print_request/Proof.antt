@@ -20,4 +20,4 @@ print_request_spec =
     (search rules)
     (search rules)
     (search rules)
-    (λ c. rw (c.before.before.put-end.ensures, c.before.before.before.before.before.before.put-span.ensures, c.before.before.before.before.before.before.before.before.before.before.before.put-list.ensures, c.before.before.before.before.before.before.before.before.before.before.before.before.before.before.before.before.put-field.ensures, c.before.before.before.before.before.before.before.before.before.before.before.before.before.before.before.before.before.before.before.before.before.put-tag.ensures) (two-parts (each_number (numbers_in c.before.before.before.before.before.before.before.before.before.before.before.before.before.before.before.before.before.before.before.before.before.before.before.before.before.args.s.now c.before.before.before.before.before.before.before.before.before.before.before.before.before.before.before.before.before.before.before.before.before.before.before.before.before.args.modes)) (bytes_pieces (codes " payload") (span_in c.before.before.before.before.before.before.before.before.before.before.before.before.before.before.before.before.before.before.before.before.before.before.before.before.before.args.s.now c.before.before.before.before.before.before.before.before.before.before.before.before.before.before.before.before.before.before.before.before.before.before.before.before.before.args.payload)) (newline ∷ []) _)))
+    (λ c. rw (c.put_end.ensures, c.put_span-d.ensures, c.put_list-c.ensures, c.put_field-b.ensures, c.put_tag-a.ensures) (two-parts (each_number (numbers_in c.args.s.now c.args.modes)) (bytes_pieces (codes " payload") (span_in c.args.s.now c.args.payload)) (newline ∷ []) _)))

@@ -20,4 +20,4 @@ print_stamp_spec =
     (search rules)
     (search rules)
     (search rules)
-    (λ c. rw (c.before.before.put-end.ensures, c.before.before.before.before.before.before.put-stamp.ensures, c.before.before.before.before.before.before.before.part.ensures, c.before.before.before.before.before.before.before.before.before.before.before.put-word2.ensures, c.before.before.before.before.before.before.before.before.before.before.before.before.before.before.before.before.put_word.ensures, c.before.before.before.before.before.before.before.before.before.before.before.before.before.before.before.before.before.before.before.before.before.put-tag.ensures) (two-parts (each_byte (span_in c.before.before.before.before.before.before.before.before.before.before.before.before.before.before.before.before.before.before.before.before.before.before.before.before.before.args.s.now c.before.before.before.before.before.before.before.before.before.before.before.before.before.before.before.before.before.before.before.before.before.before.before.before.before.args.stamp)) [] (newline ∷ []) _)))
+    (λ c. rw (c.put_end.ensures, c.put_stamp-d.ensures, c.part.ensures, c.put_word-c.ensures, c.put_word-b.ensures, c.put_tag-a.ensures) (two-parts (each_byte (span_in c.args.s.now c.args.stamp)) [] (newline ∷ []) _)))

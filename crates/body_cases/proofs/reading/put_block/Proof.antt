@@ -12,4 +12,4 @@ put_block_spec =
     (search rules)
     (search rules)
     (search rules)
-    (λ c. rw (c.before.before.put-span.ensures, c.before.before.before.before.before.before.before.put-field.ensures, c.before.before.before.before.before.before.before.before.before.before.before.before.put-tag.ensures)))
+    (λ c. rw (c.put_span.ensures, c.put_field-b.ensures, c.put_tag-a.ensures)))

@@ -17,4 +17,4 @@ put_reconnect_spec =
     (search rules)
     (search rules)
     (search rules)
-    (λ c. rw (c.before.before.put-field5.ensures, c.before.before.before.before.before.before.before.put-field4.ensures, c.before.before.before.before.before.before.before.before.before.before.before.before.put-field3.ensures, c.before.before.before.before.before.before.before.before.before.before.before.before.before.before.before.before.before.put-field2.ensures, c.before.before.before.before.before.before.before.before.before.before.before.before.before.before.before.before.before.before.before.before.before.before.put-field.ensures)))
+    (λ c. rw (c.put_field.ensures, c.put_field-d.ensures, c.put_field-c.ensures, c.put_field-b.ensures, c.put_field-a.ensures)))

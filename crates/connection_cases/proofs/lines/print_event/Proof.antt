@@ -26,6 +26,6 @@ print_event_spec =
     (search rules)
     (λ c. rw c.in-Frame.is c.print_frame-in-Frame.ensures)
     (search rules)
-    (λ c. rw c.before.before.before.before.before.before.event4.given.1 c.before.before.print-frame3.ensures)
+    (λ c. rw c.in-Dropped.is c.print_frame-in-Dropped.ensures)
     (search rules)
-    (λ c. rw c.before.before.before.before.before.event5.given.1 c.before.before.print-call-refused.ensures))
+    (λ c. rw c.in-Refused.is c.print_call_refused.ensures))

@@ -7,4 +7,4 @@ pub call_at_spec : {M : Type 1} → statement M
 unfolding call_at
 call_at_spec =
     tie.close
-    (tie.spec (search rules) (search rules) (search rules) (λ c. rw (c.u32_at.ensures, c.lent_at_lem.ensures)))
+    (tie.spec (search rules) (search rules) (search rules) (λ c. rw (c.u32_at.ensures, c.lent_at.ensures)))

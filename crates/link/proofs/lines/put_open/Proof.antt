@@ -18,4 +18,4 @@ put_open_spec =
     (search rules)
     (search rules)
     (search rules)
-    (λ c. rw (end-cut c.before.before.before.before.before.before.before.before.before.before.before.args.taken c.before.before.before.before.before.before.before.before.before.before.before.args.entry-end (omega arith)) cc))
+    (λ c. rw (end-cut c.args.taken c.args.entry-end (omega arith)) cc))

@@ -23,5 +23,5 @@ note_spec =
     (search rules)
     (λ c. rw c.in-Frame.is (note_framed _ _ _ c.requires.0 _ _ c.note_frame.ensures.0 c.note_frame.ensures.1))
     (search rules)
-    (λ c. rw c.before.before.before.before.before.before.event3.given.1 (note_dropped _ _ _ c.before.before.before.before.before.before.before.before.before.requires.0 _ _ c.before.before.note-frame2.ensures.0 c.before.before.note-frame2.ensures.1))
-    (λ c. rw c.before.event4.given.1 (note_refusal _ _ _)))
+    (λ c. rw c.in-Dropped.is (note_dropped _ _ _ c.requires.0 _ _ c.note_frame-in-Dropped.ensures.0 c.note_frame-in-Dropped.ensures.1))
+    (λ c. rw c.in-Refused.is (note_refusal _ _ _)))
