@@ -8,14 +8,14 @@ use Rattle.abi_builder.proofs.frame_written.Tie as tie
 returns : tie.Need-returns-then-not-header_fits
 returns c =
     let f = c.header_fits in
-    frame-beyond _ _ _ _ _ _ _ (sym f.ensures ∙ not-true f.result c.if-not-header_fits.true) c.abi_refused.ensures
+    frame-beyond _ _ _ _ _ _ _ (sym f.ensures ∙ c.if-not-header_fits.true) c.abi_refused.ensures
 
 returns-2 : tie.Need-returns
 returns-2 c =
     let b = c in
     let k = b in
     let f = k.header_fits in
-    frame-written _ _ _ _ _ _ b.revision_by_number.result b.header_of.result b.build_frame.result _ _ (sym f.ensures ∙ not-false f.result k.if-not-header_fits.false) b.revision_by_number.ensures b.header_of.ensures b.build_frame.ensures c.written_of.ensures
+    frame-written _ _ _ _ _ _ b.revision_by_number.result b.header_of.result b.build_frame.result _ _ (sym f.ensures ∙ k.if-not-header_fits.false) b.revision_by_number.ensures b.header_of.ensures b.build_frame.ensures c.written_of.ensures
 
 pub frame_written_spec : {M : Type 1} → statement M
 frame_written_spec =

@@ -18,7 +18,7 @@ returns c =
     let p = abi_connection z.link.now z.numbers.now z.block.now z.sealed.now z.first.now z.key.now z.nonce.now in
     record {
       kind = sym (ap (λ (l : List ℕ). get_or l 0 0) c.contradicts.ensures);
-      answered = unusable p z.store.now z.piece.now _ (sym u.ensures ∙ not-true u.result c.if-not-is_usable.true) c.contradicts.ensures;
+      answered = unusable p z.store.now z.piece.now _ (sym u.ensures ∙ c.if-not-is_usable.true) c.contradicts.ensures;
     }
 
 returns-2 : tie.Need-returns-then-mode-eq0
@@ -30,7 +30,7 @@ returns-2 c =
     let y = abi_state z.numbers.now z.block.now in
     let e : get_or z.link.now 0 0 ≡ 0 = c.if-mode-eq0.true in
     let p = connected (get_or z.link.now 0 0) (get_or z.link.now 1 0) y x in
-    let h = is-usable p (sym u.ensures ∙ not-false u.result c.if-not-is_usable.false) in
+    let h = is-usable p (sym u.ensures ∙ c.if-not-is_usable.false) in
     crc-given z.link.now y x z.store.now z.piece.now _ _ _ _ e h o.ensures c.ready_after.ensures
 
 returns-3 : tie.Need-returns
@@ -41,7 +41,7 @@ returns-3 c =
     let x = abi_secure z.sealed.now z.first.now z.key.now z.nonce.now in
     let y = abi_state z.numbers.now z.block.now in
     let p = connected (get_or z.link.now 0 0) (get_or z.link.now 1 0) y x in
-    let h = is-usable p (sym u.ensures ∙ not-false u.result c.if-not-is_usable.false) in
+    let h = is-usable p (sym u.ensures ∙ c.if-not-is_usable.false) in
     secure_given z.link.now y x z.store.now z.piece.now _ _ _ c.if-mode-eq0.false h o.ensures
 
 pub abi_receive_spec : {M : Type 1} → statement M

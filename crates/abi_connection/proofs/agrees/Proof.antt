@@ -12,19 +12,19 @@ returns : tie.Need-returns-then-not-is_usable
 returns c =
     let z = c.args in
     let u = c.is_usable in
-    disagrees (abi_connection z.t1 z.t2 z.block z.sealed z.first z.key z.nonce) (sym u.ensures ∙ not-true u.result c.if-not-is_usable.true)
+    disagrees (abi_connection z.link z.numbers z.block z.sealed z.first z.key z.nonce) (sym u.ensures ∙ c.if-not-is_usable.true)
 
 returns-2 : tie.Need-returns-then-link-eq0
 returns-2 c =
     let z = c.args in
     let u = c.is_usable in
-    crc-agrees-given z.t1 (abi_state z.t2 z.block) (abi_secure z.sealed z.first z.key z.nonce) _ c.if-link-eq0.true (sym u.ensures ∙ not-false u.result c.if-not-is_usable.false) c.crc_agrees.ensures
+    crc-agrees-given z.link (abi_state z.numbers z.block) (abi_secure z.sealed z.first z.key z.nonce) _ c.if-link-eq0.true (sym u.ensures ∙ c.if-not-is_usable.false) c.crc_agrees.ensures
 
 returns-3 : tie.Need-returns
 returns-3 c =
     let z = c.args in
     let u = c.is_usable in
-    secure_agrees-given z.t1 (abi_state z.t2 z.block) (abi_secure z.sealed z.first z.key z.nonce) _ c.if-link-eq0.false (sym u.ensures ∙ not-false u.result c.if-not-is_usable.false) c.secure_agrees.ensures
+    secure_agrees-given z.link (abi_state z.numbers z.block) (abi_secure z.sealed z.first z.key z.nonce) _ c.if-link-eq0.false (sym u.ensures ∙ c.if-not-is_usable.false) c.secure_agrees.ensures
 
 pub agrees_spec : {M : Type 1} → statement M
 agrees_spec =

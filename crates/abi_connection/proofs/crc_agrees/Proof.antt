@@ -9,7 +9,7 @@ use Rattle.abi_connection.proofs.crc_agrees.Tie as tie
 returns : tie.Need-returns
 returns c =
     let z = c.args in
-    ap not c.is_contradiction.ensures ∙ crc_says (abi_state z.numbers z.t2) _ _ _ _ c.abi_receive.ensures.answered
+    ap not c.is_contradiction.ensures ∙ crc_says (abi_state z.numbers z.block) _ _ _ _ c.abi_receive.ensures.answered
 
 pub crc_agrees_spec : {M : Type 1} → statement M
 crc_agrees_spec =

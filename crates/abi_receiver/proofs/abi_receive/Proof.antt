@@ -16,7 +16,7 @@ returns c =
     let f = c.fits in
     record {
       kind = rw c.contradicts.ensures;
-      answered = words-refused g.numbers.now g.block.now g.store.now g.piece.now _ (sym f.ensures ∙ not-true f.result c.if-not-fits.true) c.contradicts.ensures;
+      answered = words-refused g.numbers.now g.block.now g.store.now g.piece.now _ (sym f.ensures ∙ c.if-not-fits.true) c.contradicts.ensures;
     }
 
 returns-2 : tie.Need-returns-in-Partial
@@ -26,7 +26,7 @@ returns-2 c =
     let ws = g.numbers.now in
     let b = g.block.now in
     let f = c.fits in
-    let e = sym f.ensures ∙ not-false f.result c.if-not-fits.false in
+    let e = sym f.ensures ∙ c.if-not-fits.false in
     let k = c.stage_of.ensures in
     let v = c.known_of-known.ensures.0 in
     let d : state_at c.stage_of.result (get_or ws 18 0) b c.known_of-known.result ≡ words.state_of (abi_state ws b) = rw (k, v) in
@@ -47,7 +47,7 @@ returns-3 c =
     let ws = g.numbers.now in
     let b = g.block.now in
     let f = c.fits in
-    let e = sym f.ensures ∙ not-false f.result c.if-not-fits.false in
+    let e = sym f.ensures ∙ c.if-not-fits.false in
     let d : state_at c.stage_of.result (get_or ws 18 0) b c.known_of-known.result ≡ words.state_of (abi_state ws b) = rw (c.stage_of.ensures, c.known_of-known.ensures.0) in
     let a = rw c.in-Moved.is at c.receive_in-t.ensures in
     record {

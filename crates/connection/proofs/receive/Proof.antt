@@ -10,20 +10,20 @@ use Rattle.connection.proofs.receive.Tie as tie
 returns : tie.Need-returns-then-not-ready_rule
 returns c =
     let z = c.args in
-    let e : ready_rule z.state ≡ false = sym c.ready_rule.ensures ∙ not-true _ c.if-not-ready_rule.true in
+    let e : ready_rule z.state ≡ false = sym c.ready_rule.ensures ∙ c.if-not-ready_rule.true in
     contradicted z.state z.store.now z.piece.now _ e c.numbers_of-n.ensures
 
 returns-2 : tie.Need-returns-then-is_secure
 returns-2 c =
     let z = c.args in
-    let e : ready_rule z.state ≡ true = sym c.ready_rule.ensures ∙ not-false _ c.if-not-ready_rule.false in
+    let e : ready_rule z.state ≡ true = sym c.ready_rule.ensures ∙ c.if-not-ready_rule.false in
     let m : is_secure z.state.mode ≡ true = sym c.is_secure.ensures ∙ c.if-is_secure.true in
     answered_by_lem z.state z.store.now z.piece.now true e m c.receive_secure.ensures
 
 returns-3 : tie.Need-returns
 returns-3 c =
     let z = c.args in
-    let e : ready_rule z.state ≡ true = sym c.ready_rule.ensures ∙ not-false _ c.if-not-ready_rule.false in
+    let e : ready_rule z.state ≡ true = sym c.ready_rule.ensures ∙ c.if-not-ready_rule.false in
     let m : is_secure z.state.mode ≡ false = sym c.is_secure.ensures ∙ c.if-is_secure.false in
     answered_by_lem z.state z.store.now z.piece.now false e m c.receive_crc.ensures
 

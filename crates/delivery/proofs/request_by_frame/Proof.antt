@@ -17,7 +17,7 @@ unfolding request_by_frame
 returns-2 c =
     let h = c.args.h in
     let s = c.args.store.now in
-    let e = sym c.for_session.ensures ∙ not-false _ c.if-not-for_session.false in
+    let e = sym c.for_session.ensures ∙ c.if-not-for_session.false in
     rw e
     (c.request_by_body.ensures (take c.min-end.result s)
     ∙ ap (by_body h) (c.read.ensures.answer ∙ ap (read_body h.tag) (take_min s h.s1.len c.min-end.result c.min-end.ensures)))
@@ -28,7 +28,7 @@ request_by_frame_spec =
     tie.close
     (tie.spec
     (λ c κs. search rules)
-    (λ c. rw (sym c.for_session.ensures ∙ not-true _ c.if-not-for_session.true))
+    (λ c. rw (sym c.for_session.ensures ∙ c.if-not-for_session.true))
     (λ c. search rules)
     (λ c κs. search rules)
     (λ c. simp length-take (omega (arith, c.min-end.ensures)))

@@ -21,7 +21,7 @@ given z = state_at z.args.stage z.args.got z.args.block.now z.args.known
 
 -- what the tests tell: it agrees with itself, it is not refused, and the store is long enough
 agreed : (a : tie.Else-not-agree) → agrees (given a.before.before.before.before) ≡ true
-agreed a = sym a.agree.ensures ∙ not-false a.agree.result a.if-not-agree.false
+agreed a = sym a.agree.ensures ∙ a.if-not-agree.false
 
 live : (a : tie.Else-is_refused) → is_refused a.args.stage ≡ false
 live a = sym a.is_refused.ensures ∙ a.if-is_refused.false
@@ -63,7 +63,7 @@ receive_in_spec =
     (λ c κs. search rules)
     (λ c κs. search rules)
     (λ c κs. search rules)
-    (λ c. answered_as (contradicting _ _ _ (sym c.agree.ensures ∙ not-true c.agree.result c.if-not-agree.true)) (rw (c.refuse_unchanged.ensures, c.numbers_of.ensures)) refl)
+    (λ c. answered_as (contradicting _ _ _ (sym c.agree.ensures ∙ c.if-not-agree.true)) (rw (c.refuse_unchanged.ensures, c.numbers_of.ensures)) refl)
     (λ c κs. search rules)
     (λ c κs. search rules)
     (λ c. answered_as (repeating _ _ _ (agreed c.before.before.before.before) (sym c.is_refused.ensures ∙ c.if-is_refused.true)) (rw c.refuse_unchanged-then-is_refused.ensures) refl)

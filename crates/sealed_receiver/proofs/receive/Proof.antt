@@ -10,7 +10,7 @@ use Rattle.sealed_receiver.proofs.receive.Tie as tie
 
 -- what was tested before: the state agrees with itself, and is not refused
 agreed : (a : tie.Else-not-agrees_with_itself) → agrees a.args.state ≡ true
-agreed a = sym a.agrees_with_itself.ensures ∙ not-false a.agrees_with_itself.result a.if-not-agrees_with_itself.false
+agreed a = sym a.agrees_with_itself.ensures ∙ a.if-not-agrees_with_itself.false
 
 live : (a : tie.Else-is_refused) → is_refused a.args.state.position.stage ≡ false
 live a = sym a.is_refused.ensures ∙ a.if-is_refused.false
@@ -29,7 +29,7 @@ returns c =
     let z = c.args in
     let s = z.store.now in
     let tested = c.agrees_with_itself in
-    let e = contradicting z.state s z.piece.now (sym tested.ensures ∙ not-true tested.result c.if-not-agrees_with_itself.true) in
+    let e = contradicting z.state s z.piece.now (sym tested.ensures ∙ c.if-not-agrees_with_itself.true) in
     answered z.state s z.piece.now e (c.refuse_unchanged.ensures s ∙ ap (λ (n : Numbers). (step.refuse_unchanged z.state n s).received) c.numbers_of.ensures) refl
 
 returns-2 : tie.Need-returns-then-is_refused

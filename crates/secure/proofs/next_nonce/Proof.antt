@@ -7,7 +7,7 @@ returns : tie.Need-returns
 unfolding next_nonce
 returns c =
     c.nonce_of.ensures
-    ∙ ap (nonce_of c.args.t1)
+    ∙ ap (nonce_of c.args.nonce)
     (c.wrapping_add_u64.ensures ∙ ap (λ (n : ℕ). (n + 1) % 2 ^ 64) c.u64_at-c.ensures)
 
 pub next_nonce_spec : {M : Type 1} → statement M

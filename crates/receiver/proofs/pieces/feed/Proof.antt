@@ -27,7 +27,7 @@ start a = a.before.before.before.before.before.before.before.before
 done : (a : Stepped)
     → (let z = (start a).args in let m = a.loop-at in
     Turn z.piece.now z.store.now (state_at z.from z.came z.block.now z.knew) m.store (state_at m.stage m.got m.block m.known) m.at (moved_to a.step-o.result a.step-o.new.block) a.step-o.new.store)
-done a = turn a.loop-at.inv a.loop-at-test.taken a.step-o.ensures a.step-o.auto.store
+done a = turn a.loop-at.invariant a.loop-at-test.true a.step-o.ensures a.step-o.auto.store
 
 pub feed_spec : {M : Type 1} → statement M
 feed_spec =
@@ -43,8 +43,8 @@ feed_spec =
     (λ c. (let a = c.before.before.before.before in omega (arith, within (done a), (start a).well_formed.1.1.1.1.0.0)))
     (λ c κs. search rules)
     (λ c. (let t = done c.before.before.before.before.before.before in t.kept ∙ t.midway.same))
-    (λ c. reported (done c.before.before.before.before.before.before) (sym c.is_more.ensures ∙ not-true c.is_more.result c.if-not-is_more.true))
+    (λ c. reported (done c.before.before.before.before.before.before) (sym c.is_more.ensures ∙ c.if-not-is_more.true))
     (λ c. (let t = done c.before.before.before.before.before.before in omega (arith, within t, progress t)))
-    (λ c. again (done c.before.before.before.before.before.before) (sym c.is_more.ensures ∙ not-false c.is_more.result c.if-not-is_more.false))
+    (λ c. again (done c.before.before.before.before.before.before) (sym c.is_more.ensures ∙ c.if-not-is_more.false))
     (λ c. c.loop-at.invariant.same)
     (λ c. finished c.loop-at.invariant c.loop-at-test.false))

@@ -22,17 +22,17 @@ start a = a.before.before.before.before.before.before.before
 done : (a : Stepped)
     → (let z = (start a).args in let m = a.loop-at in
     Turn z.piece.now z.store.now z.state m.store m.st m.at a.step-o.result a.step-o.new.store)
-done a = turn a.loop-at.inv a.loop-at-test.taken a.step-o.ensures a.step-o.auto.store
+done a = turn a.loop-at.invariant a.loop-at-test.true a.step-o.ensures a.step-o.auto.store
 
 returns : tie.Need-returns-then-not-is_more invariant-loop decreases-loop
 returns c =
     reported (done c.before.before.before.before.before.before)
-    (sym c.is_more.ensures ∙ not-true c.is_more.result c.if-not-is_more.true)
+    (sym c.is_more.ensures ∙ c.if-not-is_more.true)
 
 loop-again : tie.Need-loop-at-preserved invariant-loop decreases-loop
 loop-again c =
     again (done c.before.before.before.before.before.before)
-    (sym c.is_more.ensures ∙ not-false c.is_more.result c.if-not-is_more.false)
+    (sym c.is_more.ensures ∙ c.if-not-is_more.false)
 
 pub take_piece_spec : {M : Type 1} → statement M
 take_piece_spec =
