@@ -16,7 +16,7 @@ sized a = ap (λ (k : ℕ). k - 16) (a.last_part_length.ensures.0 ∙ last-size 
 
 returns : tie.Need-returns-in-Whole
 returns c =
-    let a = c.before.before.before.before.before.before.before.before.before.before in
+    let a = c.before.before.before.before.before.before.before.before.before in
     let z = (start a).args in
     let e = a.end_of_last-end.ensures ∙ ap (last_ended z.v.header) a.part.ensures in
     c.end_whole.ensures
@@ -24,14 +24,14 @@ returns c =
 
 returns-2 : tie.Need-returns-in-Dropped
 returns-2 c =
-    let a = c.before.before.before.before.before.before in
+    let a = c.before.before.before.before.before in
     let z = (start a).args in
     let e = a.end_of_last-end.ensures ∙ ap (last_ended z.v.header) a.part.ensures in
     c.drop_frame.ensures z.store.now ∙ last-ends z.v z.store.now (sized a) e dropped (ap ended_as c.in-Dropped.is)
 
 returns-3 : tie.Need-returns-in-Refused
 returns-3 c =
-    let a = c.before.before.before.before.before.before.before in
+    let a = c.before.before.before.before.before in
     let z = (start a).args in
     let e = a.end_of_last-end.ensures ∙ ap (last_ended z.v.header) a.part.ensures in
     c.refuse_frame.ensures ∙ last-ends z.v z.store.now (sized a) e (refused_for _) (ap ended_as c.in-Refused.is)

@@ -18,7 +18,7 @@ region a = last-region (start a).args.v (start a).args.store.now a.last_part_len
 
 behind-last-requires : tie.Need-after_last_part-requires
 behind-last-requires c κs =
-    let a = c.before.before.before.before.before.before.before.before in
+    let a = c.before.before.before.before.before.before.before in
     let h = (start a).args.v.header in
     let o = c.open_part-opened in
     let e : c.with_opened.result.header ≡ h = ap (λ (k : Known). k.header) c.with_opened.ensures in
@@ -27,7 +27,7 @@ behind-last-requires c κs =
 returns : tie.Need-returns-in-Fine
 returns c =
     λ b.
-    let a = c.before.before.before.before.before.before.before.before.before.before.before in
+    let a = c.before.before.before.before.before.before.before.before.before.before in
     let o = c.open_part-opened in
     let j = sym o.ensures.judged ∙ ap judged_by c.in-Fine.is in
     (rw c.with_opened.ensures at c.after_last_part.ensures)
@@ -36,7 +36,7 @@ returns c =
 returns-2 : tie.Need-returns-in-Refused
 returns-2 c =
     λ b.
-    let a = c.before.before.before.before.before.before.before.before.before.before.before in
+    let a = c.before.before.before.before.before.before.before.before.before in
     let o = c.open_part-opened in
     c.refuse_frame.ensures
     ∙ last-refused (start a).args.v (start a).args.store.now (region a) o.new.bytes o.auto.bytes b _ (sym o.ensures.judged ∙ ap judged_by c.in-Refused.is)

@@ -20,7 +20,7 @@ region a = second-region (start a).args.v (start a).args.store.now a.second_part
 
 behind-rest-requires : tie.Need-after_second_part-requires
 behind-rest-requires c κs =
-    let a = c.before.before.before.before.before.before.before.before in
+    let a = c.before.before.before.before.before.before.before in
     let h = (start a).args.v.header in
     let o = c.open_part-opened in
     let e : c.with_opened.result.header ≡ h = ap (λ (k : Known). k.header) c.with_opened.ensures in (
@@ -32,7 +32,7 @@ behind-rest-requires c κs =
 returns : tie.Need-returns-in-Fine
 returns c =
     λ b.
-    let a = c.before.before.before.before.before.before.before.before.before.before.before in
+    let a = c.before.before.before.before.before.before.before.before.before.before in
     let o = c.open_part-opened in
     let j = sym o.ensures.judged ∙ ap judged_by c.in-Fine.is in
     (rw c.with_opened.ensures at c.after_second_part.ensures)
@@ -41,7 +41,7 @@ returns c =
 returns-2 : tie.Need-returns-in-Refused
 returns-2 c =
     λ b.
-    let a = c.before.before.before.before.before.before.before.before.before.before.before in
+    let a = c.before.before.before.before.before.before.before.before.before in
     let o = c.open_part-opened in
     c.refuse_frame.ensures
     ∙ rest-refused (start a).args.v (start a).args.store.now (region a) o.new.bytes o.auto.bytes b _ (sym o.ensures.judged ∙ ap judged_by c.in-Refused.is)

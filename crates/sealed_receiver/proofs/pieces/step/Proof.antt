@@ -18,7 +18,7 @@ taking-fits : (st : State) (piece : List ℕ) → st.position.got < step.size st
 taking-fits st piece l = omega (arith, taking-length st piece)
 
 held : (st : State) (s piece : List ℕ) (n : ℕ) (block store : List ℕ) → n ≡ st.position.got + length (taking st piece)
-    → block ≡ (step.absorbed st (taking st piece)).position-1.block → store ≡ step.stored st s (taking st piece)
+    → block ≡ (step.absorbed st (taking st piece)).position.block → store ≡ step.stored st s (taking st piece)
     → step.silent (step.state_at st.position.stage n block st.known) store
     ≡ step.silent (step.absorbed st (taking st piece)) (step.stored st s (taking st piece))
 held st s piece n block store en eb es = rw (en, eb, es)
@@ -47,7 +47,7 @@ part_of f = f.before.before.before.before.before.before
 
 block-is : (f : tie.After-fill_store)
     → (let z = start (part_of f) in
-    f.fill_block-block.result ≡ (step.absorbed z.args.st (taking z.args.st z.args.piece.now)).position-1.block)
+    f.fill_block-block.result ≡ (step.absorbed z.args.st (taking z.args.st z.args.piece.now)).position.block)
 block-is f =
     let a = part_of f in
     let p = (start a).args.st.position in
@@ -63,7 +63,7 @@ store_is f =
     let st = (start a).args.st in
     let s = (start a).args.store.now in
     f.fill_store.ensures
-    ∙ ap (λ (q : Bool). step.store_with q (f.place_of.result + st.position.got) s a.part.result.now)
+    ∙ ap (λ (q : Bool). step.store_with q (f.place_of.result + st.position.got) s a.part-bytes.result.now)
     f.in_frame-later.ensures
     ∙ ap₂ (λ (n : ℕ) (xs : List ℕ). step.store_with (in_frame st.position.stage) (n + st.position.got) s xs)
     f.place_of.ensures.0 (bytes_are a)
@@ -101,7 +101,7 @@ returns c =
     let p = (start a).args.piece.now in
     let l = taking-length st p in
     let t : ltb (st.position.got + length (taking st p)) (step.size st) ≡ true =
-    lt-ltb (st.position.got + length (taking st p)) (step.size st) (omega (arith, taken_is a, l, a.before.before.type_size.ensures.0, c.if-to-n.true))
+    lt-ltb (st.position.got + length (taking st p)) (step.size st) (omega (arith, taken_is a, l, a.size_of-n.ensures.0, c.if-to-n.true))
     in
     let n = ap (λ (k : ℕ). st.position.got + k) (taken_is a ∙ sym l) in
     record { taken = taken_is a; step = rw t (held st (start a).args.store.now p _ _ _ n (block-is f) (store_is f)) }
@@ -120,7 +120,7 @@ returns-2 c =
     let l = taking-length st p in
     let t : ltb (st.position.got + length (taking st p)) (step.size st) ≡ false =
     le-ltb (st.position.got + length (taking st p)) (step.size st)
-    (omega (arith, taken_is a, l, a.before.before.type_size.ensures.0, c.if-to-n.false))
+    (omega (arith, taken_is a, l, a.size_of-n.ensures.0, c.if-to-n.false))
     in
     let finishes : List ℕ → List ℕ → step.Stepped = λ x y. step.finish st.position.stage x st.known y in
     record { taken = taken_is a; step = rw t (c.end_part-t.ensures ∙ ap₂ finishes (block-is f) (store_is f)) }
