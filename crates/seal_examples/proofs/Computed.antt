@@ -38,7 +38,7 @@ fips =
       subbed = refl;
       rows = refl;
       columns = refl;
-      first_key_lem = refl;
+      first-key = refl;
       last-key = last-key;
       block = block;
     }

@@ -1,5 +1,5 @@
 -- Worked examples of the definitions: FIPS 197's, the first two test cases of the GCM specification (McGrew and Viega), and the answers of calls at their boundaries.
-use Rattle.std.specs.Prelude.{◌≡◌, List, [], ◌∷◌, ℕ, ◌+◌, ◌-◌, replicate}
+use Rattle.std.specs.Prelude.{◌≡◌, List, [], ◌∷◌, ℕ, ◌+◌, replicate}
 use Rattle.refusal.specs.Refusals.{fine, refused, row}
 use Rattle.refusal.specs.Writes.{refused_for, done}
 use Rattle.sbox.specs.Sbox.{mul, sbox}
@@ -60,7 +60,7 @@ pub record Fips197 : Type 0 where
   pub subbed : sub_bytes (state_of start) ≡ state_of substituted
   pub rows : shift_rows (state_of substituted) ≡ state_of shifted
   pub columns : mix_columns (state_of shifted) ≡ state_of mixed_once
-  pub first_key_lem : round_key 1 (state_of key) ≡ state_of first_key
+  pub first-key : round_key 1 (state_of key) ≡ state_of first_key
   pub last-key : round_key 10 (state_of key) ≡ state_of last_key
   pub block : cipher (key_expansion key) (state_of input) ≡ state_of output
 

@@ -1,4 +1,5 @@
 use mathlib.Core.Path.{refl}
+use Rattle.fields.specs.Field as field
 use Rattle.reader.proofs.Takes.{taken}
 use borrow.Author.Rules.{rules}
 use Rattle.reader.proofs.take_stamp.Statement.{statement}
@@ -11,4 +12,4 @@ take_stamp_spec =
     (λ c κs. search rules)
     (λ c κs. search rules)
     (λ c κs. search rules)
-    (λ c. taken _ _ _ c.at_place-c.ensures c.read_bytes.ensures (c.span_taken.ensures _ _ (λ bs. refl))))
+    (λ c. taken _ _ _ c.at_place-c.ensures c.read_bytes.ensures (c.span_taken.ensures _ (field.fixed 8) (λ bs. refl))))
