@@ -1,5 +1,5 @@
 -- No nonce twice: the builds of a chain use nonces one behind the other.
-use Rattle.std.proofs.Common.{◌≡◌, ℕ, ◌+◌, ◌-◌, ◌%◌, ◌^◌, ◌≤◌, Bool, cond, leb, List, [], ◌∷◌, ◌++◌, length, sym, refl, ap, ◌∙◌, ap₂, mod-eq_of_lt, arith, length-append, leb-false, leb-true}
+use Rattle.std.proofs.Common.{◌≡◌, ℕ, ◌+◌, ◌%◌, ◌^◌, ◌≤◌, Bool, cond, leb, List, [], ◌∷◌, ◌++◌, length, sym, refl, ap, ◌∙◌, ap₂, mod-eq_of_lt, arith, length-append, leb-false, leb-true}
 use Rattle.refusal.specs.declared.Numbers.{Numbers}
 use Rattle.refusal.specs.Refusals.{Judged, fine, refused}
 use Rattle.refusal.proofs.Booleans.{by_test, at_test}
@@ -10,7 +10,7 @@ use Rattle.aes.specs.Aes.{key_expansion}
 use Rattle.secure.specs.Layout.{all_nonces, nonce_after, nonces_of, sealed_parts, sealed_length, part_count, texts}
 use Rattle.sealed_builder.specs.declared.Sending.{Sending}
 use Rattle.sealed_builder.specs.Build.{Done, done, spent_of, fresh_sending, sent_more, sent_parts, judge_sealed, outcome, sealed_done}
-use Rattle.sealed_builder.specs.Nonces.{Build, Meets, Chained, used_in, used_by, used, sending_after, left, AllDifferent, SealedWith}
+use Rattle.sealed_builder.specs.Nonces.{Build, Meets, Chained, used_in, used_by, used, sending_after, AllDifferent, SealedWith}
 use Rattle.sealed_builder.proofs.Accepted.{accepted, counted}
 use Rattle.secure.proofs.Runs.{run, length_run, run_of, run_on}
 use Rattle.secure.proofs.Lengths.{texts-count, some}

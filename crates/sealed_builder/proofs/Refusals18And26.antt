@@ -1,5 +1,5 @@
 -- 18 is given exactly when nothing earlier applies and too few nonces are left, and 26 exactly for a state that contradicts itself.
-use Rattle.std.proofs.Common.{◌≡◌, ℕ, ◌+◌, ◌-◌, ◌<◌, ◌≤◌, Bool, true, false, not, ◌&&◌, ◌||◌, eqb, leb, List, [], ◌∷◌, length, sym, refl, ap, ◌∙◌, ap₂, arith, le-leb}
+use Rattle.std.proofs.Common.{◌≡◌, ℕ, ◌+◌, ◌<◌, ◌≤◌, Bool, true, false, not, ◌&&◌, ◌||◌, eqb, leb, List, [], ◌∷◌, length, sym, refl, ap, ◌∙◌, ap₂, arith, le-leb}
 use mathlib.Core.Bool.{not-or_self}
 use borrow.Author.Tests.{lt-leb, not-true}
 use Rattle.refusal.specs.declared.Numbers.{Numbers}

@@ -1,5 +1,5 @@
 -- The texts of parts as code lays them down.
-use Rattle.std.proofs.Common.{◌≡◌, ℕ, ◌+◌, ◌-◌, ◌≤◌, Bool, List, ◌++◌, length, take, drop, replicate, sym, ap, ◌∙◌, ap₂, arith, length-take, length-take-le}
+use Rattle.std.proofs.Common.{◌≡◌, ℕ, ◌-◌, ◌≤◌, Bool, List, ◌++◌, length, take, drop, replicate, sym, ap, ◌∙◌, ap₂, arith, length-take, length-take-le}
 use Rattle.buffer.specs.Splice.{replace_front}
 use Rattle.buffer.proofs.Parts.{rest, back, next}
 use Rattle.body.specs.Body.{rest_sent}

@@ -1,5 +1,4 @@
 use mathlib.Core.Path.{◌∙◌}
-use borrow.Author.Tests.{not-true, not-false}
 use Rattle.abi_sealed.proofs.Laws.{both_as, sealed-beyond, sealed-built}
 use borrow.Author.Rules.{rules}
 use Rattle.abi_sealed.proofs.sealed_written.Statement.{statement}

@@ -1,5 +1,4 @@
-use Rattle.std.proofs.Common.{◌≡◌, ℕ, ◌+◌, ◌-◌, List, length, refl, ap, ◌∙◌, arith, length-take-le, rules}
-use Rattle.buffer.proofs.Parts.{rest}
+use Rattle.std.proofs.Common.{◌≡◌, ℕ, ◌+◌, List, length, refl, ap, ◌∙◌, arith, length-take-le, rules}
 use Rattle.banner.specs.declared.Revision.TheVariants.{Msgr21}
 use Rattle.body.specs.Body.{late_byte}
 use Rattle.secure.specs.Layout.{round_up, epilogue16}

@@ -10,9 +10,9 @@ sub-put-zeros : tie.Need-slice_bounds-put_zeros-count
 sub-put-zeros c =
     omega (arith, front-short c.args.first.now c.part-inline.result.now c.part-inline.ensures)
 
-part-put-zeros-start : tie.Need-slice-bounds-put-zeros-start
+part-put-zeros-start : tie.Need-slice_bounds-put_zeros-start
 part-put-zeros-start c =
-    omega (arith, front-short c.before.before.before.before.before.before.before.args.first.now c.before.before.before.before.part.result.now c.before.before.before.before.part.ensures)
+    omega (arith, front-short c.args.first.now c.part-inline.result.now c.part-inline.ensures)
 
 sub-put-zeros_2 : tie.Need-overflow_sub-n
 sub-put-zeros_2 c =

@@ -1,4 +1,4 @@
-use Rattle.std.proofs.Common.{◌≡◌, ℕ, ◌+◌, ◌-◌, List, length, take, drop, refl, ap, ◌∙◌, ap₂, arith, length-drop, length-take-le, rules}
+use Rattle.std.proofs.Common.{◌≡◌, ℕ, ◌+◌, List, length, take, drop, refl, ap, ◌∙◌, ap₂, arith, length-drop, length-take-le, rules}
 use Rattle.buffer.specs.Splice.{replace_front}
 use Rattle.buffer.proofs.Parts.{rest, length_rest, next}
 use Rattle.preamble.specs.declared.Header.{Header}

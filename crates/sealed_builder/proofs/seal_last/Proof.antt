@@ -1,5 +1,4 @@
 use Rattle.std.proofs.Common.{◌≡◌, ℕ, ◌+◌, ◌-◌, false, List, length, sym, ◌∙◌, arith, rules}
-use Rattle.buffer.proofs.Parts.{rest}
 use Rattle.banner.specs.declared.Revision.TheVariants.{Msgr21}
 use Rattle.body.specs.Body.{late_byte, rest_sent}
 use Rattle.body.proofs.Laws.{length-sent}

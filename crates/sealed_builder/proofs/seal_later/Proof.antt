@@ -3,7 +3,7 @@ use Rattle.buffer.specs.Splice.{replace_front}
 use Rattle.buffer.proofs.Parts.{rest, length_rest}
 use Rattle.banner.specs.declared.Revision.TheVariants.{Msgr21}
 use Rattle.body.specs.Body.{late_byte, rest_sent}
-use Rattle.secure.specs.Layout.{padding, round_up, no_second_part, second_part_length, no_last_part, unless_none, second_text, last_text, parts_from, sealed_parts}
+use Rattle.secure.specs.Layout.{round_up, no_second_part, second_part_length, no_last_part, unless_none, second_text, last_text, parts_from, sealed_parts}
 use Rattle.secure.proofs.Lengths.{length-padded}
 use Rattle.secure.proofs.Missing.{rest-none, rest-there}
 use Rattle.secure.proofs.Bounds.{rest-size}

@@ -1,6 +1,6 @@
 use Rattle.std.proofs.Common.{◌≡◌, ℕ, ◌+◌, ◌-◌, List, length, drop, ap, ◌∙◌, arith, length-drop, rules}
 use Rattle.buffer.specs.Splice.{replace_front}
-use Rattle.secure.specs.Layout.{padding, round_up, padded, second_text}
+use Rattle.secure.specs.Layout.{round_up, padded, second_text}
 use Rattle.secure.proofs.Lengths.{length-padded}
 use Rattle.gcm.proofs.InPlace.{sealed-laid}
 use Rattle.sealed_builder.proofs.seal_second_part.Statement.{statement}
