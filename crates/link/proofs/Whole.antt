@@ -197,8 +197,8 @@ module _ (law : EveryLine) (demand3 : Demand3) (file store : List ℕ) (bytes : 
         settled-link (Stands t' s' out) (Ends bad) x e (record { place = h; whole = alone written _ _ none (front room refl x ∙ ap (λ (k : Outcome). text_of (last_pieces k w₀)) e ∙ q) })
 
     new-end : (bad : Bool) → w₀ ≡ new_walk → end_at bad w₀ ≡ cond bad bad_file (ok 0)
-    new-end true e = rw e
-    new-end false e = rw e
+    new-end true e = ap (end_at true) e
+    new-end false e = ap (end_at false) e
 
     count_next : (left : ℕ) (b : List ℕ) → Counting t w s written → b ≡ take 2 (drop t file) → TableRead (count_outcome b) w₀ s lent r s' text' → Stands (t + 2) s' out r
     unfolding Stands StandsBy text_of

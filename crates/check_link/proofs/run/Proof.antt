@@ -31,7 +31,7 @@ run_spec =
     (search rules)
     (search rules)
     (search rules)
-    (λ c. falls c.loop-n.link _ _ _ c.read-next.result _ _ c.read-next.ensures (omega (arith, c.loop-n.invariant.0, c.loop-n-test.true)) (omega (arith, c.read-next.type-inv)))
+    (λ c. falls c.loop-n.link _ _ _ c.read-next.result _ _ c.read-next.ensures (omega (arith, c.loop-n.invariant.0, c.loop-n-test.true)) (omega (arith, c.read-next.type_inv)))
     (search rules)
     (search rules)
     (search rules)
