@@ -52,7 +52,7 @@ noted-first report.More P k s es =
 noted-first (report.Event e) P k s es =
     let q : P + suc k ≡ suc P + k = omega arith in
     let l : suc P ≤ suc P + k = omega arith in
-    rw (q, le-leb (suc P) (suc P + k) l)
+    ap (λ (n : ℕ). up_to n (noted (report.Event e) (suc P) s es)) q ∙ rw (le-leb (suc P) (suc P + k) l)
 
 scan-first : {A : Type 0} (step : A → List ℕ → ℕ → Stepped A) (x : A) (s : List ℕ) (P k : ℕ) (bs : List ℕ) → (scan step x s P (take k bs)).entries ≡ up_to (P + k) (scan step x s P bs).entries
 unfolding scan
