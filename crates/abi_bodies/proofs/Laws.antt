@@ -1,10 +1,10 @@
 -- What reading and writing promise, in words.
 use mathlib.Core.Path.{◌≡◌, refl, ap, ◌∙◌}
 use mathlib.Core.List.{List}
-use mathlib.Core.Bool.{Bool, true, false, cond, not, ◌&&◌}
+use mathlib.Core.Bool.{Bool, true, false, cond, ◌&&◌}
 use Prim.Native.Nat.{ℕ, ◌≤◌}
 use native.Mathlib.Omega.{arith}
-use borrow.Author.Tests.{leb-true, le-leb, not-true, not-false}
+use borrow.Author.Tests.{leb-true, le-leb}
 use lib.Dec.{leb}
 use lib.ListN.{get_or}
 use Rattle.refusal.specs.declared.Refusal.TheVariants.{StateContradicts}
@@ -62,20 +62,19 @@ abi-reads tag s b n ws e w k =
 
 module _ (tag : ℕ) (ws ms ns bs out : List ℕ) where
   -- a number is beyond its field
-  pub write-beyond : (q : Bool) (w : Written) → q ≡ fits (get_or ws 0 0) (get_or ws 1 0) (get_or ws 2 0) → not (leb tag max_u8 && q) ≡ true
+  pub write-beyond : (q : Bool) (w : Written) → q ≡ fits (get_or ws 0 0) (get_or ws 1 0) (get_or ws 2 0) → (leb tag max_u8 && q) ≡ false
       → w ≡ abi_refused (numbers_of StateContradicts) → AbiWrites tag ws ms ns bs out w out
   unfolding abi_write
   write-beyond q w g k e =
-      let beyond = not-true (leb tag max_u8 && fits (get_or ws 0 0) (get_or ws 1 0) (get_or ws 2 0)) (rw g at k) in
+      let beyond : (leb tag max_u8 && fits (get_or ws 0 0) (get_or ws 1 0) (get_or ws 2 0)) ≡ false = rw g at k in
       record { promise = rw beyond (ap (λ (x : Written). abi_done x out) e) }
 
   pub write-words : (q : Bool) (t : ℕ) (r : Request) (o : WriteResult) (w : Written) (after : List ℕ)
-      → q ≡ fits (get_or ws 0 0) (get_or ws 1 0) (get_or ws 2 0) → not (leb tag max_u8 && q) ≡ false → t ≡ low_u8 tag → r ≡ request_of ws
+      → q ≡ fits (get_or ws 0 0) (get_or ws 1 0) (get_or ws 2 0) → (leb tag max_u8 && q) ≡ true → t ≡ low_u8 tag → r ≡ request_of ws
       → Writes t (requested r ms ns bs) out o after → w ≡ abi_result (outcome_of o) → AbiWrites tag ws ms ns bs out w after
   unfolding abi_write
   write-words q t r o w after g k a b h e =
-      let fit = not-false (leb tag max_u8 && q) k in
-      let low : low_u8 tag ≡ tag = small8 tag (omega (arith, leb-true tag max_u8 (both_left (leb tag max_u8) q fit))) in
+      let low : low_u8 tag ≡ tag = small8 tag (omega (arith, leb-true tag max_u8 (both_left (leb tag max_u8) q k))) in
       let words : in_abi (write_body t (requested r ms ns bs) out) ≡ in_abi (write_body tag (requested (request_of ws) ms ns bs) out) = rw (a, low, b) in
-      let within : (leb tag max_u8 && fits (get_or ws 0 0) (get_or ws 1 0) (get_or ws 2 0)) ≡ true = rw g at fit in
+      let within : (leb tag max_u8 && fits (get_or ws 0 0) (get_or ws 1 0) (get_or ws 2 0)) ≡ true = rw g at k in
       record { promise = rw within (ap (λ (x : Written). abi_done x after) e ∙ ap in_abi h.outcome ∙ words) }

@@ -1,12 +1,12 @@
 -- Laws of records: lines, buffers that count up, steps, records that are run as they are read, and lists of numbers.
 use mathlib.Core.Path.{◌≡◌, refl, sym, ap, ◌∙◌}
-use mathlib.Core.Bool.{Bool, true, false, not}
+use mathlib.Core.Bool.{Bool, true, false}
 use mathlib.Core.List.{List, [], ◌∷◌, ◌++◌, append_assoc}
 use Prim.Native.Nat.{ℕ, zero, suc, ◌+◌, ◌%◌, ◌≤◌, ◌<◌}
 use native.Mathlib.Nat.{not-suc-le-zero, le_of_suc-le-suc}
 use native.Mathlib.Numerals.{add-one}
 use native.Mathlib.Omega.{arith}
-use borrow.Author.Tests.{leb-true, not-true, not-false}
+use borrow.Author.Tests.{leb-true}
 use lib.Dec.{ltb, leb}
 use lib.ListN.{length, take, drop, get_or, set, length-append}
 use lib.Seq.{drop-cons, set_at, take-suc, take-suc-set}
@@ -45,24 +45,24 @@ module _ {s before : List ℕ} {at : ℕ} {after : List ℕ} {r : Step} where
   did_none d = record { taken = d.0; printed = d.1; within = omega arith }
 
   -- code that found a record of m bytes bad, or whole
-  pub did_bad : (lines : List (List Piece)) {n m : ℕ} {b : Bool} → m ≡ n → b ≡ is_whole m s → not b ≡ true
+  pub did_bad : (lines : List (List Piece)) {n m : ℕ} {b : Bool} → m ≡ n → b ≡ is_whole m s → b ≡ false
       → (r.taken ≡ 0) × (page after r.filled ≡ prints bad_record.lines (page before at))
       → Did (whole n s lines) s before at after r
   unfolding whole
-  did_bad lines {b = b} k e h d = rw (← k, ← e, not-true b h) (did_none d)
+  did_bad lines {b = b} k e h d = rw (← k, ← e, h) (did_none d)
 
-  pub did_whole : (lines : List (List Piece)) {n m : ℕ} {b : Bool} → m ≡ n → b ≡ is_whole m s → not b ≡ false
+  pub did_whole : (lines : List (List Piece)) {n m : ℕ} {b : Bool} → m ≡ n → b ≡ is_whole m s → b ≡ true
       → r.taken ≡ m
       → page after r.filled ≡ prints lines (page before at)
       → Did (whole n s lines) s before at after r
   unfolding whole
   did_whole lines {m = m} {b} k e h t p =
-      let w = whole-within m s (sym e ∙ not-false b h) in
-      rw (← k, ← e, not-false b h) (record { taken = t; printed = p; within = omega arith })
+      let w = whole-within m s (sym e ∙ h) in
+      rw (← k, ← e, h) (record { taken = t; printed = p; within = omega arith })
 
 -- one that is whole, of a call that writes: what it came to and its buffer's checksum are printed
 pub did_done : (w : WriteOutcome) (buf : List ℕ) {d : Done} {n m sum : ℕ} {b : Bool} {s before : List ℕ} {at : ℕ} {after : List ℕ} {r : Step}
-    → m ≡ n → b ≡ is_whole m s → not b ≡ false
+    → m ≡ n → b ≡ is_whole m s → b ≡ true
     → r.taken ≡ m
     → done w buf ≡ d
     → sum ≡ crc_of 4294967295 buf
@@ -71,8 +71,8 @@ pub did_done : (w : WriteOutcome) (buf : List ℕ) {d : Done} {n m sum : ℕ} {b
 unfolding prints
 did_done w buf k e h t f g p = did_whole _ k e h t (p ∙ rw (g, ← f))
 
-pub seen-whole : (s : List ℕ) {n m : ℕ} {b : Bool} → m ≡ n → b ≡ is_whole m s → not b ≡ false → is_whole n s ≡ true
-seen-whole s {b = b} k e h = rw (← k, ← e) (not-false b h)
+pub seen-whole : (s : List ℕ) {n m : ℕ} {b : Bool} → m ≡ n → b ≡ is_whole m s → b ≡ true → is_whole n s ≡ true
+seen-whole s {b = b} k e h = rw (← k, ← e) h
 
 -- a size of 0 is no record
 pub sized-good : (good : Bool) (n : ℕ) (s : List ℕ) → is_whole (sized good n) s ≡ true → good ≡ true

@@ -1,5 +1,4 @@
 use mathlib.Core.Path.{sym, ◌∙◌}
-use borrow.Author.Tests.{not-true, not-false}
 use Rattle.abi_builder.proofs.Laws.{frame-beyond, frame-written}
 use borrow.Author.Rules.{rules}
 use Rattle.abi_builder.proofs.frame_written.Statement.{statement}

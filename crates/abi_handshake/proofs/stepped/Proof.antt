@@ -1,5 +1,4 @@
 use mathlib.Core.Path.{ap, sym, ◌∙◌}
-use borrow.Author.Tests.{not-true, not-false}
 use Rattle.abi.specs.Words.{refusal_words}
 use Rattle.abi_handshake.proofs.Laws.{step-beyond, step_words}
 use borrow.Author.Rules.{rules}

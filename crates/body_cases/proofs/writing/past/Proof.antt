@@ -13,5 +13,5 @@ past_spec =
     (search rules)
     (search rules)
     (search rules)
-    (λ c. (took-read (ap (in_span (fixed c.args.w) c.args.s.now) (sym c.in-Read.is) ∙ c.read_bytes.ensures)).next-1)
-    (λ c. (took-failed {f = number 0 0} {p = nowhere} (ap (in_span (fixed c.args.w) c.args.s.now) (sym c.in-Failed.is) ∙ c.read_bytes.ensures)).next-1))
+    (λ c. (took-read (ap (in_span (fixed c.args.w) c.args.s.now) (sym c.in-Read.is) ∙ c.read_bytes.ensures)).next)
+    (λ c. (took-failed {f = number 0 0} {p = nowhere} (ap (in_span (fixed c.args.w) c.args.s.now) (sym c.in-Failed.is) ∙ c.read_bytes.ensures)).next))

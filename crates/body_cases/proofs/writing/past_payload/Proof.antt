@@ -13,5 +13,5 @@ past_payload_spec =
     (search rules)
     (search rules)
     (search rules)
-    (λ c. (took-read (ap (in_span payload c.args.s.now) (sym c.in-Read.is) ∙ c.read_payload.ensures)).next-1)
-    (λ c. (took-failed {f = number 0 0} {p = nowhere} (ap (in_span payload c.args.s.now) (sym c.in-Failed.is) ∙ c.read_payload.ensures)).next-1))
+    (λ c. (took-read (ap (in_span payload c.args.s.now) (sym c.in-Read.is) ∙ c.read_payload.ensures)).next)
+    (λ c. (took-failed {f = number 0 0} {p = nowhere} (ap (in_span payload c.args.s.now) (sym c.in-Failed.is) ∙ c.read_payload.ensures)).next))

@@ -1,0 +1,9 @@
+use mathlib.Core.List.{[], ◌∷◌}
+use Rattle.body_cases.proofs.Laws.{two-parts}
+use Rattle.body_cases.specs.Reading.{each_byte}
+use Rattle.fields.specs.Reading.{span_in}
+use Rattle.text.specs.Line.{newline}
+use Rattle.body_cases.proofs.reading.print_stamp.Goals as goal
+
+pub returns : goal.returns
+returns c = rw (c.put_end.ensures, c.put_stamp-d.ensures, c.part.ensures, c.put_word-c.ensures, c.put_word-b.ensures, c.put_tag-a.ensures) (two-parts (each_byte (span_in c.args.s.now c.args.stamp)) [] (newline ∷ []) _)
