@@ -34,6 +34,7 @@ Holding m [] = Unit {0}
 Holding m (c ∷ cs) = (one_releases m (calls_by c) ≡ false) × Holding m cs
 
 pub uncovered : (m : ℕ) (cs : List Cause) → Holding m cs → Covered m cs → ⊥
+uncovered m [] h k = elim k [ ]
 uncovered m (c ∷ cs) h (here r) = true≢false (sym (reason-releases m c r) ∙ h.0)
 uncovered m (c ∷ cs) h (later k) = uncovered m cs h.1 k
 
