@@ -1,10 +1,10 @@
 -- Laws of handshake steps, and of modes.
 use mathlib.Core.Path.{◌≡◌, sym, ◌∙◌}
-use mathlib.Core.Bool.{Bool, true, false, not, ◌&&◌}
+use mathlib.Core.Bool.{Bool, true, false, ◌&&◌}
 use mathlib.Core.List.{List}
 use Prim.Native.Nat.{ℕ, suc, ◌+◌, ◌-◌, ◌*◌, ◌≤◌, ◌<◌}
 use native.Mathlib.Omega.{arith}
-use borrow.Author.Tests.{leb-true, not-true, not-false}
+use borrow.Author.Tests.{leb-true}
 use lib.Dec.{leb}
 use lib.ListN.{length, take, drop, get_or}
 use Rattle.refusal.proofs.Booleans.{both_left, both_right}
@@ -22,17 +22,17 @@ use Rattle.handshake_cases.specs.Modes.{own_at, mode_size, picked_of}
 -- ---- the steps of a record
 
 -- one that stands there whole
-pub good-within : (s : List ℕ) (i : ℕ) {b : Bool} → b ≡ step_good s i → not b ≡ false → i + 2 ≤ length s
+pub good-within : (s : List ℕ) (i : ℕ) {b : Bool} → b ≡ step_good s i → b ≡ true → i + 2 ≤ length s
 unfolding step_good
-good-within s i {b} e h = leb-true (i + 2) (length s) (both_left (leb (i + 2) (length s)) _ (sym e ∙ not-false b h))
+good-within s i {b} e h = leb-true (i + 2) (length s) (both_left (leb (i + 2) (length s)) _ (sym e ∙ h))
 
 module _ (s : List ℕ) (side : Side) (σ : State) (n i : ℕ) {all : Record} {p q : Page} {b : Bool} (h : 0 < n) (e : b ≡ step_good s i) where
-  pub steps-broken : not b ≡ true → Left all (steps_from s side σ n i) p q → Left all bad_record p q
+  pub steps-broken : b ≡ false → Left all (steps_from s side σ n i) p q → Left all bad_record p q
   unfolding steps_from
-  steps-broken g l = let k : n ≡ suc (n - 1) = omega arith in rw (k, ← e, not-true b g) at l
+  steps-broken g l = let k : n ≡ suc (n - 1) = omega arith in rw (k, ← e, g) at l
 
   -- a step is made
-  pub steps_on : {tag v : ℕ} {t : Step} {r : Page} → not b ≡ false
+  pub steps_on : {tag v : ℕ} {t : Step} {r : Page} → b ≡ true
       → tag ≡ get_or s i 0
       → v ≡ get_or s (i + 1) 0
       → t ≡ step_of side σ tag v
@@ -42,7 +42,7 @@ module _ (s : List ℕ) (side : Side) (σ : State) (n i : ℕ) {all : Record} {p
   unfolding steps_from
   steps_on g et ev k printed l =
       let m : n ≡ suc (n - 1) = omega arith in
-      rw (k, et, ev) (left-next (rw (m, ← e, not-false b g) at l) (rw (k, et, ev) at printed))
+      rw (k, et, ev) (left-next (rw (m, ← e, g) at l) (rw (k, et, ev) at printed))
 
 -- ---- the record of modes
 

@@ -14,14 +14,14 @@ mode_line (Mode n) = field "mode" n ++ (newline ∷ [])
 mode_line NoMode = word "mode none\n" ∷ []
 
 -- client's count u8, that many u32, own count u8, that many u32
-abbrev pub field_own : List ℕ → ℕ
-field_own s = 2 + 4 * get_or s 1 0
+abbrev pub own_at : List ℕ → ℕ
+own_at s = 2 + 4 * get_or s 1 0
 
 abbrev pub mode_size : List ℕ → ℕ
-mode_size s = sized (leb (get_or s 1 0) 32 && leb (get_or s (field_own s) 0) 32) (field_own s + 1 + 4 * get_or s (field_own s) 0)
+mode_size s = sized (leb (get_or s 1 0) 32 && leb (get_or s (own_at s) 0) 32) (own_at s + 1 + 4 * get_or s (own_at s) 0)
 
 unfoldable pub picked_of : List ℕ → Picked
-picked_of s = pick_of (words_of (get_or s 1 0) (drop 2 s)) (words_of (get_or s (field_own s) 0) (drop (field_own s + 1) s))
+picked_of s = pick_of (words_of (get_or s 1 0) (drop 2 s)) (words_of (get_or s (own_at s) 0) (drop (own_at s + 1) s))
 
 unfoldable pub mode_record : List ℕ → Record
 mode_record s = whole (mode_size s) s (mode_line (picked_of s) ∷ [])
