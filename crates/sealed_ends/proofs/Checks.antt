@@ -27,7 +27,7 @@ use Rattle.body.specs.End.{Ended, whole, dropped, late_of}
 use Rattle.aes.specs.Aes.{State}
 use Rattle.gcm.specs.Gcm.{plain, opened_by}
 use Rattle.gcm.proofs.Opened.{text-length}
-use Rattle.secure.specs.Layout.{all_nonces, next_nonce, round_up, padding, inline_length, last_lengths, first_length, no_second_part, no_last_part, second_part_length, last_part_length, sealed_length, part_count, needed}
+use Rattle.secure.specs.Layout.{all_nonces, next_nonce, round_up, inline_length, last_lengths, first_length, no_second_part, no_last_part, second_part_length, last_part_length, sealed_length, part_count, needed}
 use Rattle.buffer.specs.Zeros.{all_zero}
 use Rattle.secure.specs.Reading.{judge_nonce, judge_padding, judge_first, padding_of, late_byte_in, by_late_status, last_ended}
 use Rattle.secure.proofs.LastText.{late-at, padded-at}

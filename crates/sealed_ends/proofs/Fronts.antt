@@ -11,7 +11,8 @@ use Rattle.banner.specs.declared.Features.{Features}
 use Rattle.banner.specs.declared.Revision.{Revision}
 use Rattle.banner.specs.Banner.{judge_own}
 use Rattle.stream.specs.Events.{Role, banner_end, first_end, frame_end, stream_end, role_of, is_frame_end}
-use Rattle.stream.specs.Stream.{Entry, entry, Trace, payload_of, trace_of}
+use Rattle.stream.specs.declared.Event.TheVariants.{Banner}
+use Rattle.stream.specs.Stream.{Entry, entry, Trace, payload_of, peer_of, trace_of}
 use Rattle.stream.specs.Stream as crc
 use Rattle.stream.proofs.Laws as crc-laws
 use Rattle.aes.specs.Aes.{State, key_expansion}
@@ -98,7 +99,7 @@ front-last own F s r up some =
     let l : n + length (drop n F) ≡ length F = (let a = m.all in omega arith) in
     let T : Trace = crc.frames (length F) (spoken own F) n (drop n F) s in
     let i : LastEndsFrame T.entries (length F) T.store = rw l at (crc-last (length F) (spoken own F) n (drop n F) s (omega arith) (rw l u.1) (rw e at some)) in
-    rw e (last_cons _ T.entries (length F) T.store i)
+    rw e (last_cons (entry (Banner (peer_of F) (spoken own F)) n s) T.entries (length F) T.store i)
 
 -- ---- the definition behind a front
 

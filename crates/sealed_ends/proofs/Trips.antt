@@ -229,7 +229,7 @@ module _ (own : Features) (store : List ℕ) (l : SwitchedLink) (k : SwitchedLin
       let place : place_by r banner_length bs ≡ length clear =
       place_is r banner_length l.crc.buffer (l.crc.queued + l.crc.written) bs k.crc.builds
       ∙ sym (ap length (sent_is r l.crc k.crc) ∙ length-append B (crc-builds.all_bytes r bs)) in
-      last_cons _ (all_entries r banner_length store bs) (length clear) (store_at l store)
+      last_cons (entry (Banner l.crc.features r) banner_length store) (all_entries r banner_length store bs) (length clear) (store_at l store)
       (subst (λ (n : ℕ). LastEndsFrame (all_entries r banner_length store bs) n (store_at l store)) place (all-last r banner_length store bs k.some))
 
   -- any bytes behind the switch
