@@ -1,6 +1,6 @@
 // What C and Rust call, over pointers and 64-bit numbers alone: one header serves every processor. A state in memory is handed in part by part, its numbers, its bytes; the header's
 // and the Rust crate's functions see to that. Each function is the call of its family's crate, `abi_connection` and the others, and promises what that one promises, for every number
-// that can be handed in.
+// that can be handed in. `mahuixen_c` exports each of them, under its name, from the static library.
 #![tactic(auto)]
 
 pub mod claims;
