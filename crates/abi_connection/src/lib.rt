@@ -2,7 +2,7 @@
 // a crc link is one of `abi_receiver`, and costs what that one does.
 #![tactic(auto)]
 
-mod secure;
+mod sealed;
 
 ghost use Rattle.std.specs.Prelude.{◌≡◌, cond, ◌&&◌, ◌||◌, leb, eqb};
 ghost use Rattle.refusal.specs.Refusals.{judged_by};
@@ -46,7 +46,7 @@ fn secure_words(st: sealed_receiver::State) -> Part
     let key = receiving.key;
     let nonce = receiving.nonce;
     Part {
-        numbers: secure::numbers_of(st),
+        numbers: sealed::numbers_of(st),
         first: first,
         key: key,
         nonce: nonce,
@@ -70,7 +70,7 @@ fn secure_answer(
 ) -> Handed
     ensures { SecureAnswered (abi_secure ws first key nonce) store.old piece.now (secure.handed (abi_secure result.part.numbers result.part.first result.part.key result.part.nonce) result.report) store.new }
 {
-    if !secure::fits(ws) {
+    if !sealed::fits(ws) {
         return Handed {
             part: Part {
                 numbers: ws,
@@ -81,7 +81,7 @@ fn secure_answer(
             report: contradicts(),
         };
     }
-    let o = sealed_receiver::receive(secure::state_of(ws, first, key, nonce), piece, store);
+    let o = sealed_receiver::receive(sealed::state_of(ws, first, key, nonce), piece, store);
     let next = o.state;
     let reported = o.report;
     Handed {
@@ -235,8 +235,8 @@ fn secure_agrees(ws: [u64; 18], first: [u8; 96], key: [u8; 16], nonce: [u8; 12])
     ensures { result ≡ (secure.fits ws && sealed-states.agrees (secure.secure_of (abi_secure ws first key nonce))) }
 {
     both(
-        secure::fits(ws),
-        agrees_with_itself(secure::state_of(ws, first, key, nonce)),
+        sealed::fits(ws),
+        agrees_with_itself(sealed::state_of(ws, first, key, nonce)),
     )
 }
 

@@ -1,8 +1,8 @@
 use mathlib.Core.Path.{◌∙◌}
 use Rattle.abi_connection.specs.Secure as secure
 use borrow.Author.Rules.{rules}
-use Rattle.abi_connection.proofs.secure.state_of.Statement.{statement}
-use Rattle.abi_connection.proofs.secure.state_of.Tie as tie
+use Rattle.abi_connection.proofs.sealed.state_of.Statement.{statement}
+use Rattle.abi_connection.proofs.sealed.state_of.Tie as tie
 
 returns : tie.Need-returns
 unfolding secure.secure_of

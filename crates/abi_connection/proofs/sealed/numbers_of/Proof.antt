@@ -2,8 +2,8 @@ use mathlib.Core.Path.{◌∙◌}
 use Rattle.abi_connection.specs.Secure as secure
 use Rattle.abi_connection.proofs.Back.{abi_of_lem}
 use borrow.Author.Rules.{rules}
-use Rattle.abi_connection.proofs.secure.numbers_of.Statement.{statement}
-use Rattle.abi_connection.proofs.secure.numbers_of.Tie as tie
+use Rattle.abi_connection.proofs.sealed.numbers_of.Statement.{statement}
+use Rattle.abi_connection.proofs.sealed.numbers_of.Tie as tie
 
 returns : tie.Need-returns
 unfolding secure.secure_numbers

@@ -2,8 +2,8 @@ use borrow.Author.Tests.{ne_eqb}
 use mathlib.Core.Path.{◌≡◌}
 use native.Mathlib.Omega.{arith}
 use Rattle.abi_connection.specs.Secure as secure
-use Rattle.abi_connection.proofs.secure.stage_of.Statement.{statement}
-use Rattle.abi_connection.proofs.secure.stage_of.Tie as tie
+use Rattle.abi_connection.proofs.sealed.stage_of.Statement.{statement}
+use Rattle.abi_connection.proofs.sealed.stage_of.Tie as tie
 
 pub stage_of_spec : {M : Type 1} → statement M
 unfolding secure.stage_of
