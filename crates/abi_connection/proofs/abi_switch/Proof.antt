@@ -16,9 +16,9 @@ returns c =
     let v = c.judge_words-v in
     let s = c.sending_by-s in
     let f = c.is_fine in
-    switch-refused p z.with.now z.receiving-nonce.now z.sending-nonce.now _ s.result _ c.sending_numbers.ensures
+    switch-refused p z.with.now z.receiving_nonce.now z.sending_nonce.now _ s.result _ c.sending_numbers.ensures
     (sym (f.ensures ∙ ap is_fine v.ensures) ∙ c.if-not-is_fine.true) (c.number_of-n.ensures ∙ ap number_of v.ensures)
-    (s.ensures ∙ ap (λ (j : Judged). switched_sending j z.with.now z.sending-nonce.now) v.ensures)
+    (s.ensures ∙ ap (λ (j : Judged). switched_sending j z.with.now z.sending_nonce.now) v.ensures)
 
 returns-2 : tie.Need-returns
 returns-2 c =
@@ -27,9 +27,9 @@ returns-2 c =
     let v = c.judge_words-v in
     let s = c.sending_by-s in
     let f = c.is_fine in
-    switch-made p z.with.now z.receiving-nonce.now z.sending-nonce.now _ s.result _ _ c.sending_numbers.ensures
+    switch-made p z.with.now z.receiving_nonce.now z.sending_nonce.now _ s.result _ _ c.sending_numbers.ensures
     (sym (f.ensures ∙ ap is_fine v.ensures) ∙ c.if-not-is_fine.false) (c.number_of-n.ensures ∙ ap number_of v.ensures)
-    (s.ensures ∙ ap (λ (j : Judged). switched_sending j z.with.now z.sending-nonce.now) v.ensures)
+    (s.ensures ∙ ap (λ (j : Judged). switched_sending j z.with.now z.sending_nonce.now) v.ensures)
     (rw (← c.switch_on.ensures) c.secure_words-w.ensures)
 
 pub abi_switch_spec : {M : Type 1} → statement M
