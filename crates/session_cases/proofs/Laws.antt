@@ -1,10 +1,10 @@
 -- Laws of a session's calls.
 use mathlib.Core.Path.{◌≡◌, sym, ap, ◌∙◌}
-use mathlib.Core.Bool.{Bool, true, false, not}
+use mathlib.Core.Bool.{Bool, true, false}
 use mathlib.Core.List.{List}
 use Prim.Native.Nat.{ℕ, suc, ◌+◌, ◌-◌, ◌≤◌, ◌<◌}
 use native.Mathlib.Omega.{arith}
-use borrow.Author.Tests.{leb-true, not-true, not-false}
+use borrow.Author.Tests.{leb-true}
 use lib.Dec.{leb}
 use lib.ListN.{length, get_or}
 use Rattle.refusal.proofs.Booleans.{both_left}
@@ -49,17 +49,17 @@ did_held e t d a = record { session = rw a t; printed = rw (a, ← e) d }
 -- ---- the calls of a record
 
 -- one that stands there whole
-pub good-within : (s : List ℕ) (i : ℕ) {b : Bool} → b ≡ call_good s i → not b ≡ false → i + 9 ≤ length s
+pub good-within : (s : List ℕ) (i : ℕ) {b : Bool} → b ≡ call_good s i → b ≡ true → i + 9 ≤ length s
 unfolding call_good
-good-within s i {b} e h = leb-true (i + 9) (length s) (both_left (leb (i + 9) (length s)) _ (sym e ∙ not-false b h))
+good-within s i {b} e h = leb-true (i + 9) (length s) (both_left (leb (i + 9) (length s)) _ (sym e ∙ h))
 
 module _ (s : List ℕ) (σ : Session) (n i : ℕ) {all : Record} {p : Page} {b : Bool} (h : 0 < n) (e : b ≡ call_good s i) where
-  pub calls-broken : {q : Page} → not b ≡ true → Left all (calls_from s σ n i) p q → Left all bad_record p q
+  pub calls-broken : {q : Page} → b ≡ false → Left all (calls_from s σ n i) p q → Left all bad_record p q
   unfolding calls_from
-  calls-broken g l = let k : n ≡ suc (n - 1) = omega arith in rw (k, ← e, not-true b g) at l
+  calls-broken g l = let k : n ≡ suc (n - 1) = omega arith in rw (k, ← e, g) at l
 
   -- a call is made
-  pub calls-on : {k v : ℕ} {before : List ℕ} {at : ℕ} {after : List ℕ} {r : Called} → not b ≡ false
+  pub calls-on : {k v : ℕ} {before : List ℕ} {at : ℕ} {after : List ℕ} {r : Called} → b ≡ true
       → k ≡ get_or s i 0
       → v ≡ value_at s i
       → CallDid σ k v before at after r
@@ -68,4 +68,4 @@ module _ (s : List ℕ) (σ : Session) (n i : ℕ) {all : Record} {p : Page} {b 
   unfolding calls_from
   calls-on g ek ev d l =
       let m : n ≡ suc (n - 1) = omega arith in
-      rw (d.session, ek, ev) (left-next (rw (m, ← e, not-false b g) at l) (rw (ek, ev) at d.printed))
+      rw (d.session, ek, ev) (left-next (rw (m, ← e, g) at l) (rw (ek, ev) at d.printed))

@@ -28,8 +28,8 @@ loop-again c = (
 )
 
 returns : tie.Need-returns invariant-loop decreases-loop
-returns c = let e : c.before.loop.i ≡ c.before.before.before.args.k = omega arith in
-    sym (resent-none c.before.before.before.args.s c.before.before.before.args.k (page c.before.loop.text c.before.loop.end)) ∙ rw e at c.before.loop.invariant.2
+returns c = let e : c.loop-i.i ≡ c.args.k = omega arith in
+    sym (resent-none c.args.s c.args.k (page c.loop-i.text c.loop-i.end)) ∙ rw e at c.loop-i.invariant.2
 
 pub put_resent_spec : {M : Type 1} → statement M
 put_resent_spec =

@@ -1,6 +1,6 @@
 use mathlib.Core.Path.{◌∙◌, sym}
 use borrow.Author.Rules.{rules}
-use borrow.Author.Tests.{leb-true, not-true, not-false}
+use borrow.Author.Tests.{leb-true}
 use Rattle.refusal.proofs.Booleans.{both_left}
 use Rattle.records.proofs.Laws.{did_none}
 use Rattle.session_cases.specs.Session.{session_record}
