@@ -2,7 +2,7 @@
 use mathlib.Core.Path.{◌≡◌, refl, sym, ap, subst, ◌∙◌}
 use mathlib.Core.Bool.{true, false}
 use mathlib.Core.List.{List, [], ◌∷◌}
-use Prim.Native.Nat.{ℕ, ◌+◌, ◌-◌, ◌≤◌, ◌<◌}
+use Prim.Native.Nat.{ℕ, ◌+◌, ◌-◌, ◌≤◌}
 use native.Mathlib.Omega.{arith}
 use lib.ListN.{length, take, drop, length-drop}
 use lib.Seq.{take-take, drop-drop, length-take-le}
@@ -16,7 +16,7 @@ use Rattle.receiver.specs.Calls.{Call, piece_at, reported_by}
 use Rattle.link.specs.declared.Segments.{Segments}
 use Rattle.link.specs.declared.Walk.{Walk}
 use Rattle.link.specs.Lines.{lines_of}
-use Rattle.link.specs.Walks.{last_of, frames_of, Noted, Fits, NotedEvent, reported, with_segments, Advanced, Walked}
+use Rattle.link.specs.Walks.{last_of, frames_of, Noted, NotedEvent, reported, with_segments, Advanced, Walked}
 use Rattle.link.proofs.Counts.{noted-next, entered-next, entered-last}
 use Rattle.link.proofs.Moves.{moves, not_refused}
 
@@ -140,16 +140,3 @@ module _ (w : Walk) (s bytes text : List ℕ) (at : ℕ) where
     step-next r' s' text' live x =
         let k = r.taken - w.taken in
         walked_next w s (drop at bytes) text ((at + n) - at) within r s₁ text₁ a k r' s' text' live refl (rw (drop-drop k at bytes) x)
-
-    pub step-few : at + (r.taken - w.taken) ≤ length bytes
-    step-few = omega (arith, taken-few w s (drop at bytes) text ((at + n) - at) within r s₁ text₁ a)
-
-    pub step-progress : r.refused ≡ false → 0 < n → 0 < r.taken - w.taken
-    step-progress live g = omega (arith, a.progress live (omega (arith, length-take-le ((at + n) - at) (drop at bytes) within)))
-
-    pub step_fits : Fits w (length bytes - at) → r.refused ≡ false → Fits r (length bytes - (at + (r.taken - w.taken)))
-    step_fits f live = record {
-      live = live;
-      taken = omega (arith, f.taken, step-few, a.taken);
-      frames = omega (arith, f.frames, step-few, a.taken, a.frames-within);
-    }
