@@ -1,4 +1,4 @@
-//! Links the proved library, which `rt staticlib mahuixen` writes.
+//! Links the proved library, which `rust/library` writes.
 
 use std::env;
 use std::path::PathBuf;
@@ -22,8 +22,6 @@ fn main() {
     if !library.is_file() {
         let library = library.display();
         println!("cargo::warning=there is no {library}, and nothing that runs can be built");
-        println!(
-            "cargo::warning=write it with: rt staticlib mahuixen (in the repository's top folder)"
-        );
+        println!("cargo::warning=write it with: rust/library (in the repository's top folder)");
     }
 }
