@@ -1,6 +1,5 @@
 -- Laws of sealed builds by a record.
-use Rattle.std.proofs.Common.{◌≡◌, ℕ, ◌+◌, ◌-◌, ◌≤◌, Bool, true, false, not, ◌&&◌, leb, List, length, get_or, take, drop, sym, ◌∙◌, arith, eq-eqb, ne_eqb, leb-true}
-use borrow.Author.Tests.{not-true, not-false}
+use Rattle.std.proofs.Common.{◌≡◌, ℕ, ◌+◌, ◌≤◌, Bool, true, false, ◌&&◌, leb, List, length, get_or, take, drop, sym, ◌∙◌, arith, eq-eqb, ne_eqb, leb-true}
 use Rattle.refusal.proofs.Booleans.{both_left, both_right}
 use Rattle.buffer.specs.Le.{number_at}
 use Rattle.crc32c.specs.Crc.{crc_of}
@@ -55,10 +54,10 @@ built-line w x buf e k = rw (k, ← e)
 -- ---- a part that is bad, and one that is whole
 
 module _ (lines : List (List Piece)) (b before : Builds) {n m : ℕ} {t : Bool} {s old : List ℕ} {at : ℕ} {new : List ℕ} {r : Part} (k : m ≡ n) (e : t ≡ is_whole m s) where
-  pub part-bad : not t ≡ true → (r.step.taken ≡ 0) × (page new r.step.filled ≡ prints bad_record.lines (page old at)) → r.builds ≡ before
+  pub part-bad : t ≡ false → (r.step.taken ≡ 0) × (page new r.step.filled ≡ prints bad_record.lines (page old at)) → r.builds ≡ before
       → DidPart (part_of n s lines b before) s old at new r
-  part-bad h d q = record { step = did_bad lines k e h d; builds = rw (← k, ← e, not-true t h) q }
+  part-bad h d q = record { step = did_bad lines k e h d; builds = rw (← k, ← e, h) q }
 
-  pub part-whole : not t ≡ false → r.step.taken ≡ m → page new r.step.filled ≡ prints lines (page old at) → r.builds ≡ b
+  pub part-whole : t ≡ true → r.step.taken ≡ m → page new r.step.filled ≡ prints lines (page old at) → r.builds ≡ b
       → DidPart (part_of n s lines b before) s old at new r
-  part-whole h g p q = record { step = did_whole lines k e h g p; builds = rw (← k, ← e, not-false t h) q }
+  part-whole h g p q = record { step = did_whole lines k e h g p; builds = rw (← k, ← e, h) q }
