@@ -3,7 +3,6 @@ use lib.ListN.{get_or, set}
 use Rattle.receiver.specs.Step.{state_at}
 use Rattle.abi_receiver.specs.Words.{abi_state}
 use Rattle.abi_receiver.proofs.Back.{counted, abi_of_lem}
-use borrow.Author.Tests.{not-true, not-false}
 use Rattle.abi_receiver.specs.Words as words
 use Rattle.abi_receiver.proofs.Answers.{words-refused, answered}
 use borrow.Author.Rules.{rules}
