@@ -2,7 +2,6 @@ use mathlib.Core.Path.{◌≡◌, refl, sym, ap, ◌∙◌}
 use Prim.Native.Nat.{◌+◌, ◌*◌, ◌≤◌}
 use native.Mathlib.Omega.{arith}
 use borrow.Author.Rules.{rules}
-use borrow.Author.Tests.{not-true, not-false}
 use Rattle.connection_cases.specs.Places.{calls_from, call_good, calls_good, call_width}
 use Rattle.connection_cases.proofs.Laws.{calls-none, good-next, good_stop}
 use Rattle.connection_cases.proofs.places.calls_good.Statement.{statement}

@@ -1,7 +1,0 @@
-use borrow.Author.Rules.{rules}
-use Rattle.connection_cases.proofs.lines.print_more.Statement.{statement}
-use Rattle.connection_cases.proofs.lines.print_more.Tie as tie
-
-pub print_more_spec : {M : Type 1} → statement M
-print_more_spec =
-    tie.close (tie.spec (search rules) (search rules) (search rules) (search rules) (search rules) (λ c. cc))

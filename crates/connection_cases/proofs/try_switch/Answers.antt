@@ -1,0 +1,19 @@
+use mathlib.Core.Path.{refl}
+use native.Mathlib.Omega.{arith}
+use Rattle.connection_cases.proofs.Laws.{try_did}
+use Rattle.connection_cases.proofs.try_switch.Goals as goal
+
+pub returns : goal.returns
+returns c =
+    let a = c.args in
+    let h = c.requires in
+    try_did a.s.now a.place a.state c.switch-o.result
+    (c.key_at-key.ensures (omega arith))
+    (c.nonce_at.ensures (omega arith))
+    (c.nonce_at-2.ensures (omega arith))
+    c.u64_at.ensures
+    c.switch-o.ensures
+    c.opened_by.ensures
+    refl
+    c.print_judgement-end.ensures
+    c.print_empty.ensures
