@@ -25,7 +25,7 @@ refill_spec =
     (tie.spec
     (λ c. search rules)
     (λ c. search rules)
-    (λ c. (search rules, record { more = search rules; same = refl; whole = ended c.args.input.open _ (c.if-not-input.true) }))
+    (λ c. (search rules, record { more = search rules; same = refl; whole = ended c.args.input.open _ (not-true _ c.if-not-input.true) }))
     (λ c κs. search rules)
     (λ c. search rules)
     (λ c. search rules)
