@@ -4,7 +4,7 @@
 ghost use Rattle.std.specs.Prelude.{◌≡◌, [], ◌∷◌, ◌≤◌};
 ghost use Rattle.refusal.specs.Refusals.{numbers_of};
 ghost use Rattle.refusal.specs.Writes.{outcome_of};
-ghost use Rattle.abi.specs.Words.{within, Within, max_u8, max_u16, revision_number, revision_by_number, mark_number, refusal_words, abi_wrote, abi_refused, abi_result, header_words, header_at, header_limits};
+ghost use Rattle.abi.specs.Words.{within, Within, max_u8, max_u16, revision_by_number, mark_number, refusal_words, abi_wrote, abi_refused, abi_result, header_words, header_at, header_limits};
 
 use banner::Revision;
 use preamble::{Header, Segment};

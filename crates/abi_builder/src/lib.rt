@@ -1,7 +1,6 @@
 // The builder's calls over words. Each promises the words of what `builder` promises, for every word that C can hand in.
 #![tactic(auto)]
 
-ghost use Rattle.std.specs.Prelude.{◌≡◌};
 ghost use Rattle.abi.specs.Words.{written};
 ghost use Rattle.abi_builder.specs.Words.{AbiBuiltBanner, AbiBuiltFrame};
 

@@ -1,7 +1,6 @@
 // Sealing and opening over pointers and words. Each promises the words of what `gcm` promises.
 #![tactic(auto)]
 
-ghost use Rattle.std.specs.Prelude.{◌≡◌};
 ghost use Rattle.abi.specs.Words.{written};
 ghost use Rattle.abi_sealing.specs.Words.{AbiSealing, AbiOpening};
 

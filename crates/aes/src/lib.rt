@@ -3,24 +3,7 @@
 
 ghost use Rattle.std.specs.Prelude.{◌≡◌, List, [], ◌++◌, ℕ, ◌+◌, ◌/◌, ◌%◌, ◌≤◌, length, get_or, take, drop};
 ghost use Rattle.sbox.specs.Sbox.{Ruled, sbox, xtime};
-ghost use Rattle.aes.specs.Aes.{
-  State,
-  column_at,
-  state_of,
-  sub_column,
-  sub_bytes,
-  shift_rows,
-  mix_column,
-  mix_columns,
-  add_column,
-  add_round_key,
-  rot_word,
-  first_word,
-  next_key,
-  round_keys,
-  key_expansion,
-  cipher,
-};
+ghost use Rattle.aes.specs.Aes.{State, state_of, sub_column, sub_bytes, shift_rows, mix_column, mix_columns, add_column, add_round_key, rot_word, first_word, next_key, round_keys, key_expansion, cipher};
 ghost use Rattle.aes.specs.Counter.{counter_block, keystream_block, byte_of, gctr};
 ghost use Rattle.aes.specs.Packed.{Packed, doubled, turned1, turned2, turned3, mixed_word};
 

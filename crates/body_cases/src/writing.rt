@@ -8,7 +8,7 @@ ghost use Rattle.fields.specs.Reading.{numbers_in, span_in};
 ghost use Rattle.bodies.specs.Table.{hello, auth_request, bad_method, more, auth_done, ident, reconnect, one_number, reset, stamp};
 ghost use Rattle.bodies.specs.Write.{write_body};
 ghost use Rattle.records.specs.Records.{Did};
-ghost use Rattle.body_cases.specs.Writing.{limited, Given, BytesGiven, fields_of, Asks, AsksFor, write_size, write_record};
+ghost use Rattle.body_cases.specs.Writing.{limited, Given, BytesGiven, fields_of, Asks, AsksFor, write_record};
 
 use bodies::{Ident, Reconnect, Request, write};
 use buffer::{byte_at, min, part, u32_at, u64_at};

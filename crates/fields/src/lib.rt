@@ -1,7 +1,7 @@
 // Fields of control frames' bodies: a cursor by value that reads them one by one, and a draft by value that appends them to a buffer.
 #![tactic(auto)]
 
-ghost use Rattle.std.specs.Prelude.{◌≡◌, true, cond, ℕ, ◌+◌, ◌-◌, ◌≤◌, ◌<◌, ltb, length, get_or};
+ghost use Rattle.std.specs.Prelude.{◌≡◌, true, cond, ◌+◌, ◌-◌, ◌≤◌, ◌<◌, ltb, length, get_or};
 ghost use Rattle.buffer.specs.Le.{le, words};
 ghost use Rattle.preamble.specs.Judge.{segment_limit};
 ghost use Rattle.fields.specs.Layout.{good, step_of};

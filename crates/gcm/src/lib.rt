@@ -1,7 +1,7 @@
 // AES-128-GCM: seal and open, into a buffer or where the bytes stand.
 #![tactic(auto)]
 
-ghost use Rattle.std.specs.Prelude.{◌≡◌, ◌++◌, ◌+◌, ◌-◌, ◌*◌, ◌^◌, ◌<◌, ◌≤◌, length, take, drop};
+ghost use Rattle.std.specs.Prelude.{◌≡◌, ◌+◌, ◌-◌, ◌*◌, ◌^◌, ◌<◌, ◌≤◌, length, take};
 ghost use Rattle.std.specs.Int.Bits.{bit_xor};
 ghost use Rattle.buffer.specs.Splice.{replace_front};
 ghost use Rattle.aes.specs.Aes.{key_expansion};

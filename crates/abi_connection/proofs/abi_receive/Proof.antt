@@ -2,7 +2,6 @@ use mathlib.Core.Path.{◌≡◌, ◌∙◌, sym, ap}
 use mathlib.Core.List.{List}
 use Prim.Native.Nat.{ℕ}
 use lib.ListN.{get_or}
-use borrow.Author.Tests.{not-true, not-false}
 use Rattle.abi_receiver.specs.Words.{abi_state}
 use Rattle.abi_connection.specs.Secure.{abi_secure}
 use Rattle.abi_connection.specs.Words.{connected, abi_connection}

@@ -1,5 +1,4 @@
 use mathlib.Core.Path.{◌∙◌, sym, ap}
-use borrow.Author.Tests.{not-true, not-false}
 use Rattle.refusal.specs.Refusals.{Judged, is_fine}
 use Rattle.connection.specs.Step.{switched_sending}
 use Rattle.abi_receiver.specs.Words.{number_of}

@@ -1,5 +1,4 @@
 use mathlib.Core.Path.{sym, ◌∙◌}
-use borrow.Author.Tests.{not-true, not-false}
 use Rattle.abi_receiver.specs.Words.{abi_state}
 use Rattle.abi_connection.specs.Secure.{abi_secure}
 use Rattle.abi_connection.specs.Words.{abi_connection}

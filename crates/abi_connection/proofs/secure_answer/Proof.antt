@@ -1,5 +1,4 @@
 use mathlib.Core.Path.{◌∙◌, sym}
-use borrow.Author.Tests.{not-true, not-false}
 use Rattle.abi_connection.proofs.Answers.{words-refused, answered}
 use borrow.Author.Rules.{rules}
 use Rattle.abi_connection.proofs.secure_answer.Statement.{statement}

@@ -3,7 +3,6 @@ use mathlib.Core.Bool.{true, false}
 use Rattle.connection.specs.Step.{is_secure, ready_rule}
 use Rattle.connection.proofs.Laws.{contradicted, answered_by_lem}
 use borrow.Author.Rules.{rules}
-use borrow.Author.Tests.{not-true, not-false}
 use Rattle.connection.proofs.receive.Statement.{statement}
 use Rattle.connection.proofs.receive.Tie as tie
 

@@ -1,12 +1,10 @@
 use lib.ListN.{take}
-use borrow.Author.Tests.{not-false}
 use Rattle.bodies.specs.Read.{read_body}
 use Rattle.delivery.specs.Requests.{by_body}
 use Rattle.buffer.proofs.CopyLoop.{take_min}
 use native.Mathlib.Omega.{arith}
 use lib.ListN.{length-take}
 use mathlib.Core.Path.{sym, ap, ◌∙◌}
-use borrow.Author.Tests.{not-true}
 use Rattle.delivery.specs.Requests.{request_by_frame}
 use borrow.Author.Rules.{rules}
 use Rattle.delivery.proofs.request_by_frame.Statement.{statement}

@@ -1,4 +1,3 @@
-use Prim.Native.Nat.{◌-◌}
 use Rattle.ghash.specs.Ghash.{quad_at}
 use borrow.Author.Rules.{rules}
 use Rattle.ghash.proofs.quad_at.Statement.{statement}

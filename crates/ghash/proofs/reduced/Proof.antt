@@ -1,4 +1,3 @@
-use Prim.Native.Nat.{◌-◌}
 use mathlib.Core.Path.{refl}
 use Rattle.ghash.specs.Ghash.{step}
 use Rattle.ghash.specs.Tables.{steps}

@@ -3,7 +3,6 @@ use mathlib.Core.Path.{◌∙◌, sym}
 use native.Mathlib.Omega.{arith}
 use lib.ListN.{length}
 use borrow.Author.Rules.{rules}
-use borrow.Author.Tests.{not-true, not-false}
 use Rattle.receiver.specs.Step.{state_at, moved_to}
 use Rattle.receiver.proofs.Live.{inside_of}
 use Rattle.receiver.proofs.Feeding.{begin, progress, within, again}

@@ -1,6 +1,6 @@
 use Rattle.buffer.proofs.Parts.{rest, length_rest, overwrite-fits, placed}
 use lib.Seq.{sets-eq}
-use Rattle.std.proofs.Common.{◌≡◌, ◌+◌, ◌-◌, ◌≤◌, length, sym, ◌∙◌, arith, rules}
+use Rattle.std.proofs.Common.{◌≡◌, ◌+◌, ◌-◌, ◌≤◌, length, sym, ◌∙◌, arith}
 use Rattle.sealed_receiver.proofs.pieces.fill_store.Goals as goal
 
 pub slice_bounds-put-count : goal.slice_bounds-put-count

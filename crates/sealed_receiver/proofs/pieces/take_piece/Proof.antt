@@ -1,5 +1,4 @@
 use Rattle.std.proofs.Common.{◌-◌, length, sym, ◌∙◌, arith, rules}
-use borrow.Author.Tests.{not-true, not-false}
 use Rattle.receiver.proofs.Feeding.{begin, progress, within, again}
 use Rattle.sealed_receiver.proofs.Gathered.{lasting}
 use Rattle.sealed_receiver.proofs.FeedLoop.{Midway, Turn, turn, reported, finished}
