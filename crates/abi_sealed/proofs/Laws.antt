@@ -14,9 +14,6 @@ use Rattle.abi.specs.declared.Written.{Written}
 use Rattle.abi.specs.Words.{within, abi_refused, header_at, header_limits, abi_result}
 use Rattle.abi_sealed.specs.Words.{sending_of, sending_numbers, sending_limits, sealed_with, in_abi, abi_sealed, AbiBuiltSealed}
 
-pub both_as : {p q r a b : Bool} → r ≡ (p && q) → p ≡ a → q ≡ b → (a && b) ≡ r
-both_as e f g = cc
-
 module _ (ws key nonce header : List ℕ) (abort : Bool) (source buf : List ℕ) (queued : ℕ) where
   -- a word is beyond its field
   pub sealed-beyond : (w : Written) → (within sending_limits 0 ws && within header_limits 0 header) ≡ false → w ≡ abi_refused (numbers_of StateContradicts)
