@@ -4,11 +4,11 @@
 ghost use Rattle.std.specs.Prelude.{◌≡◌, [], ◌∷◌, ◌≤◌};
 ghost use Rattle.refusal.specs.Refusals.{numbers_of};
 ghost use Rattle.refusal.specs.Writes.{outcome_of};
-ghost use Rattle.abi.specs.Words.{within, Within, max_u8, max_u16, revision_by_number, mark_number, refusal_words, abi_wrote, abi_refused, abi_result, header_words, header_at, header_limits};
+ghost use Rattle.abi.specs.Words.{within, Within, max_u8, max_u16, revision_by_number, mark_number, refusal_words, written, abi_wrote, abi_refused, abi_result, header_words, header_at, header_limits};
 
 use banner::Revision;
 use preamble::{Header, Segment};
-use refusal::{Numbers, Refusal, WriteResult, numbers_of};
+use refusal::{Numbers, Refusal};
 
 // Any number but 0 is msgr2.1.
 pub fn revision_by_number(n: u64) -> Revision
@@ -24,7 +24,7 @@ pub fn revision_by_number(n: u64) -> Revision
 pub fn mark_number(mark: bool) -> u64
     ensures { result ≡ mark_number mark }
 {
-    if mark { 1 } else { 0 }
+    u64::from(mark)
 }
 
 pub fn refusal_words(n: Numbers) -> [u64; 4]
@@ -54,23 +54,33 @@ pub fn abi_refused(why: Refusal) -> Written
 {
     Written {
         written: 0,
-        refusal: refusal_words(numbers_of(why)),
+        refusal: refusal_words(Numbers::from(why)),
     }
 }
 
 // The words of what a call that writes comes to.
-pub fn written_of(r: WriteResult) -> Written
+pub fn written_of(r: Result<usize, Refusal>) -> Written
     ensures { result ≡ abi_result (outcome_of r) }
 {
     match r {
-        WriteResult::Wrote(n) => wrote(n),
-        WriteResult::Refused(why) => abi_refused(why),
+        Ok(n) => wrote(n),
+        Err(why) => abi_refused(why),
     }
+}
+
+// Hands an answer out as C takes it: the count as the result, the refusal's words where they are wanted.
+pub fn hand_out(answer: Written, refusal: &mut [u64; 4]) -> u64
+    ensures { written result refusal.new ≡ answer }
+{
+    let words = answer.refusal;
+    *refusal = words;
+    answer.written
 }
 
 // ---- headers
 
 // The header that ten words stand for.
+#[inline]
 pub fn header_of(ws: [u64; 10]) -> Header
     ensures { result ≡ header_at 0 ws }
 {
@@ -96,6 +106,25 @@ pub fn header_of(ws: [u64; 10]) -> Header
     }
 }
 
+// Its ten words.
+#[inline]
+pub fn header_words(h: Header) -> [u64; 10]
+    ensures { result ≡ header_words h }
+{
+    [
+        h.tag as u64,
+        h.count as u64,
+        h.s1.len as u64,
+        h.s1.align as u64,
+        h.s2.len as u64,
+        h.s2.align as u64,
+        h.s3.len as u64,
+        h.s3.align as u64,
+        h.s4.len as u64,
+        h.s4.align as u64,
+    ]
+}
+
 // That numbers of these types are numbers of a header's fields, as a promise.
 fn typed(tag: u8, count: u8, l1: u32, a1: u16, l2: u32, a2: u16, l3: u32, a3: u16, l4: u32, a4: u16)
     ensures { Within header_limits 0 (tag ∷ count ∷ l1 ∷ a1 ∷ l2 ∷ a2 ∷ l3 ∷ a3 ∷ l4 ∷ a4 ∷ []) }
@@ -104,12 +133,9 @@ fn typed(tag: u8, count: u8, l1: u32, a1: u16, l2: u32, a2: u16, l3: u32, a3: u1
 pub fn typed_header(h: Header)
     ensures { Within header_limits 0 (header_words h) }
 {
-    let s1 = h.s1;
-    let s2 = h.s2;
-    let s3 = h.s3;
-    let s4 = h.s4;
     typed(
-        h.tag, h.count, s1.len, s1.align, s2.len, s2.align, s3.len, s3.align, s4.len, s4.align,
+        h.tag, h.count, h.s1.len, h.s1.align, h.s2.len, h.s2.align, h.s3.len, h.s3.align, h.s4.len,
+        h.s4.align,
     );
 }
 
@@ -122,12 +148,13 @@ pub fn typed_u16(n: u16)
 {}
 
 // Each of its words is a number of its field.
+#[inline]
 pub fn header_fits(ws: [u64; 10]) -> bool
     ensures { result ≡ within header_limits 0 ws }
 {
-    let s4 = (ws[8] <= 4294967295) & (ws[9] <= 65535);
-    let s3 = (ws[6] <= 4294967295) & ((ws[7] <= 65535) & s4);
-    let s2 = (ws[4] <= 4294967295) & ((ws[5] <= 65535) & s3);
-    let s1 = (ws[2] <= 4294967295) & ((ws[3] <= 65535) & s2);
-    (ws[0] <= 255) & ((ws[1] <= 255) & s1)
+    let s4 = ws[8] <= 4294967295 && ws[9] <= 65535;
+    let s3 = ws[6] <= 4294967295 && ws[7] <= 65535 && s4;
+    let s2 = ws[4] <= 4294967295 && ws[5] <= 65535 && s3;
+    let s1 = ws[2] <= 4294967295 && ws[3] <= 65535 && s2;
+    ws[0] <= 255 && ws[1] <= 255 && s1
 }

@@ -1,2 +1,3 @@
 pub mod Words
+pub mod Said
 pub mod Worked

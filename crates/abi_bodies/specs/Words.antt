@@ -1,8 +1,9 @@
 -- Bodies of control frames over words: what a body says as eighteen of them, a request to write one as the first eight. Places: 0 kind, 1 to 7 numbers in the body's
 -- order, 8 and 9 the first list, its place and count, 10 and 11 the second, 12 and 13 bytes, their place and length, 14 to 17 refusal; what a kind does not use is 0.
 -- Kinds: 0 refused, 1 hello, 2 auth request, 3 bad method, 4 more, 5 auth done, 6 ident, 7 reconnect, 8 one number, 9 reset, 10 stamp.
-use Rattle.std.specs.Prelude.{◌≡◌, List, [], ◌∷◌, ◌++◌, Bool, cond, ◌&&◌, ◌||◌, ℕ, ◌+◌, ◌*◌, ◌≤◌, eqb, leb, length, get_or}
+use Rattle.std.specs.Prelude.{◌≡◌, Option, Some, None, Result, Ok, Err, List, [], ◌∷◌, ◌++◌, Bool, cond, ◌&&◌, ◌||◌, ℕ, ◌+◌, ◌*◌, ◌≤◌, eqb, leb, length, get_or}
 use Rattle.refusal.specs.declared.Numbers.{Numbers}
+use Rattle.refusal.specs.declared.Refusal.{Refusal}
 use Rattle.refusal.specs.declared.Refusal.TheVariants.{StateContradicts}
 use Rattle.refusal.specs.Refusals.{numbers_of, no_refusal}
 use Rattle.fields.specs.declared.Span.{Span}
@@ -46,26 +47,26 @@ abbrev pub reconnect_numbers : ℕ → Reconnect → List ℕ
 reconnect_numbers n k = n ∷ k.client_cookie ∷ k.server_cookie ∷ k.global_seq ∷ k.connect_seq ∷ k.msg_seq ∷ 0 ∷ []
 
 -- THE WORDS OF A BODY
-abbrev pub body_words : Body → List ℕ
-body_words (body.Hello entityType address) = saying 1 (two entityType 0) nothing nothing (span_words address) no_refusal
-body_words (body.AuthRequest method modes payload) = saying 2 (two method 0) (list_words modes) nothing (span_words payload) no_refusal
-body_words (body.BadMethod method error methods modes) = saying 3 (two method error) (list_words methods) (list_words modes) nothing no_refusal
-body_words (body.More payload) = saying 4 (two 0 0) nothing nothing (span_words payload) no_refusal
-body_words (body.AuthDone globalId mode payload) = saying 5 (two globalId mode) nothing nothing (span_words payload) no_refusal
-body_words (body.Ident n block i) = saying 6 (ident_numbers n i) nothing nothing (span_words block) no_refusal
-body_words (body.Reconnect n block k) = saying 7 (reconnect_numbers n k) nothing nothing (span_words block) no_refusal
-body_words (body.Number n) = saying 8 (two n 0) nothing nothing nothing no_refusal
-body_words (body.Reset full) = saying 9 (two full 0) nothing nothing nothing no_refusal
-body_words (body.Stamp p) = saying 10 (two 0 0) nothing nothing (span_words p) no_refusal
-body_words (body.Refused r) = saying 0 (two 0 0) nothing nothing nothing (numbers_of r)
+abbrev pub body_words : Result Body Refusal → List ℕ
+body_words (Ok (body.Hello entityType address)) = saying 1 (two entityType 0) nothing nothing (span_words address) no_refusal
+body_words (Ok (body.AuthRequest method modes payload)) = saying 2 (two method 0) (list_words modes) nothing (span_words payload) no_refusal
+body_words (Ok (body.BadMethod method error methods modes)) = saying 3 (two method error) (list_words methods) (list_words modes) nothing no_refusal
+body_words (Ok (body.More payload)) = saying 4 (two 0 0) nothing nothing (span_words payload) no_refusal
+body_words (Ok (body.AuthDone globalId mode payload)) = saying 5 (two globalId mode) nothing nothing (span_words payload) no_refusal
+body_words (Ok (body.Ident n block i)) = saying 6 (ident_numbers n i) nothing nothing (span_words block) no_refusal
+body_words (Ok (body.Reconnect n block k)) = saying 7 (reconnect_numbers n k) nothing nothing (span_words block) no_refusal
+body_words (Ok (body.Number n)) = saying 8 (two n 0) nothing nothing nothing no_refusal
+body_words (Ok (body.Reset full)) = saying 9 (two full 0) nothing nothing nothing no_refusal
+body_words (Ok (body.Stamp p)) = saying 10 (two 0 0) nothing nothing (span_words p) no_refusal
+body_words (Err r) = saying 0 (two 0 0) nothing nothing nothing (numbers_of r)
 
 -- WHAT READING COMES TO: 26 where a tag has more than 8 bits
 abbrev pub abi_read : ℕ → List ℕ → read.Answer
 abi_read tag s = cond (leb tag max_u8) (read_body tag s) (read.refused (numbers_of StateContradicts))
 
 -- and the body that says it: its numbers, and the places of its lists and bytes
-abbrev pub abi_body : ℕ → List ℕ → Body
-abi_body tag s = cond (leb tag max_u8) (body_of tag s) (body.Refused StateContradicts)
+abbrev pub abi_body : ℕ → List ℕ → Result Body Refusal
+abi_body tag s = cond (leb tag max_u8) (body_of tag s) (Err StateContradicts)
 
 -- what the words say of lists and bytes lies within the segment
 abbrev pub WithinWords : List ℕ → List ℕ → Type 0
@@ -121,6 +122,10 @@ fits kind a b =
     (cond (eqb kind 2 || (eqb kind 6 || eqb kind 7)) (leb a max_u32)
     (cond (eqb kind 3) (leb a max_u32 && leb b max_u32)
     (cond (eqb kind 5) (leb b max_u32) (leb 1 kind && leb kind 10))))
+
+-- as the code has it: none where a number is beyond its field
+abbrev pub asked : List ℕ → Option Request
+asked ws = cond (fits (get_or ws 0 0) (get_or ws 1 0) (get_or ws 2 0)) (Some (request_of ws)) None
 
 -- WHAT WRITING COMES TO, with two lists and bytes: 26, and the buffer as it was, where a number is beyond its field
 unfoldable pub abi_write : ℕ → List ℕ → List ℕ → List ℕ → List ℕ → List ℕ → AbiDone

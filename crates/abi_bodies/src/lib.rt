@@ -1,225 +1,195 @@
 // Bodies of control frames over words: read and written. Each call promises the words of what `bodies` promises, for every word that C can hand in.
-#![tactic(auto)]
+#![tactic(auto, unfolding(crate::specs::Words::fits, crate::specs::Words::request_with))]
 
-ghost use Rattle.std.specs.Prelude.{◌≡◌};
-ghost use Rattle.refusal.specs.Refusals.{no_refusal};
-ghost use Rattle.abi.specs.Words.{low_u8, low_u32, written};
+ghost use Rattle.std.specs.Prelude.{◌≡◌, Ok};
+ghost use Rattle.refusal.specs.Writes.{outcome_of};
+ghost use Rattle.abi.specs.Words.{written, abi_result};
+ghost use Rattle.abi_bodies.specs.Said.{of_kind, said_words};
 ghost use Rattle.abi_bodies.specs.Worked.{Worked};
-ghost use Rattle.abi_bodies.specs.Words.{span_words, list_words, nothing, saying, two, ident_numbers, reconnect_numbers, body_words, abi_body, AbiReads, ident_at, reconnect_at, request_with, request_of, fits, AbiWrites};
+ghost use Rattle.abi_bodies.specs.Words.{two, ident_numbers, reconnect_numbers, body_words, abi_body, AbiReads, ident_at, reconnect_at, asked, AbiWrites};
 
-use abi::{abi_refused, written_of};
+use abi::{hand_out, written_of};
 use bodies::{Body, Ident, Reconnect, Request, read, write};
 use fields::{NumberList, Span};
-use refusal::{Numbers, Refusal, numbers_of};
+use refusal::{Numbers, Refusal, no_refusal, numbers_of};
 
 // ---- reading
 
-// The error of a bad method is its 32 bits.
-fn says_bad_method(method: u64, error: u64, methods: NumberList, modes: NumberList) -> [u64; 18]
-    ensures { result ≡ saying 3 (two method error) (list_words methods) (list_words modes) nothing no_refusal }
-{
-    [
-        3,
-        method,
-        error,
-        0,
-        0,
-        0,
-        0,
-        0,
-        methods.at as u64,
-        methods.count as u64,
-        modes.at as u64,
-        modes.count as u64,
-        0,
-        0,
-        0,
-        0,
-        0,
-        0,
-    ]
+// What the words of a body say; what a kind does not use is zeros.
+#[derive(Clone, Copy)]
+struct Said {
+    kind: u64,
+    // In the body's order.
+    numbers: [u64; 7],
+    first: NumberList,
+    second: NumberList,
+    bytes: Span,
+    refusal: Numbers,
 }
 
-fn says_auth_request(method: u64, modes: NumberList, payload: Span) -> [u64; 18]
-    ensures { result ≡ saying 2 (two method 0) (list_words modes) nothing (span_words payload) no_refusal }
+// A kind and its numbers, with no list, no bytes and no refusal.
+fn of_kind(kind: u64, numbers: [u64; 7]) -> Said
+    ensures { result ≡ of_kind kind numbers }
 {
-    [
-        2,
-        method,
-        0,
-        0,
-        0,
-        0,
-        0,
-        0,
-        modes.at as u64,
-        modes.count as u64,
-        0,
-        0,
-        payload.at as u64,
-        payload.len as u64,
-        0,
-        0,
-        0,
-        0,
-    ]
-}
-
-fn says_number(kind: u64, n: u64) -> [u64; 18]
-    ensures { result ≡ saying kind (two n 0) nothing nothing nothing no_refusal }
-{
-    [kind, n, 0, 0, 0, 0, 0, 0, 0, 0, 0, 0, 0, 0, 0, 0, 0, 0]
-}
-
-fn says_bytes(kind: u64, a: u64, b: u64, bytes: Span) -> [u64; 18]
-    ensures { result ≡ saying kind (two a b) nothing nothing (span_words bytes) no_refusal }
-{
-    [
+    Said {
         kind,
-        a,
-        b,
-        0,
-        0,
-        0,
-        0,
-        0,
-        0,
-        0,
-        0,
-        0,
-        bytes.at as u64,
-        bytes.len as u64,
-        0,
-        0,
-        0,
-        0,
+        numbers,
+        first: NumberList { at: 0, count: 0 },
+        second: NumberList { at: 0, count: 0 },
+        bytes: Span { at: 0, len: 0 },
+        refusal: no_refusal(),
+    }
+}
+
+fn said_words(b: Said) -> [u64; 18]
+    ensures { result ≡ said_words b }
+{
+    let [n0, n1, n2, n3, n4, n5, n6] = b.numbers;
+    [
+        b.kind,
+        n0,
+        n1,
+        n2,
+        n3,
+        n4,
+        n5,
+        n6,
+        b.first.at as u64,
+        b.first.count as u64,
+        b.second.at as u64,
+        b.second.count as u64,
+        b.bytes.at as u64,
+        b.bytes.len as u64,
+        b.refusal.number as u64,
+        b.refusal.first,
+        b.refusal.second,
+        b.refusal.third,
     ]
 }
 
-fn says_ident(n: u64, block: Span, i: Ident) -> [u64; 18]
-    ensures { result ≡ saying 6 (ident_numbers n i) nothing nothing (span_words block) no_refusal }
+// Up to two numbers, and zeros.
+fn two(a: u64, b: u64) -> [u64; 7]
+    ensures { result ≡ two a b }
+{
+    [a, b, 0, 0, 0, 0, 0]
+}
+
+fn ident_numbers(n: u32, i: Ident) -> [u64; 7]
+    ensures { result ≡ ident_numbers n i }
 {
     [
-        6,
-        n,
+        n as u64,
         i.gid,
         i.global_seq,
         i.supported,
         i.required,
         i.flags,
         i.cookie,
-        0,
-        0,
-        0,
-        0,
-        block.at as u64,
-        block.len as u64,
-        0,
-        0,
-        0,
-        0,
     ]
 }
 
-fn says_reconnect(n: u64, block: Span, k: Reconnect) -> [u64; 18]
-    ensures { result ≡ saying 7 (reconnect_numbers n k) nothing nothing (span_words block) no_refusal }
+fn reconnect_numbers(n: u32, k: Reconnect) -> [u64; 7]
+    ensures { result ≡ reconnect_numbers n k }
 {
     [
-        7,
-        n,
+        n as u64,
         k.client_cookie,
         k.server_cookie,
         k.global_seq,
         k.connect_seq,
         k.msg_seq,
         0,
-        0,
-        0,
-        0,
-        0,
-        block.at as u64,
-        block.len as u64,
-        0,
-        0,
-        0,
-        0,
     ]
 }
 
-fn says_refused(n: Numbers) -> [u64; 18]
-    ensures { result ≡ saying 0 (two 0 0) nothing nothing nothing n }
-{
-    [
-        0,
-        0,
-        0,
-        0,
-        0,
-        0,
-        0,
-        0,
-        0,
-        0,
-        0,
-        0,
-        0,
-        0,
-        n.number as u64,
-        n.first,
-        n.second,
-        n.third,
-    ]
-}
-
-fn body_words(b: Body) -> [u64; 18]
-    ensures { result ≡ body_words b }
+// The error of a bad method is its 32 bits.
+fn body_said(b: Body) -> Said
+    ensures { said_words result ≡ body_words (Ok b) }
 {
     match b {
         Body::Hello {
             entity_type,
             address,
-        } => says_bytes(1, entity_type as u64, 0, address),
+        } => Said {
+            bytes: address,
+            ..of_kind(1, two(entity_type as u64, 0))
+        },
         Body::AuthRequest {
             method,
             modes,
             payload,
-        } => says_auth_request(method as u64, modes, payload),
+        } => Said {
+            first: modes,
+            bytes: payload,
+            ..of_kind(2, two(method as u64, 0))
+        },
         Body::BadMethod {
             method,
             error,
             methods,
             modes,
-        } => says_bad_method(method as u64, error as u64, methods, modes),
-        Body::More(payload) => says_bytes(4, 0, 0, payload),
+        } => Said {
+            first: methods,
+            second: modes,
+            ..of_kind(3, two(method as u64, error as u64))
+        },
+        Body::More(payload) => Said {
+            bytes: payload,
+            ..of_kind(4, two(0, 0))
+        },
         Body::AuthDone {
             global_id,
             mode,
             payload,
-        } => says_bytes(5, global_id, mode as u64, payload),
+        } => Said {
+            bytes: payload,
+            ..of_kind(5, two(global_id, mode as u64))
+        },
         Body::Ident {
             addresses,
             block,
             ident,
-        } => says_ident(addresses as u64, block, ident),
+        } => Said {
+            bytes: block,
+            ..of_kind(6, ident_numbers(addresses, ident))
+        },
         Body::Reconnect {
             addresses,
             block,
             reconnect,
-        } => says_reconnect(addresses as u64, block, reconnect),
-        Body::Number(n) => says_number(8, n),
-        Body::Reset(full) => says_number(9, full as u64),
-        Body::Stamp(p) => says_bytes(10, 0, 0, p),
-        Body::Refused(why) => says_refused(numbers_of(why)),
+        } => Said {
+            bytes: block,
+            ..of_kind(7, reconnect_numbers(addresses, reconnect))
+        },
+        Body::Number(n) => of_kind(8, two(n, 0)),
+        Body::Reset(full) => of_kind(9, two(full as u64, 0)),
+        Body::Stamp(stamp) => Said {
+            bytes: stamp,
+            ..of_kind(10, two(0, 0))
+        },
     }
 }
 
-fn read_any(tag: u64, s: &[u8]) -> Body
+// A refused body is of kind 0.
+fn body_words(b: Result<Body, Refusal>) -> [u64; 18]
+    ensures { result ≡ body_words b }
+{
+    match b {
+        Ok(body) => said_words(body_said(body)),
+        Err(why) => said_words(Said {
+            refusal: numbers_of(why),
+            ..of_kind(0, two(0, 0))
+        }),
+    }
+}
+
+fn read_any(tag: u64, s: &[u8]) -> Result<Body, Refusal>
     ensures { result ≡ abi_body tag s.now }
 {
-    if 255 < tag {
-        return Body::Refused(Refusal::StateContradicts);
+    match u8::try_from(tag) {
+        Ok(tag) => read(tag, s),
+        Err(_) => Err(Refusal::StateContradicts),
     }
-    read((tag % 256) as u8, s)
 }
 
 // Reads a body by its tag, and answers its kind, 0 where it is refused.
@@ -258,70 +228,35 @@ fn reconnect_at(ws: [u64; 8]) -> Reconnect
     }
 }
 
-fn low_u8(n: u64) -> u8
-    ensures { result ≡ low_u8 n }
+// The request that words stand for, where the kind is one and each number is one of its field.
+fn asked(ws: [u64; 8]) -> Option<Request>
+    ensures { result ≡ asked ws }
 {
-    (n % 256) as u8
-}
-
-fn low_u32(n: u64) -> u32
-    ensures { result ≡ low_u32 n }
-{
-    (n % 4294967296) as u32
-}
-
-fn request_with(kind: u64, a: u64, b: u64, i: Ident, k: Reconnect) -> Request
-    ensures { result ≡ request_with kind a b i k }
-{
-    match kind {
-        1 => Request::Hello(low_u8(a)),
-        2 => Request::AuthRequest(low_u32(a)),
+    Some(match ws[0] {
+        1 => Request::Hello(u8::try_from(ws[1]).ok()?),
+        2 => Request::AuthRequest(u32::try_from(ws[1]).ok()?),
         3 => Request::BadMethod {
-            method: low_u32(a),
-            error: low_u32(b),
+            method: u32::try_from(ws[1]).ok()?,
+            error: u32::try_from(ws[2]).ok()?,
         },
         4 => Request::More,
         5 => Request::AuthDone {
-            global_id: a,
-            mode: low_u32(b),
+            global_id: ws[1],
+            mode: u32::try_from(ws[2]).ok()?,
         },
         6 => Request::Ident {
-            addresses: low_u32(a),
-            ident: i,
+            addresses: u32::try_from(ws[1]).ok()?,
+            ident: ident_at(ws),
         },
         7 => Request::Reconnect {
-            addresses: low_u32(a),
-            reconnect: k,
+            addresses: u32::try_from(ws[1]).ok()?,
+            reconnect: reconnect_at(ws),
         },
-        8 => Request::Number(a),
-        9 => Request::Reset(low_u8(a)),
-        _ => Request::Stamp,
-    }
-}
-
-fn request_of(ws: [u64; 8]) -> Request
-    ensures { result ≡ request_of ws }
-{
-    request_with(ws[0], ws[1], ws[2], ident_at(ws), reconnect_at(ws))
-}
-
-// The kind is one, and each number is one of its field.
-fn fits(kind: u64, a: u64, b: u64) -> bool
-    ensures { result ≡ fits kind a b }
-{
-    if (kind == 1) | (kind == 9) {
-        return a <= 255;
-    }
-    if (kind == 2) | ((kind == 6) | (kind == 7)) {
-        return a <= 4294967295;
-    }
-    if kind == 3 {
-        return (a <= 4294967295) & (b <= 4294967295);
-    }
-    if kind == 5 {
-        return b <= 4294967295;
-    }
-    (1 <= kind) & (kind <= 10)
+        8 => Request::Number(ws[1]),
+        9 => Request::Reset(u8::try_from(ws[1]).ok()?),
+        10 => Request::Stamp,
+        _ => return None,
+    })
 }
 
 fn write_any(
@@ -331,13 +266,16 @@ fn write_any(
     first: &[u32],
     second: &[u32],
     bytes: &[u8],
-) -> abi::Written
-    ensures { AbiWrites tag ws first.now second.now bytes.now out.old result out.new }
+) -> Result<usize, Refusal>
+    ensures { AbiWrites tag ws first.now second.now bytes.now out.old (abi_result (outcome_of result)) out.new }
 {
-    if !((tag <= 255) & fits(ws[0], ws[1], ws[2])) {
-        return abi_refused(Refusal::StateContradicts);
-    }
-    written_of(write(out, low_u8(tag), request_of(ws), first, second, bytes))
+    let Ok(tag) = u8::try_from(tag) else {
+        return Err(Refusal::StateContradicts);
+    };
+    let Some(request) = asked(ws) else {
+        return Err(Refusal::StateContradicts);
+    };
+    write(out, tag, request, first, second, bytes)
 }
 
 // Writes a body by its tag at the front of out: the lists in the body's order, and its address, block, payload or stamp as bytes. Answers the bytes written.
@@ -352,10 +290,8 @@ pub fn abi_write_body(
 ) -> u64
     ensures { AbiWrites tag body.now first.now second.now bytes.now out.old (written result refusal.new) out.new }
 {
-    let w = write_any(out, tag, *body, first, second, bytes);
-    let why = w.refusal;
-    *refusal = why;
-    w.written
+    let answer = written_of(write_any(out, tag, *body, first, second, bytes));
+    hand_out(answer, refusal)
 }
 
 // Each kind of body is the words that are written out for it.

@@ -4,7 +4,7 @@
 ghost use Rattle.abi.specs.Words.{written};
 ghost use Rattle.abi_builder.specs.Words.{AbiBuiltBanner, AbiBuiltFrame};
 
-use abi::{Written, abi_refused, header_fits, header_of, revision_by_number, written_of};
+use abi::{Written, abi_refused, hand_out, header_fits, header_of, revision_by_number, written_of};
 use builder::{build_banner, build_frame};
 use refusal::Refusal;
 
@@ -18,10 +18,8 @@ pub fn abi_build_banner(
 ) -> u64
     ensures { AbiBuiltBanner supported required buf.old queued (written result refusal.new) buf.new }
 {
-    let b = written_of(build_banner(buf, queued as usize, supported, required));
-    let why = b.refusal;
-    *refusal = why;
-    b.written
+    let answer = written_of(build_banner(buf, queued as usize, supported, required));
+    hand_out(answer, refusal)
 }
 
 fn frame_written(
@@ -59,8 +57,6 @@ pub fn abi_build_frame(
 ) -> u64
     ensures { AbiBuiltFrame revision header.now abort source.now buf.old queued (written result refusal.new) buf.new }
 {
-    let b = frame_written(buf, queued, revision, *header, abort, source);
-    let why = b.refusal;
-    *refusal = why;
-    b.written
+    let answer = frame_written(buf, queued, revision, *header, abort, source);
+    hand_out(answer, refusal)
 }

@@ -12,7 +12,7 @@ use Rattle.refusal.specs.Refusals.{Judged, or_else, unless, contradiction}
 use Rattle.refusal.proofs.Booleans.{by_test, at_test, each_true}
 use Rattle.banner.specs.declared.Revision.TheVariants.{Msgr20, Msgr21}
 use Rattle.stream.specs.declared.Event.TheVariants as event
-use Rattle.receiver.specs.declared.Report.TheVariants as report
+use Rattle.std.specs.Prelude.{Some, None}
 use Rattle.receiver.specs.State as crc-states
 use Rattle.banner.specs.Banner.{is_msgr21}
 use Rattle.receiver.specs.Step as crc-step
@@ -20,7 +20,7 @@ use Rattle.receiver.proofs.Every.{sound}
 use Rattle.sealed_receiver.specs.State as sealed-states
 use Rattle.connection.specs.declared.State.{State}
 use Rattle.connection.specs.Step.{ready_rule, agrees_in_use, agrees, may_be_switched}
-use Rattle.connection.proofs.Laws.{switch-judged}
+use Rattle.connection.proofs.Laws.{switch_judged}
 use Rattle.abi_receiver.specs.Words as crc
 use Rattle.abi_receiver.specs.Words.{AbiState, state_of, report_words}
 use Rattle.abi_receiver.proofs.Back.{refused_report, refused-report}
@@ -32,7 +32,7 @@ use Rattle.abi_connection.proofs.Calls.{crc-stands, secure_stands, crc-fits, sec
 
 -- ---- a report of 26
 
-tells_26 : (q : List ℕ) → is26 q ≡ true → refused_report q ≡ report.Event (event.Refused contradiction)
+tells_26 : (q : List ℕ) → is26 q ≡ true → refused_report q ≡ Some (event.Refused contradiction)
 tells_26 q e =
     let a = each_true (eqb (get_or q 0 0) 4) (eqb (get_or q 15 0) 26 && (eqb (get_or q 16 0) 0 && (eqb (get_or q 17 0) 0 && eqb (get_or q 18 0) 0))) e in
     let b = each_true (eqb (get_or q 15 0) 26) (eqb (get_or q 16 0) 0 && (eqb (get_or q 17 0) 0 && eqb (get_or q 18 0) 0)) a.1 in
@@ -47,7 +47,7 @@ module _ (c : AbiState) (s piece : List ℕ) (o : crc.AbiReceived) (s' : List �
   words-within : crc.fits c.numbers ≡ true → o.report ≡ report_words answered.received.taken answered.received.report
   words-within f = ap (λ (x : crc.AbiReceived). x.report) (h.received ∙ ap (λ (x : crc.AbiAnswer). x.received) (answer-within c s piece f))
 
-  words-beyond : crc.fits c.numbers ≡ false → o.report ≡ report_words 0 (report.Event (event.Refused contradiction))
+  words-beyond : crc.fits c.numbers ≡ false → o.report ≡ report_words 0 (Some (event.Refused contradiction))
   words-beyond f = ap (λ (x : crc.AbiReceived). x.report) (h.received ∙ ap (λ (x : crc.AbiAnswer). x.received) (answer-beyond c s piece f))
 
   contradicting : crc-states.agrees (state_of c) ≡ false → answered ≡ crc-step.refuse_unchanged (state_of c) contradiction s
@@ -125,7 +125,7 @@ may_switch_lem p =
 
 pub judged-words : (p : AbiConnection) → or_else (unless (fits p && agrees (connection_of p)) refusal.StateContradicts) (unless (may_be_switched (connection_of p)) refusal.SwitchRefused) ≡ judge_words p
 unfolding judge_words agrees
-judged-words p = by_test (fits p) (λ f. rw f (switch-judged (connection_of p))) (λ f. rw f)
+judged-words p = by_test (fits p) (λ f. rw f (switch_judged (connection_of p))) (λ f. rw f)
 
 -- from the judgements of its two tests
 pub judged_by_lem : (p : AbiConnection) (v a m : Judged) (g : Bool) → v ≡ or_else a m → a ≡ unless g refusal.StateContradicts → g ≡ (fits p && agrees (connection_of p))

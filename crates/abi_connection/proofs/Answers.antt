@@ -5,7 +5,7 @@ use mathlib.Core.Bool.{Bool, true, false, cond}
 use Prim.Native.Nat.{ℕ}
 use Rattle.refusal.proofs.Booleans.{wrong}
 use Rattle.stream.specs.declared.Event.TheVariants as event
-use Rattle.receiver.specs.declared.Report.TheVariants as report
+use Rattle.std.specs.Prelude.{Some, None}
 use Rattle.refusal.specs.Refusals.{contradiction}
 use Rattle.sealed_receiver.specs.declared.State.{State}
 use Rattle.sealed_receiver.specs.declared.Received.{Received}
@@ -14,7 +14,7 @@ use Rattle.abi_receiver.specs.Words.{report_words, ReportOf}
 use Rattle.abi_connection.specs.Secure.{AbiSecure, secure_of, abi_of, fits, AbiOf, handed, received_by, store_by, SecureAnswered}
 
 module _ (p : AbiSecure) (s piece : List ℕ) where
-  pub beyond : fits p.numbers ≡ false → (received_by p s piece ≡ handed p (report_words 0 (report.Event (event.Refused contradiction)))) × (store_by p s piece ≡ s)
+  pub beyond : fits p.numbers ≡ false → (received_by p s piece ≡ handed p (report_words 0 (Some (event.Refused contradiction)))) × (store_by p s piece ≡ s)
   unfolding received_by store_by
   beyond e = (rw e, rw e)
 
@@ -26,7 +26,7 @@ module _ (p : AbiSecure) (s piece : List ℕ) where
   unfolding received_by store_by
   within e = (rw e, rw e)
 
-  pub words-refused : (r : List ℕ) → fits p.numbers ≡ false → r ≡ report_words 0 (report.Event (event.Refused contradiction)) → SecureAnswered p s piece (handed p r) s
+  pub words-refused : (r : List ℕ) → fits p.numbers ≡ false → r ≡ report_words 0 (Some (event.Refused contradiction)) → SecureAnswered p s piece (handed p r) s
   words-refused r e d =
       let b = beyond e in
       record { received = ap (handed p) d ∙ sym b.0; store = sym b.1; back = λ t. wrong (sym e ∙ t); tells = rw (e, d) }
@@ -47,5 +47,5 @@ module _ (p : AbiSecure) (s piece : List ℕ) where
         received = words_of o q r w t f ∙ sym b.0;
         store = h.store ∙ (rw d) ∙ sym b.1;
         back = λ _. subst (λ (x : Received). AbiOf x.state q) f w;
-        tells = t.back ∙ ap (λ (x : Received). x.report) f ∙ ap (λ (x : Bool). cond x a.received.report (report.Event (event.Refused contradiction))) (sym e);
+        tells = t.back ∙ ap (λ (x : Received). x.report) f ∙ ap (λ (x : Bool). cond x a.received.report (Some (event.Refused contradiction))) (sym e);
       }

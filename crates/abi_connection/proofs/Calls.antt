@@ -14,8 +14,8 @@ use Rattle.banner.specs.declared.Features.{Features}
 use Rattle.stream.specs.declared.Event.TheVariants as event
 use Rattle.stream.specs.Events.{kind_of}
 use Rattle.stream.proofs.Events.{by_kind}
-use Rattle.receiver.specs.declared.Report.{Report}
-use Rattle.receiver.specs.declared.Report.TheVariants as report
+use Rattle.receiver.specs.Report.{Report}
+use Rattle.std.specs.Prelude.{Some, None}
 use Rattle.receiver.specs.declared.State as crc-state
 use Rattle.receiver.proofs.Ranks.{rank_is}
 use Rattle.receiver.specs.Step as crc-step
@@ -111,7 +111,7 @@ module _ (p : AbiConnection) (s piece : List ℕ) where
           received = w ∙ sym (ap (λ (v : AbiAnswer). v.received) z);
           store = t ∙ sym (ap (λ (v : AbiAnswer). v.store) z);
           back = λ _. subst (λ (v : Answer). StandsFor v.received.state o.state) (sym y) b;
-          tells = u ∙ sym (ap (λ (v : Answer). v.received.report) y) ∙ ap (λ (v : Bool). cond v (answer (connection_of p) s piece).received.report (report.Event (event.Refused contradiction))) (sym f);
+          tells = u ∙ sym (ap (λ (v : Answer). v.received.report) y) ∙ ap (λ (v : Bool). cond v (answer (connection_of p) s piece).received.report (Some (event.Refused contradiction))) (sym f);
         }
 
 -- ---- crc frames
@@ -131,15 +131,15 @@ marked (suc n) true h = let e : n ≡ 0 = omega arith in rw e
 marked (suc n) false h = none (mark_of (suc n))
 
 mark-after : (ready taken : ℕ) (r : Report) → ready ≤ 1 → mark_after ready taken (get_or (report_words taken r) 0 0) ≡ mark_number (ready_after (mark_of ready) taken r)
-mark-after ready taken report.More h = marked ready (eqb taken 0) h
-mark-after ready taken (report.Event w) h =
-    by_kind (λ v. mark_after ready taken (kind_of v) ≡ mark_number (ready_after (mark_of ready) taken (report.Event v))) (λ k. refl) (λ k. refl) (λ n. marked ready (eqb taken 0) h)
+mark-after ready taken None h = marked ready (eqb taken 0) h
+mark-after ready taken (Some w) h =
+    by_kind (λ v. mark_after ready taken (kind_of v) ≡ mark_number (ready_after (mark_of ready) taken (Some v))) (λ k. refl) (λ k. refl) (λ n. marked ready (eqb taken 0) h)
     (λ v b. rw (b.frame, b.drop, b.within) (marked ready (eqb taken 0) h)) w
 
 -- what a report says was taken
 pub taken_word : (t : ℕ) (r : Report) → get_or (report_words t r) 1 0 ≡ t
-taken_word t report.More = refl
-taken_word t (report.Event e) = refl
+taken_word t None = refl
+taken_word t (Some e) = refl
 
 joined : {m m' r r' : ℕ} {c c' : AbiState} {x x' : AbiSecure} {q q' : List ℕ} → m ≡ m' → r ≡ r' → c ≡ c' → x ≡ x' → q ≡ q' → handed (connected m r c x) q ≡ handed (connected m' r' c' x') q'
 joined e f g h i = rw (e, f, g, h, i)
@@ -178,7 +178,7 @@ module _ (ready : ℕ) (c : AbiState) (x : AbiSecure) (s piece : List ℕ) (o : 
       (joined refl (crc-mark f) (ap (λ (y : crc.AbiReceived). y.state) t) refl (ap (λ (y : crc.AbiReceived). y.report) t))
       (h.store ∙ ap (λ (y : crc.AbiAnswer). y.store) (answer-within c s piece f))
       (record { state = crc-stands r o.state x ∙ as_state b w.back refl; fit = crc-fits r o.state x small ∙ w.fit })
-      (h.tells ∙ ap (λ (y : Bool). cond y crc_answer.received.report (report.Event (event.Refused contradiction))) f)
+      (h.tells ∙ ap (λ (y : Bool). cond y crc_answer.received.report (Some (event.Refused contradiction))) f)
     where
       as_state : {b b' : Bool} {y y' : crc-state.State} {z z' : secure-state.State} → b ≡ b' → y ≡ y' → z ≡ z'
           → ◌≡◌ {A = State} (record { mode = mode.Crc; ready = b; crc = y; sealed = z }) (record { mode = mode.Crc; ready = b'; crc = y'; sealed = z' })
@@ -222,7 +222,7 @@ module _ (ready : ℕ) (c : AbiState) (x : AbiSecure) (s piece : List ℕ) (o : 
       (joined refl (sym (mark-number-back ready l)) refl (ap (λ (y : SecureReceived). y.state) t) (ap (λ (y : SecureReceived). y.report) t))
       (h.store ∙ (within x s piece f).1)
       (record { state = secure_stands ready c o.state ∙ ap (λ (y : secure-state.State). record { mode = mode.Secure; ready = mark_of ready; crc = state_of c; sealed = y }) w.back; fit = secure_fits ready c o.state l ∙ w.fit })
-      (h.tells ∙ ap (λ (y : Bool). cond y secure_answer.received.report (report.Event (event.Refused contradiction))) f)
+      (h.tells ∙ ap (λ (y : Bool). cond y secure_answer.received.report (Some (event.Refused contradiction))) f)
 
   secure_beyond : secure.fits x.numbers ≡ false → AbiAnswered secure_words s piece (handed (connected 1 ready c o.state) o.report) s'
   secure_beyond f =

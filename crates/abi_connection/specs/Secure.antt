@@ -2,8 +2,8 @@
 -- what `answer` of the receiver of sealed frames says.
 use Rattle.std.specs.Prelude.{◌≡◌, List, [], ◌∷◌, ◌++◌, Bool, true, cond, ℕ, ◌≤◌, eqb, get_or}
 use Rattle.stream.specs.declared.Event.TheVariants as event
-use Rattle.receiver.specs.declared.Report.{Report}
-use Rattle.receiver.specs.declared.Report.TheVariants as report
+use Rattle.receiver.specs.Report.{Report}
+use Rattle.std.specs.Prelude.{Some, None}
 use Rattle.refusal.specs.Refusals.{contradiction}
 use Rattle.sealed_receiver.specs.declared.Stage.{Stage}
 use Rattle.sealed_receiver.specs.declared.Stage.TheVariants as stage
@@ -98,13 +98,13 @@ unfoldable pub received_by : AbiSecure → List ℕ → List ℕ → SecureRecei
 received_by p s piece =
     cond (fits p.numbers)
     (handed (abi_of (answer (secure_of p) s piece).received.state) (report_words (answer (secure_of p) s piece).received.taken (answer (secure_of p) s piece).received.report))
-    (handed p (report_words 0 (report.Event (event.Refused contradiction))))
+    (handed p (report_words 0 (Some (event.Refused contradiction))))
 
 unfoldable pub store_by : AbiSecure → List ℕ → List ℕ → List ℕ
 store_by p s piece = cond (fits p.numbers) (answer (secure_of p) s piece).store s
 
 abbrev pub report_by : AbiSecure → List ℕ → List ℕ → Report
-report_by p s piece = cond (fits p.numbers) (answer (secure_of p) s piece).received.report (report.Event (event.Refused contradiction))
+report_by p s piece = cond (fits p.numbers) (answer (secure_of p) s piece).received.report (Some (event.Refused contradiction))
 
 -- THE PROMISE OF A CALL
 pub record SecureAnswered (p : AbiSecure) (s piece : List ℕ) (o : SecureReceived) (s' : List ℕ) : Type 0 where

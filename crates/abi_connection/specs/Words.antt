@@ -6,8 +6,8 @@ use Rattle.refusal.specs.Refusals.{Judged, fine, refused, refusal_number, contra
 use Rattle.banner.specs.declared.Features.{Features}
 use Rattle.banner.specs.Banner.{judge_own}
 use Rattle.stream.specs.declared.Event.TheVariants as event
-use Rattle.receiver.specs.declared.Report.{Report}
-use Rattle.receiver.specs.declared.Report.TheVariants as report
+use Rattle.receiver.specs.Report.{Report}
+use Rattle.std.specs.Prelude.{Some, None}
 use Rattle.sealed_builder.specs.declared.Sending.{Sending}
 use Rattle.connection.specs.declared.Mode.{Mode}
 use Rattle.connection.specs.declared.Mode.TheVariants as mode
@@ -108,7 +108,7 @@ abi_answer_of p a = record { received = handed (next p a.received.state) (report
 
 -- takes nothing, hands the words back as they came, and says 26
 abbrev pub contradicts : AbiConnection → AbiReceived
-contradicts p = handed p (report_words 0 (report.Event (event.Refused contradiction)))
+contradicts p = handed p (report_words 0 (Some (event.Refused contradiction)))
 
 -- WHAT A CALL ANSWERS
 unfoldable pub abi_answer : AbiConnection → List ℕ → List ℕ → AbiAnswer
@@ -117,7 +117,7 @@ abi_answer p s piece =
 
 -- what it reports, and 26 where a number is beyond its field
 abbrev pub report_by : AbiConnection → List ℕ → List ℕ → Report
-report_by p s piece = cond (fits p) (answer (connection_of p) s piece).received.report (report.Event (event.Refused contradiction))
+report_by p s piece = cond (fits p) (answer (connection_of p) s piece).received.report (Some (event.Refused contradiction))
 
 -- THE PROMISE OF A CALL
 pub record AbiAnswered (p : AbiConnection) (s piece : List ℕ) (o : AbiReceived) (s' : List ℕ) : Type 0 where

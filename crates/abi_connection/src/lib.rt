@@ -4,23 +4,22 @@
 
 mod sealed;
 
-ghost use Rattle.std.specs.Prelude.{◌≡◌, cond, ◌&&◌, ◌||◌, leb, eqb};
+ghost use Rattle.std.specs.Prelude.{◌≡◌, not, cond, ◌&&◌, ◌||◌, leb, eqb};
 ghost use Rattle.refusal.specs.Refusals.{judged_by};
 ghost use Rattle.receiver.specs.State as crc-states;
 ghost use Rattle.sealed_receiver.specs.State as sealed-states;
 ghost use Rattle.connection.specs.Step.{agrees, switched_sending};
 ghost use Rattle.abi.specs.Words.{features};
 ghost use Rattle.abi_receiver.specs.Words as crc;
-ghost use Rattle.abi_sealed.specs.Words.{sending_numbers};
 ghost use Rattle.abi_connection.specs.Secure as secure;
 ghost use Rattle.abi_connection.specs.Secure.{abi_secure, SecureAnswered, SecureReceivedBy};
 ghost use Rattle.abi_connection.specs.Words.{abi_connection, connection_of, fits, handed, ReceivedBy, AbiStarted, abi_sending, switched, judge_words, AbiSwitchedWith, is26};
 
-use abi::mark_number;
 use abi_receiver::words::{contradicts, number_of, report_words, state_numbers};
+use abi_sealed::sending_numbers;
 use banner::Features;
 use connection::start;
-use refusal::{Judgement, Refusal, both, is_fine, or_else, unless};
+use refusal::{Refusal, unless};
 use sealed_builder::{Sending, fresh_sending, refused_sending};
 use sealed_receiver::states::agrees_with_itself;
 use sealed_receiver::switch_on;
@@ -39,17 +38,14 @@ struct Part {
 fn secure_words(st: sealed_receiver::State) -> Part
     ensures { secure.AbiOf st (abi_secure result.numbers result.first result.key result.nonce) }
 {
-    let position = st.position;
-    let known = st.known;
-    let receiving = known.receiving;
-    let first = position.block;
-    let key = receiving.key;
-    let nonce = receiving.nonce;
+    let first = st.position.block;
+    let key = st.known.receiving.key;
+    let nonce = st.known.receiving.nonce;
     Part {
         numbers: sealed::numbers_of(st),
-        first: first,
-        key: key,
-        nonce: nonce,
+        first,
+        key,
+        nonce,
     }
 }
 
@@ -74,19 +70,17 @@ fn secure_answer(
         return Handed {
             part: Part {
                 numbers: ws,
-                first: first,
-                key: key,
-                nonce: nonce,
+                first,
+                key,
+                nonce,
             },
             report: contradicts(),
         };
     }
     let o = sealed_receiver::receive(sealed::state_of(ws, first, key, nonce), piece, store);
-    let next = o.state;
-    let reported = o.report;
     Handed {
-        part: secure_words(next),
-        report: report_words(o.taken as u64, reported),
+        part: secure_words(o.state),
+        report: report_words(o.taken as u64, o.report),
     }
 }
 
@@ -122,21 +116,21 @@ fn secure_receive(
 fn is_usable(mode: u64, ready: u64, stage: u64, got: u64) -> bool
     ensures { result ≡ (leb mode 1 && (leb ready 1 && (eqb ready 0 || (eqb mode 0 && (eqb stage 4 && eqb got 0))))) }
 {
-    let marked = (mode == 0) & ((stage == 4) & (got == 0));
-    (mode <= 1) & ((ready <= 1) & ((ready == 0) | marked))
+    let marked = mode == 0 && (stage == 4 && got == 0);
+    mode <= 1 && (ready <= 1 && (ready == 0 || marked))
 }
 
 // The mark behind a report of this kind: 2 and 3 are frames and drops.
 fn ready_after(ready: u64, taken: u64, kind: u64) -> u64
     ensures { result ≡ cond (eqb kind 2 || eqb kind 3) 1 (cond (eqb taken 0) ready 0) }
 {
-    if (kind == 2) | (kind == 3) {
-        return 1;
+    if kind == 2 || kind == 3 {
+        1
+    } else if taken == 0 {
+        ready
+    } else {
+        0
     }
-    if taken == 0 {
-        return ready;
-    }
-    0
 }
 
 // A call: takes bytes of the piece up to and including the one that completes a report, and answers the report's kind.
@@ -185,18 +179,14 @@ pub fn abi_start(
     ensures { AbiStarted (features supported required) result (abi_connection link.new numbers.new block.new sealed.new first.new key.new nonce.new) }
 {
     let o = start(Features {
-        supported: supported,
-        required: required,
+        supported,
+        required,
     });
-    let st = o.state;
-    let crc = st.crc;
-    let part = st.sealed;
-    let position = crc.position;
-    let bytes = position.block;
+    let bytes = o.state.crc.position.block;
     *link = [0, 0];
-    *numbers = state_numbers(crc);
+    *numbers = state_numbers(o.state.crc);
     *block = bytes;
-    let w = secure_words(part);
+    let w = secure_words(o.state.sealed);
     let ws = w.numbers;
     let first_bytes = w.first;
     let key_bytes = w.key;
@@ -205,8 +195,7 @@ pub fn abi_start(
     *first = first_bytes;
     *key = key_bytes;
     *nonce = nonce_bytes;
-    let v = o.judgement;
-    number_of(v)
+    number_of(o.judgement)
 }
 
 // ---- a switch
@@ -215,8 +204,8 @@ pub fn abi_start(
 fn is_contradiction(report: [u64; 19]) -> bool
     ensures { result ≡ is26 report }
 {
-    let details = (report[16] == 0) & ((report[17] == 0) & (report[18] == 0));
-    (report[0] == 4) & ((report[15] == 26) & details)
+    let details = report[16] == 0 && (report[17] == 0 && report[18] == 0);
+    report[0] == 4 && (report[15] == 26 && details)
 }
 
 // The part for crc frames agrees with itself: a call with no bytes says so. The receiver's own test is called in one place of the library, `receive_in`, and so inlined there.
@@ -234,10 +223,7 @@ fn crc_agrees(numbers: [u64; 23], block: [u8; 32]) -> bool
 fn secure_agrees(ws: [u64; 18], first: [u8; 96], key: [u8; 16], nonce: [u8; 12]) -> bool
     ensures { result ≡ (secure.fits ws && sealed-states.agrees (secure.secure_of (abi_secure ws first key nonce))) }
 {
-    both(
-        sealed::fits(ws),
-        agrees_with_itself(sealed::state_of(ws, first, key, nonce)),
-    )
+    sealed::fits(ws) && agrees_with_itself(sealed::state_of(ws, first, key, nonce))
 }
 
 fn agrees(
@@ -260,6 +246,13 @@ fn agrees(
     secure_agrees(sealed, first, key, nonce)
 }
 
+// Behind a frame, by msgr2.1.
+fn may_switch(ready: u64, revision: u64) -> bool
+    ensures { result ≡ (not (eqb ready 0) && not (eqb revision 0)) }
+{
+    ready != 0 && revision != 0
+}
+
 // As the connection judges a switch.
 fn judge_words(
     link: [u64; 2],
@@ -269,28 +262,22 @@ fn judge_words(
     first: [u8; 96],
     key: [u8; 16],
     nonce: [u8; 12],
-) -> Judgement
+) -> Result<(), Refusal>
     ensures { judged_by result ≡ judge_words (abi_connection link numbers block sealed first key nonce) }
 {
-    let agree = agrees(link, numbers, block, sealed, first, key, nonce);
-    let first_judgement = unless(agree, Refusal::StateContradicts);
-    let may = (link[1] != 0) & (numbers[1] != 0);
-    or_else(first_judgement, unless(may, Refusal::SwitchRefused))
+    if !agrees(link, numbers, block, sealed, first, key, nonce) {
+        return Err(Refusal::StateContradicts);
+    }
+    unless(may_switch(link[1], numbers[1]), Refusal::SwitchRefused)
 }
 
-fn sending_by(v: Judgement, key: [u8; 16], nonce: [u8; 12]) -> Sending
+fn sending_by(v: Result<(), Refusal>, key: [u8; 16], nonce: [u8; 12]) -> Sending
     ensures { result ≡ switched_sending (judged_by v) key nonce }
 {
     match v {
-        Judgement::Fine => fresh_sending(key, nonce),
-        Judgement::Refused(_) => refused_sending(),
+        Ok(()) => fresh_sending(key, nonce),
+        Err(_) => refused_sending(),
     }
-}
-
-fn sending_numbers(s: Sending) -> [u64; 3]
-    ensures { result ≡ sending_numbers s }
-{
-    [mark_number(s.exhausted), mark_number(s.refused), s.spent]
 }
 
 // Switches to secure with one key, `with`, and a nonce for each direction: the words of the state, and those of the state that the builder of sealed frames is given.
@@ -320,7 +307,7 @@ pub fn abi_switch(
     *out_key = s_key;
     *out_nonce = s_nonce;
     let n = number_of(v);
-    if !is_fine(v) {
+    if v.is_err() {
         return n;
     }
     let w = secure_words(switch_on(*with, *receiving_nonce));

@@ -2,8 +2,9 @@
 ghost use Rattle.std.specs.Prelude.{◌≡◌};
 ghost use Rattle.abi_connection.specs.Secure.{abi_secure, stage_number, stage_of, state_with, secure_of, numbers_with, with_bytes, fits, Typed, AbiOf};
 
-use abi::{mark_number, typed_header, typed_u8};
-use preamble::{Header, Segment};
+use abi::{
+    header_fits, header_of, header_words, mark_number, refusal_words, typed_header, typed_u8,
+};
 use refusal::Numbers;
 use sealed_receiver::{Known, Position, Receiving, Stage, State};
 
@@ -33,51 +34,32 @@ fn stage_of(n: u64) -> Stage
 pub(crate) fn fits(ws: [u64; 18]) -> bool
     ensures { result ≡ fits ws }
 {
-    let s4 = (ws[10] <= 4294967295) & ((ws[11] <= 65535) & (ws[12] <= 255));
-    let s3 = (ws[8] <= 4294967295) & ((ws[9] <= 65535) & s4);
-    let s2 = (ws[6] <= 4294967295) & ((ws[7] <= 65535) & s3);
-    let s1 = (ws[4] <= 4294967295) & ((ws[5] <= 65535) & s2);
-    let header = (ws[2] <= 255) & ((ws[3] <= 255) & s1);
-    (ws[0] <= 3) & ((ws[1] <= 1) & header)
+    let header = [
+        ws[2], ws[3], ws[4], ws[5], ws[6], ws[7], ws[8], ws[9], ws[10], ws[11],
+    ];
+    ws[0] <= 3 && ws[1] <= 1 && header_fits(header) && ws[12] <= 255
 }
 
 fn state_with(stage: Stage, ws: [u64; 18], first: [u8; 96], key: [u8; 16], nonce: [u8; 12]) -> State
     ensures { result ≡ state_with stage (abi_secure ws first key nonce) }
 {
-    let header = Header {
-        tag: (ws[2] % 256) as u8,
-        count: (ws[3] % 256) as u8,
-        s1: Segment {
-            len: (ws[4] % 4294967296) as u32,
-            align: (ws[5] % 65536) as u16,
-        },
-        s2: Segment {
-            len: (ws[6] % 4294967296) as u32,
-            align: (ws[7] % 65536) as u16,
-        },
-        s3: Segment {
-            len: (ws[8] % 4294967296) as u32,
-            align: (ws[9] % 65536) as u16,
-        },
-        s4: Segment {
-            len: (ws[10] % 4294967296) as u32,
-            align: (ws[11] % 65536) as u16,
-        },
-    };
+    let header = header_of([
+        ws[2], ws[3], ws[4], ws[5], ws[6], ws[7], ws[8], ws[9], ws[10], ws[11],
+    ]);
     State {
         position: Position {
-            stage: stage,
+            stage,
             got: ws[16] as usize,
             block: first,
         },
         known: Known {
             receiving: Receiving {
-                key: key,
-                nonce: nonce,
+                key,
+                nonce,
                 opened: ws[17],
                 exhausted: ws[1] != 0,
             },
-            header: header,
+            header,
             refusal: Numbers {
                 number: (ws[12] % 256) as u8,
                 first: ws[13],
@@ -97,44 +79,34 @@ pub(crate) fn state_of(ws: [u64; 18], first: [u8; 96], key: [u8; 16], nonce: [u8
 fn typed_state(st: State)
     ensures { Typed st }
 {
-    let known = st.known;
-    let n = known.refusal;
-    let h = known.header;
-    typed_header(h);
-    typed_u8(n.number);
+    typed_header(st.known.header);
+    typed_u8(st.known.refusal.number);
 }
 
 fn numbers_with(stage: u64, exhausted: u64, st: State) -> [u64; 18]
     ensures { result ≡ numbers_with stage exhausted st }
 {
-    let position = st.position;
-    let known = st.known;
-    let receiving = known.receiving;
-    let n = known.refusal;
-    let h = known.header;
-    let s1 = h.s1;
-    let s2 = h.s2;
-    let s3 = h.s3;
-    let s4 = h.s4;
+    let [tag, count, n1, a1, n2, a2, n3, a3, n4, a4] = header_words(st.known.header);
+    let [number, one, two, three] = refusal_words(st.known.refusal);
     [
         stage,
         exhausted,
-        h.tag as u64,
-        h.count as u64,
-        s1.len as u64,
-        s1.align as u64,
-        s2.len as u64,
-        s2.align as u64,
-        s3.len as u64,
-        s3.align as u64,
-        s4.len as u64,
-        s4.align as u64,
-        n.number as u64,
-        n.first,
-        n.second,
-        n.third,
-        position.got as u64,
-        receiving.opened,
+        tag,
+        count,
+        n1,
+        a1,
+        n2,
+        a2,
+        n3,
+        a3,
+        n4,
+        a4,
+        number,
+        one,
+        two,
+        three,
+        st.position.got as u64,
+        st.known.receiving.opened,
     ]
 }
 
@@ -143,9 +115,9 @@ pub(crate) fn numbers_of(st: State) -> [u64; 18]
     ensures { AbiOf st (with_bytes result st) }
 {
     typed_state(st);
-    let position = st.position;
-    let known = st.known;
-    let receiving = known.receiving;
-    let stage = position.stage;
-    numbers_with(stage_number(stage), mark_number(receiving.exhausted), st)
+    numbers_with(
+        stage_number(st.position.stage),
+        mark_number(st.known.receiving.exhausted),
+        st,
+    )
 }

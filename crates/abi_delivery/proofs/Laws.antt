@@ -10,8 +10,8 @@ use Rattle.refusal.specs.Refusals.{no_refusal}
 use Rattle.preamble.specs.declared.Header.{Header}
 use Rattle.refusal.proofs.Booleans.{at_cond}
 use Rattle.stream.specs.declared.Event.{Event}
-use Rattle.receiver.specs.declared.Report as receiver
-use Rattle.receiver.specs.declared.Report.TheVariants as report
+use Rattle.std.specs.Prelude.{Option, Ok}
+use Rattle.std.specs.Prelude.{Some, None}
 use Rattle.session.specs.declared.Session.{Session}
 use Rattle.session.specs.declared.Answer.TheVariants as answer
 use Rattle.session.specs.Calls.{held_of, judge_state, judge_ack, acked, cleared, ack_of, reconnect_of, reset_of}
@@ -34,7 +34,7 @@ frame-requests q s e f g =
 pub others-request : (q s : List ℕ) → eqb (get_or q 0 0) 2 ≡ false → request.Nothing ≡ request_by_report (report_of q) s
 others-request q s e =
     let n = get_or q 0 0 in
-    let asksNothing : Event → Type 0 = λ w. request.Nothing ≡ request_by_report (report.Event w) s in
+    let asksNothing : Event → Type 0 = λ w. request.Nothing ≡ request_by_report (Some w) s in
     rw e (at_cond (λ r. request.Nothing ≡ request_by_report r s) (eqb n 0) refl
     (at_cond asksNothing (eqb n 1) refl (at_cond asksNothing (eqb n 3) refl (at_cond asksNothing (eqb n 4) refl refl))))
 
@@ -43,9 +43,9 @@ others-request q s e =
 handles-kept : (s : Session) (a : Request) → (done_to s a).session.handles ≡ s.handles
 unfolding ack_of reconnect_of reset_of
 handles-kept s request.Nothing = refl
-handles-kept s (request.Ack n) = kept s (acked s n) (judge_ack s n) answer.Done (acked-keeps s n)
-handles-kept s (request.Reconnect n) = kept s (acked s n) (judge_ack s n) (answer.Resend (length (held_of (acked s n)))) (acked-keeps s n)
-handles-kept s (request.Reset full) = kept s (cleared s full) (judge_state s) answer.Done (cleared-keeps s full)
+handles-kept s (request.Ack n) = kept s (acked s n) (judge_ack s n) (Ok answer.Done) (acked-keeps s n)
+handles-kept s (request.Reconnect n) = kept s (acked s n) (judge_ack s n) (Ok (answer.Resend (length (held_of (acked s n))))) (acked-keeps s n)
+handles-kept s (request.Reset full) = kept s (cleared s full) (judge_state s) (Ok answer.Done) (cleared-keeps s full)
 handles-kept s (request.Malformed n) = refl
 
 two-words : (ws : List ℕ) → length ws ≡ 2 → ws ≡ get_or ws 0 0 ∷ get_or ws 1 0 ∷ []
@@ -74,6 +74,6 @@ module _ (ws hs : List ℕ) (a : Request) where
 
 -- ---- both together
 
-pub joined : (x : Session) (s : List ℕ) {m r : receiver.Report} {a : Request} {d : AbiApplied} → m ≡ r → a ≡ request_by_report m s → d ≡ abi_applied (done_to x a)
+pub joined : (x : Session) (s : List ℕ) {m r : Option Event} {a : Request} {d : AbiApplied} → m ≡ r → a ≡ request_by_report m s → d ≡ abi_applied (done_to x a)
     → d ≡ abi_applied (done_to x (request_by_report r s))
-joined x s e f g = g ∙ ap (λ (z : Request). abi_applied (done_to x z)) (f ∙ ap (λ (z : receiver.Report). request_by_report z s) e)
+joined x s e f g = g ∙ ap (λ (z : Request). abi_applied (done_to x z)) (f ∙ ap (λ (z : Option Event). request_by_report z s) e)

@@ -61,11 +61,9 @@ fn apply_words(ws: [u64; 2], handles: &[u64; 64], request: Request) -> Done
         },
         _ => {
             let d = apply(session_of(ws, *handles), request);
-            let s = d.session;
-            let effect = d.effect;
             Done {
-                numbers: session_numbers(s),
-                effect: effect_words(effect),
+                numbers: session_numbers(d.session),
+                effect: effect_words(d.effect),
             }
         }
     }
@@ -92,9 +90,11 @@ pub fn abi_deliver(
     let kind = abi_receive(
         link, numbers, block, sealed, first, key, nonce, report, piece, store,
     );
-    let d = apply_words(*session, handles, request_by_words(report, store));
-    let ws = d.numbers;
-    let e = d.effect;
+    let request = request_by_words(report, store);
+    let Done {
+        numbers: ws,
+        effect: e,
+    } = apply_words(*session, handles, request);
     *session = ws;
     *effect = e;
     kind

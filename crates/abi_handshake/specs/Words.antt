@@ -1,15 +1,12 @@
 -- The handshake's steps over words: states and tags as numbers, the caller's verdict as four. A word beyond its field is 26, and the state stays.
-use Rattle.std.specs.Prelude.{◌≡◌, List, [], ◌∷◌, Bool, cond, ◌&&◌, ℕ, eqb, leb, get_or}
+use Rattle.std.specs.Prelude.{Result, Ok, Err, Option, Some, None, ◌≡◌, List, [], ◌∷◌, Bool, cond, ◌&&◌, ℕ, eqb, leb, get_or}
+use Rattle.refusal.specs.declared.Numbers.{Numbers}
 use Rattle.refusal.specs.declared.Refusal.TheVariants.{StateContradicts}
 use Rattle.refusal.specs.Refusals.{numbers_of, no_refusal}
 use Rattle.handshake.specs.declared.State.{State}
 use Rattle.handshake.specs.declared.State.TheVariants as state
 use Rattle.handshake.specs.declared.Verdict.{Verdict}
-use Rattle.handshake.specs.declared.Report.{Report}
-use Rattle.handshake.specs.declared.Report.TheVariants as report
 use Rattle.handshake.specs.declared.Step.{Step}
-use Rattle.handshake.specs.declared.Picked.{Picked}
-use Rattle.handshake.specs.declared.Picked.TheVariants as picked
 use Rattle.handshake.specs.Table.{Row, auth_of, client_rows, server_rows, state_number, find}
 use Rattle.handshake.specs.Steps.{step_by}
 use Rattle.abi.specs.Words.{within, max_u8, mark_of, refusal_words}
@@ -47,9 +44,9 @@ pub record AbiStep : Type 0 where
 abbrev pub step_with : ℕ → List ℕ → AbiStep
 step_with s r = record { state = s; refusal = r }
 
-abbrev pub report_words : Report → List ℕ
-report_words report.Taken = refusal_words no_refusal
-report_words (report.Refused n) = refusal_words n
+abbrev pub report_words : Result (Unit {0}) Numbers → List ℕ
+report_words (Ok u) = refusal_words no_refusal
+report_words (Err n) = refusal_words n
 
 abbrev pub abi_step : Step → AbiStep
 abi_step s = step_with (state_number s.state) (report_words s.report)
@@ -68,6 +65,6 @@ pub record AbiStepped (rs : List Row) (s tag : ℕ) (ws : List ℕ) (n : ℕ) (r
 
 -- ---- the mode: a number of 32 bits, or one beyond them where there is none
 
-abbrev pub mode_number : Picked → ℕ
-mode_number (picked.Mode m) = m
-mode_number picked.NoMode = 4294967296
+abbrev pub mode_number : Option ℕ → ℕ
+mode_number (Some m) = m
+mode_number None = 4294967296

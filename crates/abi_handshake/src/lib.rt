@@ -4,14 +4,11 @@
 ghost use Rattle.std.specs.Prelude.{◌≡◌};
 ghost use Rattle.handshake.specs.Table.{state_number};
 ghost use Rattle.handshake.specs.Pick.{pick_of};
-ghost use Rattle.handshake.specs.Table.{auth_of};
 ghost use Rattle.abi_handshake.specs.Words.{state_of, verdict_of, fits, step_with, report_words, abi_step, rows_by, AbiStepped, mode_number};
 
 use abi::refusal_words;
-use handshake::{
-    AuthVerdict, Picked, Report, State, Step, Verdict, client_step, pick_mode, server_step,
-};
-use refusal::{Refusal, numbers_of};
+use handshake::{AuthVerdict, State, Step, Verdict, client_step, pick_mode, server_step};
+use refusal::{Numbers, Refusal};
 
 // The next state and a refusal, or zeros.
 #[derive(Clone, Copy)]
@@ -23,19 +20,10 @@ struct Words {
 fn state_number(s: State) -> u64
     ensures { result ≡ state_number s }
 {
-    match s {
-        State::Hello => 0,
-        State::Auth => 1,
-        State::More => 2,
-        State::Signature => 3,
-        State::Session => 4,
-        State::Ready => 5,
-        State::Standby => 6,
-        State::Wait => 7,
-        State::Closed => 8,
-    }
+    s as u64
 }
 
+#[tactic(auto, unfolding(crate::specs::Words::state_of))]
 fn state_of(n: u64) -> State
     ensures { result ≡ state_of n }
 {
@@ -52,22 +40,11 @@ fn state_of(n: u64) -> State
     }
 }
 
-fn auth_of(n: u64) -> AuthVerdict
-    ensures { result ≡ auth_of n }
-{
-    match n {
-        0 => AuthVerdict::Stay,
-        1 => AuthVerdict::More,
-        2 => AuthVerdict::Signature,
-        _ => AuthVerdict::Standby,
-    }
-}
-
 fn verdict_of(ws: [u64; 4]) -> Verdict
     ensures { result ≡ verdict_of ws }
 {
     Verdict {
-        auth: auth_of(ws[0]),
+        auth: AuthVerdict::by_number(ws[0]),
         signature: ws[1] != 0,
         features: ws[2] != 0,
         reconnect: ws[3] != 0,
@@ -78,40 +55,36 @@ fn verdict_of(ws: [u64; 4]) -> Verdict
 fn fits(s: u64, tag: u64, ws: [u64; 4]) -> bool
     ensures { result ≡ fits s tag ws }
 {
-    (s <= 8) & ((tag <= 255) & ((ws[0] <= 3) & ((ws[1] <= 1) & ((ws[2] <= 1) & (ws[3] <= 1)))))
+    s <= 8 && tag <= 255 && ws[0] <= 3 && ws[1] <= 1 && ws[2] <= 1 && ws[3] <= 1
 }
 
-fn report_words(report: Report) -> [u64; 4]
+fn report_words(report: Result<(), Numbers>) -> [u64; 4]
     ensures { result ≡ report_words report }
 {
-    match report {
-        Report::Taken => [0, 0, 0, 0],
-        Report::Refused(n) => refusal_words(n),
-    }
+    refusal_words(report.err().unwrap_or_default())
 }
 
 fn step_words(step: Step) -> Words
     ensures { step_with result.state result.refusal ≡ abi_step step }
 {
-    let s = step.state;
-    let report = step.report;
     Words {
-        state: state_number(s),
-        refusal: report_words(report),
+        state: state_number(step.state),
+        refusal: report_words(step.report),
     }
 }
 
 // A step of a server, or of a client.
+#[tactic(auto, using(crate::proofs::Laws::tag_fits), unfolding(crate::specs::Words::step_from))]
 fn stepped(at_server: bool, s: u64, tag: u64, ws: [u64; 4]) -> Words
     ensures { AbiStepped (rows_by at_server) s tag ws result.state result.refusal }
 {
     if !fits(s, tag, ws) {
         return Words {
             state: s,
-            refusal: refusal_words(numbers_of(Refusal::StateContradicts)),
+            refusal: refusal_words(Numbers::from(Refusal::StateContradicts)),
         };
     }
-    let t = (tag % 256) as u8;
+    let t = tag as u8;
     if at_server {
         return step_words(server_step(state_of(s), t, verdict_of(ws)));
     }
@@ -128,19 +101,17 @@ pub fn abi_step(
 ) -> u64
     ensures { AbiStepped (rows_by at_server) s tag verdict.now result refusal.new }
 {
-    let w = stepped(at_server, s, tag, *verdict);
-    let why = w.refusal;
+    let Words {
+        state,
+        refusal: why,
+    } = stepped(at_server, s, tag, *verdict);
     *refusal = why;
-    w.state
+    state
 }
 
 // The first of the client's preferred modes that is on the server's own list, or a number beyond 32 bits where none is.
 pub fn abi_pick_mode(preferred: &[u32], allowed: &[u32]) -> u64
     ensures { result ≡ mode_number (pick_of preferred.now allowed.now) }
 {
-    let p = pick_mode(preferred, allowed);
-    match p {
-        Picked::Mode(m) => m as u64,
-        Picked::NoMode => 4294967296,
-    }
+    pick_mode(preferred, allowed).map_or(4294967296, u64::from)
 }

@@ -12,8 +12,8 @@ use Rattle.stream.specs.declared.Event.TheVariants as event
 use Rattle.stream.proofs.Events.{by_kind}
 use Rattle.receiver.specs.declared.Stage.{Stage}
 use Rattle.receiver.specs.declared.State.{State}
-use Rattle.receiver.specs.declared.Report.{Report}
-use Rattle.receiver.specs.declared.Report.TheVariants as report
+use Rattle.receiver.specs.Report.{Report}
+use Rattle.std.specs.Prelude.{Some, None}
 use Rattle.receiver.specs.State.{rank, stage_of}
 use Rattle.receiver.proofs.Ranks.{stage-back, rank-back, rank_known}
 use Rattle.receiver.specs.Step.{state_at}
@@ -132,12 +132,12 @@ counted ws block to size e = ap (λ (l : List ℕ). set l 18 to) (spelt 23 0 ws 
 -- ---- a report from its words
 
 pub report-back : (t : ℕ) (r : Report) → ReportTyped r → report_of (report_words t r) ≡ r
-report-back t report.More h = refl
-report-back t (report.Event (event.Banner p v)) h = rw (revision-back v)
-report-back t (report.Event (event.First k)) h = ap (λ (x : Header). report.Event (event.First x)) (header_in_lem k h)
-report-back t (report.Event (event.Frame k)) h = ap (λ (x : Header). report.Event (event.Frame x)) (header_in_lem k h)
-report-back t (report.Event (event.Dropped k)) h = ap (λ (x : Header). report.Event (event.Dropped x)) (header_in_lem k h)
-report-back t (report.Event (event.Refused n)) h = ap (λ (x : Numbers). report.Event (event.Refused x)) (refusal_in n h)
+report-back t None h = refl
+report-back t (Some (event.Banner p v)) h = rw (revision-back v)
+report-back t (Some (event.First k)) h = ap (λ (x : Header). Some (event.First x)) (header_in_lem k h)
+report-back t (Some (event.Frame k)) h = ap (λ (x : Header). Some (event.Frame x)) (header_in_lem k h)
+report-back t (Some (event.Dropped k)) h = ap (λ (x : Header). Some (event.Dropped x)) (header_in_lem k h)
+report-back t (Some (event.Refused n)) h = ap (λ (x : Numbers). Some (event.Refused x)) (refusal_in n h)
 
 pub report_of_lem : (t : ℕ) (r : Report) (q : List ℕ) → ReportTyped r → q ≡ report_words t r → ReportOf t r q
 report_of_lem t r q h e = record { words = e; back = ap report_of e ∙ report-back t r h }
@@ -145,18 +145,18 @@ report_of_lem t r q h e = record { words = e; back = ap report_of e ∙ report-b
 -- words that tell of a refusal are those of no other report: read as they stand, without their low bits
 abbrev pub refused_report : List ℕ → Report
 refused_report q =
-    cond (eqb (get_or q 0 0) 4) (report.Event (event.Refused (row (get_or q 15 0) (get_or q 16 0) (get_or q 17 0) (get_or q 18 0)))) report.More
+    cond (eqb (get_or q 0 0) 4) (Some (event.Refused (row (get_or q 15 0) (get_or q 16 0) (get_or q 17 0) (get_or q 18 0)))) None
 
-other : {n : Numbers} → report.More ≡ report.Event (event.Refused n) → ⊥
+other : {n : Numbers} → None ≡ Some (event.Refused n) → ⊥
 other e = let z : ◌≡◌ {A = ℕ} 0 1 = cc in omega arith
 
-pub refused-report : (t : ℕ) (r : Report) (n : Numbers) → refused_report (report_words t r) ≡ report.Event (event.Refused n) → r ≡ report.Event (event.Refused n)
-refused-report t report.More n e = e
-refused-report t (report.Event w) n e =
-    by_kind (λ v. refused_report (event_words t v) ≡ report.Event (event.Refused n) → report.Event v ≡ report.Event (event.Refused n)) (λ h q. absurd (other q)) (λ h q. absurd (other q)) (λ m q. q)
+pub refused-report : (t : ℕ) (r : Report) (n : Numbers) → refused_report (report_words t r) ≡ Some (event.Refused n) → r ≡ Some (event.Refused n)
+refused-report t None n e = e
+refused-report t (Some w) n e =
+    by_kind (λ v. refused_report (event_words t v) ≡ Some (event.Refused n) → Some v ≡ Some (event.Refused n)) (λ h q. absurd (other q)) (λ h q. absurd (other q)) (λ m q. q)
     (λ v b q. absurd (other (rw b.refusal at q))) w e
 
-pub refused-back : (t t' : ℕ) (r : Report) (n : Numbers) → report_words t r ≡ report_words t' (report.Event (event.Refused n)) → r ≡ report.Event (event.Refused n)
+pub refused-back : (t t' : ℕ) (r : Report) (n : Numbers) → report_words t r ≡ report_words t' (Some (event.Refused n)) → r ≡ Some (event.Refused n)
 refused-back t t' r n e = refused-report t r n (ap refused_report e)
 
 pub reads-back : ReadsBack

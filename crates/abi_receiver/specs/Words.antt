@@ -10,8 +10,8 @@ use Rattle.stream.specs.declared.Event.TheVariants as event
 use Rattle.stream.specs.Events.{kind_of, Role, banner_end, first_end, frame_end, stream_end, role_of}
 use Rattle.receiver.specs.declared.Known.{Known}
 use Rattle.receiver.specs.declared.State.{State}
-use Rattle.receiver.specs.declared.Report.{Report}
-use Rattle.receiver.specs.declared.Report.TheVariants as report
+use Rattle.receiver.specs.Report.{Report}
+use Rattle.std.specs.Prelude.{Some, None}
 use Rattle.receiver.specs.declared.Received.{Received}
 use Rattle.banner.specs.Banner.{no_features}
 use Rattle.preamble.specs.Layout.{no_header}
@@ -101,14 +101,14 @@ abbrev pub event_words : ℕ → Event → List ℕ
 event_words t e = kind_of e ∷ t ∷ role_fields (role_of e)
 
 abbrev pub report_words : ℕ → Report → List ℕ
-report_words t report.More = reporting 0 t 0 no_features no_header no_refusal
-report_words t (report.Event e) = event_words t e
+report_words t None = reporting 0 t 0 no_features no_header no_refusal
+report_words t (Some e) = event_words t e
 
 -- THE REPORT THAT WORDS STAND FOR
 abbrev pub report_as : ℕ → List ℕ → Report
 report_as kind q =
-    cond (eqb kind 0) report.More
-    (report.Event
+    cond (eqb kind 0) None
+    (Some
     (cond (eqb kind 1) (event.Banner (features (get_or q 3 0) (get_or q 4 0)) (revision_by_number (get_or q 2 0)))
     (cond (eqb kind 2) (event.Frame (header_at 5 q))
     (cond (eqb kind 3) (event.Dropped (header_at 5 q))
@@ -125,8 +125,8 @@ RoleTyped (frame_end h) = Within header_limits 0 (header_words h)
 RoleTyped (stream_end n) = n.number ≤ max_u8
 
 abbrev pub ReportTyped : Report → Type 0
-ReportTyped report.More = Unit {0}
-ReportTyped (report.Event e) = RoleTyped (role_of e)
+ReportTyped None = Unit {0}
+ReportTyped (Some e) = RoleTyped (role_of e)
 
 -- the words of a report, and that they stand for it
 pub record ReportOf (t : ℕ) (r : Report) (q : List ℕ) : Type 0 where
@@ -162,7 +162,7 @@ abi_received r = record { state = abi_of r.state; report = report_words r.taken 
 
 -- takes nothing, hands the words back as they came, and says 26
 abbrev pub contradicts : AbiState → AbiReceived
-contradicts p = record { state = p; report = report_words 0 (report.Event (event.Refused contradiction)) }
+contradicts p = record { state = p; report = report_words 0 (Some (event.Refused contradiction)) }
 
 pub record AbiAnswer : Type 0 where
   pub received : AbiReceived
@@ -177,7 +177,7 @@ abi_answer p s piece = cond (fits p.numbers) (abi_answer_of (answer (state_of p)
 
 -- what it reports, and 26 where a number is beyond its field
 abbrev pub report_by : AbiState → List ℕ → List ℕ → Report
-report_by p s piece = cond (fits p.numbers) (answer (state_of p) s piece).received.report (report.Event (event.Refused contradiction))
+report_by p s piece = cond (fits p.numbers) (answer (state_of p) s piece).received.report (Some (event.Refused contradiction))
 
 -- THE PROMISE OF A CALL
 pub record AbiAnswered (p : AbiState) (s piece : List ℕ) (o : AbiReceived) (s' : List ℕ) : Type 0 where

@@ -5,7 +5,7 @@ pub mod words;
 
 ghost use Rattle.abi_receiver.specs.Words.{abi_state, handed, ReceivedBy, ReadsBack};
 
-use receiver::{Report, Taken, receive_in};
+use receiver::{Taken, receive_in};
 use words::{contradicts, fits, known_of, numbers_of, report_words, stage_of, typed_known};
 
 // A call: takes bytes of the piece up to and including the one that completes a report, and answers the report's kind. Where the piece ends no stage, one number,
@@ -25,21 +25,17 @@ pub fn abi_receive(
         return 4;
     }
     let known = known_of(ws);
-    let t = receive_in(stage_of(ws[0]), ws[18] as usize, known, block, piece, store);
-    match t {
+    match receive_in(stage_of(ws[0]), ws[18] as usize, known, block, piece, store) {
         Taken::Partial(to) => {
             // for the proof: it does nothing
             typed_known(known);
             numbers[18] = to as u64;
-            *report = report_words(piece.len() as u64, Report::More);
+            *report = report_words(piece.len() as u64, None);
             0
         }
         Taken::Moved(m) => {
-            let stage = m.stage;
-            let learnt = m.known;
-            let reported = m.report;
-            *numbers = numbers_of(stage, m.got, learnt);
-            let said = report_words(m.taken as u64, reported);
+            *numbers = numbers_of(m.stage, m.got, m.known);
+            let said = report_words(m.taken as u64, m.report);
             *report = said;
             said[0]
         }

@@ -1,23 +1,25 @@
 // States and reports as words, and back.
-ghost use Rattle.std.specs.Prelude.{◌≡◌, List, ℕ, ◌≤◌, length};
+ghost use Rattle.std.specs.Prelude.{◌≡◌, Some, List, ℕ, ◌≤◌, length};
 ghost use Rattle.refusal.specs.Refusals.{judged_by, no_refusal, contradiction};
 ghost use Rattle.banner.specs.Banner.{no_features};
 ghost use Rattle.preamble.specs.Layout.{no_header};
 ghost use Rattle.stream.specs.declared.Event.TheVariants as event;
 ghost use Rattle.stream.specs.Events.{role_of};
-ghost use Rattle.receiver.specs.declared.Report.TheVariants as report;
 ghost use Rattle.receiver.specs.declared.Stage.{Stage};
 ghost use Rattle.receiver.specs.Step.{state_at};
 ghost use Rattle.abi.specs.Words.{Within, max_u8, header_words, header_limits};
 ghost use Rattle.receiver.specs.State.{stage_of};
 ghost use Rattle.abi_receiver.specs.Words.{abi_state, known_with, known_of, numbers_with, fits, Typed, AbiOf, reporting, event_words, report_words, RoleTyped, ReportOf, number_of};
 
-use abi::{mark_number, revision_by_number, typed_header, typed_u8, typed_u16};
+use abi::{
+    header_fits, header_of, header_words, mark_number, refusal_words, revision_by_number,
+    typed_header, typed_u8, typed_u16,
+};
 use banner::{Features, Revision, no_features, revision_number};
-use preamble::{Header, Segment, no_header};
+use preamble::{Header, no_header};
 use receiver::states::rank;
-use receiver::{Known, Report, Stage, State};
-use refusal::{Judgement, Numbers, Refusal, no_refusal};
+use receiver::{Known, Stage, State};
+use refusal::{Numbers, Refusal, no_refusal};
 use stream::Event;
 
 pub fn stage_of(n: u64) -> Stage
@@ -43,37 +45,18 @@ pub fn stage_of(n: u64) -> Stage
 pub fn fits(ws: [u64; 23]) -> bool
     ensures { result ≡ fits ws }
 {
-    let s4 = (ws[12] <= 4294967295) & ((ws[13] <= 65535) & (ws[14] <= 255));
-    let s3 = (ws[10] <= 4294967295) & ((ws[11] <= 65535) & s4);
-    let s2 = (ws[8] <= 4294967295) & ((ws[9] <= 65535) & s3);
-    let s1 = (ws[6] <= 4294967295) & ((ws[7] <= 65535) & s2);
-    let header = (ws[4] <= 255) & ((ws[5] <= 255) & s1);
-    (ws[0] <= 9) & ((ws[1] <= 1) & ((ws[2] <= 1) & ((ws[3] <= 65535) & header)))
+    let header = [
+        ws[4], ws[5], ws[6], ws[7], ws[8], ws[9], ws[10], ws[11], ws[12], ws[13],
+    ];
+    ws[0] <= 9 && ws[1] <= 1 && ws[2] <= 1 && ws[3] <= 65535 && header_fits(header) && ws[14] <= 255
 }
 
 fn known_with(revision: Revision, ws: [u64; 23]) -> Known
     ensures { result ≡ known_with revision ws }
 {
-    let header = Header {
-        tag: (ws[4] % 256) as u8,
-        count: (ws[5] % 256) as u8,
-        s1: Segment {
-            len: (ws[6] % 4294967296) as u32,
-            align: (ws[7] % 65536) as u16,
-        },
-        s2: Segment {
-            len: (ws[8] % 4294967296) as u32,
-            align: (ws[9] % 65536) as u16,
-        },
-        s3: Segment {
-            len: (ws[10] % 4294967296) as u32,
-            align: (ws[11] % 65536) as u16,
-        },
-        s4: Segment {
-            len: (ws[12] % 4294967296) as u32,
-            align: (ws[13] % 65536) as u16,
-        },
-    };
+    let header = header_of([
+        ws[4], ws[5], ws[6], ws[7], ws[8], ws[9], ws[10], ws[11], ws[12], ws[13],
+    ]);
     Known {
         own: Features {
             supported: ws[19],
@@ -84,8 +67,8 @@ fn known_with(revision: Revision, ws: [u64; 23]) -> Known
             supported: ws[21],
             required: ws[22],
         },
-        revision: revision,
-        header: header,
+        revision,
+        header,
         first: ws[2] != 0,
         refusal: Numbers {
             number: (ws[14] % 256) as u8,
@@ -107,48 +90,40 @@ pub fn known_of(ws: [u64; 23]) -> Known
 pub fn typed_known(known: Known)
     ensures { (stage : Stage) (got : ℕ) (block : List ℕ) → Typed (state_at stage got block known) }
 {
-    let n = known.refusal;
-    let h = known.header;
     typed_u16(known.payload);
-    typed_header(h);
-    typed_u8(n.number);
+    typed_header(known.header);
+    typed_u8(known.refusal.number);
 }
 
 fn numbers_with(stage: u64, revision: u64, first: u64, got: usize, known: Known) -> [u64; 23]
     ensures { result ≡ numbers_with stage revision first got known }
 {
-    let own = known.own;
-    let peer = known.peer;
-    let n = known.refusal;
-    let h = known.header;
-    let s1 = h.s1;
-    let s2 = h.s2;
-    let s3 = h.s3;
-    let s4 = h.s4;
+    let [tag, count, n1, a1, n2, a2, n3, a3, n4, a4] = header_words(known.header);
+    let [number, one, two, three] = refusal_words(known.refusal);
     [
         stage,
         revision,
         first,
         known.payload as u64,
-        h.tag as u64,
-        h.count as u64,
-        s1.len as u64,
-        s1.align as u64,
-        s2.len as u64,
-        s2.align as u64,
-        s3.len as u64,
-        s3.align as u64,
-        s4.len as u64,
-        s4.align as u64,
-        n.number as u64,
-        n.first,
-        n.second,
-        n.third,
+        tag,
+        count,
+        n1,
+        a1,
+        n2,
+        a2,
+        n3,
+        a3,
+        n4,
+        a4,
+        number,
+        one,
+        two,
+        three,
         got as u64,
-        own.supported,
-        own.required,
-        peer.supported,
-        peer.required,
+        known.own.supported,
+        known.own.required,
+        known.peer.supported,
+        known.peer.required,
     ]
 }
 
@@ -157,10 +132,9 @@ pub fn numbers_of(stage: Stage, got: usize, known: Known) -> [u64; 23]
     ensures { (block : List ℕ) → AbiOf (state_at stage got block known) (abi_state result block) }
 {
     typed_known(known);
-    let revision = known.revision;
     numbers_with(
         rank(stage) as u64,
-        revision_number(revision),
+        revision_number(known.revision),
         mark_number(known.first),
         got,
         known,
@@ -170,10 +144,7 @@ pub fn numbers_of(stage: Stage, got: usize, known: Known) -> [u64; 23]
 pub fn state_numbers(st: State) -> [u64; 23]
     ensures { AbiOf st (abi_state result st.position.block) }
 {
-    let position = st.position;
-    let stage = position.stage;
-    let known = st.known;
-    numbers_of(stage, position.got, known)
+    numbers_of(st.position.stage, st.position.got, st.known)
 }
 
 // ---- reports
@@ -188,30 +159,28 @@ fn reporting(
 ) -> [u64; 19]
     ensures { result ≡ reporting kind taken revision peer h n }
 {
-    let s1 = h.s1;
-    let s2 = h.s2;
-    let s3 = h.s3;
-    let s4 = h.s4;
+    let [tag, count, n1, a1, n2, a2, n3, a3, n4, a4] = header_words(h);
+    let [number, one, two, three] = refusal_words(n);
     [
         kind,
         taken,
         revision,
         peer.supported,
         peer.required,
-        h.tag as u64,
-        h.count as u64,
-        s1.len as u64,
-        s1.align as u64,
-        s2.len as u64,
-        s2.align as u64,
-        s3.len as u64,
-        s3.align as u64,
-        s4.len as u64,
-        s4.align as u64,
-        n.number as u64,
-        n.first,
-        n.second,
-        n.third,
+        tag,
+        count,
+        n1,
+        a1,
+        n2,
+        a2,
+        n3,
+        a3,
+        n4,
+        a4,
+        number,
+        one,
+        two,
+        three,
     ]
 }
 
@@ -249,31 +218,28 @@ fn event_words(taken: u64, event: Event) -> [u64; 19]
     }
 }
 
-pub fn report_words(taken: u64, report: Report) -> [u64; 19]
+pub fn report_words(taken: u64, report: Option<Event>) -> [u64; 19]
     ensures { ReportOf taken report result }
 {
     match report {
-        Report::More => reporting(0, taken, 0, no_features(), no_header(), no_refusal()),
-        Report::Event(event) => event_words(taken, event),
+        None => reporting(0, taken, 0, no_features(), no_header(), no_refusal()),
+        Some(event) => event_words(taken, event),
     }
 }
 
 // The report on words that are no state.
 pub fn contradicts() -> [u64; 19]
-    ensures { result ≡ report_words 0 (report.Event (event.Refused contradiction)) }
+    ensures { result ≡ report_words 0 (Some (event.Refused contradiction)) }
 {
-    refused(0, refusal::numbers_of(Refusal::StateContradicts))
+    refused(0, Numbers::from(Refusal::StateContradicts))
 }
 
 // The number of a refusal, or 0.
-pub fn number_of(v: Judgement) -> u64
+pub fn number_of(v: Result<(), Refusal>) -> u64
     ensures { result ≡ number_of (judged_by v) }
 {
     match v {
-        Judgement::Fine => 0,
-        Judgement::Refused(why) => {
-            let n = refusal::numbers_of(why);
-            n.number as u64
-        }
+        Ok(()) => 0,
+        Err(why) => Numbers::from(why).number as u64,
     }
 }

@@ -1,13 +1,13 @@
 // Sealed builds over words. A call promises the words of what `sealed_builder` promises, for every word that C can hand in.
 #![tactic(auto)]
 
-ghost use Rattle.std.specs.Prelude.{◌≡◌};
+ghost use Rattle.std.specs.Prelude.{◌≡◌, ◌&&◌};
 ghost use Rattle.refusal.specs.Writes.{outcome_of};
-ghost use Rattle.abi.specs.Words.{within, written, abi_result};
+ghost use Rattle.abi.specs.Words.{within, written, abi_result, header_limits};
 ghost use Rattle.abi_sealed.specs.Words.{sending_of, sending_numbers, sending_limits, sealed_with, AbiBuiltSealed};
 
-use abi::{Written, abi_refused, header_fits, header_of, mark_number, written_of};
-use refusal::{Refusal, both};
+use abi::{Written, abi_refused, hand_out, header_fits, header_of, mark_number, written_of};
+use refusal::Refusal;
 use sealed_builder::{Sealed, Sending, build_sealed};
 
 // An answer, and the numbers and the nonce of the state then.
@@ -22,8 +22,8 @@ fn sending_of(ws: [u64; 3], key: [u8; 16], nonce: [u8; 12]) -> Sending
     ensures { result ≡ sending_of ws key nonce }
 {
     Sending {
-        key: key,
-        nonce: nonce,
+        key,
+        nonce,
         spent: ws[2],
         exhausted: ws[0] != 0,
         refused: ws[1] != 0,
@@ -33,10 +33,16 @@ fn sending_of(ws: [u64; 3], key: [u8; 16], nonce: [u8; 12]) -> Sending
 fn sending_fits(ws: [u64; 3]) -> bool
     ensures { result ≡ within sending_limits 0 ws }
 {
-    (ws[0] <= 1) & (ws[1] <= 1)
+    ws[0] <= 1 && ws[1] <= 1
 }
 
-fn sending_numbers(s: Sending) -> [u64; 3]
+fn fits(ws: [u64; 3], header: [u64; 10]) -> bool
+    ensures { result ≡ (within sending_limits 0 ws && within header_limits 0 header) }
+{
+    sending_fits(ws) && header_fits(header)
+}
+
+pub fn sending_numbers(s: Sending) -> [u64; 3]
     ensures { result ≡ sending_numbers s }
 {
     [mark_number(s.exhausted), mark_number(s.refused), s.spent]
@@ -45,13 +51,11 @@ fn sending_numbers(s: Sending) -> [u64; 3]
 fn sealed_words(r: Sealed) -> Words
     ensures { (result.answer ≡ abi_result (outcome_of r.built)) × (result.numbers ≡ sending_numbers r.sending) × (result.nonce ≡ r.sending.nonce) }
 {
-    let built = r.built;
-    let sending = r.sending;
-    let next = sending.nonce;
+    let nonce = r.sending.nonce;
     Words {
-        answer: written_of(built),
-        numbers: sending_numbers(sending),
-        nonce: next,
+        answer: written_of(r.built),
+        numbers: sending_numbers(r.sending),
+        nonce,
     }
 }
 
@@ -67,11 +71,11 @@ fn sealed_written(
 ) -> Words
     ensures { AbiBuiltSealed ws key nonce header abort source.now buf.old queued (sealed_with result.answer result.numbers result.nonce buf.new) }
 {
-    if !both(sending_fits(ws), header_fits(header)) {
+    if !fits(ws, header) {
         return Words {
             answer: abi_refused(Refusal::StateContradicts),
             numbers: ws,
-            nonce: nonce,
+            nonce,
         };
     }
     sealed_words(build_sealed(
@@ -101,10 +105,7 @@ pub fn abi_build_sealed(
     let w = sealed_written(buf, queued, *numbers, *key, *nonce, *header, abort, source);
     let ws = w.numbers;
     let next = w.nonce;
-    let answer = w.answer;
-    let why = answer.refusal;
     *numbers = ws;
     *nonce = next;
-    *refusal = why;
-    answer.written
+    hand_out(w.answer, refusal)
 }

@@ -4,7 +4,7 @@
 ghost use Rattle.abi.specs.Words.{written};
 ghost use Rattle.abi_sealing.specs.Words.{AbiSealing, AbiOpening};
 
-use abi::written_of;
+use abi::{hand_out, written_of};
 use gcm::{open, seal};
 
 // Seals text into the front of out: the ciphertext, and then the tag. Answers the bytes written.
@@ -17,10 +17,7 @@ pub fn abi_seal(
 ) -> u64
     ensures { AbiSealing key.now nonce.now text.now out.old (written result refusal.new) out.new }
 {
-    let w = written_of(seal(*key, *nonce, text, out));
-    let why = w.refusal;
-    *refusal = why;
-    w.written
+    hand_out(written_of(seal(*key, *nonce, text, out)), refusal)
 }
 
 // Opens what stands in sealed into the front of out. Answers the bytes written.
@@ -33,8 +30,5 @@ pub fn abi_open(
 ) -> u64
     ensures { AbiOpening key.now nonce.now sealed.now out.old (written result refusal.new) out.new }
 {
-    let w = written_of(open(*key, *nonce, sealed, out));
-    let why = w.refusal;
-    *refusal = why;
-    w.written
+    hand_out(written_of(open(*key, *nonce, sealed, out)), refusal)
 }

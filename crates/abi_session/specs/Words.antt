@@ -1,13 +1,12 @@
 -- The session's calls over words: a session as two numbers and its 64 handles, an answer as six. All of them are as wide as a word is, so any words stand for a session.
-use Rattle.std.specs.Prelude.{◌≡◌, List, [], ◌∷◌, cond, ℕ, eqb, get_or}
+use Rattle.std.specs.Prelude.{Result, Ok, Err, Option, Some, None, ◌≡◌, List, [], ◌∷◌, cond, ℕ, eqb, get_or}
 use Rattle.refusal.specs.declared.Numbers.{Numbers}
 use Rattle.refusal.specs.Refusals.{no_refusal}
 use Rattle.session.specs.declared.Session.{Session}
+use Rattle.session.specs.declared.Message.{Message}
 use Rattle.session.specs.declared.Answer.{Answer}
 use Rattle.session.specs.declared.Answer.TheVariants as answer
 use Rattle.session.specs.declared.Outcome.{Outcome}
-use Rattle.session.specs.declared.Held.{Held}
-use Rattle.session.specs.declared.Held.TheVariants as held
 use Rattle.session.specs.Calls.{held_at}
 use Rattle.session.specs.Laws.{Call, accept, ack, reconnect, reset, call_of}
 use Rattle.abi.specs.Words.{mark_of, refusal_words}
@@ -35,11 +34,11 @@ abi_of s = abi_session (session_numbers s) s.handles
 abbrev pub answering : ℕ → ℕ → Numbers → List ℕ
 answering kind n r = kind ∷ n ∷ refusal_words r
 
-abbrev pub answer_words : Answer → List ℕ
-answer_words answer.Done = answering 1 0 no_refusal
-answer_words (answer.Accepted n) = answering 2 n no_refusal
-answer_words (answer.Resend n) = answering 3 n no_refusal
-answer_words (answer.Refused r) = answering 4 0 r
+abbrev pub answer_words : Result Answer Numbers → List ℕ
+answer_words (Ok answer.Done) = answering 1 0 no_refusal
+answer_words (Ok (answer.Accepted n)) = answering 2 n no_refusal
+answer_words (Ok (answer.Resend n)) = answering 3 n no_refusal
+answer_words (Err r) = answering 4 0 r
 
 -- ---- THE PROMISE OF A CALL: the session and the answer that its outcome says
 
@@ -70,10 +69,10 @@ pub record AbiHeld : Type 0 where
 abbrev pub held_with : ℕ → List ℕ → AbiHeld
 held_with n m = record { found = n; message = m }
 
-abbrev pub abi_held : Held → AbiHeld
-abi_held (held.At m) = held_with 1 (m.number ∷ m.handle ∷ [])
-abi_held held.Beyond = held_with 0 (0 ∷ 0 ∷ [])
-abi_held (held.Refused r) = held_with r.number (0 ∷ 0 ∷ [])
+abbrev pub abi_held : Result (Option Message) Numbers → AbiHeld
+abi_held (Ok (Some m)) = held_with 1 (m.number ∷ m.handle ∷ [])
+abi_held (Ok None) = held_with 0 (0 ∷ 0 ∷ [])
+abi_held (Err r) = held_with r.number (0 ∷ 0 ∷ [])
 
 -- THE PROMISE OF A LOOK at a place of those held
 pub record AbiFound (p : AbiSession) (i n : ℕ) (m : List ℕ) : Type 0 where

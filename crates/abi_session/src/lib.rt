@@ -8,9 +8,9 @@ ghost use Rattle.session.specs.Laws.{call_of};
 ghost use Rattle.abi_session.specs.Words.{abi_session, session_of, session_numbers, abi_of, answering, answer_words, outcome_with, abi_outcome, call_by, AbiCalled, held_with, abi_held, AbiFound};
 
 use refusal::Numbers;
-use session::{Answer, Held, Outcome, Session, accept, ack, held_at, reconnect, reset, start};
+use session::{Answer, Message, Outcome, Session, accept, ack, held_at, reconnect, reset, start};
 
-// The words of a session and of an answer.
+// The words of a session and of an answer. Arrays are handed on by name, since a field that is one cannot be stored straight.
 #[derive(Clone, Copy)]
 struct OutcomeWords {
     numbers: [u64; 2],
@@ -28,7 +28,7 @@ pub fn session_of(ws: [u64; 2], handles: [u64; 64]) -> Session
     ensures { result ≡ session_of (abi_session ws handles) }
 {
     Session {
-        handles: handles,
+        handles,
         released: ws[0],
         last: ws[1],
     }
@@ -53,27 +53,25 @@ fn answering_number(kind: u64, n: u64) -> [u64; 6]
     [kind, n, 0, 0, 0, 0]
 }
 
-pub fn answer_words(answer: Answer) -> [u64; 6]
+pub fn answer_words(answer: Result<Answer, Numbers>) -> [u64; 6]
     ensures { result ≡ answer_words answer }
 {
     match answer {
-        Answer::Done => answering_number(1, 0),
-        Answer::Accepted(n) => answering_number(2, n),
-        Answer::Resend(n) => answering_number(3, n),
-        Answer::Refused(r) => answering(4, 0, r),
+        Ok(Answer::Done) => answering_number(1, 0),
+        Ok(Answer::Accepted(n)) => answering_number(2, n),
+        Ok(Answer::Resend(n)) => answering_number(3, n),
+        Err(r) => answering(4, 0, r),
     }
 }
 
 fn outcome_words(o: Outcome) -> OutcomeWords
     ensures { outcome_with result.numbers result.handles result.answer ≡ abi_outcome o }
 {
-    let s = o.session;
-    let handles = s.handles;
-    let answer = o.answer;
+    let handles = o.session.handles;
     OutcomeWords {
-        numbers: session_numbers(s),
-        handles: handles,
-        answer: answer_words(answer),
+        numbers: session_numbers(o.session),
+        handles,
+        answer: answer_words(o.answer),
     }
 }
 
@@ -90,16 +88,12 @@ pub fn abi_session_start(numbers: &mut [u64; 2], handles: &mut [u64; 64])
 fn called(s: Session, call: u64, number: u64) -> Outcome
     ensures { result ≡ call_of s (call_by call number) }
 {
-    if call == 0 {
-        return accept(s, number);
+    match call {
+        0 => accept(s, number),
+        1 => ack(s, number),
+        2 => reconnect(s, number),
+        _ => reset(s, number != 0),
     }
-    if call == 1 {
-        return ack(s, number);
-    }
-    if call == 2 {
-        return reconnect(s, number);
-    }
-    reset(s, number != 0)
 }
 
 // A call of the session, by its number: 0 accept, with a handle, 1 ack, 2 reconnect, 3 reset, full where the number is not 0. It answers the kind of its answer.
@@ -112,29 +106,31 @@ pub fn abi_session_call(
 ) -> u64
     ensures { AbiCalled (abi_session numbers.old handles.old) (call_by call number) result (outcome_with numbers.new handles.new answer.new) }
 {
-    let t = outcome_words(called(session_of(*numbers, *handles), call, number));
-    let ws = t.numbers;
-    let hs = t.handles;
-    let a = t.answer;
+    let done = outcome_words(called(session_of(*numbers, *handles), call, number));
+    let OutcomeWords {
+        numbers: ws,
+        handles: hs,
+        answer: a,
+    } = done;
     *numbers = ws;
     *handles = hs;
     *answer = a;
     a[0]
 }
 
-fn held_words(held: Held) -> Found
+fn held_words(held: Result<Option<Message>, Numbers>) -> Found
     ensures { held_with result.found result.message ≡ abi_held held }
 {
     match held {
-        Held::At(m) => Found {
+        Ok(Some(m)) => Found {
             found: 1,
             message: [m.number, m.handle],
         },
-        Held::Beyond => Found {
+        Ok(None) => Found {
             found: 0,
             message: [0, 0],
         },
-        Held::Refused(r) => Found {
+        Err(r) => Found {
             found: r.number as u64,
             message: [0, 0],
         },
@@ -150,8 +146,7 @@ pub fn abi_session_held(
 ) -> u64
     ensures { AbiFound (abi_session numbers.now handles.now) i result message.new }
 {
-    let f = held_words(held_at(session_of(*numbers, *handles), i));
-    let m = f.message;
+    let Found { found, message: m } = held_words(held_at(session_of(*numbers, *handles), i));
     *message = m;
-    f.found
+    found
 }

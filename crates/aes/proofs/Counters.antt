@@ -1,7 +1,7 @@
 -- The masked text, byte by byte.
 use mathlib.Core.List.{List, [], ◌∷◌, ◌++◌}
 use mathlib.Core.Path.{◌≡◌, refl, sym, ap, ap₂, ◌∙◌}
-use Prim.Native.Nat.{ℕ, zero, suc, ◌+◌, ◌-◌, ◌/◌, ◌%◌, ◌<◌, min}
+use Prim.Native.Nat.{ℕ, zero, suc, ◌+◌, ◌*◌, ◌/◌, ◌%◌, ◌<◌, min}
 use native.Mathlib.Nat.{not-suc-le-zero, le_of_suc-le-suc, add-zero, zero-add, add-suc, suc-add, add_assoc}
 use native.Mathlib.Omega.{arith}
 use lib.Bits.{bit_xor}
@@ -27,16 +27,16 @@ module _ (w : List State) (nonce : List ℕ) where
       gctr-at (suc j) bs i (le_of_suc-le-suc h)
       ∙ ap (λ (k : ℕ). bit_xor (get_or bs i 0) (keystream_byte w nonce k)) (suc-add j i ∙ sym (add-suc j i))
 
-  -- byte k of the block at i
-  masked : (bs : List ℕ) (i k : ℕ) → i % 16 ≡ 0 → k < 16 → i + k < length bs
-      → get_or (gctr w nonce bs) (i + k) 0 ≡ bit_xor (get_or bs (i + k) 0) (byte_of (keystream_block w nonce (i / 16 + 2)) k)
+  -- byte k of block i
+  masked : (bs : List ℕ) (i k : ℕ) → k < 16 → 16 * i + k < length bs
+      → get_or (gctr w nonce bs) (16 * i + k) 0 ≡ bit_xor (get_or bs (16 * i + k) 0) (byte_of (keystream_block w nonce (i + 2)) k)
   unfolding keystream_byte
-  masked bs i k e h l =
-      let p : (i + k) / 16 ≡ i / 16 = omega arith in
-      let q : (i + k) % 16 ≡ k = omega arith in
-      gctr-at 0 bs (i + k) l
-      ∙ ap (λ (n : ℕ). bit_xor (get_or bs (i + k) 0) (keystream_byte w nonce n)) (zero-add (i + k))
-      ∙ ap₂ (λ (m n : ℕ). bit_xor (get_or bs (i + k) 0) (byte_of (keystream_block w nonce (m + 2)) n)) p q
+  masked bs i k h l =
+      let p : (16 * i + k) / 16 ≡ i = omega arith in
+      let q : (16 * i + k) % 16 ≡ k = omega arith in
+      gctr-at 0 bs (16 * i + k) l
+      ∙ ap (λ (n : ℕ). bit_xor (get_or bs (16 * i + k) 0) (keystream_byte w nonce n)) (zero-add (16 * i + k))
+      ∙ ap₂ (λ (m n : ℕ). bit_xor (get_or bs (16 * i + k) 0) (byte_of (keystream_block w nonce (m + 2)) n)) p q
 
   -- what stands behind the masked front is still the text's
   kept_at : (d dst : List ℕ) (i : ℕ) → i < length d → dst ≡ take i (gctr w nonce d) ++ drop i d → get_or dst i 0 ≡ get_or d i 0
@@ -52,15 +52,15 @@ module _ (w : List State) (nonce : List ℕ) where
       ∙ omega arith
 
   -- a turn of the loop over a block
-  pub xor_more : (d dst : List ℕ) (s : State) (i k x : ℕ) → i % 16 ≡ 0 → k < 16 → i + k < length d
-      → s ≡ keystream_block w nonce (i / 16 + 2) → x ≡ byte_of s k → dst ≡ take (i + k) (gctr w nonce d) ++ drop (i + k) d
-      → set dst (i + k) (bit_xor (get_or dst (i + k) 0) x) ≡ take (i + (k + 1)) (gctr w nonce d) ++ drop (i + (k + 1)) d
-  xor_more d dst s i k x e h l es ex ed =
-      let hm : i + k < length (gctr w nonce d) = rw (gctr-length 0 d) l in
-      ap₂ (λ (t : List ℕ) (y : ℕ). set t (i + k) y) ed
-      (ap₂ bit_xor (kept_at d dst (i + k) l ed) (ex ∙ ap (λ (t : State). byte_of t k) es) ∙ sym (masked d i k e h l))
-      ∙ copy_more (gctr w nonce d) d (i + k) hm l
-      ∙ ap (λ (n : ℕ). take n (gctr w nonce d) ++ drop n d) (add_assoc i k 1)
+  pub xor_more : (d dst : List ℕ) (s : State) (i k x : ℕ) → k < 16 → 16 * i + k < length d
+      → s ≡ keystream_block w nonce (i + 2) → x ≡ byte_of s k → dst ≡ take (16 * i + k) (gctr w nonce d) ++ drop (16 * i + k) d
+      → set dst (16 * i + k) (bit_xor (get_or dst (16 * i + k) 0) x) ≡ take (16 * i + (k + 1)) (gctr w nonce d) ++ drop (16 * i + (k + 1)) d
+  xor_more d dst s i k x h l es ex ed =
+      let hm : 16 * i + k < length (gctr w nonce d) = rw (gctr-length 0 d) l in
+      ap₂ (λ (t : List ℕ) (y : ℕ). set t (16 * i + k) y) ed
+      (ap₂ bit_xor (kept_at d dst (16 * i + k) l ed) (ex ∙ ap (λ (t : State). byte_of t k) es) ∙ sym (masked d i k h l))
+      ∙ copy_more (gctr w nonce d) d (16 * i + k) hm l
+      ∙ ap (λ (n : ℕ). take n (gctr w nonce d) ++ drop n d) (add_assoc (16 * i) k 1)
 
   -- the front of a masked text is the front, masked
   gctr-take : (j n : ℕ) (bs : List ℕ) → gctr_from w nonce j (take n bs) ≡ take n (gctr_from w nonce j bs)

@@ -3,13 +3,13 @@ use mathlib.Core.Bool.{Bool, true, false}
 use mathlib.Core.List.{List, []}
 use mathlib.Core.Path.{◌≡◌, refl, sym, ap, ◌∙◌}
 use Prim.Native.Nat.{ℕ, zero, suc, ◌+◌, ◌<◌}
-use native.Mathlib.Nat.{add-zero, zero-add, add-suc, suc-add, not-suc-le-zero, le_of_suc-le-suc}
+use native.Mathlib.Nat.{add_comm, add-zero, zero-add, add-suc, suc-add, not-suc-le-zero, le_of_suc-le-suc}
 use native.Mathlib.Numerals.{add-one}
 use native.Mathlib.Omega.{arith}
 use lib.Arith.{lt_of_le-ne}
 use lib.Dec.{eqb}
-use lib.ListN.{get_or, length, set}
-use lib.Seq.{ext_get_or, get_or-set_same, get_or-set_other}
+use lib.ListN.{get_or, length, set, take, drop, length-drop}
+use lib.Seq.{length-take-le, get_or-take, get_or-drop, ext_get_or, get_or-set_same, get_or-set_other}
 use borrow.Author.Tests.{eqb-true, eqb-false}
 use Rattle.sbox.specs.Sbox.{xtime}
 use Rattle.aes.specs.Aes.{State, sub_bytes, shift_rows, mix_columns, add_round_key, next_key, round_key, round_keys, rcon, rounds, cipher}
@@ -17,6 +17,13 @@ use Rattle.aes.specs.Aes.{State, sub_bytes, shift_rows, mix_columns, add_round_k
 pub rounds-next : (n : ℕ) (w : List State) (s : State) → rounds (n + 1) w s ≡ add_round_key (mix_columns (shift_rows (sub_bytes (rounds n w s)))) (get_or w (n + 1) [])
 unfolding rounds
 rounds-next n w s = rw (add-one n)
+
+-- the nine round keys of the middle rounds
+pub middle-length : (w : List State) → length w ≡ 11 → length (take 9 (drop 1 w)) ≡ 9
+middle-length w h = length-take-le 9 (drop 1 w) (omega (arith, length-drop 1 w))
+
+pub middle : (w : List State) (i : ℕ) → i < 9 → get_or (take 9 (drop 1 w)) i [] ≡ get_or w (i + 1) []
+middle w i h = get_or-take 9 (drop 1 w) i [] h ∙ get_or-drop 1 w i [] ∙ ap (λ (k : ℕ). get_or w k []) (add_comm 1 i)
 
 pub cipher-last : (w : List State) (s : State) → add_round_key (shift_rows (sub_bytes (rounds 9 w (add_round_key s (get_or w 0 []))))) (get_or w 10 []) ≡ cipher w s
 unfolding cipher

@@ -1,11 +1,13 @@
 -- A column as one number: its bytes, and what xor, doubling and rotation make of them.
 use mathlib.Core.List.{[], ◌∷◌}
 use mathlib.Core.Path.{◌≡◌, ap, ap₂, ◌∙◌}
-use Prim.Native.Nat.{ℕ, ◌+◌, ◌*◌, ◌/◌, ◌%◌, ◌<◌}
+use Prim.Native.Nat.{ℕ, ◌+◌, ◌*◌, ◌/◌, ◌%◌, ◌^◌, ◌<◌}
 use native.Mathlib.Nat.{zero-mul, one-mul, mod-eq_of_lt}
 use native.Mathlib.Omega.{arith}
-use lib.Bits.{bit_xor, bit_and, xor_block, and_block, and_mask, xor_lt, xor_zero_l, xor_zero_r, xor_comm}
+use lib.Bits.{bit_xor, bit_and, bit_or, xor_block, and_block, and_mask, xor_lt, xor_zero_l, xor_zero_r, xor_comm}
 use lib.ListN.{get_or}
+use Rattle.std.specs.Int.{w32, rotate_right, to_le_bytes, from_le_bytes}
+use Rattle.std.proofs.lemmas.Nat.{or_comm, or_shifted}
 use lib.Pow.{high}
 use Rattle.buffer.specs.Le.{le}
 use Rattle.sbox.specs.Sbox.{xtime, mul, mul_bits}
@@ -88,6 +90,26 @@ turned2-is ha hb hc hd = omega arith
 turned3-is : {a b c d : ℕ} → a < 256 → b < 256 → c < 256 → d < 256 → turned3 (word a b c d) ≡ word d a b c
 turned3-is ha hb hc hd = omega arith
 
+-- by the machine's rotations, whose halves share no bit
+rotated1 : (n : ℕ) → n < 2 ^ 32 → rotate_right w32 n 8 ≡ turned1 n
+rotated1 n h =
+    let e : n * 16777216 % 4294967296 ≡ n % 256 * 16777216 = omega arith in
+    or_comm (n / 256) (n * 16777216 % 4294967296) ∙ ap (λ (x : ℕ). bit_or x (n / 256)) e ∙ or_shifted (n % 256) 24 (n / 256) (omega arith)
+
+rotated2 : (n : ℕ) → n < 2 ^ 32 → rotate_right w32 n 16 ≡ turned2 n
+rotated2 n h =
+    let e : n * 65536 % 4294967296 ≡ n % 65536 * 65536 = omega arith in
+    or_comm (n / 65536) (n * 65536 % 4294967296) ∙ ap (λ (x : ℕ). bit_or x (n / 65536)) e ∙ or_shifted (n % 65536) 16 (n / 65536) (omega arith)
+
+rotated3 : (n : ℕ) → n < 2 ^ 32 → rotate_right w32 n 24 ≡ turned3 n
+rotated3 n h =
+    let e : n * 256 % 4294967296 ≡ n % 16777216 * 256 = omega arith in
+    or_comm (n / 16777216) (n * 256 % 4294967296) ∙ ap (λ (x : ℕ). bit_or x (n / 16777216)) e ∙ or_shifted (n % 16777216) 8 (n / 16777216) (omega arith)
+
+pub mixed_by_rotations : (w d : ℕ) → w < 2 ^ 32 → d < 2 ^ 32 → d ≡ doubled w
+    → bit_xor (bit_xor (bit_xor d (rotate_right w32 (bit_xor d w) 8)) (rotate_right w32 w 16)) (rotate_right w32 w 24) ≡ mixed_word w
+mixed_by_rotations w d h k e = rw (rotated1 (bit_xor d w) (xor_lt 32 d w k h), rotated2 w h, rotated3 w h, e)
+
 -- ---- a column mixed
 
 xor_byte : {x y : ℕ} → x < 256 → y < 256 → bit_xor x y < 256
@@ -126,6 +148,16 @@ mixed-is {a} {b} {c} {d} ha hb hc hd =
     )
 
 -- ---- the two steps that work on packed columns
+
+-- as code reads a column and writes it
+pub packed : (c : Column) → ((i : ℕ) → get_or c i 0 < 256) → Packed (get_or c 0 0) (get_or c 1 0) (get_or c 2 0) (get_or c 3 0) (from_le_bytes w32 c)
+packed c h = record { is = omega arith; a_byte = h 0; b_byte = h 1; c_byte = h 2; d_byte = h 3 }
+
+pub written : (n : ℕ) → to_le_bytes w32 n ≡ le 4 n
+written n =
+    let b : n / 65536 % 256 ≡ n / 256 / 256 % 256 = omega arith in
+    let c : n / 16777216 % 256 ≡ n / 256 / 256 / 256 % 256 = omega arith in
+    rw (b, c)
 
 pub mix_packed : (c : Column) (w : ℕ) → Packed (get_or c 0 0) (get_or c 1 0) (get_or c 2 0) (get_or c 3 0) w → le 4 (mixed_word w) ≡ mix_column c
 unfolding mix_column

@@ -1,22 +1,24 @@
 -- A row of steps makes the body that its layout says.
 use mathlib.Core.Path.{◌≡◌, refl, sym, ap, ◌∙◌}
-use mathlib.Core.Bool.{false}
 use mathlib.Core.List.{List, [], ◌∷◌}
 use Prim.Native.Nat.{ℕ, ◌+◌, ◌-◌}
 use lib.Dec.{eqb}
 use lib.ListN.{length}
 use Rattle.buffer.specs.Le.{number_at}
-use Rattle.fields.specs.declared.Cursor.{Cursor}
 use Rattle.fields.specs.declared.Span.{Span}
 use Rattle.fields.specs.declared.NumberList.{NumberList}
-use Rattle.fields.specs.Layout.{Kind, good, fault, step_of}
+use Rattle.fields.specs.Layout.{Kind, Cursor, good, fault, step_of}
 use Rattle.fields.specs.Layout as kind
 use Rattle.fields.specs.Field.{Field, number, negative, numbers, payload, opaque, fixed, field_at, Place, nowhere, numbers_at, bytes_at, numbers_from, bytes_from, place_at}
-use Rattle.fields.specs.Reading.{span_in, numbers_in}
+use Rattle.fields.specs.Reading.{read, failed, take_of, span_in, numbers_in}
+use Rattle.std.specs.Prelude.{Result, IsErrAnd}
+use Rattle.std.proofs.lemmas.Result.{err_from_is_err_and}
+use Rattle.refusal.specs.declared.Refusal.TheVariants.{BodyMalformed}
+use Rattle.refusal.specs.declared.Refusal.{Refusal}
 use Rattle.bodies.specs.declared.Body.{Body}
-use Rattle.bodies.specs.Read.{run, fields_of, whole, settled, read_of, answer_of, Took, malformed_body, settled_body}
+use Rattle.bodies.specs.Read.{run, fields_of, whole, settled, read_of, answer_of, malformed_body, settled_body}
 use Rattle.refusal.proofs.Booleans.{by_test}
-use Rattle.bodies.proofs.Rows.{fine_before, stuck}
+use Rattle.bodies.proofs.Rows.{took-read, took-failed, stuck}
 
 -- ---- what the code has of a field: its number, or where its numbers or bytes stand
 
@@ -73,50 +75,43 @@ holds (kind.fixed w) s at = refl
 -- ---- a body, made of what its fields say
 
 abbrev pub Makes : List Kind → Type 0
-Makes [] = Body
+Makes [] = Result Body Refusal
 Makes (k ∷ ks) = Said k → Makes ks
 
-abbrev pub made : (ks : List Kind) → Makes ks → List ℕ → Cursor → Body
+abbrev pub made : (ks : List Kind) → Makes ks → List ℕ → Cursor → Result Body Refusal
 made [] b s c = b
 made (k ∷ ks) m s c = made ks (m (said_at k s c.at)) s (step_of k s c)
 
 -- by a row from a place on
-unfoldable pub from : (ks : List Kind) → List ℕ → ℕ → Makes ks → Body
+unfoldable pub from : (ks : List Kind) → List ℕ → ℕ → Makes ks → Result Body Refusal
 from ks s at m = settled_body s (run ks s (good at)) (made ks m s (good at))
 
-pub data Row (s : List ℕ) : Cursor → (ks : List Kind) → Makes ks → Cursor → Body → Type 0 where
-  end : {c : Cursor} {b : Body} → Row s c [] b c b
-  step : {k : Kind} {c d e : Cursor} {ks : List Kind} {m : Makes (k ∷ ks)} {b : Body} (x : Said k) → Took k s c (field_in k s x) (place_in k x) d → Row s d ks (m x) e b → Row s c (k ∷ ks) m e b
-
-record Rowed (s : List ℕ) (c : Cursor) (ks : List Kind) (m : Makes ks) (e : Cursor) (b : Body) : Type 0 where
-  runs : run ks s c ≡ e
-  body : e.failed ≡ false → made ks m s c ≡ b
-
-rowed : {s : List ℕ} {c e : Cursor} {ks : List Kind} {m : Makes ks} {b : Body} → Row s c ks m e b → Rowed s c ks m e b
-rowed end = record { runs = refl; body = λ _. refl }
-rowed {s} {c} (step {k = k} {d = d} {ks = ks} {m = m} x t r) =
-    let q = rowed r in
-    record {
-      runs = rw (← t.next) q.runs;
-      body = λ h. let fine = fine_before ks s d q.runs h in rw (← t.next) (ap (λ (y : Said k). made ks (m y) s d) (sym (said k s c.at x (t.value fine) (t.place fine))) ∙ q.body h);
-    }
-
--- what was read behind a fault makes no difference
-same-settled : (s : List ℕ) (c : Cursor) (a b : Body) → (c.failed ≡ false → a ≡ b) → settled_body s c a ≡ settled_body s c b
-unfolding settled_body
-same-settled s c a b h = by_test c.failed (λ t. rw t) (λ t. rw (h t))
-
-pub row_read : {s : List ℕ} {c e : Cursor} {ks : List Kind} {m : Makes ks} {b r a : Body} → from ks s 0 m ≡ a → c ≡ good 0 → Row s c ks m e b → r ≡ settled_body s e b → r ≡ a
-unfolding from
-row_read {s} {c} {e} {ks} {m} {b} i z r t =
-    let q = rowed r in
-    let f : settled_body s e (made ks m s c) ≡ settled_body s (run ks s (good 0)) (made ks m s (good 0)) = rw (← q.runs, z) in
-    t ∙ same-settled s e b (made ks m s c) (λ h. sym (q.body h)) ∙ f ∙ i
-
 -- a field that fails
-pub stopped : (s : List ℕ) (ks : List Kind) (c : Cursor) (n : ℕ) (b : Body) → c ≡ fault n → settled_body s (run ks s c) b ≡ malformed_body n
+pub stopped : (s : List ℕ) (ks : List Kind) (c : Cursor) (n : ℕ) (b : Result Body Refusal) → c ≡ fault n → settled_body s (run ks s c) b ≡ malformed_body n
 unfolding settled_body
 stopped s ks c n b e = rw (e, stuck ks s n)
+
+-- the steps of a row, as far as it goes: one fails, or a byte is left over, or the body stands
+pub data Steps (s : List ℕ) : ℕ → (ks : List Kind) → Makes ks → Result Body Refusal → Type 0 where
+  end : {at : ℕ} {b r : Result Body Refusal} → r ≡ settled_body s (good at) b → Steps s at [] b r
+  stop : {k : Kind} {at : ℕ} {ks : List Kind} {m : Makes (k ∷ ks)} (p : ℕ) → failed (fault p) ≡ take_of k s (good at) → Steps s at (k ∷ ks) m (malformed_body p)
+  step : {k : Kind} {at : ℕ} {ks : List Kind} {m : Makes (k ∷ ks)} {r : Result Body Refusal} (x : Said k) (n : ℕ)
+      → read (field_in k s x) (place_in k x) (good n) ≡ take_of k s (good at) → Steps s n ks (m x) r → Steps s at (k ∷ ks) m r
+
+steps : {s : List ℕ} {at : ℕ} {ks : List Kind} {m : Makes ks} {r : Result Body Refusal} → Steps s at ks m r → r ≡ from ks s at m
+unfolding from
+steps (end e) = e
+steps {s} {at} (stop {k = k} {ks = ks} p e) = sym (stopped s ks (step_of k s (good at)) p _ (took-failed k s at e))
+steps {s} {at} (step {k = k} {ks = ks} {m = m} x n e t) =
+    let h = took-read k s at e in
+    rw (← h.next, ← (said k s at x h.value h.place)) (steps t)
+
+pub by_steps : {s : List ℕ} {at : ℕ} {ks : List Kind} {m : Makes ks} {r a : Result Body Refusal} → from ks s 0 m ≡ a → at ≡ 0 → Steps s at ks m r → r ≡ a
+by_steps {s} {ks = ks} {m = m} i z t = steps t ∙ ap (λ (n : ℕ). from ks s n m) z ∙ i
+
+-- where a `?` leaves
+pub left_at : {s : List ℕ} {at : ℕ} {ks : List Kind} {m : Makes ks} {r a : Result Body Refusal} {p : ℕ} → from ks s 0 m ≡ a → at ≡ 0 → IsErrAnd r (λ why. why ≡ BodyMalformed p) → Steps s at ks m (malformed_body p) → r ≡ a
+left_at {r = r} i z q t = let e = err_from_is_err_and r q in rw (e.1, e.2) (by_steps i z t)
 
 -- ---- what stands at the places of such a body is what its layout says
 
@@ -130,12 +125,12 @@ shows s (k ∷ ks) m f c h =
     let x = said_at k s c.at in
     shows s ks (m x) (λ l. f (field_in k s x ∷ l)) (step_of k s c) (h x) ∙ ap (λ (y : Field). whole (f (y ∷ fields_of ks s (step_of k s c)))) (holds k s c.at)
 
-settled-answer : (s : List ℕ) (c : Cursor) (b : Body) → answer_of s (settled_body s c b) ≡ settled s c (answer_of s b)
+settled-answer : (s : List ℕ) (c : Cursor) (b : Result Body Refusal) → answer_of s (settled_body s c b) ≡ settled s c (answer_of s b)
 unfolding settled settled_body
 settled-answer s c b =
     by_test c.failed (λ t. rw t) (λ t. by_test (eqb c.at (length s)) (λ u. rw (t, u)) (λ u. rw (t, u)))
 
-pub answers : (s : List ℕ) (ks : List Kind) (m : Makes ks) {b : Body} → from ks s 0 m ≡ b → Shows s ks m (λ l. l) → answer_of s b ≡ read_of ks s
+pub answers : (s : List ℕ) (ks : List Kind) (m : Makes ks) {b : Result Body Refusal} → from ks s 0 m ≡ b → Shows s ks m (λ l. l) → answer_of s b ≡ read_of ks s
 unfolding from
 answers s ks m i h =
     ap (answer_of s) (sym i) ∙ settled-answer s (run ks s (good 0)) (made ks m s (good 0)) ∙ ap (settled s (run ks s (good 0))) (shows s ks m (λ l. l) (good 0) h)

@@ -14,8 +14,7 @@ use Rattle.refusal.proofs.Booleans.{by_test, by_less, wrong}
 use Rattle.buffer.specs.Le.{le, words}
 use Rattle.buffer.proofs.Numbers.{le_of-le, length-le, number-there}
 use Rattle.preamble.specs.Judge.{segment_limit}
-use Rattle.fields.specs.declared.Cursor.{Cursor}
-use Rattle.fields.specs.Layout.{Kind, good, fault, past, step_of}
+use Rattle.fields.specs.Layout.{Cursor, Kind, good, fault, past, step_of}
 use Rattle.fields.specs.Layout as kind
 use Rattle.fields.specs.Field.{Field, number, negative, numbers, payload, opaque, fixed, kind_of, words_of, field_bytes, field_at, Fits}
 use Rattle.fields.specs.Writing.{sound, fault_in}

@@ -1,26 +1,30 @@
 -- A step's answer as a field of a row, and what a row comes to behind a fault.
 use mathlib.Core.Path.{◌≡◌, refl}
-use mathlib.Core.Bool.{true, false}
+use mathlib.Core.Bool.{true}
 use mathlib.Core.List.{List, [], ◌∷◌}
 use Prim.Native.Nat.{ℕ}
 use Rattle.refusal.proofs.Booleans.{by_test, wrong}
-use Rattle.fields.specs.declared.Cursor.{Cursor}
-use Rattle.fields.specs.Layout.{Kind, fault, step_of}
-use Rattle.fields.specs.Field.{Field, Place}
+use Rattle.fields.specs.Layout.{Kind, Cursor, good, fault, step_of}
+use Rattle.fields.specs.Field.{Field, field_at, Place, place_at}
 use Rattle.fields.specs.Reading.{read, failed, take_of}
-use Rattle.bodies.specs.Read.{run, Took}
+use Rattle.bodies.specs.Read.{run}
 
--- ---- a step's answer, as a field of a row
+-- ---- a step's answer
 
-pub took-read : {k : Kind} {s : List ℕ} {c d : Cursor} {f : Field} {p : Place} → read f p d ≡ take_of k s c → Took k s c f p d
+-- a field that was read
+pub record Took (k : Kind) (s : List ℕ) (at : ℕ) (f : Field) (p : Place) (n : ℕ) : Type 0 where
+  pub next : good n ≡ step_of k s (good at)
+  pub value : f ≡ field_at k s at
+  pub place : p ≡ place_at k s at
+
+pub took-read : (k : Kind) (s : List ℕ) (at : ℕ) {n : ℕ} {f : Field} {p : Place} → read f p (good n) ≡ take_of k s (good at) → Took k s at f p n
 unfolding take_of
-took-read {k} {s} {c} e =
-    by_test (step_of k s c).failed (λ t. wrong cc) (λ t. record { next = cc; value = λ _. cc; place = λ _. cc })
+took-read k s at e =
+    by_test (step_of k s (good at)).failed (λ t. wrong cc) (λ t. record { next = cc; value = cc; place = cc })
 
-pub took-failed : {k : Kind} {s : List ℕ} {c d : Cursor} {f : Field} {p : Place} → failed d ≡ take_of k s c → Took k s c f p d
+pub took-failed : (k : Kind) (s : List ℕ) (at : ℕ) {p : ℕ} → failed (fault p) ≡ take_of k s (good at) → step_of k s (good at) ≡ fault p
 unfolding take_of
-took-failed {k} {s} {c} e =
-    by_test (step_of k s c).failed (λ t. record { next = cc; value = λ h. wrong cc; place = λ h. wrong cc }) (λ t. wrong cc)
+took-failed k s at e = by_test (step_of k s (good at)).failed (λ t. cc) (λ t. wrong cc)
 
 -- ---- a row behind a fault
 
@@ -35,6 +39,3 @@ pub stuck : (ks : List Kind) (s : List ℕ) (n : ℕ) → run ks s (fault n) ≡
 unfolding step_of
 stuck [] s n = refl
 stuck (k ∷ ks) s n = stuck ks s n
-
-pub fine_before : (ks : List Kind) (s : List ℕ) (c : Cursor) {e : Cursor} → run ks s c ≡ e → e.failed ≡ false → c.failed ≡ false
-fine_before ks s c r h = by_test c.failed (λ t. wrong (cc (failed-run ks s c t))) (λ t. t)

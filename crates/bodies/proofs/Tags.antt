@@ -13,7 +13,6 @@ use Rattle.fields.specs.Layout.{Kind}
 use Rattle.fields.specs.Layout as kind
 use Rattle.bodies.specs.declared.Ident.{Ident}
 use Rattle.bodies.specs.declared.Reconnect.{Reconnect}
-use Rattle.bodies.specs.declared.Request.{Request}
 use Rattle.bodies.specs.declared.Request.TheVariants as request
 use Rattle.bodies.specs.Write.{kinds_of, writes}
 use Rattle.bodies.specs.Table.{hello, auth_request, bad_method, more, auth_done, ident, reconnect, one_number, reset, stamp, shape, width, same_kinds, Found, listed, unlisted, is_listed, layout_in, layout_of}
@@ -85,16 +84,13 @@ by_byte f ks tag h l = same_bool_lem (f tag) (is_listed (layout_of tag) ks) (eve
 
 -- ---- the tags of each request
 
-pub as_served : {b : Bool} {r k : Request} (tag : ℕ) → r ≡ k → b ≡ writes tag k → b ≡ writes tag r
-as_served tag e h = rw e h
-
 pub serves_hello : (tag : ℕ) (n : ℕ) → tag < 256 → (eqb tag 1) ≡ writes tag (request.Hello n)
 unfolding every_below same_bool layout_in writes kinds_of
 serves_hello tag n h = by_byte (λ t. eqb t 1) hello tag refl h
 
-pub serves_auth-request : (tag : ℕ) (m : ℕ) → tag < 256 → (eqb tag 2) ≡ writes tag (request.AuthRequest m)
+pub serves_auth_request : (tag : ℕ) (m : ℕ) → tag < 256 → (eqb tag 2) ≡ writes tag (request.AuthRequest m)
 unfolding every_below same_bool layout_in writes kinds_of
-serves_auth-request tag m h = by_byte (λ t. eqb t 2) auth_request tag refl h
+serves_auth_request tag m h = by_byte (λ t. eqb t 2) auth_request tag refl h
 
 pub serves_bad_method : (tag : ℕ) (m e : ℕ) → tag < 256 → (eqb tag 3) ≡ writes tag (request.BadMethod m e)
 unfolding every_below same_bool layout_in writes kinds_of
@@ -104,9 +100,9 @@ pub serves_more : (tag : ℕ) → tag < 256 → (eqb tag 4 || eqb tag 5) ≡ wri
 unfolding every_below same_bool layout_in writes kinds_of
 serves_more tag h = by_byte (λ t. eqb t 4 || eqb t 5) more tag refl h
 
-pub serves_auth-done : (tag : ℕ) (g m : ℕ) → tag < 256 → (eqb tag 6) ≡ writes tag (request.AuthDone g m)
+pub serves_auth_done : (tag : ℕ) (g m : ℕ) → tag < 256 → (eqb tag 6) ≡ writes tag (request.AuthDone g m)
 unfolding every_below same_bool layout_in writes kinds_of
-serves_auth-done tag g m h = by_byte (λ t. eqb t 6) auth_done tag refl h
+serves_auth_done tag g m h = by_byte (λ t. eqb t 6) auth_done tag refl h
 
 pub serves_ident : (tag : ℕ) (n : ℕ) (i : Ident) → tag < 256 → (eqb tag 8 || eqb tag 9) ≡ writes tag (request.Ident n i)
 unfolding every_below same_bool layout_in writes kinds_of
@@ -127,3 +123,14 @@ serves_reset tag n h = by_byte (λ t. eqb t 12) reset tag refl h
 pub serves_stamp : (tag : ℕ) → tag < 256 → (eqb tag 18 || eqb tag 19) ≡ writes tag request.Stamp
 unfolding every_below same_bool layout_in writes kinds_of
 serves_stamp tag h = by_byte (λ t. eqb t 18 || eqb t 19) stamp tag refl h
+
+-- of two tests, as the code makes them one behind the other
+pub first_of_two : (a b : Bool) {r : Bool} → (a || b) ≡ r → a ≡ true → a ≡ r
+first_of_two true b e h = e
+first_of_two false b e h = wrong h
+
+pub second_of_two : (a b : Bool) {r : Bool} → (a || b) ≡ r → a ≡ false → b ≡ r
+second_of_two true b e h = wrong (sym h)
+second_of_two false b e h = e
+
+pub ruleset served = (serves_hello, serves_auth_request, serves_bad_method, serves_more, serves_auth_done, serves_ident, serves_reconnect, serves_number, serves_reset, serves_stamp)

@@ -14,8 +14,7 @@ use Rattle.preamble.specs.Judge.{segment_limit}
 use Rattle.refusal.specs.declared.Numbers.{Numbers}
 use Rattle.refusal.specs.Refusals.{row}
 use Rattle.refusal.proofs.Booleans.{by_test, by_less, wrong}
-use Rattle.fields.specs.declared.Cursor.{Cursor}
-use Rattle.fields.specs.Layout.{Kind, good, step_of}
+use Rattle.fields.specs.Layout.{Cursor, Kind, good, step_of}
 use Rattle.fields.specs.Field.{Field, field_bytes}
 use Rattle.fields.specs.Reading.{span_in, numbers_in}
 use Rattle.fields.proofs.ReadBack.{over-field, same_kind}
@@ -23,8 +22,8 @@ use Rattle.bodies.specs.declared.Body.{Body}
 use Rattle.bodies.specs.declared.Body.TheVariants as body
 use Rattle.bodies.specs.declared.Request.{Request}
 use Rattle.bodies.specs.declared.Request.TheVariants as request
-use Rattle.refusal.specs.declared.WriteResult.{WriteResult}
-use Rattle.refusal.specs.declared.WriteResult.TheVariants as written
+use Rattle.std.specs.Prelude.{Result, Ok, Err}
+use Rattle.refusal.specs.declared.Refusal.{Refusal}
 use Rattle.refusal.specs.Writes.{WriteOutcome, wrote, refused_for, Done, done, outcome_of}
 use Rattle.bodies.specs.Table.{Found, listed, unlisted, layout_of, is_listed}
 use Rattle.bodies.specs.Rows.{requested}
@@ -76,7 +75,7 @@ reads_same tag fs gs k x y e =
     let h = read-listed tag fs (is-listed (layout_of tag) (kinds_of fs) k) x y l in
     by_test (judge fs 0).failed (λ t. wrong cc) (λ t. h ∙ rw t))
 
-back : (tag n : ℕ) (r : Request) (ms ns bs out l : List ℕ) (b : Body) → Writes tag (requested r ms ns bs) out (written.Wrote n) l → Reads tag (take n l) b → answer_of (take n l) b ≡ whole (requested r ms ns bs)
+back : (tag n : ℕ) (r : Request) (ms ns bs out l : List ℕ) (b : Result Body Refusal) → Writes tag (requested r ms ns bs) out (Ok n) l → Reads tag (take n l) b → answer_of (take n l) b ≡ whole (requested r ms ns bs)
 back tag n r ms ns bs out l b w q =
     let fs : List Field = requested r ms ns bs in
     let g = wrote-well tag n fs out l w.outcome in
@@ -134,11 +133,11 @@ unfolding write_body write_as
 written-again tag s fs out h e l =
     rw (kinds-read tag s fs e, same_bytes tag s fs h e, e, le-leb (length s) (length out) l)
 
-wrote-is : (w : WriteResult) (l m : List ℕ) (n : ℕ) → done (outcome_of w) l ≡ done (wrote n) m → (w ≡ written.Wrote n) × (l ≡ m)
-wrote-is (written.Wrote k) l m n e = (ap written.Wrote (same_count (outcomes e)), ap (λ (d : Done). d.buffer) e)
-wrote-is (written.Refused r) l m n e = not_wrote (sym (outcomes e))
+wrote-is : (w : Result ℕ Refusal) (l m : List ℕ) (n : ℕ) → done (outcome_of w) l ≡ done (wrote n) m → (w ≡ Ok n) × (l ≡ m)
+wrote-is (Ok k) l m n e = (let h = same_count (outcomes e) in cc, ap (λ (d : Done). d.buffer) e)
+wrote-is (Err r) l m n e = not_wrote (sym (outcomes e))
 
-again : (tag : ℕ) (s : List ℕ) (b : Body) (r : Request) (ms ns bs out l : List ℕ) (w : WriteResult) → Bytes s → Reads tag s b → answer_of s b ≡ whole (requested r ms ns bs) → length s ≤ length out → Writes tag (requested r ms ns bs) out w l → (w ≡ written.Wrote (length s)) × (l ≡ replace_front s out)
+again : (tag : ℕ) (s : List ℕ) (b : Result Body Refusal) (r : Request) (ms ns bs out l : List ℕ) (w : Result ℕ Refusal) → Bytes s → Reads tag s b → answer_of s b ≡ whole (requested r ms ns bs) → length s ≤ length out → Writes tag (requested r ms ns bs) out w l → (w ≡ Ok (length s)) × (l ≡ replace_front s out)
 again tag s b r ms ns bs out l w h q e k x =
     wrote-is w l (replace_front s out) (length s) (x.outcome ∙ written-again tag s (requested r ms ns bs) out h (sym q.answer ∙ e) k)
 
@@ -150,7 +149,7 @@ unfolding AllSound judge
 sound-judged [] at h = refl
 sound-judged (f ∷ fs) at h = rw h.0 (sound-judged fs (at + length (field_bytes f)) h.1)
 
-written-whole : (tag : ℕ) (r : Request) (ms ns bs out l : List ℕ) (w : WriteResult) → writes tag r ≡ true → AllSound (requested r ms ns bs) → length (bytes_of (requested r ms ns bs)) ≤ segment_limit → length (bytes_of (requested r ms ns bs)) ≤ length out → Writes tag (requested r ms ns bs) out w l → (w ≡ written.Wrote (length (bytes_of (requested r ms ns bs)))) × (l ≡ replace_front (bytes_of (requested r ms ns bs)) out)
+written-whole : (tag : ℕ) (r : Request) (ms ns bs out l : List ℕ) (w : Result ℕ Refusal) → writes tag r ≡ true → AllSound (requested r ms ns bs) → length (bytes_of (requested r ms ns bs)) ≤ segment_limit → length (bytes_of (requested r ms ns bs)) ≤ length out → Writes tag (requested r ms ns bs) out w l → (w ≡ Ok (length (bytes_of (requested r ms ns bs)))) × (l ≡ replace_front (bytes_of (requested r ms ns bs)) out)
 unfolding write_body write_as
 written-whole tag r ms ns bs out l w t s h k x =
     let fs : List Field = requested r ms ns bs in
@@ -159,18 +158,18 @@ written-whole tag r ms ns bs out l w t s h k x =
     wrote-is w l (replace_front (bytes_of fs) out) (length (bytes_of fs)) (x.outcome ∙ rw (e, q, le-leb (length (bytes_of fs)) (length out) k))
 
 -- the request of a body
-held_by_lem : (s : List ℕ) (b : Body) (fs : List Field) → answer_of s b ≡ whole fs → Requested fs
-held_by_lem s (body.Hello n p) fs e = holds (request.Hello n) [] [] (span_in s p) cc
-held_by_lem s (body.AuthRequest m l p) fs e = holds (request.AuthRequest m) (numbers_in s l) [] (span_in s p) cc
-held_by_lem s (body.BadMethod m x l k) fs e = holds (request.BadMethod m x) (numbers_in s l) (numbers_in s k) [] cc
-held_by_lem s (body.More p) fs e = holds request.More [] [] (span_in s p) cc
-held_by_lem s (body.AuthDone g m p) fs e = holds (request.AuthDone g m) [] [] (span_in s p) cc
-held_by_lem s (body.Ident n p i) fs e = holds (request.Ident n i) [] [] (span_in s p) cc
-held_by_lem s (body.Reconnect n p k) fs e = holds (request.Reconnect n k) [] [] (span_in s p) cc
-held_by_lem s (body.Number n) fs e = holds (request.Number n) [] [] [] cc
-held_by_lem s (body.Reset n) fs e = holds (request.Reset n) [] [] [] cc
-held_by_lem s (body.Stamp p) fs e = holds request.Stamp [] [] (span_in s p) cc
-held_by_lem s (body.Refused r) fs e = wrong cc
+held_by_lem : (s : List ℕ) (b : Result Body Refusal) (fs : List Field) → answer_of s b ≡ whole fs → Requested fs
+held_by_lem s (Ok (body.Hello n p)) fs e = holds (request.Hello n) [] [] (span_in s p) cc
+held_by_lem s (Ok (body.AuthRequest m l p)) fs e = holds (request.AuthRequest m) (numbers_in s l) [] (span_in s p) cc
+held_by_lem s (Ok (body.BadMethod m x l k)) fs e = holds (request.BadMethod m x) (numbers_in s l) (numbers_in s k) [] cc
+held_by_lem s (Ok (body.More p)) fs e = holds request.More [] [] (span_in s p) cc
+held_by_lem s (Ok (body.AuthDone g m p)) fs e = holds (request.AuthDone g m) [] [] (span_in s p) cc
+held_by_lem s (Ok (body.Ident n p i)) fs e = holds (request.Ident n i) [] [] (span_in s p) cc
+held_by_lem s (Ok (body.Reconnect n p k)) fs e = holds (request.Reconnect n k) [] [] (span_in s p) cc
+held_by_lem s (Ok (body.Number n)) fs e = holds (request.Number n) [] [] [] cc
+held_by_lem s (Ok (body.Reset n)) fs e = holds (request.Reset n) [] [] [] cc
+held_by_lem s (Ok (body.Stamp p)) fs e = holds request.Stamp [] [] (span_in s p) cc
+held_by_lem s (Err r) fs e = wrong cc
 
 -- THE CLAIM
 pub round_trips : RoundTrips

@@ -1,12 +1,12 @@
 -- Reading a body by its layout: its fields, or refusal 20 with the place of the fault.
-use Rattle.std.specs.Prelude.{◌≡◌, false, cond, List, [], ◌∷◌, ℕ, leb, eqb, length}
+use Rattle.std.specs.Prelude.{cond, List, [], ◌∷◌, ℕ, Result, Ok, Err, leb, eqb, length}
 use Rattle.preamble.specs.Judge.{segment_limit}
 use Rattle.refusal.specs.declared.Numbers.{Numbers}
+use Rattle.refusal.specs.declared.Refusal.{Refusal}
 use Rattle.refusal.specs.declared.Refusal.TheVariants.{BodyMalformed}
 use Rattle.refusal.specs.Refusals.{numbers_of}
-use Rattle.fields.specs.declared.Cursor.{Cursor}
-use Rattle.fields.specs.Layout.{Kind, good, step_of}
-use Rattle.fields.specs.Field.{Field, field_at, Place, place_at}
+use Rattle.fields.specs.Layout.{Kind, Cursor, good, step_of}
+use Rattle.fields.specs.Field.{Field, field_at}
 use Rattle.fields.specs.Reading.{span_in, numbers_in}
 use Rattle.bodies.specs.declared.Body.{Body}
 use Rattle.bodies.specs.declared.Body.TheVariants as body
@@ -45,30 +45,24 @@ unfoldable pub read_body : ℕ → List ℕ → Answer
 read_body tag s = cond (leb (length s) segment_limit) (read_by (layout_of tag) s) (malformed 0)
 
 -- what the code's answer stands for
-abbrev pub answer_of : List ℕ → Body → Answer
-answer_of s (body.Hello entityType address) = whole (hello_of entityType (span_in s address))
-answer_of s (body.AuthRequest method modes payload) = whole (auth_request_of method (numbers_in s modes) (span_in s payload))
-answer_of s (body.BadMethod method error methods modes) = whole (bad_method_of method error (numbers_in s methods) (numbers_in s modes))
-answer_of s (body.More payload) = whole (more_of (span_in s payload))
-answer_of s (body.AuthDone globalId mode payload) = whole (auth_done_of globalId mode (span_in s payload))
-answer_of s (body.Ident addresses block i) = whole (ident_of addresses (span_in s block) i)
-answer_of s (body.Reconnect addresses block k) = whole (reconnect_of addresses (span_in s block) k)
-answer_of s (body.Number n) = whole (one_number_of n)
-answer_of s (body.Reset full) = whole (reset_of full)
-answer_of s (body.Stamp p) = whole (stamp_of (span_in s p))
-answer_of s (body.Refused r) = refused (numbers_of r)
+abbrev pub answer_of : List ℕ → Result Body Refusal → Answer
+answer_of s (Ok (body.Hello entityType address)) = whole (hello_of entityType (span_in s address))
+answer_of s (Ok (body.AuthRequest method modes payload)) = whole (auth_request_of method (numbers_in s modes) (span_in s payload))
+answer_of s (Ok (body.BadMethod method error methods modes)) = whole (bad_method_of method error (numbers_in s methods) (numbers_in s modes))
+answer_of s (Ok (body.More payload)) = whole (more_of (span_in s payload))
+answer_of s (Ok (body.AuthDone globalId mode payload)) = whole (auth_done_of globalId mode (span_in s payload))
+answer_of s (Ok (body.Ident addresses block i)) = whole (ident_of addresses (span_in s block) i)
+answer_of s (Ok (body.Reconnect addresses block k)) = whole (reconnect_of addresses (span_in s block) k)
+answer_of s (Ok (body.Number n)) = whole (one_number_of n)
+answer_of s (Ok (body.Reset full)) = whole (reset_of full)
+answer_of s (Ok (body.Stamp p)) = whole (stamp_of (span_in s p))
+answer_of s (Err r) = refused (numbers_of r)
 
 -- ---- as the code goes
 
--- a field of a row that goes on behind a fault: what it reads there tells nothing
-pub record Took (k : Kind) (s : List ℕ) (c : Cursor) (f : Field) (p : Place) (d : Cursor) : Type 0 where
-  pub next : d ≡ step_of k s c
-  pub value : d.failed ≡ false → f ≡ field_at k s c.at
-  pub place : d.failed ≡ false → p ≡ place_at k s c.at
-
-abbrev pub malformed_body : ℕ → Body
-malformed_body at = body.Refused (BodyMalformed at)
+abbrev pub malformed_body : ℕ → Result Body Refusal
+malformed_body at = Err (BodyMalformed at)
 
 -- the body, unless a field failed or a byte is left over
-unfoldable pub settled_body : List ℕ → Cursor → Body → Body
+unfoldable pub settled_body : List ℕ → Cursor → Result Body Refusal → Result Body Refusal
 settled_body s c b = cond c.failed (malformed_body c.at) (cond (eqb c.at (length s)) b (malformed_body c.at))

@@ -1,7 +1,8 @@
 -- Worked bodies, computed from the definitions as one table: each fault and its place, faults at once, and what may stand.
-use Rattle.std.specs.Prelude.{◌≡◌, List, [], ◌∷◌, ◌++◌, ℕ, length, replicate}
+use Rattle.std.specs.Prelude.{◌≡◌, List, [], ◌∷◌, ◌++◌, ℕ, Result, Ok, Err, length, replicate}
 use Rattle.buffer.specs.Le.{le}
 use Rattle.refusal.specs.Refusals.{row}
+use Rattle.refusal.specs.declared.Refusal.{Refusal}
 use Rattle.refusal.specs.declared.Refusal.TheVariants.{BodyMalformed}
 use Rattle.refusal.specs.Writes.{WriteOutcome, wrote, refused_for, Done, done}
 use Rattle.fields.specs.Field.{Field, numbers_from, bytes_from}
@@ -146,10 +147,13 @@ AllRead (x ∷ xs) = (read_body x.tag x.bytes ≡ x.answer) × AllRead xs
 pub record Placing : Type 0 where
   pub tag : ℕ
   pub bytes : List ℕ
-  pub body : Body
+  pub body : Result Body Refusal
 
 abbrev places : ℕ → List ℕ → Body → Placing
-places tag bytes b = record { tag = tag; bytes = bytes; body = b }
+places tag bytes b = record { tag = tag; bytes = bytes; body = Ok b }
+
+abbrev faulty : ℕ → List ℕ → ℕ → Placing
+faulty tag bytes at = record { tag = tag; bytes = bytes; body = Err (BodyMalformed at) }
 
 unfoldable pub placings : List Placing
 placings =
@@ -182,8 +186,8 @@ placings =
     -- nothing has a place
     ∷ places 20 (le 8 5) (body.Number 5)
     ∷ places 12 (255 ∷ []) (body.Reset 255)
-    ∷ places 4 (le 4 4 ++ 7 ∷ 8 ∷ 9 ∷ []) (body.Refused (BodyMalformed 0))
-    ∷ places 5 (le 4 1 ++ 1 ∷ 2 ∷ []) (body.Refused (BodyMalformed 5))
+    ∷ faulty 4 (le 4 4 ++ 7 ∷ 8 ∷ 9 ∷ []) 0
+    ∷ faulty 5 (le 4 1 ++ 1 ∷ 2 ∷ []) 5
     ∷ []
 
 abbrev pub AllPlaced : List Placing → Type 0

@@ -1,7 +1,8 @@
 -- Writing a body, stated from reading it: what reads as malformed is refused with the same place, then no room with the body's length.
-use Rattle.std.specs.Prelude.{Bool, true, false, cond, List, [], ◌∷◌, ◌++◌, ℕ, leb, length}
+use Rattle.std.specs.Prelude.{Bool, cond, Option, Some, None, Result, Ok, Err, List, [], ◌∷◌, ◌++◌, ℕ, leb, length}
 use Rattle.buffer.specs.Splice.{replace_front}
 use Rattle.preamble.specs.Judge.{segment_limit}
+use Rattle.refusal.specs.declared.Refusal.{Refusal}
 use Rattle.refusal.specs.declared.Refusal.TheVariants.{BodyMalformed, NoRoom}
 use Rattle.refusal.specs.Refusals.{numbers_of}
 use Rattle.fields.specs.declared.Draft.{Draft}
@@ -9,8 +10,6 @@ use Rattle.fields.specs.Layout.{Kind}
 use Rattle.fields.specs.Field.{Field, kind_of, field_bytes}
 use Rattle.fields.specs.Writing.{Appended}
 use Rattle.bodies.specs.declared.Request.{Request}
-use Rattle.refusal.specs.declared.WriteResult.{WriteResult}
-use Rattle.refusal.specs.declared.WriteResult.TheVariants as written
 use Rattle.refusal.specs.Writes.{wrote, refused_for, Done, done}
 use Rattle.bodies.specs.Table.{layout_of, is_listed}
 use Rattle.bodies.specs.Read.{Answer, whole, refused, malformed, read_body}
@@ -45,17 +44,18 @@ pub data AppendedAll : Draft → List ℕ → List Field → Draft → List ℕ 
   end : {p : Draft} {l : List ℕ} → AppendedAll p l [] p l
   step : {f : Field} {fs : List Field} {p q r : Draft} {l m n : List ℕ} → Appended f p l q m → AppendedAll q m fs r n → AppendedAll p l (f ∷ fs) r n
 
+-- the first fault, or else what follows
+abbrev pub unless_fault : Option ℕ → Result ℕ Refusal → Result ℕ Refusal
+unless_fault (Some at) r = Err (BodyMalformed at)
+unless_fault None r = r
+
 -- what a draft comes to with so much room
-unfoldable pub judged : Draft → ℕ → WriteResult
+unfoldable pub judged : Draft → ℕ → Result ℕ Refusal
 judged q room =
     cond (leb q.len segment_limit)
-    (cond q.failed (written.Refused (BodyMalformed q.place))
-    (cond (leb q.len room) (written.Wrote q.len) (written.Refused (NoRoom q.len))))
-    (written.Refused (BodyMalformed 0))
+    (unless_fault q.fault
+    (cond (leb q.len room) (Ok q.len) (Err (NoRoom q.len))))
+    (Err (BodyMalformed 0))
 
-unfoldable pub decided : Bool → Draft → ℕ → WriteResult
-decided served q room = cond served (judged q room) (written.Refused (BodyMalformed 0))
-
-abbrev pub is_wrote : WriteResult → Bool
-is_wrote (written.Wrote n) = true
-is_wrote (written.Refused r) = false
+unfoldable pub decided : Bool → Draft → ℕ → Result ℕ Refusal
+decided served q room = cond served (judged q room) (Err (BodyMalformed 0))

@@ -1,7 +1,8 @@
 -- The end of a body (01, "Bodies", "Order at the end of a body", refusals 11 and 12; 02, K8 and K10).
-use Rattle.std.specs.Prelude.{List, [], ◌∷◌, ◌++◌, cond, ◌||◌, ℕ, zero, suc, ◌+◌, ◌%◌, take, drop, get_or, leb, ltb, eqb}
+use Rattle.std.specs.Prelude.{Result, Ok, Err, List, [], ◌∷◌, ◌++◌, cond, ◌||◌, ℕ, zero, suc, ◌+◌, ◌%◌, take, drop, get_or, leb, ltb, eqb}
 use Rattle.buffer.specs.Le.{number_at}
 use Rattle.refusal.specs.declared.Numbers.{Numbers}
+use Rattle.refusal.specs.declared.Refusal.{Refusal}
 use Rattle.refusal.specs.declared.Refusal.TheVariants as refusal
 use Rattle.refusal.specs.Refusals.{Judged, fine, refused, numbers_of, or_else, unless}
 use Rattle.banner.specs.declared.Revision.{Revision}
@@ -80,7 +81,7 @@ ending revision h e p =
     cond (no_epilogue revision h) whole
     (end_unless_refused (judge_spelling revision h e) (by_late (late_of revision (get_or e 0 0)) (get_or e 0 0) (compared revision h e p)))
 
-abbrev pub ended_as : Ending → Ended
-ended_as ends.Whole = whole
-ended_as ends.Dropped = dropped
-ended_as (ends.Refused r) = refused_for (numbers_of r)
+abbrev pub ended_as : Result Ending Refusal → Ended
+ended_as (Ok ends.Whole) = whole
+ended_as (Ok ends.Dropped) = dropped
+ended_as (Err r) = refused_for (numbers_of r)

@@ -6,31 +6,30 @@ ghost use Rattle.buffer.specs.Le.{number_at, words};
 ghost use Rattle.refusal.specs.declared.Refusal.TheVariants as refusal;
 ghost use Rattle.refusal.specs.Refusals.{judged_by, unless};
 ghost use Rattle.body.specs.Body.{segment_sum, field, fields_from, segments, rest_sent, late_byte, no_first_sum, first_sum_length, no_epilogue, epilogue_length, wire_length};
-ghost use Rattle.body.specs.End.{late_of, compare_from, compared, unused_from, judge_late_flags, judge_spelling, ended_by, ended_as, by_late, ending};
+ghost use Rattle.body.specs.End.{late_of, compare_from, compared, unused_from, judge_late_flags, judge_spelling, ended_as, by_late, ending};
 
 use banner::Revision;
-use buffer::{behind, byte_at, part, u32_at};
+use buffer::{behind, byte_at, part, u32_at, u32_bytes};
 use crc32c::{checksum, checksum_zeros};
 use preamble::{Header, total_of};
-use refusal::{Judgement, Refusal, either, or_else, unless};
+use refusal::{Refusal, unless};
 
 // The start value of a segment's checksum.
 const SEGMENT_START: u32 = 0xFFFFFFFF;
 
 // What a late byte says.
-#[derive(Clone, Copy)]
+#[derive(Clone, Copy, PartialEq, Eq)]
 pub enum Late {
     Complete,
     Aborted,
     Wrong,
 }
 
-// How a body ends.
-#[derive(Clone, Copy)]
+// How a body ends that is not refused.
+#[derive(Clone, Copy, PartialEq, Eq)]
 pub enum Ending {
     Whole,
     Dropped,
-    Refused(Refusal),
 }
 
 // The checksum fields of segments 2 to 4.
@@ -135,62 +134,43 @@ pub fn rest_fields(h: Header, abort: bool, rest: &[u8]) -> Sums
 pub fn late_byte(revision: Revision, abort: bool) -> u8
     ensures { result ≡ late_byte revision abort }
 {
-    match revision {
-        Revision::Msgr20 => { if abort { 0x01 } else { 0x00 } }
-        Revision::Msgr21 => { if abort { 0x01 } else { 0x0E } }
+    match (revision, abort) {
+        (Revision::Msgr20, false) => 0x00,
+        (Revision::Msgr21, false) => 0x0E,
+        (_, true) => 0x01,
     }
+}
+
+// The fields of segments 2 to 4, one behind the other.
+fn sums_bytes(sums: Sums) -> [u8; 12]
+    ensures { result ≡ words (sums.s2 ∷ sums.s3 ∷ sums.s4 ∷ []) }
+{
+    let mut bytes = [0u8; 12];
+    bytes[..4].copy_from_slice(&u32_bytes(sums.s2));
+    bytes[4..8].copy_from_slice(&u32_bytes(sums.s3));
+    bytes[8..].copy_from_slice(&u32_bytes(sums.s4));
+    bytes
 }
 
 // A late byte and four checksum fields.
 pub fn epilogue20(late: u8, first: u32, rest: Sums) -> [u8; 17]
     ensures { result ≡ late ∷ words (first ∷ rest.s2 ∷ rest.s3 ∷ rest.s4 ∷ []) }
 {
-    let b = rest.s2;
-    let c = rest.s3;
-    let d = rest.s4;
-    [
-        late,
-        (first % 256) as u8,
-        (first / 256 % 256) as u8,
-        (first / 256 / 256 % 256) as u8,
-        (first / 256 / 256 / 256 % 256) as u8,
-        (b % 256) as u8,
-        (b / 256 % 256) as u8,
-        (b / 256 / 256 % 256) as u8,
-        (b / 256 / 256 / 256 % 256) as u8,
-        (c % 256) as u8,
-        (c / 256 % 256) as u8,
-        (c / 256 / 256 % 256) as u8,
-        (c / 256 / 256 / 256 % 256) as u8,
-        (d % 256) as u8,
-        (d / 256 % 256) as u8,
-        (d / 256 / 256 % 256) as u8,
-        (d / 256 / 256 / 256 % 256) as u8,
-    ]
+    let mut bytes = [0u8; 17];
+    bytes[0] = late;
+    bytes[1..5].copy_from_slice(&u32_bytes(first));
+    bytes[5..].copy_from_slice(&sums_bytes(rest));
+    bytes
 }
 
 // A late byte and the checksum fields of segments 2 to 4.
 pub fn epilogue21(late: u8, rest: Sums) -> [u8; 13]
     ensures { result ≡ late ∷ words (rest.s2 ∷ rest.s3 ∷ rest.s4 ∷ []) }
 {
-    let b = rest.s2;
-    let c = rest.s3;
-    let d = rest.s4;
-    [
-        late,
-        (b % 256) as u8,
-        (b / 256 % 256) as u8,
-        (b / 256 / 256 % 256) as u8,
-        (b / 256 / 256 / 256 % 256) as u8,
-        (c % 256) as u8,
-        (c / 256 % 256) as u8,
-        (c / 256 / 256 % 256) as u8,
-        (c / 256 / 256 / 256 % 256) as u8,
-        (d % 256) as u8,
-        (d / 256 % 256) as u8,
-        (d / 256 / 256 % 256) as u8,
-        (d / 256 / 256 / 256 % 256) as u8,
-    ]
+    let mut bytes = [0u8; 13];
+    bytes[0] = late;
+    bytes[1..].copy_from_slice(&sums_bytes(rest));
+    bytes
 }
 
 // ---- the end of a body
@@ -220,18 +200,18 @@ pub fn read_late(revision: Revision, b: u8) -> Late
 }
 
 // Segment k's checksum, stored in the epilogue e at place i, against that of its bytes.
-fn compare(count: u8, k: u8, e: &[u8], i: usize, bytes: &[u8]) -> Judgement
+fn compare(count: u8, k: u8, e: &[u8], i: usize, bytes: &[u8]) -> Result<(), Refusal>
     ensures { judged_by result ≡ unless (ltb count k || eqb (number_at 4 i e.now) (segment_sum bytes.now)) (refusal.SegmentChecksum k) }
 {
     let stored = u32_at(e, i);
     unless(
-        either(count < k, stored == segment_sum(bytes)),
+        count < k || stored == segment_sum(bytes),
         Refusal::SegmentChecksum(k),
     )
 }
 
 // Segments 2 to 4, whose fields stand in the epilogue e from place i on.
-fn compare_rest(h: Header, e: &[u8], i: usize, rest: &[u8]) -> Judgement
+fn compare_rest(h: Header, e: &[u8], i: usize, rest: &[u8]) -> Result<(), Refusal>
     requires { i < 250 }
     ensures { judged_by result ≡ compare_from h.count 2 (number_at 4 i e.now ∷ number_at 4 (i + 4) e.now ∷ number_at 4 (i + 8) e.now ∷ []) (drop 1 (segments h [] rest.now)) }
 {
@@ -241,101 +221,88 @@ fn compare_rest(h: Header, e: &[u8], i: usize, rest: &[u8]) -> Judgement
     let count = h.count;
     let from3 = behind(rest, n2);
     let from4 = behind(from3, n3);
-    let v2 = compare(count, 2, e, i, part(rest, 0, n2));
-    let v3 = compare(count, 3, e, i + 4, part(from3, 0, n3));
-    let v4 = compare(count, 4, e, i + 8, part(from4, 0, n4));
-    or_else(v2, or_else(v3, v4))
+    compare(count, 2, e, i, part(rest, 0, n2))?;
+    compare(count, 3, e, i + 4, part(from3, 0, n3))?;
+    compare(count, 4, e, i + 8, part(from4, 0, n4))
 }
 
-fn compare_sums(revision: Revision, h: Header, e: &[u8], payload: &[u8]) -> Judgement
+fn compare_sums(revision: Revision, h: Header, e: &[u8], payload: &[u8]) -> Result<(), Refusal>
     ensures { judged_by result ≡ compared revision h e.now payload.now }
 {
     let n = h.s1.len as usize;
     let rest = behind(payload, n);
     match revision {
         Revision::Msgr20 => {
-            let first = compare(h.count, 1, e, 1, part(payload, 0, n));
-            or_else(first, compare_rest(h, e, 5, rest))
+            compare(h.count, 1, e, 1, part(payload, 0, n))?;
+            compare_rest(h, e, 5, rest)
         }
         Revision::Msgr21 => compare_rest(h, e, 1, rest),
     }
 }
 
-fn ended(v: Judgement) -> Ending
-    ensures { ended_as result ≡ ended_by (judged_by v) }
-{
-    match v {
-        Judgement::Fine => Ending::Whole,
-        Judgement::Refused(why) => Ending::Refused(why),
-    }
-}
-
 // Segment k's field, stored in the epilogue e at place i, is 0 where the segment is not used.
-fn unused(count: u8, k: u8, e: &[u8], i: usize) -> Judgement
+fn unused(count: u8, k: u8, e: &[u8], i: usize) -> Result<(), Refusal>
     ensures { judged_by result ≡ unless (leb k count || eqb (number_at 4 i e.now) 0) (refusal.NonCanonical k) }
 {
-    let stored = u32_at(e, i);
-    unless(either(k <= count, stored == 0), Refusal::NonCanonical(k))
+    unless(k <= count || u32_at(e, i) == 0, Refusal::NonCanonical(k))
 }
 
 // The fields of segments 2 to 4, from place i on.
-fn unused_rest(count: u8, e: &[u8], i: usize) -> Judgement
+fn unused_rest(count: u8, e: &[u8], i: usize) -> Result<(), Refusal>
     requires { i < 250 }
     ensures { judged_by result ≡ unused_from count 2 (number_at 4 i e.now ∷ number_at 4 (i + 4) e.now ∷ number_at 4 (i + 8) e.now ∷ []) }
 {
-    let u2 = unused(count, 2, e, i);
-    let u3 = unused(count, 3, e, i + 4);
-    let u4 = unused(count, 4, e, i + 8);
-    or_else(u2, or_else(u3, u4))
+    unused(count, 2, e, i)?;
+    unused(count, 3, e, i + 4)?;
+    unused(count, 4, e, i + 8)
 }
 
-fn judge_late_flags(revision: Revision, b: u8) -> Judgement
+fn judge_late_flags(revision: Revision, b: u8) -> Result<(), Refusal>
     ensures { judged_by result ≡ judge_late_flags revision b }
 {
     match revision {
         Revision::Msgr20 => unless(b < 2, Refusal::NonCanonical(0)),
-        Revision::Msgr21 => Judgement::Fine,
+        Revision::Msgr21 => Ok(()),
     }
 }
 
 // Whether an epilogue's unused fields are 0 and, in msgr2.0, its late_flags 0 or 1.
-fn judge_spelling(revision: Revision, h: Header, e: &[u8]) -> Judgement
+fn judge_spelling(revision: Revision, h: Header, e: &[u8]) -> Result<(), Refusal>
     ensures { judged_by result ≡ judge_spelling revision h e.now }
 {
-    let count = h.count;
-    let flags = judge_late_flags(revision, byte_at(e, 0));
     match revision {
         Revision::Msgr20 => {
-            let rest = unused_rest(count, e, 5);
-            or_else(or_else(unused(count, 1, e, 1), rest), flags)
+            unused(h.count, 1, e, 1)?;
+            unused_rest(h.count, e, 5)?;
         }
-        Revision::Msgr21 => or_else(unused_rest(count, e, 1), flags),
+        Revision::Msgr21 => unused_rest(h.count, e, 1)?,
     }
+    judge_late_flags(revision, byte_at(e, 0))
 }
 
 // How a body ends whose epilogue is spelled as it should be. Checksums are worked out only where the late byte says complete.
-fn end_by_late(revision: Revision, h: Header, e: &[u8], payload: &[u8]) -> Ending
+fn end_by_late(revision: Revision, h: Header, e: &[u8], payload: &[u8]) -> Result<Ending, Refusal>
     ensures { ended_as result ≡ by_late (late_of revision (get_or e.now 0 0)) (get_or e.now 0 0) (compared revision h e.now payload.now) }
 {
     let b = byte_at(e, 0);
-    let late = read_late(revision, b);
-    match late {
-        Late::Wrong => Ending::Refused(Refusal::LateStatus(b)),
-        Late::Aborted => Ending::Dropped,
-        Late::Complete => ended(compare_sums(revision, h, e, payload)),
+    match read_late(revision, b) {
+        Late::Wrong => Err(Refusal::LateStatus(b)),
+        Late::Aborted => Ok(Ending::Dropped),
+        Late::Complete => {
+            compare_sums(revision, h, e, payload)?;
+            Ok(Ending::Whole)
+        }
     }
 }
 
 // How a body ends, by its epilogue and its segments' bytes.
-pub fn end_of(revision: Revision, h: Header, e: &[u8], payload: &[u8]) -> Ending
+#[tactic(auto, unfolding(crate::specs::End::ending))]
+pub fn end_of(revision: Revision, h: Header, e: &[u8], payload: &[u8]) -> Result<Ending, Refusal>
     ensures { ended_as result ≡ ending revision h e.now payload.now }
 {
     if no_epilogue(revision, h) {
-        return Ending::Whole;
+        return Ok(Ending::Whole);
     }
-    let spelling = judge_spelling(revision, h, e);
-    match spelling {
-        Judgement::Refused(why) => Ending::Refused(why),
-        Judgement::Fine => end_by_late(revision, h, e, payload),
-    }
+    judge_spelling(revision, h, e)?;
+    end_by_late(revision, h, e, payload)
 }

@@ -1,12 +1,15 @@
 -- W records: a body is written at a buffer's front.
-use Rattle.std.specs.Prelude.{◌≡◌, Bool, not, ◌&&◌, ◌||◌, List, [], ◌∷◌, ℕ, ◌+◌, ◌*◌, ◌≤◌, min, leb, take, drop, get_or}
+use Rattle.std.specs.Prelude.{◌≡◌, Bool, not, ◌&&◌, ◌||◌, Result, Ok, Err, IfOk, List, [], ◌∷◌, ℕ, ◌+◌, ◌*◌, ◌≤◌, min, leb, take, drop, get_or}
 use Rattle.refusal.specs.Writes.{Done}
 use Rattle.buffer.specs.Le.{number_at}
-use Rattle.fields.specs.declared.Cursor.{Cursor}
-use Rattle.fields.specs.Layout.{Kind, good, step_of}
+use Rattle.fields.specs.declared.Fault.{Fault}
+use Rattle.fields.specs.declared.Span.{Span}
+use Rattle.fields.specs.declared.NumberList.{NumberList}
+use Rattle.fields.specs.Layout.{Kind, Cursor, good, fault, step_of}
 use Rattle.fields.specs.Layout as kind
-use Rattle.fields.specs.Field.{Field, number, negative, numbers, payload, opaque, fixed, words_of}
+use Rattle.fields.specs.Field.{Field, number, negative, numbers, payload, opaque, fixed, words_of, numbers_from, bytes_from}
 use Rattle.fields.specs.Reading.{span_in, numbers_in}
+use Rattle.bodies.specs.declared.Request.{Request}
 use Rattle.bodies.specs.Table.{Found, listed, unlisted, layout_of}
 use Rattle.bodies.specs.Rows.{requested}
 use Rattle.bodies.specs.Write.{write_body}
@@ -71,28 +74,49 @@ write_record room s = whole (write_size room s) s (done_line (write_of s) ∷ []
 
 -- ---- as the code goes
 
+-- a request with no lists and no bytes
+abbrev pub alone : Request → ℕ → Asked
+alone r end = record { request = r; first = numbers_from 0 0; second = numbers_from 0 0; bytes = bytes_from 0 0; end = end }
+
 -- a field read: its value and the cursor behind it
 pub record Given (k : Kind) (s : List ℕ) (c : Cursor) (f : Field) (d : Cursor) : Type 0 where
   pub next : d ≡ past_given k s c
   pub value : f ≡ field_given k s c.at
 
--- the same of an address, block or payload
-pub record BytesGiven (s : List ℕ) (c : Cursor) (bs : List ℕ) (d : Cursor) : Type 0 where
+-- a list, or where it fails
+abbrev pub ListGiven : List ℕ → ℕ → Result (NumberList × ℕ) Fault → Type 0
+ListGiven s at (Ok x) = Given kind.numbers s (good at) (numbers (numbers_in s x.0)) (good x.1)
+ListGiven s at (Err e) = fault e.at ≡ past_given kind.numbers s (good at)
+
+-- an address, block or payload, or where it fails
+pub record BytesAt (s : List ℕ) (c : Cursor) (bs : List ℕ) (d : Cursor) : Type 0 where
   pub next : d ≡ past_given kind.payload s c
   pub value : bs ≡ take (number_at 4 c.at s) (drop (c.at + 4) s)
+
+abbrev pub BytesGiven : List ℕ → ℕ → Result (Span × ℕ) Fault → Type 0
+BytesGiven s at (Ok x) = BytesAt s (good at) (span_in s x.0) (good x.1)
+BytesGiven s at (Err e) = fault e.at ≡ past_given kind.payload s (good at)
 
 -- the fields that a request holds with its lists and bytes, which are places in the record
 abbrev pub fields_of : List ℕ → Asked → List Field
 fields_of s a = requested a.request (numbers_in s a.first) (numbers_in s a.second) (span_in s a.bytes)
 
+-- where the fields end
+abbrev pub end_in : Result Asked Fault → Cursor
+end_in (Ok a) = good a.end
+end_in (Err e) = fault e.at
+
+abbrev pub Few : Asked → Type 0
+Few a = (a.first.count ≤ 64) × (a.second.count ≤ 64)
+
 -- a request of these kinds, with lists that are not too long
-pub record Asks (ks : List Kind) (s : List ℕ) (a : Asked) : Type 0 where
-  pub fields : fields_of s a ≡ fields_given ks s (good 7)
-  pub end : a.end ≡ all_given ks s (good 7)
-  pub few : (a.first.count ≤ 64) × (a.second.count ≤ 64)
+pub record Asks (ks : List Kind) (s : List ℕ) (r : Result Asked Fault) : Type 0 where
+  pub fields : IfOk r (λ a. fields_of s a ≡ fields_given ks s (good 7))
+  pub end : end_in r ≡ all_given ks s (good 7)
+  pub few : IfOk r Few
 
 -- one that writes what the tag's fields write
-pub record AsksFor (tag : ℕ) (s : List ℕ) (a : Asked) : Type 0 where
-  pub writes : (out : List ℕ) → write_body tag (fields_of s a) out ≡ write_body tag (fields_given (kinds_for tag) s (good 7)) out
-  pub end : a.end ≡ all_given (kinds_for tag) s (good 7)
-  pub few : (a.first.count ≤ 64) × (a.second.count ≤ 64)
+pub record AsksFor (tag : ℕ) (s : List ℕ) (r : Result Asked Fault) : Type 0 where
+  pub writes : IfOk r (λ a. (out : List ℕ) → write_body tag (fields_of s a) out ≡ write_body tag (fields_given (kinds_for tag) s (good 7)) out)
+  pub end : end_in r ≡ all_given (kinds_for tag) s (good 7)
+  pub few : IfOk r Few

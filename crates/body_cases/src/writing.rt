@@ -1,486 +1,257 @@
 // W records: a body's fields are read off the record, and the body is written into a buffer that counts up.
-ghost use Rattle.std.specs.Prelude.{◌≡◌, ◌+◌, ◌≤◌, ◌<◌, min, length, drop};
+ghost use Rattle.std.specs.Prelude.{◌≡◌, ◌≤◌, length, IfOk};
 ghost use Rattle.refusal.specs.Writes.{done, outcome_of};
-ghost use Rattle.fields.specs.Field.{number, numbers, fixed};
-ghost use Rattle.fields.specs.Layout.{good, step_of};
-ghost use Rattle.fields.specs.Layout as kind;
-ghost use Rattle.fields.specs.Reading.{numbers_in, span_in};
+ghost use Rattle.bodies.specs.declared.Request.TheVariants.{More};
 ghost use Rattle.bodies.specs.Table.{hello, auth_request, bad_method, more, auth_done, ident, reconnect, one_number, reset, stamp};
 ghost use Rattle.bodies.specs.Write.{write_body};
 ghost use Rattle.records.specs.Records.{Did};
-ghost use Rattle.body_cases.specs.Writing.{limited, Given, BytesGiven, fields_of, Asks, AsksFor, write_record};
+ghost use Rattle.body_cases.specs.Writing.{alone, ListGiven, BytesGiven, fields_of, Asks, AsksFor, write_record};
 
 use bodies::{Ident, Reconnect, Request, write};
-use buffer::{byte_at, min, part, u32_at, u64_at};
+use buffer::{byte_at, part, u32_at};
 use crc32c::checksum;
-use fields::{Cursor, NumberList, Span, SpanStep, read_bytes, read_payload};
-use records::{LARGEST, Step, bad_record, count_up, is_whole, print_outcome, read_words, sized};
-use refusal::{WriteResult, both, either};
+use fields::{
+    Fault, NumberList, Span, Step, read_bytes, read_payload, read_u8, read_u32, read_u64,
+};
+use records::{LARGEST, bad_record, count_up, print_outcome, read_words, whole_size};
+use refusal::Refusal;
+use tag::Tag;
+use text::Page;
 
-// What is to be written: the request, the places of its lists and bytes in the record, and the cursor behind them.
+// What is to be written: the request, the places of its lists and bytes in the record, and the place behind its fields.
 #[derive(Clone, Copy)]
 struct Asked {
     request: Request,
     first: NumberList,
     second: NumberList,
     bytes: Span,
-    end: Cursor,
+    end: usize,
 }
 
-// A field of the record, and the cursor behind it or at the first that is cut off. What is read behind the record's end is not used: the record is a bad one.
-#[derive(Clone, Copy)]
-struct GivenU8 {
-    value: u8,
-    next: Cursor,
-}
+// The place of a record's first field: behind the tag, the buffer's length and the fill.
+const FIELDS: usize = 7;
 
-#[derive(Clone, Copy)]
-struct GivenU32 {
-    value: u32,
-    next: Cursor,
-}
-
-#[derive(Clone, Copy)]
-struct GivenU64 {
-    value: u64,
-    next: Cursor,
-}
-
-#[derive(Clone, Copy)]
-struct GivenList {
-    value: NumberList,
-    next: Cursor,
-}
-
-#[derive(Clone, Copy)]
-struct GivenSpan {
-    value: Span,
-    next: Cursor,
-}
-
-// ---- fields
-
-fn start() -> Cursor
-    ensures { result ≡ good 7 }
+// A request with no lists and no bytes.
+fn alone(request: Request, end: usize) -> Asked
+    ensures { result ≡ alone request end }
 {
-    Cursor {
-        at: 7,
-        failed: false,
+    Asked {
+        request,
+        first: NumberList { at: 0, count: 0 },
+        second: NumberList { at: 0, count: 0 },
+        bytes: Span { at: 0, len: 0 },
+        end,
     }
 }
 
-fn limit(ok: bool, c: Cursor) -> Cursor
-    ensures { result ≡ limited ok c }
+// ---- fields: a number is read as in the body; a record that breaks a limit is a bad one
+
+// A count, at most 64, and that many numbers.
+fn given_list(s: &[u8], at: usize) -> Step<NumberList>
+    ensures given { ListGiven s.now at result }
+    ensures few { IfOk result (λ x. x.0.count ≤ 64) }
 {
-    Cursor {
-        at: c.at,
-        failed: either(c.failed, !ok),
+    let (count, at) = read_u8(s, at)?;
+    let (numbers, end) = read_bytes(s, at, 4 * (count as usize))?;
+    if 64 < count {
+        return Err(Fault { at: end });
     }
-}
-
-// Past w bytes.
-fn past(s: &[u8], c: Cursor, w: usize) -> Cursor
-    ensures { result ≡ step_of (kind.fixed w) s.now c }
-{
-    match read_bytes(s, c, w) {
-        SpanStep::Read(_, next) => next,
-        SpanStep::Failed(next) => next,
-    }
-}
-
-// Past a length and that many bytes.
-fn past_payload(s: &[u8], c: Cursor) -> Cursor
-    ensures { result ≡ step_of kind.payload s.now c }
-{
-    match read_payload(s, c) {
-        SpanStep::Read(_, next) => next,
-        SpanStep::Failed(next) => next,
-    }
-}
-
-// The place so many bytes on, at most 8.
-fn behind(s: &[u8], at: usize, k: u8) -> usize
-    ensures { drop result s.now ≡ drop (at + k) s.now }
-{
-    min(at, s.len()) + k as usize
-}
-
-fn at_most(n: u8) -> u32
-    ensures { (result ≡ min n 64) × (result ≤ 64) }
-{
-    if n <= 64 { n as u32 } else { 64 }
-}
-
-fn given_u8(s: &[u8], c: Cursor) -> GivenU8
-    ensures { Given (kind.number 1) s.now c (number 1 result.value) result.next }
-{
-    let at = c.at;
-    GivenU8 {
-        value: byte_at(s, at),
-        next: past(s, c, 1),
-    }
-}
-
-fn given_u32(s: &[u8], c: Cursor) -> GivenU32
-    ensures { Given (kind.number 4) s.now c (number 4 result.value) result.next }
-{
-    let at = c.at;
-    GivenU32 {
-        value: u32_at(s, at),
-        next: past(s, c, 4),
-    }
-}
-
-fn given_u64(s: &[u8], c: Cursor) -> GivenU64
-    ensures { Given (kind.number 8) s.now c (number 8 result.value) result.next }
-{
-    let at = c.at;
-    GivenU64 {
-        value: u64_at(s, at),
-        next: past(s, c, 8),
-    }
-}
-
-fn given_stamp(s: &[u8], c: Cursor) -> GivenSpan
-    ensures { Given (kind.fixed 8) s.now c (fixed 8 (span_in s.now result.value)) result.next }
-{
-    let at = c.at;
-    GivenSpan {
-        value: Span { at: at, len: 8 },
-        next: past(s, c, 8),
-    }
-}
-
-fn given_list(s: &[u8], c: Cursor) -> GivenList
-    ensures { Given kind.numbers s.now c (numbers (numbers_in s.now result.value)) result.next × (result.value.count ≤ 64) }
-{
-    let at = c.at;
-    let n = byte_at(s, at);
-    let end = past(s, past(s, c, 1), 4 * (n as usize));
-    let value = NumberList {
-        at: behind(s, at, 1),
-        count: at_most(n),
+    let list = NumberList {
+        at: numbers.at,
+        count: u32::from(count),
     };
-    GivenList {
-        value: value,
-        next: limit(n <= 64, end),
-    }
+    Ok((list, end))
 }
 
-fn given_bytes(s: &[u8], c: Cursor) -> GivenSpan
-    ensures { BytesGiven s.now c (span_in s.now result.value) result.next }
+// A length, at most 65,536, and that many bytes.
+fn given_bytes(s: &[u8], at: usize) -> Step<Span>
+    ensures { BytesGiven s.now at result }
 {
-    let at = c.at;
-    let n = u32_at(s, at) as usize;
-    let end = past_payload(s, c);
-    let span = Span {
-        at: behind(s, at, 4),
-        len: n,
-    };
-    GivenSpan {
-        value: span,
-        next: limit(n <= LARGEST, end),
+    let (bytes, end) = read_payload(s, at)?;
+    if LARGEST < bytes.len {
+        return Err(Fault { at: end });
     }
-}
-
-fn no_list() -> NumberList
-    ensures { result.count ≡ 0 }
-{
-    NumberList { at: 0, count: 0 }
-}
-
-fn no_bytes() -> Span {
-    Span { at: 0, len: 0 }
+    Ok((bytes, end))
 }
 
 // ---- requests: a row of steps each
 
-fn ask_hello(s: &[u8]) -> Asked
+fn ask_hello(s: &[u8]) -> Result<Asked, Fault>
     ensures { Asks hello s.now result }
 {
-    let a = given_u8(s, start());
-    let p = given_bytes(s, a.next);
-    let bytes = p.value;
-    let end = p.next;
-    Asked {
-        request: Request::Hello(a.value),
-        first: no_list(),
-        second: no_list(),
-        bytes: bytes,
-        end: end,
-    }
+    let (entity_type, at) = read_u8(s, FIELDS)?;
+    let (bytes, end) = given_bytes(s, at)?;
+    let request = Request::Hello(entity_type);
+    Ok(Asked {
+        bytes,
+        ..alone(request, end)
+    })
 }
 
-fn ask_auth_request(s: &[u8]) -> Asked
+fn ask_auth_request(s: &[u8]) -> Result<Asked, Fault>
     ensures { Asks auth_request s.now result }
 {
-    let a = given_u32(s, start());
-    let b = given_list(s, a.next);
-    let p = given_bytes(s, b.next);
-    let first = b.value;
-    let bytes = p.value;
-    let end = p.next;
-    Asked {
-        request: Request::AuthRequest(a.value),
-        first: first,
-        second: no_list(),
-        bytes: bytes,
-        end: end,
-    }
+    let (method, at) = read_u32(s, FIELDS)?;
+    let (first, at) = given_list(s, at)?;
+    let (bytes, end) = given_bytes(s, at)?;
+    let request = Request::AuthRequest(method);
+    Ok(Asked {
+        first,
+        bytes,
+        ..alone(request, end)
+    })
 }
 
-fn ask_bad_method(s: &[u8]) -> Asked
+fn ask_bad_method(s: &[u8]) -> Result<Asked, Fault>
     ensures { Asks bad_method s.now result }
 {
-    let a = given_u32(s, start());
-    let e = given_u32(s, a.next);
-    let f = given_list(s, e.next);
-    let g = given_list(s, f.next);
-    let first = f.value;
-    let second = g.value;
-    let end = g.next;
-    let request = Request::BadMethod {
-        method: a.value,
-        error: e.value,
-    };
-    Asked {
-        request: request,
-        first: first,
-        second: second,
-        bytes: no_bytes(),
-        end: end,
-    }
+    let (method, at) = read_u32(s, FIELDS)?;
+    let (error, at) = read_u32(s, at)?;
+    let (first, at) = given_list(s, at)?;
+    let (second, end) = given_list(s, at)?;
+    let request = Request::BadMethod { method, error };
+    Ok(Asked {
+        first,
+        second,
+        ..alone(request, end)
+    })
 }
 
-fn ask_more(s: &[u8]) -> Asked
+fn ask_more(s: &[u8]) -> Result<Asked, Fault>
     ensures { Asks more s.now result }
 {
-    let p = given_bytes(s, start());
-    let bytes = p.value;
-    let end = p.next;
-    Asked {
-        request: Request::More,
-        first: no_list(),
-        second: no_list(),
-        bytes: bytes,
-        end: end,
-    }
+    let (bytes, end) = given_bytes(s, FIELDS)?;
+    Ok(Asked {
+        bytes,
+        ..alone(Request::More, end)
+    })
 }
 
-fn ask_auth_done(s: &[u8]) -> Asked
+fn ask_auth_done(s: &[u8]) -> Result<Asked, Fault>
     ensures { Asks auth_done s.now result }
 {
-    let a = given_u64(s, start());
-    let b = given_u32(s, a.next);
-    let p = given_bytes(s, b.next);
-    let bytes = p.value;
-    let end = p.next;
-    let request = Request::AuthDone {
-        global_id: a.value,
-        mode: b.value,
-    };
-    Asked {
-        request: request,
-        first: no_list(),
-        second: no_list(),
-        bytes: bytes,
-        end: end,
-    }
+    let (global_id, at) = read_u64(s, FIELDS)?;
+    let (mode, at) = read_u32(s, at)?;
+    let (bytes, end) = given_bytes(s, at)?;
+    let request = Request::AuthDone { global_id, mode };
+    Ok(Asked {
+        bytes,
+        ..alone(request, end)
+    })
 }
 
-fn ask_ident(s: &[u8]) -> Asked
+fn ask_ident(s: &[u8]) -> Result<Asked, Fault>
     ensures { Asks ident s.now result }
 {
-    let n = given_u32(s, start());
-    let p = given_bytes(s, n.next);
-    let a = given_u64(s, p.next);
-    let b = given_u64(s, a.next);
-    let d = given_u64(s, b.next);
-    let e = given_u64(s, d.next);
-    let f = given_u64(s, e.next);
-    let g = given_u64(s, f.next);
-    let bytes = p.value;
-    let end = g.next;
-    let i = Ident {
-        gid: a.value,
-        global_seq: b.value,
-        supported: d.value,
-        required: e.value,
-        flags: f.value,
-        cookie: g.value,
+    let (addresses, at) = read_u32(s, FIELDS)?;
+    let (bytes, at) = given_bytes(s, at)?;
+    let (gid, at) = read_u64(s, at)?;
+    let (global_seq, at) = read_u64(s, at)?;
+    let (supported, at) = read_u64(s, at)?;
+    let (required, at) = read_u64(s, at)?;
+    let (flags, at) = read_u64(s, at)?;
+    let (cookie, end) = read_u64(s, at)?;
+    let ident = Ident {
+        gid,
+        global_seq,
+        supported,
+        required,
+        flags,
+        cookie,
     };
-    let request = Request::Ident {
-        addresses: n.value,
-        ident: i,
-    };
-    Asked {
-        request: request,
-        first: no_list(),
-        second: no_list(),
-        bytes: bytes,
-        end: end,
-    }
+    let request = Request::Ident { addresses, ident };
+    Ok(Asked {
+        bytes,
+        ..alone(request, end)
+    })
 }
 
-fn ask_reconnect(s: &[u8]) -> Asked
+fn ask_reconnect(s: &[u8]) -> Result<Asked, Fault>
     ensures { Asks reconnect s.now result }
 {
-    let n = given_u32(s, start());
-    let p = given_bytes(s, n.next);
-    let a = given_u64(s, p.next);
-    let b = given_u64(s, a.next);
-    let d = given_u64(s, b.next);
-    let e = given_u64(s, d.next);
-    let f = given_u64(s, e.next);
-    let bytes = p.value;
-    let end = f.next;
-    let k = Reconnect {
-        client_cookie: a.value,
-        server_cookie: b.value,
-        global_seq: d.value,
-        connect_seq: e.value,
-        msg_seq: f.value,
+    let (addresses, at) = read_u32(s, FIELDS)?;
+    let (bytes, at) = given_bytes(s, at)?;
+    let (client_cookie, at) = read_u64(s, at)?;
+    let (server_cookie, at) = read_u64(s, at)?;
+    let (global_seq, at) = read_u64(s, at)?;
+    let (connect_seq, at) = read_u64(s, at)?;
+    let (msg_seq, end) = read_u64(s, at)?;
+    let reconnect = Reconnect {
+        client_cookie,
+        server_cookie,
+        global_seq,
+        connect_seq,
+        msg_seq,
     };
     let request = Request::Reconnect {
-        addresses: n.value,
-        reconnect: k,
+        addresses,
+        reconnect,
     };
-    Asked {
-        request: request,
-        first: no_list(),
-        second: no_list(),
-        bytes: bytes,
-        end: end,
-    }
+    Ok(Asked {
+        bytes,
+        ..alone(request, end)
+    })
 }
 
-fn ask_number(s: &[u8]) -> Asked
+fn ask_number(s: &[u8]) -> Result<Asked, Fault>
     ensures { Asks one_number s.now result }
 {
-    let a = given_u64(s, start());
-    let end = a.next;
-    Asked {
-        request: Request::Number(a.value),
-        first: no_list(),
-        second: no_list(),
-        bytes: no_bytes(),
-        end: end,
-    }
+    let (n, end) = read_u64(s, FIELDS)?;
+    Ok(alone(Request::Number(n), end))
 }
 
-fn ask_reset(s: &[u8]) -> Asked
+fn ask_reset(s: &[u8]) -> Result<Asked, Fault>
     ensures { Asks reset s.now result }
 {
-    let a = given_u8(s, start());
-    let end = a.next;
-    Asked {
-        request: Request::Reset(a.value),
-        first: no_list(),
-        second: no_list(),
-        bytes: no_bytes(),
-        end: end,
-    }
+    let (full, end) = read_u8(s, FIELDS)?;
+    Ok(alone(Request::Reset(full), end))
 }
 
-fn ask_stamp(s: &[u8]) -> Asked
+fn ask_stamp(s: &[u8]) -> Result<Asked, Fault>
     ensures { Asks stamp s.now result }
 {
-    let p = given_stamp(s, start());
-    let bytes = p.value;
-    let end = p.next;
-    Asked {
-        request: Request::Stamp,
-        first: no_list(),
-        second: no_list(),
-        bytes: bytes,
-        end: end,
-    }
+    let (bytes, end) = read_bytes(s, FIELDS, 8)?;
+    Ok(Asked {
+        bytes,
+        ..alone(Request::Stamp, end)
+    })
 }
 
 // A tag that is not listed has no fields: any request is refused.
 fn ask_none() -> Asked
-    ensures { (result.end ≡ good 7) × (result.first.count ≤ 64) × (result.second.count ≤ 64) }
+    ensures { result ≡ alone More 7 }
 {
-    Asked {
-        request: Request::More,
-        first: no_list(),
-        second: no_list(),
-        bytes: no_bytes(),
-        end: start(),
-    }
+    alone(Request::More, FIELDS)
 }
 
-// ---- by tag
-
-// The tags 1 to 6, which authenticate.
-fn ask_auth(tag: u8, s: &[u8]) -> Asked
-    ensures { tag < 8 → AsksFor tag s.now result }
-{
-    if tag == 1 {
-        return ask_hello(s);
-    }
-    if tag == 2 {
-        return ask_auth_request(s);
-    }
-    if tag == 3 {
-        return ask_bad_method(s);
-    }
-    if tag == 4 {
-        return ask_more(s);
-    }
-    if tag == 5 {
-        return ask_more(s);
-    }
-    if tag == 6 {
-        return ask_auth_done(s);
-    }
-    ask_none()
-}
-
-// The tags from 8 on.
-fn ask_session(tag: u8, s: &[u8]) -> Asked
-    ensures { 7 < tag → AsksFor tag s.now result }
-{
-    if tag == 8 {
-        return ask_ident(s);
-    }
-    if tag == 9 {
-        return ask_ident(s);
-    }
-    if tag == 10 {
-        return ask_number(s);
-    }
-    if tag == 11 {
-        return ask_reconnect(s);
-    }
-    if tag == 12 {
-        return ask_reset(s);
-    }
-    if tag == 15 {
-        return ask_number(s);
-    }
-    if tag == 18 {
-        return ask_stamp(s);
-    }
-    if tag == 19 {
-        return ask_stamp(s);
-    }
-    if tag == 20 {
-        return ask_number(s);
-    }
-    ask_none()
-}
-
-fn ask(tag: u8, s: &[u8]) -> Asked
+// The request of a tag's fields.
+#[tactic(auto, using(crate::proofs::Requests::by_tag, crate::proofs::Requests::by_none), unfolding(bodies::specs::Table::layout_in))]
+fn ask(tag: u8, s: &[u8]) -> Result<Asked, Fault>
     ensures { AsksFor tag s.now result }
 {
-    if tag < 8 {
-        return ask_auth(tag, s);
+    match Tag::try_from(tag) {
+        Ok(Tag::Hello) => ask_hello(s),
+        Ok(Tag::AuthRequest) => ask_auth_request(s),
+        Ok(Tag::AuthBadMethod) => ask_bad_method(s),
+        Ok(Tag::AuthReplyMore | Tag::AuthRequestMore) => ask_more(s),
+        Ok(Tag::AuthDone) => ask_auth_done(s),
+        Ok(Tag::ClientIdent | Tag::ServerIdent) => ask_ident(s),
+        Ok(Tag::SessionReconnect) => ask_reconnect(s),
+        Ok(Tag::SessionReset) => ask_reset(s),
+        Ok(Tag::IdentMissingFeatures | Tag::SessionReconnectOk | Tag::Ack) => ask_number(s),
+        Ok(Tag::Keepalive2 | Tag::Keepalive2Ack) => ask_stamp(s),
+        Ok(
+            Tag::AuthSignature
+            | Tag::SessionRetry
+            | Tag::SessionRetryGlobal
+            | Tag::Wait
+            | Tag::Message,
+        ) => Ok(ask_none()),
+        Err(_) => Ok(ask_none()),
     }
-    ask_session(tag, s)
 }
 
-fn write_asked(out: &mut [u8], tag: u8, s: &[u8], a: Asked) -> WriteResult
+fn write_asked(out: &mut [u8], tag: u8, s: &[u8], a: Asked) -> Result<usize, Refusal>
     requires { (a.first.count ≤ 64) × (a.second.count ≤ 64) }
     ensures { done (outcome_of result) out.new ≡ write_body tag (fields_of s.now a) out.old }
 {
@@ -495,23 +266,20 @@ fn write_asked(out: &mut [u8], tag: u8, s: &[u8], a: Asked) -> WriteResult
 
 // ---- the record
 
-pub fn write_record(s: &[u8], space: &mut [u8], text: &mut [u8], at: usize) -> Step
-    ensures { Did (write_record (length space.old) s.now) s.now text.old at text.new result }
+pub fn write_record(s: &[u8], space: &mut [u8], page: &mut Page) -> Option<usize>
+    ensures { Did (write_record (length space.old) s.now) s.now page.old page.new result }
 {
     let tag = byte_at(s, 1);
     let n = u32_at(s, 2) as usize;
-    let a = ask(tag, s);
-    let end = a.end;
-    let size = sized(both(n <= space.len(), !end.failed), end.at);
-    if !is_whole(size, s) {
-        return bad_record(text, at);
-    }
+    let Ok(a) = ask(tag, s) else {
+        return bad_record(page);
+    };
+    let Some(size) = whole_size(n <= space.len(), a.end, s) else {
+        return bad_record(page);
+    };
     let buf = &mut space[..n];
     count_up(buf, byte_at(s, 6));
     let written = write_asked(buf, tag, s, a);
-    let sum = checksum(0xFFFFFFFF, buf);
-    Step {
-        taken: size,
-        filled: print_outcome(text, at, written, sum),
-    }
+    print_outcome(page, written, checksum(0xFFFFFFFF, buf));
+    Some(size)
 }

@@ -2,12 +2,14 @@
 use mathlib.Core.Path.{◌≡◌, refl, sym, ap, subst, ◌∙◌}
 use mathlib.Core.List.{List, [], ◌∷◌, ◌++◌}
 use Prim.Native.Nat.{ℕ, zero, suc, ◌+◌, ◌-◌, ◌*◌, ◌%◌, ◌/◌, ◌^◌, ◌<◌, ◌≤◌}
-use native.Mathlib.Nat.{le_refl, pow-suc, div-lt_iff_lt-mul}
+use native.Mathlib.Nat.{pow-suc, div-lt_iff_lt-mul}
 use native.Mathlib.Omega.{arith}
 use lib.Dec.{lit<}
 use lib.Arith.{lt-one}
-use lib.ListN.{length, get_or, take, drop, take-append-drop, replicate, length-drop, length-take}
+use lib.ListN.{length, take, drop, take-append-drop, replicate, length-drop}
 use lib.Seq.{take_at, take-take, drop-append_seam, length-take-le, take-append-le, drop-append-le, drop-drop, get_or-drop}
+use Rattle.std.specs.Int.{w16, w32, w64, from_le_bytes}
+use Rattle.buffer.specs.Splice.{overwrite}
 use Rattle.buffer.specs.Le.{le, le_of, number_at, Bytes}
 use Rattle.buffer.proofs.Parts.{drop-take}
 
@@ -23,42 +25,44 @@ le_of-le (suc w) n h =
     let r : le_of (le w (n / 256)) ≡ n / 256 = le_of-le w (n / 256) ((div-lt_iff_lt-mul (lit< tt)).1 h') in
     omega arith
 
--- a number of eight bytes from that of its upper and that of its lower four
-number-long : (l : List ℕ) → number_at 4 4 l * 4294967296 + number_at 4 0 l ≡ le_of (take 8 l)
+-- a number as code reads it: from its bytes, where those that are not there are 0
+read_2 : (l : List ℕ) → from_le_bytes w16 (overwrite (take 2 l) (replicate 2 0)) ≡ le_of (take 2 l)
+unfolding overwrite
+read_2 [] = refl
+read_2 (a ∷ []) = omega arith
+read_2 (a ∷ b ∷ l) = omega arith
+
+read_4 : (l : List ℕ) → from_le_bytes w32 (overwrite (take 4 l) (replicate 4 0)) ≡ le_of (take 4 l)
+unfolding overwrite
+read_4 [] = refl
+read_4 (a ∷ []) = omega arith
+read_4 (a ∷ b ∷ []) = omega arith
+read_4 (a ∷ b ∷ c ∷ []) = omega arith
+read_4 (a ∷ b ∷ c ∷ d ∷ l) = omega arith
+
+read_8 : (l : List ℕ) → from_le_bytes w64 (overwrite (take 8 l) (replicate 8 0)) ≡ le_of (take 8 l)
+unfolding overwrite
+read_8 [] = refl
+read_8 (a ∷ []) = omega arith
+read_8 (a ∷ b ∷ []) = omega arith
+read_8 (a ∷ b ∷ c ∷ []) = omega arith
+read_8 (a ∷ b ∷ c ∷ d ∷ []) = omega arith
+read_8 (a ∷ b ∷ c ∷ d ∷ e ∷ []) = omega arith
+read_8 (a ∷ b ∷ c ∷ d ∷ e ∷ f ∷ []) = omega arith
+read_8 (a ∷ b ∷ c ∷ d ∷ e ∷ f ∷ g ∷ []) = omega arith
+read_8 (a ∷ b ∷ c ∷ d ∷ e ∷ f ∷ g ∷ h ∷ l) = omega arith
+
+pub u16_read : (s : List ℕ) (i : ℕ) → from_le_bytes w16 (overwrite (take 2 (drop i s)) (replicate 2 0)) ≡ number_at 2 i s
 unfolding number_at
-number-long [] = omega arith
-number-long (a ∷ []) = omega arith
-number-long (a ∷ b ∷ []) = omega arith
-number-long (a ∷ b ∷ c ∷ []) = omega arith
-number-long (a ∷ b ∷ c ∷ d ∷ l) = omega arith
+u16_read s i = read_2 (drop i s)
 
--- bytes that are not there count as 0
-half_read : (l : List ℕ) → length l ≤ 2 → le_of (get_or l 0 0 ∷ get_or l 1 0 ∷ []) ≡ le_of l
-half_read [] h = refl
-half_read (a ∷ []) h = refl
-half_read (a ∷ b ∷ []) h = refl
-half_read (a ∷ b ∷ c ∷ l) h = absurd (omega arith)
-
-word_read : (l : List ℕ) → length l ≤ 4 → le_of (get_or l 0 0 ∷ get_or l 1 0 ∷ get_or l 2 0 ∷ get_or l 3 0 ∷ []) ≡ le_of l
-word_read [] h = refl
-word_read (a ∷ []) h = refl
-word_read (a ∷ b ∷ []) h = refl
-word_read (a ∷ b ∷ c ∷ []) h = refl
-word_read (a ∷ b ∷ c ∷ d ∷ []) h = refl
-word_read (a ∷ b ∷ c ∷ d ∷ e ∷ l) h = absurd (omega arith)
-
--- a number as code reads it, from bytes one by one or from two halves
-pub u16_read : (s : List ℕ) (i : ℕ) → (let l : List ℕ = take 2 (drop i s) in le_of (get_or l 0 0 ∷ get_or l 1 0 ∷ [])) ≡ number_at 2 i s
+pub u32_read : (s : List ℕ) (i : ℕ) → from_le_bytes w32 (overwrite (take 4 (drop i s)) (replicate 4 0)) ≡ number_at 4 i s
 unfolding number_at
-u16_read s i = half_read (take 2 (drop i s)) (omega (arith, length-take 2 (drop i s)))
+u32_read s i = read_4 (drop i s)
 
-pub u32_read : (s : List ℕ) (i : ℕ) → (let l : List ℕ = take 4 (drop i s) in le_of (get_or l 0 0 ∷ get_or l 1 0 ∷ get_or l 2 0 ∷ get_or l 3 0 ∷ [])) ≡ number_at 4 i s
+pub u64_read : (s : List ℕ) (i : ℕ) → from_le_bytes w64 (overwrite (take 8 (drop i s)) (replicate 8 0)) ≡ number_at 8 i s
 unfolding number_at
-u32_read s i = word_read (take 4 (drop i s)) (omega (arith, length-take 4 (drop i s)))
-
-pub u64_read : (s : List ℕ) (i : ℕ) → number_at 4 4 (take 8 (drop i s)) * 4294967296 + number_at 4 0 (take 8 (drop i s)) ≡ number_at 8 i s
-unfolding number_at
-u64_read s i = number-long (take 8 (drop i s)) ∙ ap le_of (take-take 8 8 (drop i s) (le_refl 8))
+u64_read s i = read_8 (drop i s)
 
 -- a number in the first bytes of a list
 pub number-take : (w i n : ℕ) (l : List ℕ) → i + w ≤ n → number_at w i (take n l) ≡ number_at w i l
@@ -131,7 +135,8 @@ number-there w n pre post h = rw (drop-append_seam pre (le w n ++ post), take_at
 -- four bytes make no more than 32 bits
 pub number-few : (l : List ℕ) → Bytes l → number_at 4 0 l ≤ 4294967295
 unfolding number_at
-number-few l h =
-    let b = bytes_take 4 h in
-    let n : length (take 4 l) ≤ 4 = omega (arith, length-take 4 l) in
-    omega (arith, word_read (take 4 l) n, b.at 0, b.at 1, b.at 2, b.at 3)
+number-few [] h = omega arith
+number-few (a ∷ []) h = omega (arith, h.at 0)
+number-few (a ∷ b ∷ []) h = omega (arith, h.at 0, h.at 1)
+number-few (a ∷ b ∷ c ∷ []) h = omega (arith, h.at 0, h.at 1, h.at 2)
+number-few (a ∷ b ∷ c ∷ d ∷ l) h = omega (arith, h.at 0, h.at 1, h.at 2, h.at 3)

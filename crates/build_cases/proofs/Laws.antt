@@ -1,5 +1,5 @@
 -- Laws of sealed builds by a record.
-use Rattle.std.proofs.Common.{◌≡◌, ℕ, ◌+◌, ◌≤◌, Bool, true, false, ◌&&◌, leb, List, length, get_or, take, drop, sym, ◌∙◌, arith, eq-eqb, ne_eqb, leb-true}
+use Rattle.std.proofs.Common.{◌≡◌, ℕ, ◌+◌, ◌≤◌, true, ◌&&◌, leb, List, length, get_or, take, drop, Option, None, Some, sym, ◌∙◌, arith, eq-eqb, ne_eqb, leb-true}
 use Rattle.refusal.proofs.Booleans.{both_left, both_right}
 use Rattle.buffer.specs.Le.{number_at}
 use Rattle.crc32c.specs.Crc.{crc_of}
@@ -7,9 +7,9 @@ use Rattle.refusal.specs.Writes.{WriteOutcome}
 use Rattle.sealed_builder.specs.declared.Sending.{Sending}
 use Rattle.sealed_builder.specs.Build.{Done, done, refused_sending}
 use Rattle.text.specs.Line.{Piece}
-use Rattle.text.specs.Page.{page}
-use Rattle.records.specs.Records.{outcome_line, is_whole, bad_record, prints, allowed}
-use Rattle.records.proofs.Laws.{sized-good, whole-within, did_bad, did_whole}
+use Rattle.text.specs.Page.{Page}
+use Rattle.records.specs.Records.{outcome_line, is_whole, size_in, taken_of, Did, bad_record, prints, allowed}
+use Rattle.records.proofs.Laws.{size-bad, size-good, sized-good, whole-within, did_bad, did_whole}
 use Rattle.build_cases.specs.declared.Builds.{Builds}
 use Rattle.build_cases.specs.declared.Part.{Part}
 use Rattle.build_cases.specs.Sealed.{sealed_line, sending_after, sending_of, head_size, build_size, part_of, DidPart}
@@ -53,11 +53,9 @@ built-line w x buf e k = rw (k, ← e)
 
 -- ---- a part that is bad, and one that is whole
 
-module _ (lines : List (List Piece)) (b before : Builds) {n m : ℕ} {t : Bool} {s old : List ℕ} {at : ℕ} {new : List ℕ} {r : Part} (k : m ≡ n) (e : t ≡ is_whole m s) where
-  pub part-bad : t ≡ false → (r.step.taken ≡ 0) × (page new r.step.filled ≡ prints bad_record.lines (page old at)) → r.builds ≡ before
-      → DidPart (part_of n s lines b before) s old at new r
-  part-bad h d q = record { step = did_bad lines k e h d; builds = rw (← k, ← e, h) q }
+module _ (n : ℕ) (lines : List (List Piece)) (b before : Builds) {s : List ℕ} {old new : Page} {r : Part} where
+  pub part-bad : {x : Option ℕ} → x ≡ size_in n s → x ≡ None → Did bad_record s old new r.taken → r.builds ≡ before → DidPart (part_of n s lines b before) s old new r
+  part-bad e h d q = record { step = did_bad n lines e h d; builds = rw (size-bad n s (sym h ∙ e)) q }
 
-  pub part-whole : t ≡ true → r.step.taken ≡ m → page new r.step.filled ≡ prints lines (page old at) → r.builds ≡ b
-      → DidPart (part_of n s lines b before) s old at new r
-  part-whole h g p q = record { step = did_whole lines k e h g p; builds = rw (← k, ← e, h) q }
+  pub part-whole : {m : ℕ} → Some m ≡ size_in n s → taken_of r.taken ≡ m → new ≡ prints lines old → r.builds ≡ b → DidPart (part_of n s lines b before) s old new r
+  part-whole e g p q = record { step = did_whole n lines e g p; builds = rw (size-good n s e) q }

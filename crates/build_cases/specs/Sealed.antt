@@ -7,6 +7,7 @@ use Rattle.secure.specs.Layout.{nonce_of}
 use Rattle.sealed_builder.specs.declared.Sending.{Sending}
 use Rattle.sealed_builder.specs.Build.{Done, sending_state, refused_sending, sealed_done}
 use Rattle.text.specs.Line.{Piece}
+use Rattle.text.specs.Page.{Page}
 use Rattle.records.specs.Records.{Record, Did, done_line, sized, allowed, whole, is_whole, counted}
 use Rattle.build_cases.specs.declared.Builds.{Builds}
 use Rattle.build_cases.specs.declared.Part.{Part}
@@ -70,6 +71,6 @@ unfoldable pub build_part : Builds → ℕ → List ℕ → PartDone
 build_part b room s = part_of (build_size room s) s (sealed_line (done_by b.sending s) ∷ []) (builds_after b s) b
 
 -- THE PROMISE OF A PART
-pub record DidPart (d : PartDone) (s before : List ℕ) (at : ℕ) (after : List ℕ) (r : Part) : Type 0 where
-  pub step : Did d.part s before at after r.step
+pub record DidPart (d : PartDone) (s : List ℕ) (before after : Page) (r : Part) : Type 0 where
+  pub step : Did d.part s before after r.taken
   pub builds : r.builds ≡ d.builds

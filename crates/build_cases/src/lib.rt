@@ -4,15 +4,16 @@
 
 ghost use Rattle.std.specs.Prelude.{◌≡◌, ◌-◌, ◌≤◌, length};
 ghost use Rattle.build_cases.specs.Sealed.{nonce_further, sending_after, sending_of, head_size, head_part, build_size, build_part, DidPart};
+ghost use Rattle.records.specs.Records.{size_in};
 
 use buffer::{byte_at, part, u16_at, u32_at, u64_at};
 use crc32c::checksum;
 use preamble::read_header;
-use records::{LARGEST, Step, bad_record, count_up, is_whole, print_outcome, sized};
-use refusal::both;
+use records::{LARGEST, bad_record, count_up, print_outcome, whole_size};
 use sealed_builder::{Sending, build_sealed, refused_sending};
-use sealing_cases::{key_at, nonce_at};
+use sealing_cases::bytes_at;
 use secure::nonce_of;
+use text::Page;
 
 // The most builds of a record.
 const BUILDS: usize = 256;
@@ -24,10 +25,10 @@ pub struct Builds {
     pub sending: Sending,
 }
 
-// What a part of a record came to, and what is left of the record.
+// What a part of a record came to, how many bytes it has, and what is left of the record.
 #[derive(Clone, Copy)]
 pub struct Part {
-    pub step: Step,
+    pub taken: Option<usize>,
     pub builds: Builds,
 }
 
@@ -38,17 +39,16 @@ pub fn nonce_further(nonce: [u8; 12], n: u64) -> [u8; 12]
     ensures { result ≡ nonce_further nonce n }
 {
     let c = u64_at(&nonce, 4);
-    nonce_of(nonce, std::num::wrapping_add_u64(c, n))
+    nonce_of(nonce, c.wrapping_add(n))
 }
 
 fn sending_after(key: [u8; 16], nonce: [u8; 12], spent: u64) -> Sending
     ensures { result ≡ sending_after key nonce spent }
 {
-    let next = nonce_further(nonce, spent);
     Sending {
-        key: key,
-        nonce: next,
-        spent: spent,
+        key,
+        nonce: nonce_further(nonce, spent),
+        spent,
         exhausted: false,
         refused: false,
     }
@@ -61,7 +61,7 @@ fn sending_of(s: &[u8]) -> Sending
     if byte_at(s, 1) == 1 {
         return refused_sending();
     }
-    sending_after(key_at(s, 2), nonce_at(s, 18), u64_at(s, 30))
+    sending_after(bytes_at(s, 2), bytes_at(s, 18), u64_at(s, 30))
 }
 
 // Nothing is left.
@@ -76,34 +76,29 @@ pub fn no_builds() -> Builds
 
 // ---- the head
 
-fn head_size(s: &[u8]) -> usize
-    ensures { result ≡ head_size s.now }
+fn head_size(s: &[u8]) -> Option<usize>
+    ensures { result ≡ size_in (head_size s.now) s.now }
 {
-    sized(
-        both(byte_at(s, 1) <= 1, u16_at(s, 38) as usize <= BUILDS),
+    whole_size(
+        byte_at(s, 1) <= 1 && u16_at(s, 38) as usize <= BUILDS,
         40,
+        s,
     )
 }
 
-pub fn builds_record(before: Builds, s: &[u8], text: &mut [u8], at: usize) -> Part
-    ensures { DidPart (head_part before s.now) s.now text.old at text.new result }
+pub fn builds_record(before: Builds, s: &[u8], page: &mut Page) -> Part
+    ensures { DidPart (head_part before s.now) s.now page.old page.new result }
 {
-    let size = head_size(s);
-    if !is_whole(size, s) {
-        let bad = bad_record(text, at);
+    let Some(size) = head_size(s) else {
         return Part {
-            step: bad,
+            taken: bad_record(page),
             builds: before,
         };
-    }
-    let n = u16_at(s, 38) as usize;
+    };
     Part {
-        step: Step {
-            taken: size,
-            filled: at,
-        },
+        taken: Some(size),
         builds: Builds {
-            left: n,
+            left: u16_at(s, 38) as usize,
             sending: sending_of(s),
         },
     }
@@ -111,31 +106,23 @@ pub fn builds_record(before: Builds, s: &[u8], text: &mut [u8], at: usize) -> Pa
 
 // ---- a build
 
-fn build_size(room: usize, s: &[u8]) -> usize
-    ensures { result ≡ build_size room s.now }
+fn build_size(room: usize, s: &[u8]) -> Option<usize>
+    ensures { result ≡ size_in (build_size room s.now) s.now }
 {
     let n = u32_at(s, 40) as usize;
-    let lengths = both(u32_at(s, 27) as usize <= room, n <= LARGEST);
-    sized(both(byte_at(s, 26) <= 1, lengths), 44 + n)
+    let good = byte_at(s, 26) <= 1 && u32_at(s, 27) as usize <= room && n <= LARGEST;
+    whole_size(good, 44 + n, s)
 }
 
-fn one_less(n: usize) -> usize
-    ensures { result ≡ n - 1 }
+pub fn build_record(builds: Builds, s: &[u8], space: &mut [u8], page: &mut Page) -> Part
+    ensures { DidPart (build_part builds (length space.old) s.now) s.now page.old page.new result }
 {
-    if n == 0 { 0 } else { n - 1 }
-}
-
-pub fn build_record(builds: Builds, s: &[u8], space: &mut [u8], text: &mut [u8], at: usize) -> Part
-    ensures { DidPart (build_part builds (length space.old) s.now) s.now text.old at text.new result }
-{
-    let size = build_size(space.len(), s);
-    if !is_whole(size, s) {
-        let bad = bad_record(text, at);
+    let Some(size) = build_size(space.len(), s) else {
         return Part {
-            step: bad,
-            builds: builds,
+            taken: bad_record(page),
+            builds,
         };
-    }
+    };
     let n = u32_at(s, 27) as usize;
     let buf = &mut space[..n];
     count_up(buf, byte_at(s, 31));
@@ -144,18 +131,12 @@ pub fn build_record(builds: Builds, s: &[u8], space: &mut [u8], text: &mut [u8],
     let source = part(s, 44, u32_at(s, 40) as usize);
     let abort = byte_at(s, 26) == 1;
     let o = build_sealed(buf, queued, builds.sending, header, abort, source);
-    let built = o.built;
-    let next = o.sending;
-    let sum = checksum(0xFFFFFFFF, buf);
-    let filled = print_outcome(text, at, built, sum);
+    print_outcome(page, o.built, checksum(0xFFFFFFFF, buf));
     Part {
-        step: Step {
-            taken: size,
-            filled: filled,
-        },
+        taken: Some(size),
         builds: Builds {
-            left: one_less(builds.left),
-            sending: next,
+            left: builds.left.saturating_sub(1),
+            sending: o.sending,
         },
     }
 }

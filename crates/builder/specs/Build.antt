@@ -1,5 +1,5 @@
 -- What a build answers and what it leaves in the send buffer (01, "The pieces of the job", refusals 6, 8, 9, 13 to 16 and their order).
-use Rattle.std.specs.Prelude.{◌≡◌, List, [], ◌∷◌, Bool, not, ◌&&◌, ℕ, ◌+◌, length, leb, eqb}
+use Rattle.std.specs.Prelude.{◌≡◌, Result, List, [], ◌∷◌, Bool, not, ◌&&◌, ℕ, ◌+◌, length, leb, eqb}
 use Rattle.buffer.specs.Splice.{splice}
 use Rattle.refusal.specs.declared.Refusal.TheVariants as refusal
 use Rattle.refusal.specs.Refusals.{Judged, fine, refused, first_of, unless}
@@ -10,7 +10,7 @@ use Rattle.preamble.specs.declared.Header.{Header}
 use Rattle.preamble.specs.Layout.{total}
 use Rattle.preamble.specs.Judge.{judge_header}
 use Rattle.body.specs.Body.{frame_bytes, wire_length}
-use Rattle.refusal.specs.declared.WriteResult.{WriteResult}
+use Rattle.refusal.specs.declared.Refusal.{Refusal}
 use Rattle.refusal.specs.Writes.{wrote, refused_for, Done, done, outcome_of}
 
 -- the source has the bytes of all segments
@@ -60,8 +60,8 @@ banner_done supported required buf queued =
     outcome (judge_banner supported required (length buf) queued) banner_length buf queued (banner_bytes supported required)
 
 -- THE PROMISES of the two builders: a buffer buf with so many bytes queued, the answer, and the buffer then
-pub record BuiltFrame (revision : Revision) (h : Header) (abort : Bool) (source buf : List ℕ) (queued : ℕ) (answer : WriteResult) (after : List ℕ) : Type 0 where
+pub record BuiltFrame (revision : Revision) (h : Header) (abort : Bool) (source buf : List ℕ) (queued : ℕ) (answer : Result ℕ Refusal) (after : List ℕ) : Type 0 where
   pub promise : done (outcome_of answer) after ≡ frame_done revision h abort source buf queued
 
-pub record BuiltBanner (supported required : ℕ) (buf : List ℕ) (queued : ℕ) (answer : WriteResult) (after : List ℕ) : Type 0 where
+pub record BuiltBanner (supported required : ℕ) (buf : List ℕ) (queued : ℕ) (answer : Result ℕ Refusal) (after : List ℕ) : Type 0 where
   pub promise : done (outcome_of answer) after ≡ banner_done supported required buf queued

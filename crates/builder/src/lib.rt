@@ -14,9 +14,8 @@ use body::{
     rest_fields, segment_sum, wire_length,
 };
 use buffer::{behind, part, put, put_zeros, u32_bytes};
-use crc32c::checksum;
-use preamble::{Header, judge_header, preamble_front, total_of};
-use refusal::{Judgement, Refusal, WriteResult, both, or_else, unless};
+use preamble::{Header, judge_header, preamble_bytes, total_of};
+use refusal::{Refusal, unless};
 
 // ---- judgements
 
@@ -24,23 +23,20 @@ use refusal::{Judgement, Refusal, WriteResult, both, or_else, unless};
 pub fn room(n: u64, space: usize, queued: usize) -> bool
     ensures { result ≡ leb (queued + n) space }
 {
-    if queued <= space {
-        n <= (space - queued) as u64
-    } else {
-        false
-    }
+    queued <= space && n <= (space - queued) as u64
 }
 
 // A one-segment msgr2.1 frame has no late byte to say it in.
-pub fn judge_abort(revision: Revision, count: u8, abort: bool) -> Judgement
+pub fn judge_abort(revision: Revision, count: u8, abort: bool) -> Result<(), Refusal>
     ensures { judged_by result ≡ judge_abort revision count abort }
 {
     match revision {
-        Revision::Msgr20 => Judgement::Fine,
-        Revision::Msgr21 => unless(!both(abort, count == 1), Refusal::AbortOneSegment),
+        Revision::Msgr20 => Ok(()),
+        Revision::Msgr21 => unless(!(abort && count == 1), Refusal::AbortOneSegment),
     }
 }
 
+#[tactic(auto, unfolding(crate::specs::Build::judge_frame), using(refusal::proofs::Judgements::or_else_last))]
 fn judge_frame(
     revision: Revision,
     h: Header,
@@ -48,35 +44,25 @@ fn judge_frame(
     source: usize,
     space: usize,
     queued: usize,
-) -> Judgement
+) -> Result<(), Refusal>
     ensures { judged_by result ≡ judge_frame revision h abort source space queued }
 {
+    judge_header(h)?;
+    unless(source as u64 == total_of(h), Refusal::SourceLength)?;
+    judge_abort(revision, h.count, abort)?;
     let n = wire_length(revision, h);
-    let last = unless(room(n, space, queued), Refusal::NoRoom(n));
-    let v15 = or_else(judge_abort(revision, h.count, abort), last);
-    let t = total_of(h);
-    let v13 = or_else(unless(source as u64 == t, Refusal::SourceLength), v15);
-    or_else(judge_header(h), v13)
+    unless(room(n, space, queued), Refusal::NoRoom(n))
 }
 
-fn judge_banner(supported: u64, required: u64, space: usize, queued: usize) -> Judgement
+#[tactic(auto, unfolding(crate::specs::Build::judge_banner), using(refusal::proofs::Judgements::or_else_last))]
+fn judge_banner(supported: u64, required: u64, space: usize, queued: usize) -> Result<(), Refusal>
     ensures { judged_by result ≡ judge_banner supported required space queued }
 {
-    let last = unless(room(26, space, queued), Refusal::NoRoom(26));
-    or_else(judge_own(supported, required), last)
+    judge_own(supported, required)?;
+    unless(room(26, space, queued), Refusal::NoRoom(26))
 }
 
 // ---- writers, each into the front of the part that it is lent
-
-fn put_preamble(out: &mut [u8], h: Header)
-    requires { 32 ≤ length out.old }
-    ensures { out.new ≡ replace_front (preamble_bytes h) out.old }
-{
-    let front = preamble_front(h);
-    put(out, &front);
-    let sum = u32_bytes(checksum(0, &front));
-    put(&mut out[28..], &sum);
-}
 
 // Segment 1 and the checksum behind it.
 fn put_first(out: &mut [u8], revision: Revision, h: Header, first: &[u8])
@@ -95,8 +81,7 @@ fn put_first_sum(out: &mut [u8], revision: Revision, h: Header, first: &[u8])
     if no_first_sum(revision, h) {
         return;
     }
-    let sum = u32_bytes(segment_sum(first));
-    put(out, &sum);
+    put(out, &u32_bytes(segment_sum(first)));
 }
 
 // The segments behind segment 1: as given, or zeros in an aborted frame.
@@ -129,14 +114,11 @@ fn put_epilogue(
     let late = late_byte(revision, abort);
     let fields = rest_fields(h, abort, rest);
     match revision {
-        Revision::Msgr20 => {
-            let bytes = epilogue20(late, field_of(h.count, 1, false, first), fields);
-            put(out, &bytes);
-        }
-        Revision::Msgr21 => {
-            let bytes = epilogue21(late, fields);
-            put(out, &bytes);
-        }
+        Revision::Msgr20 => put(
+            out,
+            &epilogue20(late, field_of(h.count, 1, false, first), fields),
+        ),
+        Revision::Msgr21 => put(out, &epilogue21(late, fields)),
     }
 }
 
@@ -157,7 +139,7 @@ fn put_frame(out: &mut [u8], revision: Revision, h: Header, abort: bool, source:
     requires { (length source.now ≡ total h) × (wire_length revision h ≤ length out.old) }
     ensures { out.new ≡ replace_front (frame_bytes revision h abort source.now) out.old }
 {
-    put_preamble(out, h);
+    put(out, &preamble_bytes(h));
     let n = h.s1.len as usize;
     let first = part(source, 0, n);
     let rest = behind(source, n);
@@ -167,18 +149,17 @@ fn put_frame(out: &mut [u8], revision: Revision, h: Header, abort: bool, source:
 // ---- the builders
 
 // Builds our banner behind the queued bytes.
-pub fn build_banner(buf: &mut [u8], queued: usize, supported: u64, required: u64) -> WriteResult
+pub fn build_banner(
+    buf: &mut [u8],
+    queued: usize,
+    supported: u64,
+    required: u64,
+) -> Result<usize, Refusal>
     ensures { BuiltBanner supported required buf.old queued result buf.new }
 {
-    let judgement = judge_banner(supported, required, buf.len(), queued);
-    match judgement {
-        Judgement::Refused(why) => WriteResult::Refused(why),
-        Judgement::Fine => {
-            let bytes = banner_bytes(supported, required);
-            put(&mut buf[queued..], &bytes);
-            WriteResult::Wrote(26)
-        }
-    }
+    judge_banner(supported, required, buf.len(), queued)?;
+    put(&mut buf[queued..], &banner_bytes(supported, required));
+    Ok(26)
 }
 
 // Builds a frame, whole or aborted, behind the queued bytes.
@@ -189,15 +170,10 @@ pub fn build_frame(
     header: Header,
     abort: bool,
     source: &[u8],
-) -> WriteResult
+) -> Result<usize, Refusal>
     ensures { BuiltFrame revision header abort source.now buf.old queued result buf.new }
 {
-    let judgement = judge_frame(revision, header, abort, source.len(), buf.len(), queued);
-    match judgement {
-        Judgement::Refused(why) => WriteResult::Refused(why),
-        Judgement::Fine => {
-            put_frame(&mut buf[queued..], revision, header, abort, source);
-            WriteResult::Wrote(wire_length(revision, header) as usize)
-        }
-    }
+    judge_frame(revision, header, abort, source.len(), buf.len(), queued)?;
+    put_frame(&mut buf[queued..], revision, header, abort, source);
+    Ok(wire_length(revision, header) as usize)
 }

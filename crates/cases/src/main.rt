@@ -4,7 +4,7 @@
 mod builds;
 mod checksums;
 
-ghost use Rattle.std.specs.Prelude.{◌≡◌, ◌++◌, ◌+◌, ◌≤◌, ◌<◌, length, take, drop};
+ghost use Rattle.std.specs.Prelude.{◌≡◌, ◌++◌, ◌+◌, ◌≤◌, IfSome, length, take, drop};
 ghost use Rattle.cases.specs.LoopInvariant.{LoopInvariant, Refilled};
 ghost use Rattle.records.specs.Records.{Did};
 ghost use Rattle.build_cases.specs.Sealed.{DidPart};
@@ -12,16 +12,16 @@ ghost use Rattle.cases.specs.Kinds.{stream_record, buffer_record, other_record, 
 
 use body_cases::reading::read_record;
 use body_cases::writing::write_record;
-use buffer::{byte_at, part};
+use buffer::byte_at;
 use build_cases::{Builds, Part, build_record, builds_record, no_builds};
 use builds::{banner_record, frame_record};
 use checksums::checksum_record;
 use connection_cases::receiver_record;
 use handshake_cases::{mode_record, steps_record};
-use records::{LARGEST, Step, bad_record};
-use refusal::both;
+use records::{LARGEST, bad_record};
 use sealing_cases::sealing_record;
 use session_cases::session_record;
+use text::Page;
 
 // Where the program reads.
 const STDIN_FILENO: i32 = 0;
@@ -43,13 +43,11 @@ struct Input {
     open: bool,
 }
 
-// Between two records, or two builds of one: the input, where the text ends, the builds that are to come, and how many more records are read.
+// Between two records, or two builds of one: the input, and the builds that are to come.
 #[derive(Clone, Copy)]
 struct State {
     input: Input,
-    filled: usize,
     builds: Builds,
-    left: u64,
 }
 
 // ---- reading
@@ -59,10 +57,8 @@ fn move_front(held: &mut [u8], at: usize, n: usize)
     requires { at + n ≤ length held.old }
     ensures { held.new ≡ take n (drop at held.old) ++ drop n held.old }
 {
-    let mut i = 0;
-    while i < n {
+    for i in 0..n {
         held[i] = held[at + i];
-        i += 1;
     }
 }
 
@@ -74,10 +70,7 @@ fn refill(held: &mut [u8], input: Input) -> Input
 {
     let at = input.at;
     let n = input.end - at;
-    if LONGEST <= n {
-        return input;
-    }
-    if !input.open {
+    if LONGEST <= n || !input.open {
         return input;
     }
     let all = held.len();
@@ -85,7 +78,7 @@ fn refill(held: &mut [u8], input: Input) -> Input
     let end = n + io::read_full(STDIN_FILENO, &mut held[n..]);
     Input {
         at: 0,
-        end: end,
+        end,
         open: end == all,
     }
 }
@@ -97,171 +90,125 @@ fn advance(input: Input, n: usize) -> Input
 {
     Input {
         at: input.at + n,
-        end: input.end,
-        open: input.open,
+        ..input
     }
 }
 
 // ---- records
 
 // Streams that are received: R, X and T.
-fn run_stream(s: &[u8], space: &mut [u8], text: &mut [u8], at: usize) -> Step
+fn run_stream(s: &[u8], space: &mut [u8], page: &mut Page) -> Option<usize>
     requires { length space.old ≡ 65536 }
-    ensures { Did (stream_record s.now) s.now text.old at text.new result }
+    ensures { Did (stream_record s.now) s.now page.old page.new result }
 {
-    let kind = byte_at(s, 0);
-    if kind == b'R' {
-        return receiver_record(false, false, s, space, text, at);
+    match byte_at(s, 0) {
+        b'R' => receiver_record(false, false, s, space, page),
+        b'X' => receiver_record(true, false, s, space, page),
+        b'T' => receiver_record(true, true, s, space, page),
+        _ => bad_record(page),
     }
-    if kind == b'X' {
-        return receiver_record(true, false, s, space, text, at);
-    }
-    if kind == b'T' {
-        return receiver_record(true, true, s, space, text, at);
-    }
-    bad_record(text, at)
 }
 
 // What is sealed, opened or written into a buffer: S, O and W.
-fn run_buffer(s: &[u8], space: &mut [u8], text: &mut [u8], at: usize) -> Step
+fn run_buffer(s: &[u8], space: &mut [u8], page: &mut Page) -> Option<usize>
     requires { length space.old ≡ 65536 }
-    ensures { Did (buffer_record s.now) s.now text.old at text.new result }
+    ensures { Did (buffer_record s.now) s.now page.old page.new result }
 {
-    let kind = byte_at(s, 0);
-    if kind == b'S' {
-        return sealing_record(false, s, space, text, at);
+    match byte_at(s, 0) {
+        b'S' => sealing_record(false, s, space, page),
+        b'O' => sealing_record(true, s, space, page),
+        b'W' => write_record(s, space, page),
+        _ => run_stream(s, space, page),
     }
-    if kind == b'O' {
-        return sealing_record(true, s, space, text, at);
-    }
-    if kind == b'W' {
-        return write_record(s, space, text, at);
-    }
-    run_stream(s, space, text, at)
 }
 
 // Kinds that have a crate of their own.
-fn run_other(s: &[u8], space: &mut [u8], text: &mut [u8], at: usize) -> Step
+fn run_other(s: &[u8], space: &mut [u8], page: &mut Page) -> Option<usize>
     requires { length space.old ≡ 65536 }
-    ensures { Did (other_record s.now) s.now text.old at text.new result }
+    ensures { Did (other_record s.now) s.now page.old page.new result }
 {
-    let kind = byte_at(s, 0);
-    if kind == b'N' {
-        return session_record(s, text, at);
+    match byte_at(s, 0) {
+        b'N' => session_record(s, page),
+        b'P' => steps_record(s, page),
+        b'M' => mode_record(s, page),
+        b'H' => read_record(s, page),
+        _ => run_buffer(s, space, page),
     }
-    if kind == b'P' {
-        return steps_record(s, text, at);
-    }
-    if kind == b'M' {
-        return mode_record(s, text, at);
-    }
-    if kind == b'H' {
-        return read_record(s, text, at);
-    }
-    run_buffer(s, space, text, at)
 }
 
 // The record that the input begins with, by its first byte.
-fn run_record(s: &[u8], space: &mut [u8], text: &mut [u8], at: usize) -> Step
+fn run_record(s: &[u8], space: &mut [u8], page: &mut Page) -> Option<usize>
     requires { 65536 ≤ length space.old }
-    ensures { Did (record_of s.now) s.now text.old at text.new result }
+    ensures { Did (record_of s.now) s.now page.old page.new result }
 {
-    let kind = byte_at(s, 0);
-    if kind == b'C' {
-        return checksum_record(s, text, at);
+    match byte_at(s, 0) {
+        b'C' => checksum_record(s, page),
+        b'B' => banner_record(s, space, page),
+        b'F' => frame_record(s, space, page),
+        _ => run_other(s, &mut space[..LARGEST], page),
     }
-    if kind == b'B' {
-        return banner_record(s, space, text, at);
-    }
-    if kind == b'F' {
-        return frame_record(s, space, text, at);
-    }
-    run_other(s, &mut space[..LARGEST], text, at)
 }
 
 // A build of a record that is not at its end, the head of one, or a record that is read at once.
-fn run_next(builds: Builds, s: &[u8], space: &mut [u8], text: &mut [u8], at: usize) -> Part
+fn run_next(builds: Builds, s: &[u8], space: &mut [u8], page: &mut Page) -> Part
     requires { 65536 ≤ length space.old }
-    ensures { DidPart (next_of builds s.now) s.now text.old at text.new result }
+    ensures { DidPart (next_of builds s.now) s.now page.old page.new result }
 {
     if 0 < builds.left {
-        return build_record(builds, s, &mut space[..LARGEST], text, at);
+        return build_record(builds, s, &mut space[..LARGEST], page);
     }
     if byte_at(s, 0) == b'Y' {
-        return builds_record(builds, s, text, at);
+        return builds_record(builds, s, page);
     }
-    let step = run_record(s, space, text, at);
     Part {
-        step: step,
-        builds: builds,
+        taken: run_record(s, space, page),
+        builds,
     }
 }
 
 // ---- the run
 
-// The next record, where the input has one.
-fn run_one(held: &mut [u8], space: &mut [u8], text: &mut [u8], s: State) -> State
-    requires loop_invariant { LoopInvariant s (length held.old) (length space.old) }
-    requires left_nonzero { 0 < s.left }
-    ensures loop_invariant_2 { LoopInvariant result (length held.old) (length space.old) }
-    ensures left_lt_left { result.left < s.left }
+// The next record, where the input has one and it is not a bad one: what is behind it.
+fn run_one(held: &mut [u8], space: &mut [u8], page: &mut Page, s: State) -> Option<State>
+    requires { LoopInvariant s (length held.old) (length space.old) }
+    ensures { IfSome result (λ r. LoopInvariant r (length held.old) (length space.old)) }
 {
     let input = refill(held, s.input);
-    let at = input.at;
-    let end = input.end;
-    let builds = s.builds;
-    if both(at == end, builds.left == 0) {
-        return State {
-            input: input,
-            filled: s.filled,
-            builds: builds,
-            left: 0,
-        };
+    if input.at == input.end && s.builds.left == 0 {
+        return None;
     }
-    let done = run_next(builds, &held[at..end], space, text, s.filled);
-    let taken = done.step.taken;
-    let filled = done.step.filled;
-    let rest = done.builds;
-    if taken == 0 {
-        return State {
-            input: input,
-            filled: filled,
-            builds: rest,
-            left: 0,
-        };
-    }
-    State {
+    let done = run_next(s.builds, &held[input.at..input.end], space, page);
+    let taken = done.taken?;
+    Some(State {
         input: advance(input, taken),
-        filled: filled,
-        builds: rest,
-        left: s.left - 1,
-    }
+        builds: done.builds,
+    })
 }
 
-fn run(held: &mut [u8], space: &mut [u8], text: &mut [u8])
+fn run(held: &mut [u8], space: &mut [u8], page: &mut Page)
     requires { (164253 ≤ length held.old) × (65536 ≤ length space.old) }
 {
-    let none = Input {
+    let input = Input {
         at: 0,
         end: 0,
         open: true,
     };
     let mut s = State {
-        input: none,
-        filled: 0,
+        input,
         builds: no_builds(),
-        left: MOST,
     };
-    while 0 < s.left {
-        let next = run_one(held, space, text, s);
+    for _ in 0..MOST {
+        let Some(next) = run_one(held, space, page, s) else {
+            break;
+        };
         s = next;
     }
-    io::write_all(STDOUT_FILENO, part(text, 0, s.filled));
+    io::write_all(STDOUT_FILENO, page.written());
 }
 
 fn main() {
     let mut held = [0u8; 262144];
     let mut space = [0u8; 65536];
     let mut text = [0u8; 65536];
-    run(&mut held, &mut space, &mut text);
+    run(&mut held, &mut space, &mut Page::new(&mut text));
 }

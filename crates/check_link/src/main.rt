@@ -6,6 +6,7 @@ ghost use Rattle.std.specs.Prelude.{◌≡◌, ◌≤◌, length};
 
 use buffer::part;
 use link::{begin, read, wanted};
+use text::Page;
 
 // Where the program reads.
 const STDIN_FILENO: i32 = 0;
@@ -14,17 +15,16 @@ const STDIN_FILENO: i32 = 0;
 const STDOUT_FILENO: i32 = 1;
 
 // It is lent room for a read, the store, and room for the lines of a read: with less the text could be cut, or a frame refused that fits the store.
-fn run(held: &mut [u8], store: &mut [u8], text: &mut [u8])
-    requires { (16384 ≤ length held.old) × (length store.old ≡ 32768) × (65536 ≤ length text.old) }
+fn run(held: &mut [u8], store: &mut [u8], page: &mut Page)
+    requires { (16384 ≤ length held.old) × (length store.old ≡ 32768) × (65536 ≤ length page.old.bytes) }
 {
     let mut link = begin();
     let mut n = wanted(link);
     while 0 < n {
         let got = io::read_full(STDIN_FILENO, &mut held[..n]);
-        let next = read(link, part(held, 0, got), store, text);
-        link = next;
-        io::write_all(STDOUT_FILENO, part(text, 0, next.walk.filled));
-        n = wanted(next);
+        link = read(link, part(held, 0, got), store, page);
+        io::write_all(STDOUT_FILENO, page.written());
+        n = wanted(link);
     }
 }
 
@@ -32,5 +32,5 @@ fn main() {
     let mut held = [0u8; 16384];
     let mut store = [0u8; 32768];
     let mut text = [0u8; 65536];
-    run(&mut held, &mut store, &mut text);
+    run(&mut held, &mut store, &mut Page::new(&mut text));
 }

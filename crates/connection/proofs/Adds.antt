@@ -22,8 +22,8 @@ use Rattle.stream.proofs.Events.{by_event}
 use Rattle.receiver.specs.declared.Stage.{Stage}
 use Rattle.receiver.specs.declared.Known.{Known}
 use Rattle.receiver.specs.declared.State as crc-state
-use Rattle.receiver.specs.declared.Report.{Report}
-use Rattle.receiver.specs.declared.Report.TheVariants as report
+use Rattle.receiver.specs.Report.{Report}
+use Rattle.std.specs.Prelude.{Some, None}
 use Rattle.receiver.specs.State as crc-states
 use Rattle.receiver.specs.State.{rank}
 use Rattle.receiver.proofs.Ranks.{stage_at}
@@ -55,8 +55,8 @@ use Rattle.connection.proofs.Every.{state_of, rule_of, in-use-of, secure_unready
 
 -- n bytes of the stream since the last report, by the report and the state that it leaves
 abbrev Counts : Report → ℕ → State → Type 0
-Counts report.More n st = n ≡ unfinished st
-Counts (report.Event e) n st = passing e (n ≡ length_by st.mode (report.Event e) st.crc.known + unfinished st) (λ m. Unit {0})
+Counts None n st = n ≡ unfinished st
+Counts (Some e) n st = passing e (n ≡ length_by st.mode (Some e) st.crc.known + unfinished st) (λ m. Unit {0})
 
 -- ---- crc frames
 
@@ -66,8 +66,8 @@ module _ (c : crc-state.State) (s piece : List ℕ) (l : crc.Running c s) where
 
   crc-counts : (ready : Bool) (x : sealed-state.State) (p : Report) → fed.received.report ≡ p
       → Counts p (crc-every.unfinished c + fed.received.taken) (state_of mode.Crc ready fed.received.state x)
-  crc-counts ready x report.More q = rw q at (crc-adds.feed-counts c s piece l)
-  crc-counts ready x (report.Event e) q = rw q at (crc-adds.feed-counts c s piece l)
+  crc-counts ready x None q = rw q at (crc-adds.feed-counts c s piece l)
+  crc-counts ready x (Some e) q = rw q at (crc-adds.feed-counts c s piece l)
 
 -- ---- sealed frames
 
@@ -146,11 +146,11 @@ module _ (ready : Bool) (c : crc-state.State) where
       by_report : (p : Report) (y : sealed.Stepped) → sealed-live.After p y.state y.store → Counts p (unfinished (within x) + 1) (within y.state)
           → (sealed.Running y.state y.store → (let f = sealed.feed y.state y.store bs in Counts f.received.report (unfinished (within y.state) + f.received.taken) (within f.received.state)))
           → (let a = sealed.onward p 1 y (sealed.feed y.state y.store bs) in Counts a.received.report (unfinished (within x) + a.received.taken) (within a.received.state))
-      by_report report.More y a c ih =
+      by_report None y a c ih =
           let f = sealed.feed y.state y.store bs in
           let q : unfinished (within x) + (1 + f.received.taken) ≡ unfinished (within y.state) + f.received.taken = omega (arith, c) in
           rw q (ih a)
-      by_report (report.Event e) y a c ih = c
+      by_report (Some e) y a c ih = c
 
 -- ---- a call, by the mode
 
@@ -184,20 +184,20 @@ record Next (n : ℕ) (r : Received) : Type 0 where
   adds : n + r.taken ≡ length_by r.state.mode r.report r.state.crc.known + unfinished_after r.report n r
   counted : Counted (unfinished_after r.report n r) r.state
 
-more-length : (k : Mode) (v : Known) → length_by k report.More v ≡ 0
+more-length : (k : Mode) (v : Known) → length_by k None v ≡ 0
 more-length mode.Crc v = refl
 more-length mode.Secure v = refl
 
-refused-length : (k : Mode) (m : Numbers) (v : Known) → length_by k (report.Event (event.Refused m)) v ≡ 0
+refused-length : (k : Mode) (m : Numbers) (v : Known) → length_by k (Some (event.Refused m)) v ≡ 0
 refused-length mode.Crc m v = refl
 refused-length mode.Secure m v = refl
 
-next-at : (n t : ℕ) (st : State) (p : Report) → agrees st ≡ true → ((m : Numbers) → p ≡ report.Event (event.Refused m) → refused_in_use st ≡ true)
+next-at : (n t : ℕ) (st : State) (p : Report) → agrees st ≡ true → ((m : Numbers) → p ≡ Some (event.Refused m) → refused_in_use st ≡ true)
     → Counts p (n + t) st → Next n (record { state = st; taken = t; report = p })
-next-at n t st report.More a g c =
+next-at n t st None a g c =
     record { adds = c ∙ sym (ap (λ (k : ℕ). k + unfinished st) (more-length st.mode st.crc.known) ∙ zero-add (unfinished st)); counted = record { agree = a; counts = λ _. refl } }
-next-at n t st (report.Event e) a g c =
-    by_event (λ w. ((m : Numbers) → report.Event w ≡ report.Event (event.Refused m) → refused_in_use st ≡ true) → Counts (report.Event w) (n + t) st → Next n (record { state = st; taken = t; report = report.Event w }))
+next-at n t st (Some e) a g c =
+    by_event (λ w. ((m : Numbers) → Some w ≡ Some (event.Refused m) → refused_in_use st ≡ true) → Counts (Some w) (n + t) st → Next n (record { state = st; taken = t; report = Some w }))
     (λ w p h d. record { adds = rw p (rw p at d); counted = record { agree = a; counts = λ _. rw p } })
     (λ m h d. record {
       adds = sym (ap (λ (k : ℕ). k + (n + t)) (refused-length st.mode m st.crc.known) ∙ zero-add (n + t));
@@ -220,7 +220,7 @@ call_next n st s piece r s' w a =
     (λ u. subst (λ (k : ℕ). Counts r.report (k + r.taken) r.state) (sym (w.counts q))
     (fed-counts st.mode st.ready st.crc st.sealed s piece r s' a (record { agree = w.agree; live = q; fits = u })))))
   where
-    none : {m : Numbers} → r.report ≡ report.Event (event.Refused m) → Counts r.report (n + r.taken) r.state
+    none : {m : Numbers} → r.report ≡ Some (event.Refused m) → Counts r.report (n + r.taken) r.state
     none e = subst (λ (p : Report). Counts p (n + r.taken) r.state) (sym e) tt
 
 -- ---- a try to switch: it is made where nothing is unfinished

@@ -17,8 +17,8 @@ use Rattle.banner.specs.Banner.{judge_own, is_msgr21}
 use Rattle.stream.specs.declared.Event.{Event}
 use Rattle.stream.specs.Stream.{Entry, Trace, ended, trace_of, refused_in}
 use Rattle.stream.proofs.Laws.{trace-refused}
-use Rattle.receiver.specs.declared.Report.{Report}
-use Rattle.receiver.specs.declared.Report.TheVariants as report
+use Rattle.receiver.specs.Report.{Report}
+use Rattle.std.specs.Prelude.{Some, None}
 use Rattle.receiver.specs.declared.Stage.TheVariants as stage
 use Rattle.receiver.specs.Step as crc
 use Rattle.stream.specs.Events.{passing}
@@ -57,8 +57,8 @@ reported-then t (c ∷ ps) fs e =
     entered-append c.received.report t' c.store (reported_then t' ps fs) (reported_of t' ps) fs e (reported-then t' ps fs)
 
 counted-entered : (k n : ℕ) (r : Report) (t : ℕ) (s : List ℕ) (es : List Entry) → refused_in (entered r t s es) ≡ false → (refused_in es ≡ false → n ≡ counted k r + frames_in es) → n ≡ k + frames_in (entered r t s es)
-counted-entered k n report.More t s es e f = f e
-counted-entered k n (report.Event w) t s es e f =
+counted-entered k n None t s es e f = f e
+counted-entered k n (Some w) t s es e f =
     let p = clean-here w (refused_in (passing w es (λ m. []))) e in
     rw p (f (rw p at e) ∙ at_test (λ b. cond b (suc k) k + frames_in es ≡ k + cond b (suc (frames_in es)) (frames_in es)) (ends_frame w) (λ _. omega arith) (λ _. refl))
 
@@ -74,8 +74,8 @@ later_by t a [] h b = tt
 later_by t a (e ∷ es) h b = (omega (arith, b.0), later_by t a es h b.1)
 
 noted_by : (r : Report) (at t : ℕ) (s : List ℕ) (es : List Entry) → at ≤ t → AllBy t es → AllBy t (noted r at s es)
-noted_by report.More at t s es h b = b
-noted_by (report.Event e) at t s es h b = (h, b)
+noted_by None at t s es h b = b
+noted_by (Some e) at t s es h b = (h, b)
 
 scan_by : {A : Type 0} (step : A → List ℕ → ℕ → machine.Stepped A) (x : A) (s : List ℕ) (P : ℕ) (bs : List ℕ) → AllBy (P + length bs) (scan step x s P bs).entries
 unfolding scan

@@ -16,8 +16,8 @@ use Rattle.banner.specs.Banner.{judge_own}
 use Rattle.stream.specs.declared.Event.{Event}
 use Rattle.stream.specs.declared.Event.TheVariants as event
 use Rattle.stream.specs.Stream.{Entry, entry, refused_in}
-use Rattle.receiver.specs.declared.Report.{Report}
-use Rattle.receiver.specs.declared.Report.TheVariants as report
+use Rattle.receiver.specs.Report.{Report}
+use Rattle.std.specs.Prelude.{Some, None}
 use Rattle.stream.proofs.Events.{by_event}
 use Rattle.receiver.proofs.Appended.{passing-same}
 use Rattle.stream.specs.Events.{passing}
@@ -58,9 +58,9 @@ module _ (c : Try) where
 
 entered-more : (r : Report) (at : ℕ) (s : List ℕ) (xs es ys : List Entry) → xs ≡ es ++ cond (refused_in es) [] ys
     → entered r at s xs ≡ entered r at s es ++ cond (refused_in (entered r at s es)) [] ys
-entered-more report.More at s xs es ys ih = ih
-entered-more (report.Event w) at s xs es ys ih =
-    by_event (λ v. entered (report.Event v) at s xs ≡ entered (report.Event v) at s es ++ cond (refused_in (entered (report.Event v) at s es)) [] ys)
+entered-more None at s xs es ys ih = ih
+entered-more (Some w) at s xs es ys ih =
+    by_event (λ v. entered (Some v) at s xs ≡ entered (Some v) at s es ++ cond (refused_in (entered (Some v) at s es)) [] ys)
     (λ v p. rw (p, ih)) (λ n. refl) w
 
 abbrev pub and_piece : Piece → List Call → List Call
@@ -84,7 +84,7 @@ module _ (c : Piece) where
   each_last es stream t (taking d ∷ cs) e = each_last es stream (t + d.received.taken) cs e.2
   each_last es stream t (switching d ∷ cs) e = each_last es stream t cs e
 
-  repeats-last : (n : Numbers) (cs : List Call) → Repeats n (and_piece c cs) → c.received.report ≡ report.Event (event.Refused n)
+  repeats-last : (n : Numbers) (cs : List Call) → Repeats n (and_piece c cs) → c.received.report ≡ Some (event.Refused n)
   repeats-last n [] e = e.1
   repeats-last n (taking d ∷ cs) e = repeats-last n cs e.2
   repeats-last n (switching d ∷ cs) e = repeats-last n cs e
@@ -108,8 +108,8 @@ taken_more t (switching c ∷ cs) = taken_more t cs
 taken_more t (taking c ∷ cs) = omega (arith, taken_more (t + c.received.taken) cs)
 
 entered_by : (r : Report) (at t : ℕ) (s : List ℕ) (es : List Entry) → at ≤ t → AllBy t es → AllBy t (entered r at s es)
-entered_by report.More at t s es h b = b
-entered_by (report.Event w) at t s es h b = (h, by_event (λ v. AllBy t (passing v es (λ n. []))) (λ v p. rw p b) (λ n. tt) w)
+entered_by None at t s es h b = b
+entered_by (Some w) at t s es h b = (h, by_event (λ v. AllBy t (passing v es (λ n. []))) (λ v p. rw p b) (λ n. tt) w)
 
 up-to : (t : ℕ) (cs : List Call) → AllBy (taken_by t cs) (reported_by t cs)
 up-to t [] = tt
@@ -119,22 +119,22 @@ up-to t (taking c ∷ cs) = let u = t + c.received.taken in entered_by c.receive
 -- what is due there is the refusal again
 record Again (r : Report) : Type 0 where
   refusal : Numbers
-  is : r ≡ report.Event (event.Refused refusal)
+  is : r ≡ Some (event.Refused refusal)
 
 due-again : (es : List Entry) (t k : ℕ) → AllBy t es → refused_in es ≡ true → Again (due_report es t k)
 unfolding due_report
 due-again [] t k u e = absurd (true≢false (sym e))
 due-again (e ∷ es) t k u i =
     rw (le-leb e.at t u.0)
-    (by_event (λ w. passing w (refused_in es) (λ n. true) ≡ true → Again (passing w (due_report es t k) (λ n. report.Event (event.Refused n))))
+    (by_event (λ w. passing w (refused_in es) (λ n. true) ≡ true → Again (passing w (due_report es t k) (λ n. Some (event.Refused n))))
     (λ w p j. rw p (due-again es t k u.1 (rw p at j))) (λ n j. record { refusal = n; is = refl }) e.event i)
 
 -- ---- what one more call adds
 
 pub data Adds (r : Report) (t' : ℕ) (s' : List ℕ) : List Entry → Type 0 where
-  silent : r ≡ report.More → Adds r t' s' []
-  again : (n : Numbers) → r ≡ report.Event (event.Refused n) → Adds r t' s' []
-  reports : (e : Event) → r ≡ report.Event e → Adds r t' s' (entry e t' s' ∷ [])
+  silent : r ≡ None → Adds r t' s' []
+  again : (n : Numbers) → r ≡ Some (event.Refused n) → Adds r t' s' []
+  reports : (e : Event) → r ≡ Some e → Adds r t' s' (entry e t' s' ∷ [])
 
 -- t bytes were taken before it, and sw is the switch that is made
 pub record Grows (own : Features) (stream store : List ℕ) (sw : Switch) (t : ℕ) (c : Piece) : Type 0 where
@@ -193,8 +193,8 @@ module _ (demand : SwitchedDemand3) (own : Features) (stream store : List ℕ) w
       by_live live = go c.received.report refl
         where
           go : (r : Report) → c.received.report ≡ r → Grows own stream store sw t c
-          go report.More e = record { new = []; grows = sym (rw (live, e) at e₁) ∙ ap (λ (es : List Entry). es ++ []) e₀; adds = silent e }
-          go (report.Event w) e = record {
+          go None e = record { new = []; grows = sym (rw (live, e) at e₁) ∙ ap (λ (es : List Entry). es ++ []) e₀; adds = silent e }
+          go (Some w) e = record {
             new = entry w (t + c.received.taken) c.store ∷ [];
             grows = sym (rw (live, e, passing-same {A = List Entry} w []) at e₁) ∙ ap (λ (es : List Entry). es ++ (entry w (t + c.received.taken) c.store ∷ [])) e₀;
             adds = reports w e;

@@ -13,7 +13,7 @@ use Rattle.refusal.proofs.Booleans.{by_test, by_less, wrong, both_left, both_rig
 use Rattle.refusal.proofs.Judgements.{by_judgement_lem}
 use Rattle.banner.specs.declared.Features.{Features}
 use Rattle.stream.specs.declared.Event.TheVariants as event
-use Rattle.receiver.specs.declared.Report.TheVariants as report
+use Rattle.std.specs.Prelude.{Some, None}
 use Rattle.receiver.specs.declared.State as crc-state
 use Rattle.receiver.specs.State.{rank}
 use Rattle.receiver.specs.State as crc-states
@@ -75,7 +75,7 @@ module _ (s piece : List ℕ) where
   -- ---- a store that became too short
 
   abbrev refusing : State → Numbers → Answer
-  refusing st n = answered st 0 (report.Event (event.Refused n)) s
+  refusing st n = answered st 0 (Some (event.Refused n)) s
 
   short_by : (k : Mode) (ready : Bool) (c : crc-state.State) (x : sealed-state.State) → (let st = state_of k ready c x in
       agrees st ≡ true → refused_in_use st ≡ false → length s < needed_in_use st → answer st s piece ≡ refusing (refused_connection st (short_store st)) (short_store st))
@@ -195,7 +195,7 @@ module _ (st : State) (s piece : List ℕ) (r : Received) (s' : List ℕ) (a : A
   abbrev call : Piece
   call = record { size = 0; received = r; store = s' }
 
-  refusing_so : (st' : State) (n : Numbers) → answer st s piece ≡ answered st' 0 (report.Event (event.Refused n)) s → Refuses st' n s r s'
+  refusing_so : (st' : State) (n : Numbers) → answer st s piece ≡ answered st' 0 (Some (event.Refused n)) s → Refuses st' n s r s'
   refusing_so st' n e = repeated n (ap machine_answer (answer-given call a ∙ e))
 
   pub short_so : agrees st ≡ true → refused_in_use st ≡ false → length s < needed_in_use st → Refuses (refused_connection st (short_store st)) (short_store st) s r s'
@@ -204,7 +204,7 @@ module _ (st : State) (s piece : List ℕ) (r : Received) (s' : List ℕ) (a : A
   -- it hands back a state that agrees, and behind a refusal one that is refused
   pub record Well : Type 0 where
     pub agree : agrees r.state ≡ true
-    pub has_refused : (n : Numbers) → r.report ≡ report.Event (event.Refused n) → RefusedFor n r.state
+    pub has_refused : (n : Numbers) → r.report ≡ Some (event.Refused n) → RefusedFor n r.state
 
   pub well : agrees st ≡ true → Well
   well e = go (placed st s e)
@@ -224,7 +224,7 @@ module _ (st : State) (s piece : List ℕ) (r : Received) (s' : List ℕ) (a : A
           record {
             agree = ap agrees z.state ∙ refused-agrees g;
             has_refused = λ n q.
-                let w : report.Event (event.Refused (short_store st)) ≡ report.Event (event.Refused n) = sym z.report ∙ q in
+                let w : Some (event.Refused (short_store st)) ≡ Some (event.Refused n) = sym z.report ∙ q in
                 let i : short_store st ≡ n = cc in
                 subst (λ (y : State). RefusedFor n y) (sym z.state) (subst (λ (j : Numbers). RefusedFor j (refused_connection st (short_store st))) i g);
           }
@@ -238,8 +238,8 @@ module _ (st : State) (s piece : List ℕ) (r : Received) (s' : List ℕ) (a : A
   some : Running st s → 0 < length piece → 0 < r.taken
   some l h = by_feed (λ y. 0 < y.taken) (λ step. feed-some step st s piece h) (running-runs st s l)
 
-  none : Running st s → length piece ≡ 0 → (r.taken ≡ 0) × (r.report ≡ report.More)
-  none l h = by_feed (λ y. (y.taken ≡ 0) × (y.report ≡ report.More)) (λ step. feed-none step st s piece h) (running-runs st s l)
+  none : Running st s → length piece ≡ 0 → (r.taken ≡ 0) × (r.report ≡ None)
+  none l h = by_feed (λ y. (y.taken ≡ 0) × (y.report ≡ None)) (λ step. feed-none step st s piece h) (running-runs st s l)
 
   pub sound : Sound st s piece r s'
   sound = record {

@@ -14,7 +14,7 @@ use Rattle.stream.specs.declared.Event.{Event}
 use Rattle.stream.specs.declared.Event.TheVariants as event
 use Rattle.stream.specs.Events.{ends_frame}
 use Rattle.stream.proofs.Events.{by_kind, others}
-use Rattle.receiver.specs.declared.Report.TheVariants as report
+use Rattle.std.specs.Prelude.{Some, None}
 use Rattle.receiver.specs.declared.Received as crc-received
 use Rattle.receiver.specs.Step as crc
 use Rattle.sealed_receiver.specs.declared.Received as sealed-received
@@ -42,7 +42,7 @@ secure_gave st a r e =
 
 module _ (st : State) (s piece : List ℕ) where
   abbrev pub contradicts : Answer
-  contradicts = answered st 0 (report.Event (event.Refused contradiction)) s
+  contradicts = answered st 0 (Some (event.Refused contradiction)) s
 
   pub by_rule : (b : Bool) → ready_rule st ≡ b → answer st s piece ≡ cond b (by_mode st s piece) contradicts
   unfolding answer
@@ -52,7 +52,7 @@ module _ (st : State) (s piece : List ℕ) where
   gave a r s' e g = record { received = g.received ∙ sym (ap (λ (x : Answer). x.received) e); store = g.store ∙ sym (ap (λ (x : Answer). x.store) e) }
 
   pub contradicted : (n : Numbers) → ready_rule st ≡ false → n ≡ contradiction
-      → Answered st s piece (record { state = st; taken = 0; report = report.Event (event.Refused n) }) s
+      → Answered st s piece (record { state = st; taken = 0; report = Some (event.Refused n) }) s
   contradicted n e q = gave contradicts _ s (by_rule false e) (record { received = rw q; store = refl })
 
   pub mode-is : (b : Bool) → ready_rule st ≡ true → is_secure st.mode ≡ b
@@ -63,6 +63,6 @@ module _ (st : State) (s piece : List ℕ) where
       → Gave (cond b (by_secure st (sealed.answer st.sealed s piece)) (by_crc st (crc.answer st.crc s piece))) r s' → Answered st s piece r s'
   answered_by_lem b e m g = gave _ _ _ (mode-is b e m) g
 
-pub switch-judged : (st : State) → or_else (unless (ready_rule st && agrees_in_use st) refusal.StateContradicts) (unless (may_be_switched st) refusal.SwitchRefused) ≡ judge_switch st
+pub switch_judged : (st : State) → or_else (unless (ready_rule st && agrees_in_use st) refusal.StateContradicts) (unless (may_be_switched st) refusal.SwitchRefused) ≡ judge_switch st
 unfolding judge_switch agrees
-switch-judged st = ap (or_else (unless (ready_rule st && agrees_in_use st) refusal.StateContradicts)) (sym (or_else_last (unless (may_be_switched st) refusal.SwitchRefused)))
+switch_judged st = ap (or_else (unless (ready_rule st && agrees_in_use st) refusal.StateContradicts)) (sym (or_else_last (unless (may_be_switched st) refusal.SwitchRefused)))

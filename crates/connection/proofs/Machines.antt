@@ -23,8 +23,8 @@ use Rattle.body.specs.End.{Ended, whole, dropped, refused_for, ending}
 use Rattle.stream.specs.Stream.{zeroed}
 use Rattle.stream.specs.declared.Event.TheVariants as event
 use Rattle.stream.specs.Events.{Role, banner_end, first_end, frame_end, stream_end, role_of}
-use Rattle.receiver.specs.declared.Report.{Report}
-use Rattle.receiver.specs.declared.Report.TheVariants as report
+use Rattle.receiver.specs.Report.{Report}
+use Rattle.std.specs.Prelude.{Some, None}
 use Rattle.receiver.specs.declared.Known.{Known}
 use Rattle.receiver.specs.declared.Stage.{Stage}
 use Rattle.receiver.specs.declared.Stage.TheVariants as stage
@@ -64,8 +64,8 @@ RevisionAfterRole (frame_end h) v w = w ≡ v
 RevisionAfterRole (stream_end n) v w = Unit {0}
 
 abbrev pub RevisionAfter : Report → Revision → Revision → Type 0
-RevisionAfter report.More v w = w ≡ v
-RevisionAfter (report.Event e) v w = RevisionAfterRole (role_of e) v w
+RevisionAfter None v w = w ≡ v
+RevisionAfter (Some e) v w = RevisionAfterRole (role_of e) v w
 
 record Lands (v : Revision) (x : crc.Stepped) : Type 0 where
   there : report_ends_frame x.report ≡ true → before x.state ≡ true
@@ -90,7 +90,7 @@ lands_banner : (v : Known) (s : List ℕ) → is_msgr21 v.revision ≡ false →
 lands_banner v s h =
     let r = revision_of v.own.supported v.peer.supported in
     lands_unless (judge_features v.own.supported v.own.required v.peer.supported v.peer.required) v s
-    (crc.stepped (crc.at stage.Preamble 0 (crc.with_revision v r)) s (report.Event (event.Banner v.peer r))) (record { there = λ e. wrong e; revision = (h, refl) })
+    (crc.stepped (crc.at stage.Preamble 0 (crc.with_revision v r)) s (Some (event.Banner v.peer r))) (record { there = λ e. wrong e; revision = (h, refl) })
 
 lands_epilogue : (v : Known) (s : List ℕ) → Lands v.revision (crc.begin_epilogue v s)
 lands_epilogue v s = at_cond (Lands v.revision) (no_epilogue v.revision v.header) (lands_end whole v s) (lands_silent (crc.at stage.Epilogue 0 v) s)
@@ -200,17 +200,17 @@ crc-onward : (st : State) (r : Report) (x : crc.Stepped) (a : crc.Answer) → x.
     → crc_lifted st (crc.onward r 1 x a)
     ≡ machine.onward r (record { state = record { mode = st.mode; ready = report_ends_frame r; crc = x.state; sealed = st.sealed }; store = x.store; report = x.report })
     (crc_lifted (record { mode = st.mode; ready = report_ends_frame r; crc = x.state; sealed = st.sealed }) a)
-crc-onward st report.More x a e =
+crc-onward st None x a e =
     ap (λ (b : Bool). record { state = record { mode = st.mode; ready = b; crc = a.received.state; sealed = st.sealed }; taken = 1 + a.received.taken; report = a.received.report; store = a.store })
     (later-ready st.ready a.received.taken a.received.report)
-crc-onward st (report.Event v) x a e =
-    ap (λ (b : Bool). record { state = record { mode = st.mode; ready = b; crc = x.state; sealed = st.sealed }; taken = 1; report = report.Event v; store = x.store })
+crc-onward st (Some v) x a e =
+    ap (λ (b : Bool). record { state = record { mode = st.mode; ready = b; crc = x.state; sealed = st.sealed }; taken = 1; report = Some v; store = x.store })
     (or_false (ends_frame v) (st.ready && false) (and-false st.ready))
 
 crc-feed : (st : State) (s piece : List ℕ) → crc_lifted st (crc.feed st.crc s piece) ≡ machine.feed crc_byte st s piece
 unfolding crc.feed machine.feed
 crc-feed st s [] =
-    ap (λ (b : Bool). record { state = record { mode = st.mode; ready = b; crc = st.crc; sealed = st.sealed }; taken = 0; report = report.More; store = s }) (and-true st.ready)
+    ap (λ (b : Bool). record { state = record { mode = st.mode; ready = b; crc = st.crc; sealed = st.sealed }; taken = 0; report = None; store = s }) (and-true st.ready)
 crc-feed st s (b ∷ bs) =
     let x = crc.on_byte st.crc s b in
     crc-onward st x.report x (crc.feed x.state x.store bs) refl
@@ -235,7 +235,7 @@ pub crc-repeats : (n : Numbers) (st : State) (s piece : List ℕ) (c : Piece) �
     → machine_answer (record { received = c.received; store = c.store }) ≡ refused_again n st s
 crc-repeats n st s piece c g a =
     ap machine_answer (answer-given c a ∙ crc-answer st s piece g.mode g.rule ∙ ap (by_crc st) (crc-every.refused-answer st.crc s piece g.has_refused))
-    ∙ ap (λ (b : Bool). record { state = record { mode = st.mode; ready = b; crc = st.crc; sealed = st.sealed }; taken = 0; report = report.Event (event.Refused n); store = s }) (and-true st.ready)
+    ∙ ap (λ (b : Bool). record { state = record { mode = st.mode; ready = b; crc = st.crc; sealed = st.sealed }; taken = 0; report = Some (event.Refused n); store = s }) (and-true st.ready)
 
 abbrev pub crc_side : Machine
 crc_side = record {
@@ -293,8 +293,8 @@ secure_onward : (st : State) (r : Report) (x : machine.Stepped sealed-state.Stat
     → secure_lifted st (machine.onward r x a)
     ≡ machine.onward r (record { state = record { mode = st.mode; ready = st.ready; crc = st.crc; sealed = x.state }; store = x.store; report = x.report })
     (secure_lifted (record { mode = st.mode; ready = st.ready; crc = st.crc; sealed = x.state }) a)
-secure_onward st report.More x a = refl
-secure_onward st (report.Event v) x a = refl
+secure_onward st None x a = refl
+secure_onward st (Some v) x a = refl
 
 secure_feed : (st : State) (s piece : List ℕ) → secure_lifted st (machine.feed sealed_byte st.sealed s piece) ≡ machine.feed secure_byte st s piece
 unfolding machine.feed

@@ -16,8 +16,8 @@ use Rattle.refusal.proofs.Judgements.{by_judgement_lem}
 use Rattle.banner.specs.declared.Features.{Features}
 use Rattle.banner.specs.Banner.{judge_own}
 use Rattle.stream.specs.Stream.{Entry, Trace, trace_of}
-use Rattle.receiver.specs.declared.Report.{Report}
-use Rattle.receiver.specs.declared.Report.TheVariants as report
+use Rattle.receiver.specs.Report.{Report}
+use Rattle.std.specs.Prelude.{Some, None}
 use Rattle.receiver.specs.declared.Stage.TheVariants as stage
 use Rattle.receiver.specs.Step.{at, only_own}
 use Rattle.receiver.proofs.Entries.{noted, Behind}
@@ -46,13 +46,13 @@ none_yet t [] h = refl
 none_yet t (e ∷ es) h = rw (lt-leb e.at t h)
 
 noted-first : (r : Report) (P k : ℕ) (s : List ℕ) (es : List Entry) → up_to (P + suc k) (noted r (suc P) s es) ≡ noted r (suc P) s (up_to (suc P + k) es)
-noted-first report.More P k s es =
+noted-first None P k s es =
     let q : P + suc k ≡ suc P + k = omega arith in
     rw q
-noted-first (report.Event e) P k s es =
+noted-first (Some e) P k s es =
     let q : P + suc k ≡ suc P + k = omega arith in
     let l : suc P ≤ suc P + k = omega arith in
-    ap (λ (n : ℕ). up_to n (noted (report.Event e) (suc P) s es)) q ∙ rw (le-leb (suc P) (suc P + k) l)
+    ap (λ (n : ℕ). up_to n (noted (Some e) (suc P) s es)) q ∙ rw (le-leb (suc P) (suc P + k) l)
 
 scan-first : {A : Type 0} (step : A → List ℕ → ℕ → Stepped A) (x : A) (s : List ℕ) (P k : ℕ) (bs : List ℕ) → (scan step x s P (take k bs)).entries ≡ up_to (P + k) (scan step x s P bs).entries
 unfolding scan

@@ -15,8 +15,8 @@ use Rattle.banner.specs.declared.Revision.TheVariants.{Msgr20, Msgr21}
 use Rattle.banner.specs.Banner.{judge_own, is_msgr21}
 use Rattle.stream.specs.Events.{Role, banner_end, first_end, frame_end, stream_end, role_of, judge_role}
 use Rattle.stream.specs.Stream.{Entry, Trace, trace_of, refused_in}
-use Rattle.receiver.specs.declared.Report.{Report}
-use Rattle.receiver.specs.declared.Report.TheVariants as report
+use Rattle.receiver.specs.Report.{Report}
+use Rattle.std.specs.Prelude.{Some, None}
 use Rattle.receiver.specs.declared.Stage.TheVariants as stage
 use Rattle.receiver.specs.declared.State as crc-state
 use Rattle.receiver.specs.Step as crc
@@ -66,13 +66,13 @@ LastEndsFrame (e ∷ []) t s = (ends_frame e.event ≡ true) × (e.at ≡ t) × 
 LastEndsFrame (e ∷ f ∷ es) t s = LastEndsFrame (f ∷ es) t s
 
 last-noted : (r : Report) (at : ℕ) (s : List ℕ) (es : List Entry) (t : ℕ) (u : List ℕ) → LastEndsFrame es t u → LastEndsFrame (noted r at s es) t u
-last-noted report.More at s es t u l = l
-last-noted (report.Event e) at s [] t u l = absurd l
-last-noted (report.Event e) at s (f ∷ es) t u l = l
+last-noted None at s es t u l = l
+last-noted (Some e) at s [] t u l = absurd l
+last-noted (Some e) at s (f ∷ es) t u l = l
 
 last-here : (r : Report) (at : ℕ) (s : List ℕ) → report_ends_frame r ≡ true → LastEndsFrame (noted r at s []) at s
-last-here report.More at s e = wrong e
-last-here (report.Event v) at s e = (e, refl, refl)
+last-here None at s e = wrong e
+last-here (Some v) at s e = (e, refl, refl)
 
 -- what is ready behind a byte has just reported a frame's end
 ready_just : (st : State) (s : List ℕ) (P b : ℕ) (bs : List ℕ) → (machine.scan crc_byte st s P (b ∷ bs)).state.ready ≡ true
@@ -93,13 +93,13 @@ ready-last st s P (b ∷ bs) q e = ready_just st s P b bs e
 
 -- so it is ready exactly where the last entry is a frame's end, at the last byte
 ends-here : (r : Report) (at : ℕ) (s : List ℕ) → report_ends_frame r ≡ frame_ends_at at (noted r at s [])
-ends-here report.More at s = refl
-ends-here (report.Event e) at s = sym (ap (λ (b : Bool). ends_frame e && b) (eq-eqb at at refl) ∙ and-true (ends_frame e))
+ends-here None at s = refl
+ends-here (Some e) at s = sym (ap (λ (b : Bool). ends_frame e && b) (eq-eqb at at refl) ∙ and-true (ends_frame e))
 
 ends-later : (r : Report) (at : ℕ) (s : List ℕ) (es : List Entry) (t : ℕ) → at < t → frame_ends_at t (noted r at s es) ≡ frame_ends_at t es
-ends-later report.More at s es t h = refl
-ends-later (report.Event e) at s [] t h = ap (λ (b : Bool). ends_frame e && b) (ne_eqb at t (λ z. absurd (omega (arith, h)))) ∙ and-false (ends_frame e)
-ends-later (report.Event e) at s (f ∷ es) t h = refl
+ends-later None at s es t h = refl
+ends-later (Some e) at s [] t h = ap (λ (b : Bool). ends_frame e && b) (ne_eqb at t (λ z. absurd (omega (arith, h)))) ∙ and-false (ends_frame e)
+ends-later (Some e) at s (f ∷ es) t h = refl
 
 ready-is : (st : State) (s : List ℕ) (P b : ℕ) (bs : List ℕ)
     → (let c = machine.scan crc_byte st s P (b ∷ bs) in c.state.ready ≡ frame_ends_at (P + length (b ∷ bs)) c.entries)
@@ -121,9 +121,9 @@ ready-ends st s P (b ∷ bs) e = ready-is st s P b bs
 -- and its revision is msgr2.1 exactly where a banner chose that
 clean-onward : (r : Report) (at : ℕ) (st : State) (s : List ℕ) (es : List Entry) → refused_in (noted r at s es) ≡ false → machine.After CrcRunning CrcRefusedFor r st s
     → (refused_in es ≡ false) × CrcRunning st s
-clean-onward report.More at st s es e a = (e, a)
-clean-onward (report.Event w) at st s es e a =
-    (clean-behind w (refused_in es) e, machine.passed-running CrcRunning CrcRefusedFor (report.Event w) st s (clean-here w (refused_in es) e) a)
+clean-onward None at st s es e a = (e, a)
+clean-onward (Some w) at st s es e a =
+    (clean-behind w (refused_in es) e, machine.passed-running CrcRunning CrcRefusedFor (Some w) st s (clean-here w (refused_in es) e) a)
 
 chose_by : (x : Role) (v w : Revision) (es : List Entry) → by_judgement (judge_role x) (refused_in es) (λ n. true) ≡ false → RevisionAfterRole x v w
     → (is_msgr21 w || chose_msgr21 es) ≡ (is_msgr21 v || (chooses_msgr21 x || chose_msgr21 es))
@@ -137,8 +137,8 @@ chose_by (stream_end n) v w es e k = wrong (sym e)
 
 chose_noted : (r : Report) (v w : Revision) (at : ℕ) (s : List ℕ) (es : List Entry) → refused_in (noted r at s es) ≡ false → RevisionAfter r v w
     → (is_msgr21 w || chose_msgr21 es) ≡ (is_msgr21 v || chose_msgr21 (noted r at s es))
-chose_noted report.More v w at s es e k = ap (λ (x : Revision). is_msgr21 x || chose_msgr21 es) k
-chose_noted (report.Event x) v w at s es e k = chose_by (role_of x) v w es e k
+chose_noted None v w at s es e k = ap (λ (x : Revision). is_msgr21 x || chose_msgr21 es) k
+chose_noted (Some x) v w at s es e k = chose_by (role_of x) v w es e k
 
 pub revision-chosen : (st : State) (s : List ℕ) (P : ℕ) (bs : List ℕ) → CrcRunning st s → refused_in (machine.scan crc_byte st s P bs).entries ≡ false
     → (let c = machine.scan crc_byte st s P bs in is_msgr21 c.state.crc.known.revision ≡ (is_msgr21 st.crc.known.revision || chose_msgr21 c.entries))

@@ -9,8 +9,8 @@ use borrow.Author.Tests.{le-leb, lt-leb, ne_eqb}
 use Rattle.refusal.proofs.Booleans.{at_cond}
 use Rattle.stream.specs.declared.Event.TheVariants as event
 use Rattle.stream.specs.Stream.{Entry, Trace, refused_in}
-use Rattle.receiver.specs.declared.Report.{Report}
-use Rattle.receiver.specs.declared.Report.TheVariants as report
+use Rattle.receiver.specs.Report.{Report}
+use Rattle.std.specs.Prelude.{Some, None}
 use Rattle.stream.specs.Events.{passing}
 use Rattle.receiver.specs.Calls.{due_taken, due_report}
 use Rattle.receiver.proofs.Entries.{Behind}
@@ -68,7 +68,7 @@ ahead-only (e ∷ []) fs gs t t₁ k s l h =
 ahead-only (e ∷ f ∷ es) fs gs t t₁ k s l h =
     let ih = ahead-only (f ∷ es) fs gs t t₁ k s l h in (
       ap (λ (n : ℕ). cond (leb e.at t) (passing e.event n (λ m. 0)) (min k (e.at - t))) ih.0,
-      ap (λ (r : Report). cond (leb e.at t) (passing e.event r (λ m. report.Event (event.Refused m))) (cond (leb e.at (t + k)) (report.Event e.event) report.More)) ih.1,
+      ap (λ (r : Report). cond (leb e.at t) (passing e.event r (λ m. Some (event.Refused m))) (cond (leb e.at (t + k)) (Some e.event) None)) ih.1,
     )
 
 -- entries behind a byte make a call there take a byte of what it is lent
@@ -78,7 +78,7 @@ takes-some [] t k h e = e
 takes-some (x ∷ es) t k h e = let q : min k (x.at - t) ≡ 0 = rw (lt-leb x.at t h) at e in omega (arith, q)
 
 -- and a call that is lent nothing takes nothing and reports nothing
-pub lent_nothing : (es : List Entry) (t : ℕ) → Behind t es → (due_taken es t 0 ≡ 0) × (due_report es t 0 ≡ report.More)
+pub lent_nothing : (es : List Entry) (t : ℕ) → Behind t es → (due_taken es t 0 ≡ 0) × (due_report es t 0 ≡ None)
 unfolding due_taken due_report
 lent_nothing [] t h = (refl, refl)
 lent_nothing (x ∷ es) t h =

@@ -8,8 +8,8 @@ use Rattle.banner.specs.declared.Features.{Features}
 use Rattle.banner.specs.Banner.{judge_own}
 use Rattle.stream.specs.declared.Event.TheVariants as event
 use Rattle.stream.specs.Stream.{Entry, refused_in}
-use Rattle.receiver.specs.declared.Report.{Report}
-use Rattle.receiver.specs.declared.Report.TheVariants as report
+use Rattle.receiver.specs.Report.{Report}
+use Rattle.std.specs.Prelude.{Some, None}
 use Rattle.receiver.specs.Calls.{piece_at, entered, due_taken, due_report}
 use Rattle.connection.specs.declared.State.{State}
 use Rattle.connection.specs.declared.Received.{Received}
@@ -124,7 +124,7 @@ Each es stream t (switching c ∷ cs) = Each es stream t cs
 -- every call takes nothing and repeats the refusal
 abbrev pub Repeats : Numbers → List Call → Type 0
 Repeats n [] = Unit {0}
-Repeats n (taking c ∷ cs) = (c.received.taken ≡ 0) × (c.received.report ≡ report.Event (event.Refused n)) × Repeats n cs
+Repeats n (taking c ∷ cs) = (c.received.taken ≡ 0) × (c.received.report ≡ Some (event.Refused n)) × Repeats n cs
 Repeats n (switching c ∷ cs) = Repeats n cs
 
 abbrev pub EachBy : Judged → List Entry → List ℕ → List Call → Type 0

@@ -10,8 +10,8 @@ use Rattle.stream.specs.declared.Event.TheVariants as event
 use Rattle.stream.specs.Events.{role_of, of_frame_end, passing}
 use Rattle.receiver.specs.declared.Known.{Known}
 use Rattle.receiver.specs.declared.State as crc-state
-use Rattle.receiver.specs.declared.Report.{Report}
-use Rattle.receiver.specs.declared.Report.TheVariants as report
+use Rattle.receiver.specs.Report.{Report}
+use Rattle.std.specs.Prelude.{Some, None}
 use Rattle.receiver.specs.State as crc
 use Rattle.receiver.specs.Step as crc-step
 use Rattle.receiver.specs.Every as crc-every
@@ -60,23 +60,23 @@ pub record Running (st : State) (s : List ℕ) : Type 0 where
 pub record Refuses (st : State) (n : Numbers) (s : List ℕ) (r : Received) (s' : List ℕ) : Type 0 where
   pub state : r.state ≡ st
   pub taken : r.taken ≡ 0
-  pub report : r.report ≡ report.Event (event.Refused n)
+  pub report : r.report ≡ Some (event.Refused n)
   pub store : s' ≡ s
 
 pub record Sound (st : State) (s piece : List ℕ) (r : Received) (s' : List ℕ) : Type 0 where
   -- 26 exactly where the fields contradict each other: it takes nothing, changes nothing and hands the state back
   pub contradicts : agrees st ≡ false → Refuses st contradiction s r s'
-  pub never26 : agrees st ≡ true → r.report ≡ report.Event (event.Refused contradiction) → ⊥
+  pub never26 : agrees st ≡ true → r.report ≡ Some (event.Refused contradiction) → ⊥
   -- and a call that does not give it hands back no such state
   pub agreeing : agrees st ≡ true → agrees r.state ≡ true
   -- any other refusal stays: every later call, with any store and any piece, takes nothing, changes nothing and repeats it
-  pub stays : (n : Numbers) → agrees st ≡ true → r.report ≡ report.Event (event.Refused n)
+  pub stays : (n : Numbers) → agrees st ≡ true → r.report ≡ Some (event.Refused n)
       → (s₂ piece₂ : List ℕ) (r₂ : Received) (s₃ : List ℕ) → Answered r.state s₂ piece₂ r₂ s₃ → Refuses r.state n s₂ r₂ s₃
   -- a store that became too short for the frame under way: 10 with the length that it needs, and nothing is taken or changed
   pub short : agrees st ≡ true → refused_in_use st ≡ false → length s < needed_in_use st → Refuses (refused_connection st (short_store st)) (short_store st) s r s'
   -- where it runs, a piece that is not empty gives up at least one byte, and an empty one asks for more
   pub progress : Running st s → 0 < length piece → 0 < r.taken
-  pub nothing : Running st s → length piece ≡ 0 → (r.taken ≡ 0) × (r.report ≡ report.More)
+  pub nothing : Running st s → length piece ≡ 0 → (r.taken ≡ 0) × (r.report ≡ None)
 
 -- ---- every start and every try to switch
 
@@ -120,8 +120,8 @@ all_taken (switching c ∷ cs) = all_taken cs
 
 -- what a report says of the bytes up to it: behind a switch a frame's length on the wire as a sealed one
 abbrev pub sealed_length_of : Report → ℕ
-sealed_length_of report.More = 0
-sealed_length_of (report.Event e) = of_frame_end sealed_length (role_of e)
+sealed_length_of None = 0
+sealed_length_of (Some e) = of_frame_end sealed_length (role_of e)
 
 abbrev pub length_by : Mode → Report → Known → ℕ
 length_by mode.Crc r v = crc-every.length_of r v
@@ -149,8 +149,8 @@ unfinished st = unfinished_in st.mode st.crc st.sealed
 
 -- with a refusal, the bytes of its banner or frame, as of a receiver of crc frames
 abbrev pub unfinished_after : Report → ℕ → Received → ℕ
-unfinished_after report.More n r = unfinished r.state
-unfinished_after (report.Event e) n r = passing e (unfinished r.state) (λ m. n + r.taken)
+unfinished_after None n r = unfinished r.state
+unfinished_after (Some e) n r = passing e (unfinished r.state) (λ m. n + r.taken)
 
 abbrev pub unfinished_by : ℕ → List AnyCall → ℕ
 unfinished_by n [] = n

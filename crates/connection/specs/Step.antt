@@ -6,8 +6,8 @@ use Rattle.banner.specs.declared.Features.{Features}
 use Rattle.banner.specs.Banner.{judge_own, is_msgr21}
 use Rattle.stream.specs.declared.Event.{Event}
 use Rattle.stream.specs.declared.Event.TheVariants as event
-use Rattle.receiver.specs.declared.Report.{Report}
-use Rattle.receiver.specs.declared.Report.TheVariants as report
+use Rattle.receiver.specs.Report.{Report}
+use Rattle.std.specs.Prelude.{Some, None}
 use Rattle.receiver.specs.State.{rank}
 use Rattle.receiver.specs.State as crc
 use Rattle.receiver.specs.Step as crc-step
@@ -44,8 +44,8 @@ pub record StartedWith (own : Features) (r : Started) : Type 0 where
 
 -- a frame was just reported or dropped: its byte was the last one taken
 abbrev pub report_ends_frame : Report → Bool
-report_ends_frame report.More = false
-report_ends_frame (report.Event e) = ends_frame e
+report_ends_frame None = false
+report_ends_frame (Some e) = ends_frame e
 
 abbrev pub ready_after : Bool → ℕ → Report → Bool
 ready_after ready taken r = report_ends_frame r || (ready && eqb taken 0)
@@ -85,7 +85,7 @@ abbrev pub by_mode : State → List ℕ → List ℕ → Answer
 by_mode st s piece = cond (is_secure st.mode) (by_secure st (sealed-step.answer st.sealed s piece)) (by_crc st (crc-step.answer st.crc s piece))
 
 unfoldable pub answer : State → List ℕ → List ℕ → Answer
-answer st s piece = cond (ready_rule st) (by_mode st s piece) (answered st 0 (report.Event (event.Refused contradiction)) s)
+answer st s piece = cond (ready_rule st) (by_mode st s piece) (answered st 0 (Some (event.Refused contradiction)) s)
 
 -- a call that answers so
 pub record Gave (a : Answer) (r : Received) (s' : List ℕ) : Type 0 where

@@ -9,7 +9,7 @@ use Rattle.stream.specs.Rows.{Row, ◌⇒◌, Holds, features, sized}
 use Rattle.receiver.specs.declared.Known.{Known}
 use Rattle.receiver.specs.declared.State as crc-state
 use Rattle.receiver.specs.declared.Stage.TheVariants as stage
-use Rattle.receiver.specs.declared.Report.TheVariants as report
+use Rattle.std.specs.Prelude.{Some, None}
 use Rattle.preamble.specs.Layout.{no_header}
 use Rattle.receiver.specs.Step as crc
 use Rattle.sealed_receiver.specs.declared.Stage.TheVariants as part
@@ -94,15 +94,15 @@ behind_rows =
 
 unfoldable pub ready_rows : List (Row Bool)
 ready_rows =
-    ready_after false 54 (report.Event (Frame (sized 1 1 0 0 0))) ⇒ true
-    ∷ ready_after false 50 (report.Event (Dropped (sized 2 0 2 0 0))) ⇒ true
-    ∷ ready_after true 37 (report.Event (First (sized 2 1 2 0 0))) ⇒ false
-    ∷ ready_after false 26 (report.Event (Banner (features 1 0) Msgr21)) ⇒ false
-    ∷ ready_after true 32 (report.Event (Refused (row 5 28 0 0))) ⇒ false
+    ready_after false 54 (Some (Frame (sized 1 1 0 0 0))) ⇒ true
+    ∷ ready_after false 50 (Some (Dropped (sized 2 0 2 0 0))) ⇒ true
+    ∷ ready_after true 37 (Some (First (sized 2 1 2 0 0))) ⇒ false
+    ∷ ready_after false 26 (Some (Banner (features 1 0) Msgr21)) ⇒ false
+    ∷ ready_after true 32 (Some (Refused (row 5 28 0 0))) ⇒ false
     -- it stays so while no byte comes
-    ∷ ready_after true 0 report.More ⇒ true
-    ∷ ready_after true 1 report.More ⇒ false
-    ∷ ready_after false 0 report.More ⇒ false
+    ∷ ready_after true 0 None ⇒ true
+    ∷ ready_after true 1 None ⇒ false
+    ∷ ready_after false 0 None ⇒ false
     ∷ []
 
 -- behind a banner that chose a revision

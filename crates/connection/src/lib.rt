@@ -6,22 +6,20 @@ ghost use Rattle.refusal.specs.Refusals.{fine, judged_by};
 ghost use Rattle.receiver.specs.State.{rank};
 ghost use Rattle.receiver.specs.Step as crc;
 ghost use Rattle.sealed_receiver.specs.Step as sealed;
-ghost use Rattle.stream.specs.Events.{ends_frame};
-ghost use Rattle.connection.specs.Step.{is_secure, no_secure, report_ends_frame, ready_rule, agrees_in_use, by_crc, by_secure, may_be_switched, judge_switch, switched_state, Gave, StartedWith, Answered, SwitchedWith};
+ghost use Rattle.connection.specs.Step.{is_secure, no_secure, report_ends_frame, ready_rule, agrees_in_use, agrees, by_crc, by_secure, may_be_switched, judge_switch, switched_state, Gave, StartedWith, Answered, SwitchedWith};
 ghost use Rattle.connection.specs.Calls.{SwitchedDemand3};
 ghost use Rattle.connection.specs.Every.{EveryCall};
 ghost use Rattle.connection.specs.Worked.{WorkedSwitches};
 
 use banner::{Features, is_msgr21};
-use receiver::Report;
 use receiver::states::{agrees_with_itself, rank};
-use refusal::{Judgement, Refusal, both, either, numbers_of, or_else, unless};
+use refusal::{Numbers, Refusal, unless};
 use sealed_builder::{Sending, fresh_sending, refused_sending};
 use sealed_receiver::switch_on;
 use stream::Event;
 
 // Which frames come next.
-#[derive(Clone, Copy)]
+#[derive(Clone, Copy, PartialEq, Eq)]
 pub enum Mode {
     Crc,
     Secure,
@@ -41,7 +39,7 @@ pub struct State {
 #[derive(Clone, Copy)]
 pub struct Started {
     pub state: State,
-    pub judgement: Judgement,
+    pub judgement: Result<(), Refusal>,
 }
 
 // What a call answers.
@@ -49,7 +47,7 @@ pub struct Started {
 pub struct Received {
     pub state: State,
     pub taken: usize,
-    pub report: Report,
+    pub report: Option<Event>,
 }
 
 // What a switch answers: the state, what the builder of sealed frames is given, and whether it was refused.
@@ -57,7 +55,7 @@ pub struct Received {
 pub struct Switched {
     pub state: State,
     pub sending: Sending,
-    pub judgement: Judgement,
+    pub judgement: Result<(), Refusal>,
 }
 
 // ---- states
@@ -65,10 +63,7 @@ pub struct Switched {
 fn is_secure(mode: Mode) -> bool
     ensures { result ≡ is_secure mode }
 {
-    match mode {
-        Mode::Crc => false,
-        Mode::Secure => true,
-    }
+    mode == Mode::Secure
 }
 
 fn no_secure() -> sealed_receiver::State
@@ -82,45 +77,28 @@ pub fn start(own: Features) -> Started
     ensures { StartedWith own result }
 {
     let first = receiver::start(own);
-    let crc = first.state;
-    let judgement = first.judgement;
     Started {
         state: State {
             mode: Mode::Crc,
             ready: false,
-            crc: crc,
+            crc: first.state,
             sealed: no_secure(),
         },
-        judgement: judgement,
+        judgement: first.judgement,
     }
 }
 
-fn ends_frame(event: Event) -> bool
-    ensures { result ≡ ends_frame event }
-{
-    match event {
-        Event::Frame(_) => true,
-        Event::Dropped(_) => true,
-        _ => false,
-    }
-}
-
-fn report_ends_frame(report: Report) -> bool
+fn report_ends_frame(report: Option<Event>) -> bool
     ensures { result ≡ report_ends_frame report }
 {
-    match report {
-        Report::More => false,
-        Report::Event(e) => ends_frame(e),
-    }
+    matches!(report, Some(Event::Frame(_) | Event::Dropped(_)))
 }
 
 // Before the next preamble's first byte.
 fn at_preamble(st: receiver::State) -> bool
     ensures { result ≡ (eqb (rank st.position.stage) 4 && eqb st.position.got 0) }
 {
-    let position = st.position;
-    let stage = position.stage;
-    both(rank(stage) == 4, position.got == 0)
+    rank(st.position.stage) == 4 && st.position.got == 0
 }
 
 // ---- what refusal 26 asks
@@ -128,21 +106,16 @@ fn at_preamble(st: receiver::State) -> bool
 fn ready_rule(st: State) -> bool
     ensures { result ≡ ready_rule st }
 {
-    if st.ready {
-        let mode = st.mode;
-        return both(!is_secure(mode), at_preamble(st.crc));
-    }
-    true
+    !st.ready || !is_secure(st.mode) && at_preamble(st.crc)
 }
 
 fn agrees_in_use(st: State) -> bool
     ensures { result ≡ agrees_in_use st }
 {
-    let mode = st.mode;
-    if is_secure(mode) {
-        return sealed_receiver::states::agrees_with_itself(st.sealed);
+    match st.mode {
+        Mode::Crc => agrees_with_itself(st.crc),
+        Mode::Secure => sealed_receiver::states::agrees_with_itself(st.sealed),
     }
-    agrees_with_itself(st.crc)
 }
 
 // ---- a call
@@ -151,21 +124,15 @@ fn receive_crc(st: State, piece: &[u8], store: &mut [u8]) -> Received
     ensures { Gave (by_crc st (crc.answer st.crc store.old piece.now)) result store.new }
 {
     let o = receiver::receive(st.crc, piece, store);
-    let crc = o.state;
-    let taken = o.taken;
-    let report = o.report;
-    let mode = st.mode;
-    let sealed = st.sealed;
-    let ready = either(report_ends_frame(report), both(st.ready, taken == 0));
+    let ready = report_ends_frame(o.report) || st.ready && o.taken == 0;
     Received {
         state: State {
-            mode: mode,
-            ready: ready,
-            crc: crc,
-            sealed: sealed,
+            ready,
+            crc: o.state,
+            ..st
         },
-        taken: taken,
-        report: report,
+        taken: o.taken,
+        report: o.report,
     }
 }
 
@@ -173,20 +140,13 @@ fn receive_secure(st: State, piece: &[u8], store: &mut [u8]) -> Received
     ensures { Gave (by_secure st (sealed.answer st.sealed store.old piece.now)) result store.new }
 {
     let o = sealed_receiver::receive(st.sealed, piece, store);
-    let sealed = o.state;
-    let taken = o.taken;
-    let report = o.report;
-    let mode = st.mode;
-    let crc = st.crc;
     Received {
         state: State {
-            mode: mode,
-            ready: st.ready,
-            crc: crc,
-            sealed: sealed,
+            sealed: o.state,
+            ..st
         },
-        taken: taken,
-        report: report,
+        taken: o.taken,
+        report: o.report,
     }
 }
 
@@ -195,18 +155,16 @@ pub fn receive(state: State, piece: &[u8], store: &mut [u8]) -> Received
     ensures { Answered state store.old piece.now result store.new }
 {
     if !ready_rule(state) {
-        let n = numbers_of(Refusal::StateContradicts);
         return Received {
-            state: state,
+            state,
             taken: 0,
-            report: Report::Event(Event::Refused(n)),
+            report: Some(Event::Refused(Numbers::from(Refusal::StateContradicts))),
         };
     }
-    let mode = state.mode;
-    if is_secure(mode) {
-        return receive_secure(state, piece, store);
+    match state.mode {
+        Mode::Crc => receive_crc(state, piece, store),
+        Mode::Secure => receive_secure(state, piece, store),
     }
-    receive_crc(state, piece, store)
 }
 
 // ---- a switch
@@ -214,30 +172,32 @@ pub fn receive(state: State, piece: &[u8], store: &mut [u8]) -> Received
 fn may_be_switched(st: State) -> bool
     ensures { result ≡ may_be_switched st }
 {
-    let crc = st.crc;
-    let known = crc.known;
-    let revision = known.revision;
-    both(st.ready, is_msgr21(revision))
+    st.ready && is_msgr21(st.crc.known.revision)
 }
 
-fn judge_switch(st: State) -> Judgement
+#[tactic(auto, unfolding(crate::specs::Step::agrees))]
+fn agrees(st: State) -> bool
+    ensures { result ≡ agrees st }
+{
+    ready_rule(st) && agrees_in_use(st)
+}
+
+#[tactic(auto, unfolding(crate::specs::Step::judge_switch), using(refusal::proofs::Judgements::or_else_last))]
+fn judge_switch(st: State) -> Result<(), Refusal>
     ensures { judged_by result ≡ judge_switch st }
 {
-    let agree = both(ready_rule(st), agrees_in_use(st));
-    let first = unless(agree, Refusal::StateContradicts);
-    let second = unless(may_be_switched(st), Refusal::SwitchRefused);
-    or_else(first, second)
+    unless(agrees(st), Refusal::StateContradicts)?;
+    unless(may_be_switched(st), Refusal::SwitchRefused)
 }
 
 fn secure_from(st: State, key: [u8; 16], nonce: [u8; 12]) -> State
     ensures { result ≡ switched_state fine st key nonce }
 {
-    let crc = st.crc;
     State {
         mode: Mode::Secure,
         ready: false,
-        crc: crc,
         sealed: switch_on(key, nonce),
+        ..st
     }
 }
 
@@ -246,17 +206,16 @@ fn secure_from(st: State, key: [u8; 16], nonce: [u8; 12]) -> State
 pub fn switch(state: State, key: [u8; 16], receiving: [u8; 12], sending: [u8; 12]) -> Switched
     ensures { SwitchedWith state key receiving sending result }
 {
-    let judgement = judge_switch(state);
-    match judgement {
-        Judgement::Fine => Switched {
+    match judge_switch(state) {
+        Ok(()) => Switched {
             state: secure_from(state, key, receiving),
             sending: fresh_sending(key, sending),
-            judgement: Judgement::Fine,
+            judgement: Ok(()),
         },
-        Judgement::Refused(why) => Switched {
-            state: state,
+        Err(why) => Switched {
+            state,
             sending: refused_sending(),
-            judgement: Judgement::Refused(why),
+            judgement: Err(why),
         },
     }
 }

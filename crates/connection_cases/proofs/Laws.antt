@@ -1,14 +1,14 @@
 -- Laws of calls, of tries to switch, and of the record.
-use mathlib.Core.Path.{◌≡◌, refl, sym, ◌∙◌}
+use mathlib.Core.Path.{◌≡◌, refl, ◌∙◌}
 use mathlib.Core.Bool.{Bool, true, false, ◌&&◌}
 use mathlib.Core.List.{List, [], ◌∷◌, ◌++◌, append-nil}
-use Prim.Native.Nat.{ℕ, zero, suc, ◌+◌, ◌-◌, ◌≤◌, ◌<◌}
-use native.Mathlib.Nat.{not-suc-le-zero}
+use Prim.Native.Nat.{ℕ, suc, ◌+◌, ◌*◌, ◌≤◌, ◌<◌}
+use Rattle.std.proofs.Math.Nat.{mul-le-mul_right}
 use native.Mathlib.Omega.{arith}
 use borrow.Author.Tests.{leb-true, ltb-true}
 use lib.Dec.{leb}
 use lib.ListN.{length, take, drop, get_or, drop_of_length-le}
-use lib.Seq.{take_all, drop-drop, drop-length}
+use lib.Seq.{take_all}
 use Rattle.buffer.specs.Le.{number_at}
 use Rattle.refusal.specs.Refusals.{Judged, judged_by}
 use Rattle.refusal.proofs.Booleans.{both_left, both_right}
@@ -17,7 +17,7 @@ use Rattle.connection.specs.declared.State.{State}
 use Rattle.connection.specs.declared.Switched.{Switched}
 use Rattle.connection.specs.Step.{answer, begun, SwitchedWith}
 use Rattle.text.specs.Line.{Piece, codes}
-use Rattle.text.specs.Page.{Page, page}
+use Rattle.text.specs.Page.{Page}
 use Rattle.records.specs.Records.{is_whole, print, prints, counted}
 use Rattle.records.proofs.Laws.{sized-good, whole-within}
 use Rattle.build_cases.specs.Sealed.{sealed_line}
@@ -30,24 +30,29 @@ use Rattle.connection_cases.specs.Calls.{lent_answer, opened_by, empty_done, try
 
 -- ---- calls
 
-pub calls-next : (lends : Bool) (s : List ℕ) (n i : ℕ) → 0 < n → calls_from lends s n i ≡ call_at lends s i ∷ calls_from lends s (n - 1) (i + call_width lends)
+pub calls-next : (lends : Bool) (s : List ℕ) (n m i : ℕ) → n ≡ suc m → calls_from lends s n i ≡ call_at lends s i ∷ calls_from lends s m (i + call_width lends)
 unfolding calls_from
-calls-next lends s zero i h = absurd (not-suc-le-zero h)
-calls-next lends s (suc n) i h = let e : suc n - 1 ≡ n = omega arith in rw e
+calls-next lends s n m i h = rw h
 
 pub calls-none : (lends : Bool) (s : List ℕ) (n i : ℕ) → n ≡ 0 → calls_from lends s n i ≡ []
 unfolding calls_from
-calls-none lends s zero i e = refl
-calls-none lends s (suc n) i e = absurd (omega arith)
+calls-none lends s n i e = rw e
 
-module _ (l : Layout) (s : List ℕ) (n i : ℕ) (h : 0 < n) where
-  pub good-next : call_good l (call_at l.lends s i) ≡ true → calls_good l (calls_from l.lends s n i) ≡ calls_good l (calls_from l.lends s (n - 1) (i + call_width l.lends))
+module _ (l : Layout) (s : List ℕ) (n m i : ℕ) (h : n ≡ suc m) where
+  pub good-next : (j : ℕ) → j ≡ i + call_width l.lends → call_good l (call_at l.lends s i) ≡ true → calls_good l (calls_from l.lends s n i) ≡ calls_good l (calls_from l.lends s m j)
   unfolding calls_good
-  good-next e = rw (calls-next l.lends s n i h, e)
+  good-next j f e = rw (calls-next l.lends s n m i h, e, f)
 
   pub good_stop : call_good l (call_at l.lends s i) ≡ false → calls_good l (calls_from l.lends s n i) ≡ false
   unfolding calls_good
-  good_stop e = rw (calls-next l.lends s n i h, e)
+  good_stop e = rw (calls-next l.lends s n m i h, e)
+
+-- where a call stands
+pub place-fits : (from width i n : ℕ) → from ≤ 12497 → width ≤ 8 → i ≤ n → n ≤ 65535 → from + width * i ≤ 600000
+place-fits from width i n h w k m = let e : width * i ≤ 8 * i = mul-le-mul_right i w in omega arith
+
+pub place-on : (from width i : ℕ) → from + width * (i + 1) ≡ from + width * i + width
+place-on from width i = omega arith
 
 -- a store that is lent whole
 pub lent-whole : (st : State) (s piece : List ℕ) (lent : ℕ) → length s ≤ lent → lent_answer st s piece lent ≡ answer st s piece
@@ -63,7 +68,7 @@ try_fits l n e =
     let b = ltb-true n (4294967040 + l.switches) (both_right (leb 4294967040 n) _ e) in
     (a, b, omega arith)
 
-pub try_did : (s : List ℕ) (i : ℕ) (st : State) (o : Switched) {key receiving sending : List ℕ} {spent : ℕ} {before : List ℕ} {at : ℕ} {after : List ℕ} {r : Called} {q : Page}
+pub try_did : (s : List ℕ) (i : ℕ) (st : State) (o : Switched) {key receiving sending : List ℕ} {spent : ℕ} {before after : Page} {r : Called} {q : Page}
     → key ≡ take 16 (drop i s)
     → receiving ≡ take 12 (drop (i + 16) s)
     → sending ≡ take 12 (drop (i + 28) s)
@@ -71,9 +76,9 @@ pub try_did : (s : List ℕ) (i : ℕ) (st : State) (o : Switched) {key receivin
     → SwitchedWith st key receiving sending o
     → r.state ≡ opened_by (judged_by o.judgement) o.state spent
     → r.taken ≡ 0
-    → q ≡ print (judgement_line (codes "switch") (judged_by o.judgement)) (page before at)
-    → page after r.filled ≡ print (sealed_line (empty_done o.sending)) q
-    → (store : List ℕ) → CallDid (try_outcome s i st store) before at store after r
+    → q ≡ print (judgement_line (codes "switch") (judged_by o.judgement)) before
+    → after ≡ print (sealed_line (empty_done o.sending)) q
+    → (store : List ℕ) → CallDid (try_outcome s i st store) before store after r
 unfolding try_outcome prints
 try_did s i st o ek er es ep w e t eq f store =
     record {
@@ -91,25 +96,22 @@ prints-append [] ys p = refl
 prints-append (x ∷ xs) ys p = prints-append xs ys (print x p)
 
 -- a call and its lines
-calls-step : (l : Layout) (s : List ℕ) (xs : List Call) (st : State) (x : Call) (rest store : List ℕ) {before : List ℕ} {at : ℕ} {store' after : List ℕ} {r : Called}
-    → CallDid (call_outcome l s st x rest store) before at store' after r
-    → prints (call_lines l s xs (drop r.taken rest) r.state store') (page after r.filled) ≡ prints (call_lines l s (x ∷ xs) rest st store) (page before at)
+calls-step : (l : Layout) (s : List ℕ) (xs : List Call) (st : State) (x : Call) (rest store : List ℕ) {before : Page} {store' : List ℕ} {after : Page} {r : Called}
+    → CallDid (call_outcome l s st x rest store) before store' after r
+    → prints (call_lines l s xs (drop r.taken rest) r.state store') after ≡ prints (call_lines l s (x ∷ xs) rest st store) before
 unfolding call_lines
 calls-step l s xs st x rest store d =
     rw (d.printed, d.store, d.state, d.taken, prints-append (call_outcome l s st x rest store).lines)
 
-pub calls-on : (l : Layout) (s : List ℕ) (n i : ℕ) (stream : List ℕ) (taken taken' width : ℕ) (st : State) (x : Call) (rest store : List ℕ) {before : List ℕ} {at : ℕ} {store' after : List ℕ} {r : Called}
-    → 0 < n
+pub calls-on : (l : Layout) (s : List ℕ) (n m i j : ℕ) (st : State) (x : Call) (rest store : List ℕ) {rest' : List ℕ} {before : Page} {store' : List ℕ} {after : Page} {r : Called}
+    → n ≡ suc m
+    → j ≡ i + call_width l.lends
     → x ≡ call_at l.lends s i
-    → rest ≡ drop taken stream
-    → CallDid (call_outcome l s st x rest store) before at store' after r
-    → drop taken' stream ≡ drop r.taken (drop taken stream)
-    → width ≡ call_width l.lends
-    → prints (call_lines l s (calls_from l.lends s (n - 1) (i + width)) (drop taken' stream) r.state store') (page after r.filled)
-    ≡ prints (call_lines l s (calls_from l.lends s n i) (drop taken stream) st store) (page before at)
-calls-on l s n i stream taken taken' width st x rest store h ex er d et ew =
-    let xs : List Call = calls_from l.lends s (n - 1) (i + call_width l.lends) in
-    rw (ew, et, calls-next l.lends s n i h, ← ex, ← er) (calls-step l s xs st x rest store d)
+    → CallDid (call_outcome l s st x rest store) before store' after r
+    → rest' ≡ drop r.taken rest
+    → prints (call_lines l s (calls_from l.lends s m j) rest' r.state store') after ≡ prints (call_lines l s (calls_from l.lends s n i) rest st store) before
+calls-on l s n m i j st x rest store h f ex d e =
+    rw (f, e, calls-next l.lends s n m i h, ← ex) (calls-step l s (calls_from l.lends s m (i + call_width l.lends)) st x rest store d)
 
 -- ---- the record
 
@@ -145,7 +147,3 @@ pub receiver-printed : (l : Layout) (s : List ℕ) (p : Page) {n from : ℕ} {st
     → r ≡ prints (receiver_lines l s) p
 unfolding receiver_lines prints
 receiver-printed l s p en ef es est eb ev eq er = er ∙ rw (eq, en, ef, es, est, eb, ev)
-
--- behind the end nothing is left
-pub drop-end : (s : List ℕ) (at n : ℕ) → length s ≤ at + n → drop (length s) s ≡ drop n (drop at s)
-drop-end s at n h = drop-length s ∙ sym (drop-drop n at s ∙ drop_of_length-le s {i = at + n} h)

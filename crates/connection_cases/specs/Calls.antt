@@ -14,7 +14,7 @@ use Rattle.connection.specs.declared.State.{State}
 use Rattle.connection.specs.declared.Received.{Received}
 use Rattle.connection.specs.Step.{Answer, answer, begun, judge_switch, switched_state, switched_sending}
 use Rattle.text.specs.Line.{Piece, codes}
-use Rattle.text.specs.Page.{page}
+use Rattle.text.specs.Page.{Page}
 use Rattle.records.specs.Records.{prints, Record, whole, counted}
 use Rattle.build_cases.specs.Sealed.{sealed_line, nonce_further}
 use Rattle.connection_cases.specs.declared.places.Layout.{Layout}
@@ -107,11 +107,11 @@ unfoldable pub call_outcome : Layout → List ℕ → State → Call → List �
 call_outcome l s st x rest store = cond (is_try l x.number) (try_outcome s (try_at l x.number) st store) (answer_outcome (call_answer st x rest store))
 
 -- THE PROMISE OF A CALL AND ITS LINES
-pub record CallDid (o : Outcome) (before : List ℕ) (at : ℕ) (store' after : List ℕ) (r : Called) : Type 0 where
+pub record CallDid (o : Outcome) (before : Page) (store' : List ℕ) (after : Page) (r : Called) : Type 0 where
   pub state : r.state ≡ o.state
   pub taken : r.taken ≡ o.taken
   pub store : store' ≡ o.store
-  pub printed : page after r.filled ≡ prints o.lines (page before at)
+  pub printed : after ≡ prints o.lines before
 
 -- THE LINES OF CALLS
 unfoldable pub call_lines : Layout → List ℕ → List Call → List ℕ → State → List ℕ → List (List Piece)

@@ -1,5 +1,5 @@
 -- Lines of R, X and T records.
-use Rattle.std.specs.Prelude.{List, [], ◌∷◌, ◌++◌, ℕ}
+use Rattle.std.specs.Prelude.{Option, None, Some, List, [], ◌∷◌, ◌++◌, ℕ}
 use Rattle.refusal.specs.Refusals.{Judged, fine, refused}
 use Rattle.banner.specs.declared.Features.{Features}
 use Rattle.banner.specs.declared.Revision.{Revision}
@@ -7,8 +7,6 @@ use Rattle.banner.specs.Banner.{revision_number}
 use Rattle.preamble.specs.declared.Header.{Header}
 use Rattle.stream.specs.declared.Event.{Event}
 use Rattle.stream.specs.declared.Event.TheVariants as event
-use Rattle.receiver.specs.declared.Report.{Report}
-use Rattle.receiver.specs.declared.Report.TheVariants as report
 use Rattle.text.specs.Line.{Piece, raw, codes, word, number, field, newline}
 use Rattle.records.specs.Records.{sum_pieces, why_pieces}
 
@@ -53,6 +51,6 @@ event_line (event.Dropped h) n c = frame_line (codes "dropped taken") n h c
 event_line (event.Refused w) n c = field "refused taken" n ++ (word " number" ∷ why_pieces w) ++ sum_pieces c
 
 -- more taken 7 crc 01234567
-abbrev pub report_line : Report → ℕ → ℕ → List Piece
-report_line report.More n c = field "more taken" n ++ sum_pieces c
-report_line (report.Event e) n c = event_line e n c
+abbrev pub report_line : Option Event → ℕ → ℕ → List Piece
+report_line None n c = field "more taken" n ++ sum_pieces c
+report_line (Some e) n c = event_line e n c

@@ -7,7 +7,6 @@ mod places;
 
 ghost use Rattle.std.specs.Prelude.{◌≡◌, List, ℕ, ◌+◌, ◌≤◌, length, drop};
 ghost use Rattle.refusal.specs.Refusals.{judged_by};
-ghost use Rattle.text.specs.Page.{page};
 ghost use Rattle.records.specs.Records.{Did, print, prints};
 ghost use Rattle.build_cases.specs.Sealed.{sealed_line};
 ghost use Rattle.connection_cases.specs.Places.{count_at, calls_from};
@@ -24,18 +23,18 @@ use places::{
     receiver_size, stream_at,
 };
 use preamble::{Header, Segment};
-use records::{Step, bad_record, count_up, is_whole, print_outcome};
-use refusal::Judgement;
+use records::{bad_record, count_up, print_outcome};
+use refusal::Refusal;
 use sealed_builder::{Sending, build_sealed};
 use sealed_receiver::{Known, Receiving};
-use sealing_cases::{key_at, nonce_at};
+use sealing_cases::bytes_at;
+use text::Page;
 
-// What a call leaves: the receiving side's state, how many bytes were taken, and where the text now ends.
+// What a call leaves: the receiving side's state, and how many bytes were taken.
 #[derive(Clone, Copy)]
 struct Called {
     state: State,
     taken: usize,
-    filled: usize,
 }
 
 // ---- a call for a piece
@@ -52,24 +51,14 @@ fn receive_lent(state: State, piece: &[u8], store: &mut [u8], lent: usize) -> Re
 }
 
 // The call and its line. The rest is what is left of the stream.
-fn make_call(
-    state: State,
-    call: Call,
-    rest: &[u8],
-    store: &mut [u8],
-    text: &mut [u8],
-    at: usize,
-) -> Called
-    ensures { CallDid (answer_outcome (call_answer state call rest.now store.old)) text.old at store.new text.new result }
+fn make_call(state: State, call: Call, rest: &[u8], store: &mut [u8], page: &mut Page) -> Called
+    ensures { CallDid (answer_outcome (call_answer state call rest.now store.old)) page.old store.new page.new result }
 {
     let o = receive_lent(state, part(rest, 0, call.number), store, call.lent);
-    let next = o.state;
-    let report = o.report;
-    let sum = checksum(0xFFFFFFFF, store);
+    print_report(page, o.taken, o.report, checksum(0xFFFFFFFF, store));
     Called {
-        state: next,
+        state: o.state,
         taken: o.taken,
-        filled: print_report(text, at, o.taken, report, sum),
     }
 }
 
@@ -79,44 +68,31 @@ fn make_call(
 fn with_opened(st: State, n: u64) -> State
     ensures { result ≡ with_opened st n }
 {
-    let mode = st.mode;
-    let crc = st.crc;
-    let sealed = st.sealed;
-    let position = sealed.position;
-    let known = sealed.known;
-    let header = known.header;
-    let refusal = known.refusal;
-    let receiving = known.receiving;
-    let key = receiving.key;
-    let last = receiving.nonce;
-    let nonce = nonce_further(last, n);
+    let known = st.sealed.known;
     State {
-        mode: mode,
-        ready: st.ready,
-        crc: crc,
         sealed: sealed_receiver::State {
-            position: position,
             known: Known {
                 receiving: Receiving {
-                    key: key,
-                    nonce: nonce,
+                    nonce: nonce_further(known.receiving.nonce, n),
                     opened: n,
                     exhausted: false,
+                    ..known.receiving
                 },
-                header: header,
-                refusal: refusal,
+                ..known
             },
+            ..st.sealed
         },
+        ..st
     }
 }
 
 // The state that a switch left, with n parts opened where it was made.
-fn opened_by(judgement: Judgement, st: State, n: u64) -> State
+fn opened_by(judgement: Result<(), Refusal>, st: State, n: u64) -> State
     ensures { result ≡ opened_by (judged_by judgement) st n }
 {
     match judgement {
-        Judgement::Fine => with_opened(st, n),
-        Judgement::Refused(_) => st,
+        Ok(()) => with_opened(st, n),
+        Err(_) => st,
     }
 }
 
@@ -135,32 +111,27 @@ fn empty_header() -> Header
 }
 
 // Builds an empty frame with a sending state.
-fn print_empty(text: &mut [u8], at: usize, sending: Sending) -> usize
-    ensures { page text.new result ≡ print (sealed_line (empty_done sending)) (page text.old at) }
+fn print_empty(page: &mut Page, sending: Sending)
+    ensures { page.new ≡ print (sealed_line (empty_done sending)) page.old }
 {
     let mut buf = [0u8; 96];
     count_up(&mut buf, 0);
     let o = build_sealed(&mut buf, 0, sending, empty_header(), false, b"");
-    let built = o.built;
-    let sum = checksum(0xFFFFFFFF, &buf);
-    print_outcome(text, at, built, sum)
+    print_outcome(page, o.built, checksum(0xFFFFFFFF, &buf));
 }
 
 // With the switch that stands at a place of the record.
-fn try_switch(s: &[u8], place: usize, state: State, text: &mut [u8], at: usize) -> Called
+fn try_switch(s: &[u8], place: usize, state: State, page: &mut Page) -> Called
     requires { place + 48 ≤ length s.now }
-    ensures { (store : List ℕ) → CallDid (try_outcome s.now place state store) text.old at store text.new result }
+    ensures { (store : List ℕ) → CallDid (try_outcome s.now place state store) page.old store page.new result }
 {
-    let key = key_at(s, place);
-    let o = switch(state, key, nonce_at(s, place + 16), nonce_at(s, place + 28));
-    let next = o.state;
-    let sending = o.sending;
-    let judgement = o.judgement;
-    let end = print_judgement(text, at, b"switch", judgement);
+    let key = bytes_at(s, place);
+    let o = switch(state, key, bytes_at(s, place + 16), bytes_at(s, place + 28));
+    print_judgement(page, b"switch", o.judgement);
+    print_empty(page, o.sending);
     Called {
-        state: opened_by(judgement, next, u64_at(s, place + 40)),
+        state: opened_by(o.judgement, o.state, u64_at(s, place + 40)),
         taken: 0,
-        filled: print_empty(text, end, sending),
     }
 }
 
@@ -174,18 +145,17 @@ fn make_either(
     call: Call,
     rest: &[u8],
     store: &mut [u8],
-    text: &mut [u8],
-    at: usize,
+    page: &mut Page,
 ) -> Called
     requires { count_at l ≤ length s.now }
-    ensures { CallDid (call_outcome l s.now state call rest.now store.old) text.old at store.new text.new result }
+    ensures { CallDid (call_outcome l s.now state call rest.now store.old) page.old store.new page.new result }
 {
     let n = call.number;
     if is_try(l, n) {
         let place = l.from as usize + SWITCH * (n - TRY);
-        return try_switch(s, place, state, text, at);
+        return try_switch(s, place, state, page);
     }
-    make_call(state, call, rest, store, text, at)
+    make_call(state, call, rest, store, page)
 }
 
 // The place n bytes on, but not past the end.
@@ -208,31 +178,21 @@ fn make_calls(
     stream: &[u8],
     first: State,
     store: &mut [u8],
-    text: &mut [u8],
-    at: usize,
-) -> usize
+    page: &mut Page,
+)
     requires n_bound { (n ≤ 65535) × (from ≤ 12497) }
     requires l_in_bounds { count_at l ≤ length s.now }
-    ensures { page text.new result ≡ prints (call_lines l s.now (calls_from l.lends s.now n from) stream.now first store.old) (page text.old at) }
+    ensures { page.new ≡ prints (call_lines l s.now (calls_from l.lends s.now n from) stream.now first store.old) page.old }
 {
     let width = call_width(l.lends);
     let mut state = first;
-    let mut taken: usize = 0;
-    let mut end = at;
-    let mut place = from;
-    let mut left = n;
-    while 0 < left {
-        let call = call_at(l.lends, s, place);
-        let rest = behind(stream, taken);
-        let o = make_either(l, s, state, call, rest, store, text, end);
-        let next = o.state;
-        state = next;
-        taken = forward(stream, taken, o.taken);
-        end = o.filled;
-        place += width;
-        left -= 1;
+    let mut rest = stream;
+    for i in 0..n {
+        let call = call_at(l.lends, s, from + width * i);
+        let o = make_either(l, s, state, call, rest, store, page);
+        state = o.state;
+        rest = behind(rest, o.taken);
     }
-    end
 }
 
 // ---- the record
@@ -243,33 +203,25 @@ pub fn receiver_record(
     lends: bool,
     s: &[u8],
     space: &mut [u8],
-    text: &mut [u8],
-    at: usize,
-) -> Step
-    ensures { Did (receiver_record switches lends (length space.old) s.now) s.now text.old at text.new result }
+    page: &mut Page,
+) -> Option<usize>
+    ensures { Did (receiver_record switches lends (length space.old) s.now) s.now page.old page.new result }
 {
     let l = layout_of(switches, lends, s);
-    let size = receiver_size(space.len(), l, s);
-    if !is_whole(size, s) {
-        return bad_record(text, at);
-    }
-    let calls = calls_of(l, s);
-    let from = calls_at(l);
+    let Some(size) = receiver_size(space.len(), l, s) else {
+        return bad_record(page);
+    };
     let end = stream_at(l, s);
     let stream = part(s, end + 4, u32_at(s, end) as usize);
     let n = u32_at(s, 17) as usize;
     let store = &mut space[..n];
     count_up(store, byte_at(s, 21));
-    let own = Features {
+    let begun = start(Features {
         supported: u64_at(s, 1),
         required: u64_at(s, 9),
-    };
-    let begun = start(own);
-    let state = begun.state;
-    let judgement = begun.judgement;
-    let started = print_judgement(text, at, b"start", judgement);
-    Step {
-        taken: size,
-        filled: make_calls(l, s, calls, from, stream, state, store, text, started),
-    }
+    });
+    print_judgement(page, b"start", begun.judgement);
+    let calls = calls_of(l, s);
+    make_calls(l, s, calls, calls_at(l), stream, begun.state, store, page);
+    Some(size)
 }

@@ -1,10 +1,10 @@
 // Where the parts of a record stand, and whether each is in its range.
 ghost use Rattle.std.specs.Prelude.{◌≡◌, ◌≤◌};
-ghost use Rattle.connection_cases.specs.Places.{layout_of, count_at, calls_at, calls_of, call_width, stream_at, lent_at, call_at, calls_from, is_try, call_good, calls_good, receiver_size};
+ghost use Rattle.records.specs.Records.{size_in};
+ghost use Rattle.connection_cases.specs.Places.{layout_of, count_at, calls_at, calls_of, call_width, stream_at, lent_at, call_at, calls_from, is_try, call_good, calls_good, in_range, receiver_size};
 
 use buffer::{byte_at, u16_at, u32_at};
-use records::{LARGEST, sized};
-use refusal::{both, either};
+use records::{LARGEST, whole_size};
 
 // The longest stream that a record may give.
 const STREAM: usize = 131072;
@@ -43,13 +43,13 @@ pub(crate) fn layout_of(switches: bool, lends: bool, s: &[u8]) -> Layout
         return Layout {
             from: 23,
             switches: byte_at(s, 22),
-            lends: lends,
+            lends,
         };
     }
     Layout {
         from: 22,
         switches: 0,
-        lends: lends,
+        lends,
     }
 }
 
@@ -114,14 +114,14 @@ pub(crate) fn call_at(lends: bool, s: &[u8], at: usize) -> Call
 pub(crate) fn is_try(l: Layout, n: usize) -> bool
     ensures { result ≡ is_try l n }
 {
-    both(TRY <= n, n < TRY + (l.switches as usize))
+    TRY <= n && n < TRY + (l.switches as usize)
 }
 
 fn call_good(l: Layout, call: Call) -> bool
     ensures { result ≡ call_good l call }
 {
     let n = call.number;
-    both(either(is_try(l, n), n <= LARGEST), call.lent <= LARGEST)
+    (is_try(l, n) || n <= LARGEST) && call.lent <= LARGEST
 }
 
 fn calls_good(l: Layout, s: &[u8], n: usize, from: usize) -> bool
@@ -129,27 +129,28 @@ fn calls_good(l: Layout, s: &[u8], n: usize, from: usize) -> bool
     ensures { result ≡ calls_good l (calls_from l.lends s.now n from) }
 {
     let width = call_width(l.lends);
-    let mut place = from;
-    let mut left = n;
-    while 0 < left {
-        if !call_good(l, call_at(l.lends, s, place)) {
+    for i in 0..n {
+        if !call_good(l, call_at(l.lends, s, from + width * i)) {
             return false;
         }
-        place += width;
-        left -= 1;
     }
     true
 }
 
-// There is room for so long a store.
-pub(crate) fn receiver_size(room: usize, l: Layout, s: &[u8]) -> usize
-    ensures { result ≡ receiver_size room l s.now }
+// There is room for so long a store, and the calls are good.
+fn in_range(room: usize, l: Layout, s: &[u8]) -> bool
+    ensures { result ≡ in_range room l s.now }
 {
     let calls = calls_of(l, s);
+    let n = u32_at(s, stream_at(l, s)) as usize;
+    (l.switches <= SWITCHES && calls <= CALLS)
+        && ((u32_at(s, 17) as usize <= room && n <= STREAM) && calls_good(l, s, calls, calls_at(l)))
+}
+
+pub(crate) fn receiver_size(room: usize, l: Layout, s: &[u8]) -> Option<usize>
+    ensures { result ≡ size_in (receiver_size room l s.now) s.now }
+{
     let end = stream_at(l, s);
     let n = u32_at(s, end) as usize;
-    let counts = both(l.switches <= SWITCHES, calls <= CALLS);
-    let lengths = both(u32_at(s, 17) as usize <= room, n <= STREAM);
-    let each = calls_good(l, s, calls, calls_at(l));
-    sized(both(counts, both(lengths, each)), end + 4 + n)
+    whole_size(in_range(room, l, s), end + 4 + n, s)
 }

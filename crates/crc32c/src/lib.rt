@@ -7,9 +7,7 @@ ghost use Rattle.crc32c.specs.Lanes.{LeftBy};
 
 use buffer::u32_at;
 use crc_squares::{root_of, square_of};
-use crc_steps_32::steps_32;
-use crc_steps_64::steps_64;
-use crc_steps_128::steps_128;
+use crc_steps::{steps_32, steps_64, steps_128};
 
 // Fewer than 32 bit steps of a word, at least one. As many zeros below it as they are short of 32 make them 32.
 fn fewer_steps(bits: u32, x: u32) -> u32
@@ -54,23 +52,19 @@ fn four_words(l: Lanes, bytes: &[u8]) -> Lanes
     requires { l.i + 32 ≤ length bytes.now }
     ensures { (result.i ≡ l.i + 16) × ((s : ℕ) → LeftBy s bytes.now l → LeftBy s bytes.now result) }
 {
-    let mut a = l.a;
-    let mut b = l.b;
-    let mut c = l.c;
-    let mut d = l.d;
-    let mut i = l.i;
-    let mut k: usize = 0;
-    while k < 4 {
-        let e = i + 4;
-        let far = steps_128(mixed(a, &bytes[i..e]));
-        a = b;
-        b = c;
-        c = d;
-        d = far;
-        i = e;
-        k += 1;
+    let mut w = l;
+    for k in 0..4usize {
+        let i = l.i + 4 * k;
+        let far = steps_128(mixed(w.a, &bytes[i..i + 4]));
+        w = Lanes {
+            a: w.b,
+            b: w.c,
+            c: w.d,
+            d: far,
+            i: i + 4,
+        };
     }
-    Lanes { a, b, c, d, i }
+    w
 }
 
 fn over_fours(start: u32, bytes: &[u8]) -> Lanes
@@ -83,9 +77,9 @@ fn over_fours(start: u32, bytes: &[u8]) -> Lanes
         d: 0,
         i: 0,
     };
+    // How the loop's end is tested decides its speed: no iterator, here and below.
     while l.i + 32 <= bytes.len() {
-        let next = four_words(l, bytes);
-        l = next;
+        l = four_words(l, bytes);
     }
     l
 }
@@ -94,42 +88,38 @@ fn over_pairs(l: Lanes, bytes: &[u8]) -> Lanes
     requires { l.i ≤ length bytes.now }
     ensures { (result.i ≤ length bytes.now) × ((s : ℕ) → LeftBy s bytes.now l → LeftBy s bytes.now result) }
 {
-    let mut a = l.a;
-    let mut b = l.b;
-    let mut c = l.c;
-    let mut d = l.d;
-    let mut i = l.i;
-    while 8 <= bytes.len() - i {
-        let e = i + 4;
+    let mut w = l;
+    while 8 <= bytes.len() - w.i {
+        let e = w.i + 4;
         let f = e + 4;
-        let next = steps_32(mixed(b, &bytes[e..f])) ^ c;
-        a = steps_64(mixed(a, &bytes[i..e])) ^ next;
-        b = d;
-        c = 0;
-        d = 0;
-        i = f;
+        let next = steps_32(mixed(w.b, &bytes[e..f])) ^ w.c;
+        w = Lanes {
+            a: steps_64(mixed(w.a, &bytes[w.i..e])) ^ next,
+            b: w.d,
+            c: 0,
+            d: 0,
+            i: f,
+        };
     }
-    Lanes { a, b, c, d, i }
+    w
 }
 
 fn over_words(l: Lanes, bytes: &[u8]) -> Lanes
     requires { l.i ≤ length bytes.now }
     ensures { (result.i ≤ length bytes.now) × (length bytes.now - result.i < 4) × ((s : ℕ) → LeftBy s bytes.now l → LeftBy s bytes.now result) }
 {
-    let mut a = l.a;
-    let mut b = l.b;
-    let mut c = l.c;
-    let mut d = l.d;
-    let mut i = l.i;
-    while 4 <= bytes.len() - i {
-        let e = i + 4;
-        a = steps_32(mixed(a, &bytes[i..e])) ^ b;
-        b = c;
-        c = d;
-        d = 0;
-        i = e;
+    let mut w = l;
+    while 4 <= bytes.len() - w.i {
+        let e = w.i + 4;
+        w = Lanes {
+            a: steps_32(mixed(w.a, &bytes[w.i..e])) ^ w.b,
+            b: w.c,
+            c: w.d,
+            d: 0,
+            i: e,
+        };
     }
-    Lanes { a, b, c, d, i }
+    w
 }
 
 // The checksum of bytes from a start value, in words: four at once, then two, then one, and what is left of one.

@@ -1,8 +1,8 @@
 -- The rule of each entry of the table: squares are what `square` gives, and roots are what it gives back.
 use mathlib.Core.List.{List}
 use mathlib.Core.Path.{◌≡◌, sym, ap, ap₂, subst, ◌∙◌}
-use Prim.Native.Nat.{ℕ, zero, suc, ◌+◌, ◌*◌, ◌-◌, ◌/◌, ◌%◌, ◌^◌, ◌<◌}
-use native.Mathlib.Nat.{add-zero, add-suc, suc-add, zero-add, mod-lt, mul_assoc}
+use Prim.Native.Nat.{ℕ, ◌+◌, ◌*◌, ◌-◌, ◌/◌, ◌%◌, ◌^◌, ◌<◌}
+use native.Mathlib.Nat.{mod-lt, mul_assoc}
 use native.Mathlib.Omega.{arith}
 use lib.Arith.{digits_div, digits_mod}
 use lib.Dec.{T}
@@ -14,28 +14,13 @@ use Rattle.crc_steps.proofs.Linear.{steps-shifted}
 use Rattle.crc_steps.proofs.Rules.{computed-is}
 use Rattle.crc_steps.proofs.Tests.{alike, each}
 use Rattle.crc_squares.specs.Square.{square, square_of}
-use Rattle.crc_squares.specs.Table.{RootsAndSquares, root_or_square, root_or_square_at, root_or_square_from, high_root, high_square, pick}
+use Rattle.crc_squares.specs.Table.{RootsAndSquares, root_or_square_at, high_root, high_square, pick}
 use Rattle.crc_squares.proofs.Squares.{square-shifted, square-steps}
 
--- ---- the table's function and its constant have the same entries
-
-from_is : (i k : ℕ) → root_or_square_from i k ≡ root_or_square_at ((i + k) % 256)
-from_is i zero = ap (λ (x : ℕ). root_or_square_at (x % 256)) (sym (add-zero i))
-from_is i (suc k) = from_is (suc i) k ∙ ap (λ (x : ℕ). root_or_square_at (x % 256)) (suc-add i k ∙ sym (add-suc i k))
-
-pub root_or_square-is : (k : ℕ) → root_or_square k ≡ root_or_square_at (k % 256)
-root_or_square-is k = from_is 0 k ∙ ap (λ (x : ℕ). root_or_square_at (x % 256)) (zero-add k)
-
-pub placed_at : (p i : ℕ) → i < 256 → p ≡ i % 256 + 256 → root_or_square p ≡ root_or_square_at i
-placed_at p i h e =
-    let m : p % 256 ≡ i = omega arith in
-    root_or_square-is p ∙ ap root_or_square_at m
+-- ---- the table, by a test that antt computes at each entry
 
 pub roots_and_squares : {t : List ℕ} → T (alike 256 (λ i. get_or t i 0) root_or_square_at) → RootsAndSquares t
 roots_and_squares {t} r = record { at = λ i h. each 256 (λ i. get_or t i 0) root_or_square_at r i h }
-
-pub read_at_lem : (t : List ℕ) → RootsAndSquares t → (k : ℕ) → get_or t (k % 256) 0 ≡ root_or_square k
-read_at_lem t h k = h.at (k % 256) (mod-lt k (pow_pos 8)) ∙ sym (root_or_square-is k)
 
 -- ---- the highest place, by tests that antt computes over its nibbles
 

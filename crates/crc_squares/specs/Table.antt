@@ -1,5 +1,5 @@
 -- The table of square roots and squares: 16 entries for each place of a nibble in a word, the lowest place first; the roots, and then the squares.
--- An entry is that of the highest place (the last 4 digits of a word, powers 3 to 0) and the steps down to its own, which antt computes while it checks an arm.
+-- An entry is that of the highest place (the last 4 digits of a word, powers 3 to 0) and the steps down to its own, which antt computes while it checks the table.
 use Rattle.std.specs.Prelude.{◌≡◌, List, ℕ, zero, suc, ◌+◌, ◌*◌, ◌-◌, ◌/◌, ◌%◌, ◌^◌, ◌<◌, get_or}
 use Rattle.std.specs.Int.Bits.{bit_xor}
 use Rattle.crc_steps.specs.Tables.{computed}
@@ -20,15 +20,7 @@ pick (suc d) a b = b
 abbrev pub root_or_square_at : ℕ → ℕ
 root_or_square_at i = pick (i / 128) (computed (2 * (7 - i / 16)) (high_root (i % 16))) (computed (8 * (15 - i / 16)) (high_square (i % 16)))
 
--- nothing is computed before k is a numeral
-abbrev pub root_or_square_from : ℕ → ℕ → ℕ
-root_or_square_from i zero = root_or_square_at (i % 256)
-root_or_square_from i (suc k) = root_or_square_from (suc i) k
-
-abbrev pub root_or_square : ℕ → ℕ
-root_or_square k = root_or_square_from 0 k
-
--- the constant table has each entry
+-- the table has each entry
 pub record RootsAndSquares (t : List ℕ) : Type 0 where
   pub at : (i : ℕ) → i < 256 → get_or t i 0 ≡ root_or_square_at i
 

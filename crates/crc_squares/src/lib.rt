@@ -1,318 +1,38 @@
-// Square roots and squares of words as polynomials, by a table for their nibbles. A `match` on constants is compiled to a read-only table.
+// Square roots and squares of words as polynomials, by a table for their nibbles.
 #![tactic(auto)]
 
 mod roots_and_squares;
 
 ghost use Rattle.std.specs.Prelude.{◌≡◌, ◌≤◌};
 ghost use Rattle.crc_squares.specs.Square.{square};
-ghost use Rattle.crc_squares.specs.Table.{RootsAndSquares, root_or_square, root_or_square_at, nibbles};
+ghost use Rattle.crc_squares.specs.Table.{RootsAndSquares, root_or_square_at, nibbles};
 
-use crc_steps::place;
 use roots_and_squares::ROOTS_AND_SQUARES;
 
 // The word whose square is c: there is one, since squares are linear and no two are alike.
 pub fn root_of(c: u32) -> u32
     ensures { square result ≡ c }
 {
-    by_nibbles(0, c)
+    by_nibbles(&ROOTS_AND_SQUARES, 0, c)
 }
 
 pub fn square_of(c: u32) -> u32
     ensures { result ≡ square c }
 {
-    by_nibbles(8, c)
+    by_nibbles(&ROOTS_AND_SQUARES, 8, c)
 }
 
 // What the table has for the eight nibbles of x, the lowest at the place `first`.
-fn by_nibbles(first: u32, x: u32) -> u32
-    requires { first ≤ 8 }
+fn by_nibbles(table: &[u32; 256], first: usize, x: u32) -> u32
+    requires right { RootsAndSquares table.now }
+    requires within { first ≤ 8 }
     ensures { result ≡ nibbles root_or_square_at first 8 x }
 {
-    let mut r: u32 = 0;
+    let mut r = 0;
     let mut rest = x;
-    let mut j: u32 = 0;
-    while j < 8 {
-        r = r ^ entry(place((first + j) * 16 + (rest & 15)));
-        rest = rest >> 4;
-        j += 1;
+    for j in 0..8 {
+        r ^= table[(first + j) * 16 + (rest & 15) as usize];
+        rest >>= 4;
     }
     r
-}
-
-fn read(t: &[u32; 256], k: u32) -> u32
-    requires { RootsAndSquares t.now }
-    ensures { result ≡ root_or_square k }
-{
-    t[(k % 256) as usize]
-}
-
-// The last arm, for what no other arm has. No caller asks for that, and the compiler drops the arm.
-fn by_table(k: u32) -> u32
-    ensures { result ≡ root_or_square k }
-{
-    read(&ROOTS_AND_SQUARES, k)
-}
-
-fn entry(k: u32) -> u32
-    ensures { result ≡ root_or_square k }
-{
-    match k {
-        256 => 0x00000000,
-        257 => 0x29D3278F,
-        258 => 0x00010000,
-        259 => 0x29D2278F,
-        260 => 0x53A64F1E,
-        261 => 0x7A756891,
-        262 => 0x53A74F1E,
-        263 => 0x7A746891,
-        264 => 0x00020000,
-        265 => 0x29D1278F,
-        266 => 0x00030000,
-        267 => 0x29D0278F,
-        268 => 0x53A44F1E,
-        269 => 0x7A776891,
-        270 => 0x53A54F1E,
-        271 => 0x7A766891,
-        272 => 0x00000000,
-        273 => 0xA74C9E3C,
-        274 => 0x00040000,
-        275 => 0xA7489E3C,
-        276 => 0x4B754A89,
-        277 => 0xEC39D4B5,
-        278 => 0x4B714A89,
-        279 => 0xEC3DD4B5,
-        280 => 0x00080000,
-        281 => 0xA7449E3C,
-        282 => 0x000C0000,
-        283 => 0xA7409E3C,
-        284 => 0x4B7D4A89,
-        285 => 0xEC31D4B5,
-        286 => 0x4B794A89,
-        287 => 0xEC35D4B5,
-        288 => 0x00000000,
-        289 => 0x96EA9512,
-        290 => 0x00100000,
-        291 => 0x96FA9512,
-        292 => 0x28395CD5,
-        293 => 0xBED3C9C7,
-        294 => 0x28295CD5,
-        295 => 0xBEC3C9C7,
-        296 => 0x00200000,
-        297 => 0x96CA9512,
-        298 => 0x00300000,
-        299 => 0x96DA9512,
-        300 => 0x28195CD5,
-        301 => 0xBEF3C9C7,
-        302 => 0x28095CD5,
-        303 => 0xBEE3C9C7,
-        304 => 0x00000000,
-        305 => 0x5072B9AA,
-        306 => 0x00400000,
-        307 => 0x5032B9AA,
-        308 => 0xA0E57354,
-        309 => 0xF097CAFE,
-        310 => 0xA0A57354,
-        311 => 0xF0D7CAFE,
-        312 => 0x00800000,
-        313 => 0x50F2B9AA,
-        314 => 0x00C00000,
-        315 => 0x50B2B9AA,
-        316 => 0xA0657354,
-        317 => 0xF017CAFE,
-        318 => 0xA0257354,
-        319 => 0xF057CAFE,
-        320 => 0x00000000,
-        321 => 0x44269059,
-        322 => 0x01000000,
-        323 => 0x45269059,
-        324 => 0x884D20B2,
-        325 => 0xCC6BB0EB,
-        326 => 0x894D20B2,
-        327 => 0xCD6BB0EB,
-        328 => 0x02000000,
-        329 => 0x46269059,
-        330 => 0x03000000,
-        331 => 0x47269059,
-        332 => 0x8A4D20B2,
-        333 => 0xCE6BB0EB,
-        334 => 0x8B4D20B2,
-        335 => 0xCF6BB0EB,
-        336 => 0x00000000,
-        337 => 0x15763795,
-        338 => 0x04000000,
-        339 => 0x11763795,
-        340 => 0x2AEC6F2A,
-        341 => 0x3F9A58BF,
-        342 => 0x2EEC6F2A,
-        343 => 0x3B9A58BF,
-        344 => 0x08000000,
-        345 => 0x1D763795,
-        346 => 0x0C000000,
-        347 => 0x19763795,
-        348 => 0x22EC6F2A,
-        349 => 0x379A58BF,
-        350 => 0x26EC6F2A,
-        351 => 0x339A58BF,
-        352 => 0x00000000,
-        353 => 0x55D8DE54,
-        354 => 0x10000000,
-        355 => 0x45D8DE54,
-        356 => 0xABB1BCA8,
-        357 => 0xFE6962FC,
-        358 => 0xBBB1BCA8,
-        359 => 0xEE6962FC,
-        360 => 0x20000000,
-        361 => 0x75D8DE54,
-        362 => 0x30000000,
-        363 => 0x65D8DE54,
-        364 => 0x8BB1BCA8,
-        365 => 0xDE6962FC,
-        366 => 0x9BB1BCA8,
-        367 => 0xCE6962FC,
-        368 => 0x00000000,
-        369 => 0x528F0FA1,
-        370 => 0x40000000,
-        371 => 0x128F0FA1,
-        372 => 0xA51E1F42,
-        373 => 0xF79110E3,
-        374 => 0xE51E1F42,
-        375 => 0xB79110E3,
-        376 => 0x80000000,
-        377 => 0xD28F0FA1,
-        378 => 0xC0000000,
-        379 => 0x928F0FA1,
-        380 => 0x251E1F42,
-        381 => 0x779110E3,
-        382 => 0x651E1F42,
-        383 => 0x379110E3,
-        384 => 0x00000000,
-        385 => 0xBF672381,
-        386 => 0xF64463E6,
-        387 => 0x49234067,
-        388 => 0xD725148B,
-        389 => 0x6842370A,
-        390 => 0x2161776D,
-        391 => 0x9E0654EC,
-        392 => 0x52A0C93F,
-        393 => 0xEDC7EABE,
-        394 => 0xA4E4AAD9,
-        395 => 0x1B838958,
-        396 => 0x8585DDB4,
-        397 => 0x3AE2FE35,
-        398 => 0x73C1BE52,
-        399 => 0xCCA69DD3,
-        400 => 0x00000000,
-        401 => 0x4F6F520D,
-        402 => 0x38513EC5,
-        403 => 0x773E6CC8,
-        404 => 0xE144FB14,
-        405 => 0xAE2BA919,
-        406 => 0xD915C5D1,
-        407 => 0x967A97DC,
-        408 => 0x8B277743,
-        409 => 0xC448254E,
-        410 => 0xB3764986,
-        411 => 0xFC191B8B,
-        412 => 0x6A638C57,
-        413 => 0x250CDE5A,
-        414 => 0x5232B292,
-        415 => 0x1D5DE09F,
-        416 => 0x00000000,
-        417 => 0x274530EE,
-        418 => 0x9D14C3B8,
-        419 => 0xBA51F356,
-        420 => 0x7F8BE302,
-        421 => 0x58CED3EC,
-        422 => 0xE29F20BA,
-        423 => 0xC5DA1054,
-        424 => 0xFBC3FAF9,
-        425 => 0xDC86CA17,
-        426 => 0x66D73941,
-        427 => 0x419209AF,
-        428 => 0x844819FB,
-        429 => 0xA30D2915,
-        430 => 0x195CDA43,
-        431 => 0x3E19EAAD,
-        432 => 0x00000000,
-        433 => 0xE13B70F7,
-        434 => 0x8AD958CF,
-        435 => 0x6BE22838,
-        436 => 0x20BD8EDE,
-        437 => 0xC186FE29,
-        438 => 0xAA64D611,
-        439 => 0x4B5FA6E6,
-        440 => 0x82F63B78,
-        441 => 0x63CD4B8F,
-        442 => 0x082F63B7,
-        443 => 0xE9141340,
-        444 => 0xA24BB5A6,
-        445 => 0x4370C551,
-        446 => 0x2892ED69,
-        447 => 0xC9A99D9E,
-        448 => 0x00000000,
-        449 => 0x00000002,
-        450 => 0x00000008,
-        451 => 0x0000000A,
-        452 => 0x00000020,
-        453 => 0x00000022,
-        454 => 0x00000028,
-        455 => 0x0000002A,
-        456 => 0x00000080,
-        457 => 0x00000082,
-        458 => 0x00000088,
-        459 => 0x0000008A,
-        460 => 0x000000A0,
-        461 => 0x000000A2,
-        462 => 0x000000A8,
-        463 => 0x000000AA,
-        464 => 0x00000000,
-        465 => 0x00000200,
-        466 => 0x00000800,
-        467 => 0x00000A00,
-        468 => 0x00002000,
-        469 => 0x00002200,
-        470 => 0x00002800,
-        471 => 0x00002A00,
-        472 => 0x00008000,
-        473 => 0x00008200,
-        474 => 0x00008800,
-        475 => 0x00008A00,
-        476 => 0x0000A000,
-        477 => 0x0000A200,
-        478 => 0x0000A800,
-        479 => 0x0000AA00,
-        480 => 0x00000000,
-        481 => 0x00020000,
-        482 => 0x00080000,
-        483 => 0x000A0000,
-        484 => 0x00200000,
-        485 => 0x00220000,
-        486 => 0x00280000,
-        487 => 0x002A0000,
-        488 => 0x00800000,
-        489 => 0x00820000,
-        490 => 0x00880000,
-        491 => 0x008A0000,
-        492 => 0x00A00000,
-        493 => 0x00A20000,
-        494 => 0x00A80000,
-        495 => 0x00AA0000,
-        496 => 0x00000000,
-        497 => 0x02000000,
-        498 => 0x08000000,
-        499 => 0x0A000000,
-        500 => 0x20000000,
-        501 => 0x22000000,
-        502 => 0x28000000,
-        503 => 0x2A000000,
-        504 => 0x80000000,
-        505 => 0x82000000,
-        506 => 0x88000000,
-        507 => 0x8A000000,
-        508 => 0xA0000000,
-        509 => 0xA2000000,
-        510 => 0xA8000000,
-        511 => 0xAA000000,
-        _ => by_table(k),
-    }
 }

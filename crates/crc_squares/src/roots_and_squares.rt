@@ -1,5 +1,5 @@
-// The table of crc_squares, as a constant: the entry at 16 j + k is the square root of the nibble k at place j of a word, the entry at 16 (8 + j) + k its square.
-pub const ROOTS_AND_SQUARES: [u32; 256] = [
+// The table of roots and squares: the entry at 16 j + k is the square root of the nibble k at place j of a word, the entry at 16 (8 + j) + k its square.
+pub static ROOTS_AND_SQUARES: [u32; 256] = [
     0x00000000, 0x29D3278F, 0x00010000, 0x29D2278F, 0x53A64F1E, 0x7A756891, 0x53A74F1E, 0x7A746891,
     0x00020000, 0x29D1278F, 0x00030000, 0x29D0278F, 0x53A44F1E, 0x7A776891, 0x53A54F1E, 0x7A766891,
     0x00000000, 0xA74C9E3C, 0x00040000, 0xA7489E3C, 0x4B754A89, 0xEC39D4B5, 0x4B714A89, 0xEC3DD4B5,

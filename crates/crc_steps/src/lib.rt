@@ -1,38 +1,42 @@
-// Bit steps of CRC32-C from a byte, by a table, and what the tables of crc_steps_32, crc_steps_64, crc_steps_128 and crc_squares share.
+// Bit steps of CRC32-C from a word, by a table for each of its bytes.
 #![tactic(auto)]
 
-mod bytes;
+mod tables_128;
+mod tables_32;
+mod tables_64;
 
-ghost use Rattle.std.specs.Prelude.{◌≡◌, ◌+◌, ◌*◌, ◌%◌};
-ghost use Rattle.crc_steps.specs.Tables.{Bytewise, entry};
+ghost use Rattle.std.specs.Prelude.{◌≡◌, ◌≤◌};
+ghost use Rattle.crc_steps.specs.Steps.{steps};
+ghost use Rattle.crc_steps.specs.Tables.{StepsOfBytes};
 
-use bytes::TABLE;
+use tables_32::TABLES_32;
+use tables_64::TABLES_64;
+use tables_128::TABLES_128;
 
-// Steps from the byte k, eight at a time, by the byte table.
-fn walk(t: &[u32; 256], n: usize, k: u32) -> u32
-    requires { Bytewise t.now }
-    ensures { result ≡ entry (8 * n) k }
+// What N steps make of a word, from what they make of each of its bytes at its place, the lowest first.
+fn by_bytes<const N: u32>(tables: &[[u32; 256]; 4], word: u32) -> u32
+    requires long { 32 ≤ N }
+    requires right { StepsOfBytes N tables.now }
+    ensures { result ≡ steps N word }
 {
-    let mut c = k % 256;
-    let mut left = n;
-    while 0 < left {
-        let low = (c % 256) as usize;
-        c = t[low] ^ (c >> 8);
-        left -= 1;
-    }
-    c
+    let [a, b, c, d] = word.to_le_bytes();
+    tables[0][a as usize] ^ tables[1][b as usize] ^ tables[2][c as usize] ^ tables[3][d as usize]
 }
 
-// The last arm of each table, for what no other arm has. No caller asks for that, and the compiler drops the arm.
-pub fn by_byte_table(n: usize, k: u32) -> u32
-    ensures { result ≡ entry (8 * n) k }
+pub fn steps_32(word: u32) -> u32
+    ensures { result ≡ steps 32 word }
 {
-    walk(&TABLE, n, k)
+    by_bytes::<32>(&TABLES_32, word)
 }
 
-// The place of a word's lowest byte. The tables start at 256, so that the compiler reads them with nothing added.
-pub fn place(w: u32) -> u32
-    ensures { result ≡ w % 256 + 256 }
+pub fn steps_64(word: u32) -> u32
+    ensures { result ≡ steps 64 word }
 {
-    w % 256 + 256
+    by_bytes::<64>(&TABLES_64, word)
+}
+
+pub fn steps_128(word: u32) -> u32
+    ensures { result ≡ steps 128 word }
+{
+    by_bytes::<128>(&TABLES_128, word)
 }

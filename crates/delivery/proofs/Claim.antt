@@ -10,7 +10,8 @@ use Rattle.banner.specs.declared.Features.{Features}
 use Rattle.banner.specs.Banner.{judge_own}
 use Rattle.stream.specs.Stream.{Entry, entry, Trace}
 use Rattle.stream.proofs.Laws.{trace-refused}
-use Rattle.receiver.specs.declared.Report.{Report}
+use Rattle.std.specs.Prelude.{Result, Option}
+use Rattle.stream.specs.declared.Event.{Event}
 use Rattle.receiver.specs.Calls.{piece_at}
 use Rattle.secure.specs.Reading.{sealed_trace}
 use Rattle.connection.specs.Switched.{Switch, none, behind, spliced, trace_with}
@@ -52,10 +53,10 @@ OnConnection k = connection.Chained k.stream (begun k.own) k.store 0 (on_connect
 pub on_connection_lem : (k : Connection) (s : Session) → ConnectedWith s k.own k.connected → Chained k.stream k.connected.state k.store 0 k.calls → OnConnection k
 on_connection_lem k s c ch = rw (ap (λ (x : Delivery). x.receiver) c.state) at (chained-on k.stream k.connected.state k.store 0 k.calls ch)
 
-does : (s : Session) (d : Applied) (r : Report) (t' : ℕ) (s' : List ℕ) (new : List Entry) → d ≡ done_to s (request_by_report r s') → Adds r t' s' new → Does s t' d new
-does s d r t' s' new e (silent q) = nothing (e ∙ ap (λ (x : Report). done_to s (request_by_report x s')) q)
-does s d r t' s' new e (again n q) = nothing (e ∙ ap (λ (x : Report). done_to s (request_by_report x s')) q)
-does s d r t' s' new e (reports w q) = one (entry w t' s') refl (e ∙ ap (λ (x : Report). done_to s (request_by_report x s')) q)
+does : (s : Session) (d : Applied) (r : Option Event) (t' : ℕ) (s' : List ℕ) (new : List Entry) → d ≡ done_to s (request_by_report r s') → Adds r t' s' new → Does s t' d new
+does s d r t' s' new e (silent q) = nothing (e ∙ ap (λ (x : Option Event). done_to s (request_by_report x s')) q)
+does s d r t' s' new e (again n q) = nothing (e ∙ ap (λ (x : Option Event). done_to s (request_by_report x s')) q)
+does s d r t' s' new e (reports w q) = one (entry w t' s') refl (e ∙ ap (λ (x : Option Event). done_to s (request_by_report x s')) q)
 
 module _ (demand : SwitchedDemand3) (k : Connection) (on : OnConnection k) where
   -- a piece behind the calls past
@@ -104,7 +105,7 @@ due-append [] ys = refl
 due-append (x ∷ xs) ys = ap (λ (cs : List session.Call). calls_by x ++ cs) (due-append xs ys) ∙ sym (append_assoc (calls_by x) (calls_due xs) (calls_due ys))
 
 -- calls of the session, one behind the other, lead from s to s' and give these answers
-pub record Plays (s : Session) (calls : List session.Call) (s' : Session) (answers : List Answer) : Type 0 where
+pub record Plays (s : Session) (calls : List session.Call) (s' : Session) (answers : List (Result Answer Numbers)) : Type 0 where
   pub leads : s' ≡ after_calls s calls
   pub gives : answers ≡ history_answers (played s calls)
 
@@ -114,14 +115,14 @@ after-append s (x ∷ xs) ys = after-append (call_of s x).session xs ys
 
 answers-append : (s : Session) (xs ys : List session.Call) → history_answers (played s (xs ++ ys)) ≡ history_answers (played s xs) ++ history_answers (played (after_calls s xs) ys)
 answers-append s [] ys = refl
-answers-append s (x ∷ xs) ys = ap (λ (rs : List Answer). (call_of s x).answer ∷ rs) (answers-append (call_of s x).session xs ys)
+answers-append s (x ∷ xs) ys = ap (λ (rs : List (Result Answer Numbers)). (call_of s x).answer ∷ rs) (answers-append (call_of s x).session xs ys)
 
-plays_then : {s s' s'' : Session} {xs ys : List session.Call} {rs qs : List Answer} → Plays s xs s' rs → Plays s' ys s'' qs → Plays s (xs ++ ys) s'' (rs ++ qs)
+plays_then : {s s' s'' : Session} {xs ys : List session.Call} {rs qs : List (Result Answer Numbers)} → Plays s xs s' rs → Plays s' ys s'' qs → Plays s (xs ++ ys) s'' (rs ++ qs)
 plays_then {s} {s'} {s''} {xs} {ys} {rs} {qs} x y = record {
   leads = y.leads ∙ ap (λ (z : Session). after_calls z ys) x.leads ∙ sym (after-append s xs ys);
   gives =
-      ap (λ (l : List Answer). l ++ qs) x.gives
-      ∙ ap (λ (l : List Answer). history_answers (played s xs) ++ l) (y.gives ∙ ap (λ (z : Session). history_answers (played z ys)) x.leads)
+      ap (λ (l : List (Result Answer Numbers)). l ++ qs) x.gives
+      ∙ ap (λ (l : List (Result Answer Numbers)). history_answers (played s xs) ++ l) (y.gives ∙ ap (λ (z : Session). history_answers (played z ys)) x.leads)
       ∙ sym (answers-append s xs ys);
 }
 
@@ -141,7 +142,7 @@ does_plays s t' d es (one w at e) =
     (subst (λ (cs : List session.Call). Plays s cs (done_to s a).session (answers_by (done_to s a).effect)) (sym (append-nil (calls_requested a))) (request_plays s a))
 
 called_plays : (st : Delivery) (c : session.Call) (r : SessionCalled) → Called st c r → Plays st.session (c ∷ []) r.state.session (r.answer ∷ [])
-called_plays st c r x = record { leads = ap (λ (d : Delivery). d.session) x.state; gives = ap (λ (q : Answer). q ∷ []) x.answer }
+called_plays st c r x = record { leads = ap (λ (d : Delivery). d.session) x.state; gives = ap (λ (q : Result Answer Numbers). q ∷ []) x.answer }
 
 pub calls-play : (k : Connection) (st : Delivery) (s : List ℕ) (t : ℕ) (cs : List Call) → Chained k.stream st s t cs → Each k st.session t cs
     → Plays st.session (calls_due (causes_from k t cs)) (session_after st.session cs) (answers_in cs)

@@ -8,12 +8,12 @@ use lib.ListN.{length}
 use Rattle.refusal.proofs.Booleans.{by_test}
 use Rattle.stream.proofs.Events.{by_frame}
 use Rattle.stream.specs.Stream.{entry}
-use Rattle.receiver.specs.declared.Report.{Report}
-use Rattle.receiver.specs.declared.Report.TheVariants as report
+use Rattle.std.specs.Prelude.{Result, Option, Some, None, Ok, Err}
+use Rattle.stream.specs.declared.Event.{Event}
+use Rattle.refusal.specs.declared.Numbers.{Numbers}
 use Rattle.connection.specs.Every as connection
 use Rattle.session.specs.declared.Session.{Session}
 use Rattle.session.specs.declared.Answer.{Answer}
-use Rattle.session.specs.declared.Answer.TheVariants as answer
 use Rattle.session.specs.declared.Outcome.{Outcome}
 use Rattle.session.specs.Calls.{places, agrees}
 use Rattle.session.specs.Laws as session
@@ -32,11 +32,11 @@ use Rattle.delivery.specs.Every.{speaks, request_refused, reported_cause, Untouc
 use Rattle.delivery.proofs.Leaves.{by_call, request-left}
 
 -- what speaks of nothing asks for nothing
-requests-none : (q : Report) (s : List ℕ) → speaks q ≡ false → request_by_report q s ≡ request.Nothing
+requests-none : (q : Option Event) (s : List ℕ) → speaks q ≡ false → request_by_report q s ≡ request.Nothing
 unfolding request_by_frame
-requests-none report.More s e = refl
-requests-none (report.Event w) s e =
-    by_frame (λ v. speaks (report.Event v) ≡ false → request_by v s ≡ request.Nothing)
+requests-none None s e = refl
+requests-none (Some w) s e =
+    by_frame (λ v. speaks (Some v) ≡ false → request_by v s ≡ request.Nothing)
     (λ h f. ap (λ (b : Bool). cond b (by_body h (body_of h s)) request.Nothing) f) (λ v o f. rw o) w e
 
 -- a session that is as it was holds what it held
@@ -50,11 +50,9 @@ module _ (every : session.EveryCall) (s : Session) (sized : length s.handles ≡
   call_stays : (c : session.Call) → request_refused (effect.Answer (call_of s c).answer) ≡ true → (call_of s c).session ≡ s
   call_stays c = go (call_of s c).answer refl
     where
-      go : (q : Answer) → (call_of s c).answer ≡ q → request_refused (effect.Answer q) ≡ true → (call_of s c).session ≡ s
-      go (answer.Accepted n) i e = absurd (true≢false (sym e))
-      go answer.Done i e = absurd (true≢false (sym e))
-      go (answer.Resend n) i e = absurd (true≢false (sym e))
-      go (answer.Refused n) i e = (every.each s c sized).unchanged n i
+      go : (q : Result Answer Numbers) → (call_of s c).answer ≡ q → request_refused (effect.Answer q) ≡ true → (call_of s c).session ≡ s
+      go (Ok r) i e = absurd (true≢false (sym e))
+      go (Err n) i e = (every.each s c sized).unchanged n i
 
   request-broken : (a : Request) → agrees s ≡ false → (done_to s a).session ≡ s
   request-broken request.Nothing e = refl
@@ -74,9 +72,9 @@ module _ (every : session.EveryCall) (s : Session) (sized : length s.handles ≡
   by_agreement : (s' : Session) (causes : List Cause) → (agrees s ≡ false → s' ≡ s) → (Good s → Leaves s s' causes) → Leaves s s' causes
   by_agreement s' causes b f = by_test (agrees s) (λ e. f (record { agreeing = e; sized = sized })) (λ e. same-held s s' causes (b e))
 
-  reported-leaves : (q : Report) (t : ℕ) (s' : List ℕ) → Good s → Leaves s (done_to s (request_by_report q s')).session (reported_cause q t s')
-  reported-leaves report.More t s' g = λ x k. inl k
-  reported-leaves (report.Event e) t s' g = (request-left every s (entry e t s') (request_by e s') refl g).leaves
+  reported-leaves : (q : Option Event) (t : ℕ) (s' : List ℕ) → Good s → Leaves s (done_to s (request_by_report q s')).session (reported_cause q t s')
+  reported-leaves None t s' g = λ x k. inl k
+  reported-leaves (Some e) t s' g = (request-left every s (entry e t s') (request_by e s') refl g).leaves
 
 untouched : (st : Delivery) (r : Delivered) → applied r.state.session r.effect ≡ applied st.session effect.Nothing → Untouched st r
 untouched st r e = record { session = ap (λ (d : Applied). d.session) e; effect = ap (λ (d : Applied). d.effect) e }

@@ -1,4 +1,3 @@
-pub mod Requests
 pub mod Reasons
 pub mod Leaves
 pub mod Every

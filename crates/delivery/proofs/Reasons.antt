@@ -14,7 +14,7 @@ use Rattle.buffer.specs.Le.{number_at}
 use Rattle.preamble.specs.declared.Header.{Header}
 use Rattle.preamble.specs.Judge.{segment_limit}
 use Rattle.fields.specs.Field.{Field, number}
-use Rattle.fields.specs.declared.Cursor.{Cursor}
+use Rattle.fields.specs.Layout.{Cursor}
 use Rattle.bodies.specs.Table.{layout_in}
 use Rattle.bodies.specs.Rows.{one_number_of, reset_of}
 use Rattle.bodies.specs.Read as read
@@ -23,6 +23,7 @@ use Rattle.stream.specs.declared.Event.TheVariants as event
 use Rattle.stream.specs.Stream.{entry}
 use Rattle.stream.proofs.Events.{by_frame}
 use Rattle.session.specs.declared.Session.{Session}
+use Rattle.std.specs.Prelude.{Ok}
 use Rattle.session.specs.declared.Answer.TheVariants as answer
 use Rattle.session.specs.Calls.{message}
 use Rattle.session.specs.Laws as session
@@ -157,7 +158,7 @@ events_append s [] ds = refl
 events_append s (c ∷ cs) ds = ap (λ (es : List session.Event). event_of c (call_of s c).answer ∷ es) (events_append (call_of s c).session cs ds)
 
 -- of a message that was sent behind the calls cs, where the causes since are known
-pub sent-held : (s : Session) (cs : List session.Call) (since : List Cause) (h m : ℕ) → (call_of (after_calls s cs) (session.accept h)).answer ≡ answer.Accepted m
+pub sent-held : (s : Session) (cs : List session.Call) (since : List Cause) (h m : ℕ) → (call_of (after_calls s cs) (session.accept h)).answer ≡ Ok (answer.Accepted m)
     → Memᴰ (message m h) (with_fate is_held (events_from s (cs ++ (session.accept h ∷ calls_due since)))) ⊎ Covered m since
 sent-held s cs since h m e =
     let s' = (call_of (after_calls s cs) (session.accept h)).session in

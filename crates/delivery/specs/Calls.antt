@@ -1,7 +1,7 @@
 -- No message is released before its acknowledgement: one claim about every list of connections, each with its own start, stream and store, and of every list of
 -- calls on them, in crc mode and sealed. What was received is said by the definition over the stream, with the switch that was made on it
 -- (connection/specs/Switched.antt), not by the receiver's reports.
-use Rattle.std.specs.Prelude.{◌≡◌, ◌⊎◌, ℕ, ◌+◌, ◌≤◌, length, take, drop}
+use Rattle.std.specs.Prelude.{Result, Ok, ◌≡◌, ◌⊎◌, ℕ, ◌+◌, ◌≤◌, length, take, drop}
 use mathlib.Core.List.{List, [], ◌∷◌, ◌++◌, map, Memᴰ}
 use Rattle.refusal.specs.declared.Numbers.{Numbers}
 use Rattle.refusal.specs.Refusals.{refused, judged_by}
@@ -174,12 +174,12 @@ EachOf s (k ∷ ks) = Each k s 0 k.calls × EachOf (session_after s k.calls) ks
 -- ---- what the caller is told
 
 -- by an effect: the session's answer, if it was asked
-abbrev pub answers_by : Effect → List Answer
+abbrev pub answers_by : Effect → List (Result Answer Numbers)
 answers_by effect.Nothing = []
 answers_by (effect.Malformed n) = []
 answers_by (effect.Answer r) = r ∷ []
 
-abbrev pub answers_in : List Call → List Answer
+abbrev pub answers_in : List Call → List (Result Answer Numbers)
 answers_in [] = []
 answers_in (piece size r s' ∷ cs) = answers_by r.effect ++ answers_in cs
 answers_in (tried key receiving sending r ∷ cs) = answers_in cs
@@ -187,12 +187,12 @@ answers_in (accepted h r ∷ cs) = r.answer ∷ answers_in cs
 answers_in (handed n r ∷ cs) = r.answer ∷ answers_in cs
 
 -- THE SESSION'S ANSWERS, in the order in which the calls tell them
-abbrev pub answers_of : List Connection → List Answer
+abbrev pub answers_of : List Connection → List (Result Answer Numbers)
 answers_of [] = []
 answers_of (k ∷ ks) = answers_in k.calls ++ answers_of ks
 
 -- those of a history
-abbrev pub history_answers : List history.Entry → List Answer
+abbrev pub history_answers : List history.Entry → List (Result Answer Numbers)
 history_answers [] = []
 history_answers (e ∷ es) = e.outcome.answer ∷ history_answers es
 
@@ -274,7 +274,7 @@ pub record Acknowledged (ks : List Connection) : Type 0 where
   pub switches : SwitchesOf ks
   -- a message m that was sent, with the handle h, is still held, or one of the causes since then is a reason why it is not
   pub released : (before since : List Cause) (h m : ℕ) → causes_of ks ≡ before ++ (sends h ∷ since)
-      → (call_of (session_by fresh_session (history_of before)) (session.accept h)).answer ≡ Accepted m
+      → (call_of (session_by fresh_session (history_of before)) (session.accept h)).answer ≡ Ok (Accepted m)
       → Memᴰ (message m h) (held_of (session_after_all fresh_session ks)) ⊎ Covered m since
 
 -- the lists may end anywhere, so it holds after every call

@@ -1,14 +1,12 @@
 -- What holds of every call, whatever its receiving side, session, store and piece, also of those that no start and no earlier call handed back.
-use Rattle.std.specs.Prelude.{◌≡◌, List, [], ◌∷◌, Bool, true, false, ◌&&◌, ℕ, length}
+use Rattle.std.specs.Prelude.{Option, Some, None, Ok, Err, ◌≡◌, List, [], ◌∷◌, Bool, true, false, ◌&&◌, ℕ, length}
 use Rattle.refusal.specs.declared.Numbers.{Numbers}
 use Rattle.stream.specs.Events.{is_frame, role_of}
 use Rattle.stream.specs.Stream.{entry}
-use Rattle.receiver.specs.declared.Report.{Report}
-use Rattle.receiver.specs.declared.Report.TheVariants as report
+use Rattle.stream.specs.declared.Event.{Event}
 use Rattle.refusal.specs.Refusals.{contradiction}
 use Rattle.connection.specs.Step.{agrees}
 use Rattle.connection.specs.Every.{Refuses}
-use Rattle.session.specs.declared.Answer.TheVariants as answer
 use Rattle.session.specs.Calls as session
 use Rattle.session.specs.Calls.{places}
 use Rattle.session.specs.Laws.{accept, ack}
@@ -21,23 +19,21 @@ use Rattle.delivery.specs.Requests.{for_session, role_header, received_by, Deliv
 use Rattle.delivery.specs.Calls.{Cause, hands, receives, Leaves}
 
 -- a whole frame with one of the session's tags is reported
-abbrev pub speaks : Report → Bool
-speaks report.More = false
-speaks (report.Event e) = is_frame e && for_session (role_header (role_of e)).tag
+abbrev pub speaks : Option Event → Bool
+speaks None = false
+speaks (Some e) = is_frame e && for_session (role_header (role_of e)).tag
 
 -- 20, or a refusal of the session
 abbrev pub request_refused : Effect → Bool
 request_refused effect.Nothing = false
 request_refused (effect.Malformed n) = true
-request_refused (effect.Answer (answer.Accepted n)) = false
-request_refused (effect.Answer answer.Done) = false
-request_refused (effect.Answer (answer.Resend n)) = false
-request_refused (effect.Answer (answer.Refused n)) = true
+request_refused (effect.Answer (Ok r)) = false
+request_refused (effect.Answer (Err n)) = true
 
 -- what is reported, as a cause: at the last byte taken of the piece, with the store then
-abbrev pub reported_cause : Report → ℕ → List ℕ → List Cause
-reported_cause report.More t s = []
-reported_cause (report.Event e) t s = receives (entry e t s) ∷ []
+abbrev pub reported_cause : Option Event → ℕ → List ℕ → List Cause
+reported_cause None t s = []
+reported_cause (Some e) t s = receives (entry e t s) ∷ []
 
 -- nothing was asked of the session, and it is as it was
 pub record Untouched (st : Delivery) (r : Delivered) : Type 0 where
@@ -59,7 +55,7 @@ pub record Sound (st : Delivery) (s piece : List ℕ) (r : Delivered) (s' : List
 pub record SoundSessionCall (st : Delivery) (r : SessionCalled) (causes : List Cause) : Type 0 where
   pub receiver : r.state.receiver ≡ st.receiver
   pub broken : session.agrees st.session ≡ false → r.state.session ≡ st.session
-  pub unchanged : (n : Numbers) → r.answer ≡ answer.Refused n → r.state.session ≡ st.session
+  pub unchanged : (n : Numbers) → r.answer ≡ Err n → r.state.session ≡ st.session
   pub leaves : Leaves st.session r.state.session causes
 
 -- THE CLAIM, of a session that has its 64 places, as every one has

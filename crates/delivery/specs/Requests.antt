@@ -1,5 +1,5 @@
 -- What a report asks of the session, and what the calls answer.
-use Rattle.std.specs.Prelude.{◌≡◌, List, [], ◌∷◌, Bool, cond, ◌||◌, ℕ, take, eqb}
+use Rattle.std.specs.Prelude.{Option, Some, None, ◌≡◌, List, [], ◌∷◌, Bool, cond, ◌||◌, ℕ, take, eqb}
 use Rattle.refusal.specs.declared.Refusal.TheVariants.{BodyMalformed}
 use Rattle.refusal.specs.Refusals.{numbers_of, judged_by}
 use Rattle.banner.specs.declared.Features.{Features}
@@ -10,8 +10,6 @@ use Rattle.bodies.specs.Read as reading
 use Rattle.bodies.specs.Read.{whole, refused, read_body}
 use Rattle.stream.specs.declared.Event.{Event}
 use Rattle.stream.specs.Events.{is_frame, Role, banner_end, first_end, frame_end, stream_end, role_of}
-use Rattle.receiver.specs.declared.Report.{Report}
-use Rattle.receiver.specs.declared.Report.TheVariants as report
 use Rattle.preamble.specs.Layout.{no_header}
 use Rattle.connection.specs.declared.State.{State}
 use Rattle.connection.specs.declared.Received.{Received}
@@ -81,9 +79,9 @@ role_header (stream_end n) = no_header
 abbrev pub request_by : Event → List ℕ → Request
 request_by e s = cond (is_frame e) (request_by_frame (role_header (role_of e)) s) request.Nothing
 
-abbrev pub request_by_report : Report → List ℕ → Request
-request_by_report report.More s = request.Nothing
-request_by_report (report.Event e) s = request_by e s
+abbrev pub request_by_report : Option Event → List ℕ → Request
+request_by_report None s = request.Nothing
+request_by_report (Some e) s = request_by e s
 
 -- ---- what is done to the session
 

@@ -1,6 +1,8 @@
 -- Worked streams, computed from the definitions: what their entries ask of the session, in crc mode and sealed. First the fault that this is about: a receiver filled what was split
 -- over two reads up with bytes of the frame before, took the result for an acknowledgement, and released a message that had never been written.
-use Rattle.std.specs.Prelude.{◌≡◌, List, [], ◌∷◌, ◌++◌, map, true, false, ℕ, ◌<◌, length, take, drop, set, replicate}
+use Rattle.std.specs.Prelude as std
+use Rattle.std.specs.Prelude.{Option, ◌≡◌, List, [], ◌∷◌, ◌++◌, map, true, false, ℕ, ◌<◌, length, take, drop, set, replicate}
+use Rattle.refusal.specs.declared.Numbers.{Numbers}
 use Rattle.refusal.specs.Refusals.{row}
 use Rattle.banner.specs.declared.Features.{Features}
 use Rattle.banner.specs.Banner.{banner_bytes}
@@ -14,9 +16,7 @@ use Rattle.connection.specs.Calls.{taken_by, switch_by}
 use Rattle.session.specs.declared.Session.{Session}
 use Rattle.session.specs.declared.Message.{Message}
 use Rattle.session.specs.declared.Answer.{Answer}
-use Rattle.session.specs.declared.Answer.TheVariants.{Accepted, Done, Resend, Refused}
-use Rattle.session.specs.declared.Held.{Held}
-use Rattle.session.specs.declared.Held.TheVariants.{At}
+use Rattle.session.specs.Worked.{Accepted, Done, Resend, Refused, At}
 use Rattle.session.specs.Calls.{held_of, fresh_session}
 use Rattle.session.specs.Laws as session
 use Rattle.session.specs.Laws.{call_of, resent_by}
@@ -162,12 +162,12 @@ held_rows =
 pub record Result : Type 0 where
   pub held : List Message
   pub effect : Effect
-  pub again : List Held
+  pub again : List (std.Result (Option Message) Numbers)
 
-abbrev result : List Message → Effect → List Held → Result
+abbrev result : List Message → Effect → List (std.Result (Option Message) Numbers) → Result
 result ms e hs = record { held = ms; effect = e; again = hs }
 
-abbrev again_by : Effect → Session → List Held
+abbrev again_by : Effect → Session → List (std.Result (Option Message) Numbers)
 again_by effect.Nothing s = []
 again_by (effect.Malformed n) s = []
 again_by (effect.Answer r) s = resent_by r s
@@ -205,7 +205,7 @@ unfoldable pub broken_rows : List (Row Applied)
 broken_rows = says26 (Reset true) ∷ says26 (Reset false) ∷ says26 (Ack 0) ∷ says26 (Reconnect 1) ∷ []
 
 -- what the caller's own calls are told
-unfoldable pub answer_rows : List (Row (List Answer))
+unfoldable pub answer_rows : List (Row (List (std.Result Answer Numbers)))
 answer_rows =
     history_answers (history_of (sends 7 ∷ sends 8 ∷ hands 1 ∷ hands 3 ∷ [])) ⇒ (Accepted 1 ∷ Accepted 2 ∷ Done ∷ Refused (row 23 0 0 0) ∷ [])
     ∷ []

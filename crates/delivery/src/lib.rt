@@ -15,11 +15,11 @@ use bodies::{Body, read};
 use buffer::min;
 use connection::{State, receive, start};
 use preamble::Header;
-use receiver::Report;
-use refusal::{Judgement, Numbers, Refusal, either, numbers_of};
+use refusal::{Numbers, Refusal};
 use sealed_builder::Sending;
 use session::{Outcome, Session};
 use stream::Event;
+use tag::Tag;
 
 // A connection's receiving side, and the session that outlives it.
 #[derive(Clone, Copy)]
@@ -29,25 +29,25 @@ pub struct Delivery {
 }
 
 // What a report asks of the session.
-#[derive(Clone, Copy)]
+#[derive(Clone, Copy, PartialEq, Eq)]
 pub enum Request {
     Nothing,
     Ack(u64),
     Reconnect(u64),
     // Whether it is a full one.
     Reset(bool),
-    // A frame that speaks to the session, with a body that is not well-formed.
+    // A frame that speaks to the session, with a body that is not well-formed. A case of its own, as in C.
     Malformed(Numbers),
 }
 
 // What was done to the session.
-#[derive(Clone, Copy)]
+#[derive(Clone, Copy, PartialEq, Eq)]
 pub enum Effect {
     Nothing,
-    // Refusal 20: nothing was done.
+    // Refusal 20: nothing was done. Callers tell it from a refusal of the session's, so it is no `Err`.
     Malformed(Numbers),
     // The session's own answer to an ack, a reconnect_ok or a reset.
-    Answer(session::Answer),
+    Answer(Result<session::Answer, Numbers>),
 }
 
 #[derive(Clone, Copy)]
@@ -61,7 +61,7 @@ pub struct Applied {
 pub struct Delivered {
     pub state: Delivery,
     pub taken: usize,
-    pub report: Report,
+    pub report: Option<Event>,
     pub effect: Effect,
 }
 
@@ -70,43 +70,42 @@ pub struct Delivered {
 pub struct Switched {
     pub state: Delivery,
     pub sending: Sending,
-    pub judgement: Judgement,
+    pub judgement: Result<(), Refusal>,
 }
 
 // What `accept` and `ack` answer.
 #[derive(Clone, Copy)]
 pub struct SessionCalled {
     pub state: Delivery,
-    pub answer: session::Answer,
+    pub answer: Result<session::Answer, Numbers>,
 }
 
 // What `connect` answers: our own features may be refused, and the receiver then repeats it.
 #[derive(Clone, Copy)]
 pub struct Connected {
     pub state: Delivery,
-    pub judgement: Judgement,
+    pub judgement: Result<(), Refusal>,
 }
 
 // The tags that speak to the session: ack, reconnect_ok, reset.
 fn for_session(tag: u8) -> bool
     ensures { result ≡ for_session tag }
 {
-    either(tag == 20, either(tag == 15, tag == 12))
+    matches!(
+        Tag::try_from(tag),
+        Ok(Tag::Ack | Tag::SessionReconnectOk | Tag::SessionReset)
+    )
 }
 
 fn request_of(tag: u8, number: u64) -> Request
     ensures { result ≡ request_of tag number }
 {
-    if tag == 20 {
-        return Request::Ack(number);
+    match Tag::try_from(tag) {
+        Ok(Tag::Ack) => Request::Ack(number),
+        Ok(Tag::SessionReconnectOk) => Request::Reconnect(number),
+        Ok(Tag::SessionReset) => Request::Reset(number == 1),
+        _ => Request::Nothing,
     }
-    if tag == 15 {
-        return Request::Reconnect(number);
-    }
-    if tag == 12 {
-        return Request::Reset(number == 1);
-    }
-    Request::Nothing
 }
 
 // A body that is one number: bytes of further segments are left over.
@@ -116,66 +115,50 @@ fn request_by_number(h: Header, number: u64) -> Request
     if h.count == 1 {
         return request_of(h.tag, number);
     }
-    let first = h.s1;
-    Request::Malformed(numbers_of(Refusal::BodyMalformed(first.len as u64)))
+    let place = u64::from(h.s1.len);
+    Request::Malformed(Numbers::from(Refusal::BodyMalformed(place)))
 }
 
-fn request_by_body(h: Header, body: Body) -> Request
+fn request_by_body(h: Header, body: Result<Body, Refusal>) -> Request
     ensures { (s : List ℕ) → result ≡ by_body h (answer_of s body) }
 {
     match body {
-        Body::Number(n) => request_by_number(h, n),
-        Body::Reset(full) => request_by_number(h, full as u64),
-        Body::Refused(why) => Request::Malformed(numbers_of(why)),
-        _ => Request::Nothing,
+        Ok(Body::Number(n)) => request_by_number(h, n),
+        Ok(Body::Reset(full)) => request_by_number(h, u64::from(full)),
+        Ok(_) => Request::Nothing,
+        Err(why) => Request::Malformed(Numbers::from(why)),
     }
 }
 
 // Segment 1 of a frame stands at the store's front.
+#[tactic(auto, unfolding(crate::specs::Requests::request_by_frame))]
 pub fn request_by_frame(h: Header, store: &[u8]) -> Request
     ensures { result ≡ request_by_frame h store.now }
 {
     if !for_session(h.tag) {
         return Request::Nothing;
     }
-    let first = h.s1;
-    let end = min(first.len as usize, store.len());
+    let end = min(h.s1.len as usize, store.len());
     request_by_body(h, read(h.tag, &store[..end]))
 }
 
-fn request_by_event(event: Event, store: &[u8]) -> Request
-    ensures { result ≡ request_by event store.now }
-{
-    match event {
-        Event::Frame(h) => request_by_frame(h, store),
-        _ => Request::Nothing,
-    }
-}
-
-fn request_by_report(report: Report, store: &[u8]) -> Request
+// Only a whole frame asks for anything.
+fn request_by_report(report: Option<Event>, store: &[u8]) -> Request
     ensures { result ≡ request_by_report report store.now }
 {
     match report {
-        Report::More => Request::Nothing,
-        Report::Event(event) => request_by_event(event, store),
+        Some(Event::Frame(h)) => request_by_frame(h, store),
+        _ => Request::Nothing,
     }
 }
 
 fn answered(o: Outcome) -> Applied
     ensures { result ≡ answered_by o }
 {
-    let session = o.session;
-    let answer = o.answer;
     Applied {
-        session,
-        effect: Effect::Answer(answer),
+        session: o.session,
+        effect: Effect::Answer(o.answer),
     }
-}
-
-fn done(s: Session, effect: Effect) -> Applied
-    ensures { result ≡ applied s effect }
-{
-    Applied { session: s, effect }
 }
 
 // Does to the session what is asked.
@@ -183,11 +166,17 @@ pub fn apply(s: Session, request: Request) -> Applied
     ensures { result ≡ done_to s request }
 {
     match request {
-        Request::Nothing => done(s, Effect::Nothing),
+        Request::Nothing => Applied {
+            session: s,
+            effect: Effect::Nothing,
+        },
         Request::Ack(n) => answered(session::ack(s, n)),
         Request::Reconnect(n) => answered(session::reconnect(s, n)),
         Request::Reset(full) => answered(session::reset(s, full)),
-        Request::Malformed(n) => done(s, Effect::Malformed(n)),
+        Request::Malformed(n) => Applied {
+            session: s,
+            effect: Effect::Malformed(n),
+        },
     }
 }
 
@@ -196,14 +185,12 @@ pub fn connect(s: Session, own: Features) -> Connected
     ensures { ConnectedWith s own result }
 {
     let begun = start(own);
-    let receiver = begun.state;
-    let judgement = begun.judgement;
     Connected {
         state: Delivery {
-            receiver,
+            receiver: begun.state,
             session: s,
         },
-        judgement,
+        judgement: begun.judgement,
     }
 }
 
@@ -212,16 +199,15 @@ pub fn deliver(state: Delivery, piece: &[u8], store: &mut [u8]) -> Delivered
     ensures { Delivers state store.old piece.now result store.new }
 {
     let got = receive(state.receiver, piece, store);
-    let report = got.report;
-    let after = apply(state.session, request_by_report(report, store));
-    let receiver = got.state;
-    let session = after.session;
-    let effect = after.effect;
+    let after = apply(state.session, request_by_report(got.report, store));
     Delivered {
-        state: Delivery { receiver, session },
+        state: Delivery {
+            receiver: got.state,
+            session: after.session,
+        },
         taken: got.taken,
-        report,
-        effect,
+        report: got.report,
+        effect: after.effect,
     }
 }
 
@@ -230,26 +216,25 @@ pub fn switch(state: Delivery, key: [u8; 16], receiving: [u8; 12], sending: [u8;
     ensures { Switches state key receiving sending result }
 {
     let tried = connection::switch(state.receiver, key, receiving, sending);
-    let receiver = tried.state;
-    let session = state.session;
-    let given = tried.sending;
-    let judgement = tried.judgement;
     Switched {
-        state: Delivery { receiver, session },
-        sending: given,
-        judgement,
+        state: Delivery {
+            receiver: tried.state,
+            ..state
+        },
+        sending: tried.sending,
+        judgement: tried.judgement,
     }
 }
 
 fn session_called(state: Delivery, o: Outcome) -> SessionCalled
     ensures { result ≡ session_called_by state o }
 {
-    let receiver = state.receiver;
-    let session = o.session;
-    let answer = o.answer;
     SessionCalled {
-        state: Delivery { receiver, session },
-        answer,
+        state: Delivery {
+            session: o.session,
+            ..state
+        },
+        answer: o.answer,
     }
 }
 

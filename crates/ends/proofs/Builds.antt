@@ -1,5 +1,5 @@
 -- What an accepted build leaves: its bytes behind the queued ones; and builds one behind the other.
-use Prim.Native.Nat.{ℕ, ◌+◌, ◌-◌, ◌≤◌}
+use Prim.Native.Nat.{ℕ, ◌+◌, ◌≤◌}
 use mathlib.Core.List.{List, [], ◌∷◌, ◌++◌}
 use mathlib.Core.Path.{◌≡◌, refl, sym, ap, ◌∙◌}
 use mathlib.Core.Bool.{Bool, true, false, true≢false}
@@ -13,7 +13,7 @@ use Rattle.banner.specs.declared.Revision.{Revision}
 use Rattle.banner.specs.Banner.{banner_bytes, judge_own}
 use Rattle.body.specs.Body.{frame_bytes, wire_length}
 use Rattle.body.proofs.Laws.{length-frame}
-use Rattle.refusal.specs.declared.WriteResult.TheVariants as built
+use Rattle.std.specs.Prelude.{Ok}
 use Rattle.refusal.specs.Writes.{WriteOutcome, wrote, refused_for, Done, done, count_in}
 use Rattle.builder.specs.Build.{judge_room, judge_frame, judge_banner, banner_length, outcome, frame_done, banner_done, BuiltBanner}
 use Rattle.builder.proofs.Accepted.{Accepted, accepted, banner-fits}
@@ -80,7 +80,7 @@ pub record Bannered (supported required : ℕ) (buf : List ℕ) (queued n : ℕ)
   pub buffer : after ≡ splice buf queued (banner_bytes supported required)
   pub room : queued + banner_length ≤ length buf
 
-pub bannered : (supported required : ℕ) (buf : List ℕ) (queued n : ℕ) (after : List ℕ) → BuiltBanner supported required buf queued (built.Wrote n) after → Bannered supported required buf queued n after
+pub bannered : (supported required : ℕ) (buf : List ℕ) (queued n : ℕ) (after : List ℕ) → BuiltBanner supported required buf queued (Ok n) after → Bannered supported required buf queued n after
 unfolding banner_done judge_banner
 bannered supported required buf queued n after b =
     let w = was_written (judge_banner supported required (length buf) queued) banner_length buf queued (banner_bytes supported required) n after b.promise in

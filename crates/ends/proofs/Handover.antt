@@ -176,9 +176,9 @@ module _ (own : Features) (front X store : List ℕ) (r : Revision) (up : UpTo r
       rw (take_all (taken_by 0 cs - length front) X (omega arith)) at (by_taken cs ch (omega arith))
   through cs ch (refused e) = entries-behind X _ ((demand3 own (front ++ X) store cs ch).whole e).0
 
-pub handed-over : HandedOver
+pub handed_over : HandedOver
 unfolding HandedOver
-handed-over own front X store r up = record {
+handed_over own front X store r up = record {
   defined = entries-behind own front X store r up X _ refl;
   taken = by_taken own front X store r up;
   reports = through own front X store r up;

@@ -76,8 +76,8 @@ spelling r h p X a z =
     spelled_so r X q.judged.0 a.bytes q.judged.1 q.long (rw q.header z)
     ∙ ap₂ (λ (k : Header) (t : List ℕ). frame_bytes r k false t) q.header q.segments
 
-pub one-spelling : OneSpelling
-one-spelling = record {
+pub one_spelling : OneSpelling
+one_spelling = record {
   spelling = spelling;
   same = λ r h p X Y a b y z. spelling r h p X a y ∙ sym (spelling r h p Y b z);
 }

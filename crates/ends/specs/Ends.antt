@@ -1,12 +1,11 @@
 -- The two ends: our banner and any builds behind it, queued one behind the other in a send buffer and read, are reported as that banner and those frames and drops.
-use Rattle.std.specs.Prelude.{◌≡◌, List, [], ◌∷◌, ◌++◌, ℕ, ◌+◌, ◌-◌, ◌≤◌, length, take, drop}
+use Rattle.std.specs.Prelude.{Ok, ◌≡◌, List, [], ◌∷◌, ◌++◌, ℕ, ◌+◌, ◌-◌, ◌≤◌, length, take, drop}
 use Rattle.refusal.specs.Refusals.{fine}
 use Rattle.banner.specs.declared.Features.{Features}
 use Rattle.banner.specs.declared.Revision.{Revision}
 use Rattle.banner.specs.Banner.{judge_own, judge_features, revision_of}
 use Rattle.preamble.specs.Layout.{total}
 use Rattle.body.specs.Body.{wire_length}
-use Rattle.refusal.specs.declared.WriteResult.TheVariants as built
 use Rattle.builder.specs.Build.{banner_length, BuiltBanner}
 use Rattle.stream.specs.declared.Event.TheVariants.{Banner}
 use Rattle.stream.specs.Stream.{Entry, entry}
@@ -39,7 +38,7 @@ pub record Link : Type 0 where
 
 -- `build_banner` and `build_frame` promised it, and refused nothing
 pub record Linked (revision : Revision) (l : Link) : Type 0 where
-  pub banner : BuiltBanner l.features.supported l.features.required l.space l.queued (built.Wrote l.written) l.buffer
+  pub banner : BuiltBanner l.features.supported l.features.required l.space l.queued (Ok l.written) l.buffer
   pub builds : Queued revision l.buffer (l.queued + l.written) l.builds
 
 -- the bytes that were queued

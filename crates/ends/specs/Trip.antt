@@ -1,5 +1,5 @@
 -- Demand 2, the round trip: a frame that the builder accepts comes back from the receiver, however the stream is cut and whatever follows it.
-use Rattle.std.specs.Prelude.{◌≡◌, List, [], ◌∷◌, ◌++◌, Bool, cond, ℕ, ◌+◌, ◌-◌, ◌≤◌, length, take, drop}
+use Rattle.std.specs.Prelude.{Ok, ◌≡◌, List, [], ◌∷◌, ◌++◌, Bool, cond, ℕ, ◌+◌, ◌-◌, ◌≤◌, length, take, drop}
 use Rattle.buffer.specs.Le.{Bytes}
 use Rattle.buffer.specs.Splice.{replace_front}
 use Rattle.banner.specs.declared.Features.{Features}
@@ -9,7 +9,6 @@ use Rattle.preamble.specs.declared.Header.{Header}
 use Rattle.preamble.specs.Layout.{total}
 use Rattle.preamble.specs.Reading.{HeaderFits}
 use Rattle.body.specs.Body.{wire_length}
-use Rattle.refusal.specs.declared.WriteResult.TheVariants as built
 use Rattle.builder.specs.Build.{BuiltFrame}
 use Rattle.stream.specs.declared.Event.{Event}
 use Rattle.stream.specs.declared.Event.TheVariants.{First, Frame, Dropped}
@@ -28,7 +27,7 @@ pub record Build : Type 0 where
 
 -- `build_frame` promised it, and did not refuse; header and source are what their types hold
 pub record Accepts (revision : Revision) (buf : List ℕ) (queued : ℕ) (b : Build) : Type 0 where
-  pub promised : BuiltFrame revision b.header b.abort b.source buf queued (built.Wrote b.written) b.buffer
+  pub promised : BuiltFrame revision b.header b.abort b.source buf queued (Ok b.written) b.buffer
   pub header : HeaderFits b.header
   pub source : Bytes b.source
 

@@ -1,26 +1,33 @@
 -- The laws behind counting and appending.
 use mathlib.Core.Path.{◌≡◌, refl, sym, ap, ◌∙◌}
-use mathlib.Core.Bool.{Bool, true}
+use mathlib.Core.Bool.{Bool, true, false, cond}
+use Rattle.std.specs.Prelude.{Option, Some, None}
+use Rattle.std.specs.Option.{option_or}
 use mathlib.Core.List.{List, [], ◌∷◌, ◌++◌}
-use Prim.Native.Nat.{ℕ, zero, suc, ◌+◌, ◌%◌, ◌≤◌, ◌<◌}
+use Prim.Native.Nat.{ℕ, zero, suc, ◌+◌, ◌<◌}
 use native.Mathlib.Omega.{arith}
 use native.Mathlib.Nat.{not-suc-le-zero, le_of_suc-le-suc}
 use native.Mathlib.Numerals.{add-one}
 use lib.ListN.{length, take, get_or, length-append}
-use lib.Seq.{take_all}
 use Rattle.buffer.specs.Le.{le, words}
-use Rattle.refusal.proofs.Booleans.{by_test, by_less}
+use Rattle.refusal.proofs.Booleans.{by_less}
 use Rattle.fields.specs.declared.Draft.{Draft}
-use Rattle.fields.specs.Field.{Field, number, field_bytes, WordsFit, Fits}
+use Rattle.fields.specs.Field.{Field, number, field_bytes, Fits}
 use Rattle.fields.specs.Writing.{sound, fault_in, capped, counted, put_at, Put, Appended}
 use Rattle.fields.proofs.Puts.{put-none, put_next}
+
+-- sound bytes have no fault of their own
+same_fault : (o : Option ℕ) (ok : Bool) (m : ℕ) → option_or (option_or o (cond ok None (Some m))) None ≡ option_or o (cond ok None (Some m))
+same_fault None true m = refl
+same_fault None false m = refl
+same_fault (Some x) ok m = refl
 
 -- sound bytes behind others
 counted-two : (ok : Bool) (into k a b : ℕ) (p : Draft) → counted true k b (counted ok into a p) ≡ counted ok into (a + b) p
 unfolding counted
 counted-two ok into k a b p =
     let e : capped (capped (p.len + a) + b) ≡ capped (p.len + (a + b)) = omega arith in
-    by_test p.failed (λ f. rw (f, e)) (λ f. by_test ok (λ o. rw (f, o, e)) (λ o. rw (f, o, e)))
+    rw (e, same_fault p.fault ok (capped (p.len + into)))
 
 pub put-len : {xs : List ℕ} {ok : Bool} {into : ℕ} {p q : Draft} {l m : List ℕ} → Put xs ok into p l q m → q.len ≡ capped (p.len + length xs)
 unfolding counted
@@ -68,11 +75,3 @@ one_more i ns h a b =
 
 pub none_yet : (ns : List ℕ) {p q : Draft} (l : List ℕ) → q ≡ counted true 0 0 p → Sofar ns 0 p l q l
 none_yet ns {p} l e = record { bytes = record { next = e; buffer = λ h. sym (put-none p.len l) }; fits = λ j h. absurd (not-suc-le-zero h) }
-
-pub all_words : (i : ℕ) (ns : List ℕ) {p q : Draft} {l m : List ℕ} → length ns ≤ i → i ≤ length ns → Sofar ns i p l q m → Put (words ns) true 0 p l q m × WordsFit ns
-all_words i ns h k a =
-    let e : i ≡ length ns = omega arith in
-    (put_as (ap words (take_all i ns (omega arith))) a.bytes, record { at = λ j g. a.fits j (omega arith) })
-
-pub byte_is : (n : ℕ) → n < 256 → (n ∷ []) ≡ le 1 n
-byte_is n h = let e : n ≡ n % 256 = omega arith in ap (λ (x : ℕ). x ∷ []) e

@@ -1,12 +1,14 @@
 -- Laws of bytes written to a buffer from a place on, as far as there is room.
 use mathlib.Core.Path.{◌≡◌, refl, ap, ◌∙◌}
-use mathlib.Core.List.{List, [], ◌++◌}
-use Prim.Native.Nat.{ℕ, ◌+◌, ◌-◌, ◌≤◌, ◌<◌, min}
+use mathlib.Core.List.{List, [], ◌++◌, append_assoc}
+use Prim.Native.Nat.{ℕ, ◌+◌, ◌-◌, ◌≤◌, min}
 use native.Mathlib.Omega.{arith}
-use lib.ListN.{length, take, set, get_or}
-use lib.Seq.{sets}
+use lib.ListN.{length, take, drop, take-append-drop}
+use lib.Seq.{sets, sets-eq, drop-drop, length-take-le}
+use borrow.Rule.Slice.PartMut.{put_mid}
+use Rattle.refusal.proofs.Booleans.{by_less}
 use Rattle.buffer.specs.Splice.{replace_front}
-use Rattle.buffer.proofs.Sets.{sets-append, sets-front, sets_more, sets-room}
+use Rattle.buffer.proofs.Sets.{sets-append, sets-front, sets-out, sets-room}
 use Rattle.fields.specs.Writing.{put_at}
 
 pub put-none : (at : ℕ) (l : List ℕ) → put_at at [] l ≡ l
@@ -23,12 +25,15 @@ pub put-over : (xs l : List ℕ) → length xs ≤ length l → put_at 0 xs l �
 unfolding put_at
 put-over xs l h = sets-front l xs h
 
--- one byte more
-pub put_one : (at i : ℕ) (xs l : List ℕ) → i < length xs → set (put_at at (take i xs) l) (at + i) (get_or xs i 0) ≡ put_at at (take (i + 1) xs) l
+-- as much as there is room for, in place of what stood there
+pub put-cut : (at a n : ℕ) (xs l ys : List ℕ) → a ≡ min at (length l) → n ≡ min (length xs) (length l - a) → ys ≡ take n xs → put_mid a (a + n - a) l ys ≡ put_at at xs l
 unfolding put_at
-put_one at i xs l h = sets_more xs l at i h
-
--- as much as was cut to the room
-pub put_all : (at n m r : ℕ) (xs l : List ℕ) → m ≡ min at (length l) → r ≡ length l - m → n ≡ min (length xs) r → put_at at (take n xs) l ≡ put_at at xs l
-unfolding put_at
-put_all at n m r xs l em er en = sets-room xs l at n (omega arith)
+put-cut at a n xs l ys ea en ey =
+    let k : a + n - a ≡ n = omega arith in
+    let m : length ys ≡ n = rw ey (length-take-le n xs (omega arith)) in
+    rw (k, ← (sets-room xs l at n (omega arith)), ← ey)
+    (by_less (length l) at
+    (λ h. let z : n ≡ 0 = omega arith in
+    let none : ys ≡ [] = rw (ey, z) refl in
+    rw (z, sets-out ys l at (omega arith)) (ap (λ (t : List ℕ). take a l ++ (t ++ drop 0 (drop a l))) none ∙ take-append-drop a l))
+    (λ h. let e : a ≡ at = omega arith in rw (e, ← m, sets-eq ys l at (omega arith), drop-drop (length ys) at l, append_assoc)))

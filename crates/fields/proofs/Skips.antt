@@ -1,18 +1,12 @@
 -- Where the cursor's steps read: places up to the body's end, and the words of a list.
 use mathlib.Core.Path.{◌≡◌, refl, sym, ap, ◌∙◌}
-use mathlib.Core.Bool.{true, false}
 use mathlib.Core.List.{List, [], ◌∷◌}
-use Prim.Native.Nat.{ℕ, zero, suc, ◌+◌, ◌-◌, ◌*◌, ◌≤◌, ◌<◌, min}
+use Prim.Native.Nat.{ℕ, zero, suc, ◌+◌, ◌*◌, ◌≤◌, ◌<◌, min}
 use native.Mathlib.Omega.{arith}
-use lib.Dec.{ltb}
-use borrow.Author.Tests.{lt-leb}
 use lib.ListN.{length, take, drop, get_or, drop_of_length-le, get_or-eq_default}
 use lib.Seq.{drop-drop}
 use Rattle.buffer.specs.Le.{number_at, le_of}
-use Rattle.refusal.proofs.Booleans.{by_test, by_less, at_cond, wrong}
-use Rattle.fields.specs.declared.Cursor.{Cursor}
-use Rattle.fields.specs.Layout.{Kind, end_of, step_of}
-use Rattle.fields.specs.Layout as kind
+use Rattle.refusal.proofs.Booleans.{by_less}
 use Rattle.fields.specs.Field.{words_of}
 
 -- a place past the end drops as much as the end itself
@@ -20,30 +14,6 @@ pub behind : (s : List ℕ) (at r k : ℕ) → r ≡ min at (length s) → drop 
 behind s at r k e =
     by_less (length s) at (λ h. drop_of_length-le s {i = r + k} (omega arith) ∙ sym (drop_of_length-le s {i = at + k} (omega arith)))
     (λ h. let f : r ≡ at = omega arith in rw f)
-
--- ---- a list or payload that stands begins within the segment
-
-module _ (s : List ℕ) (c d : Cursor) (h : d.failed ≡ false) where
-  -- behind the end of the segment it would have failed
-  begins : (k : Kind) → (length s < c.at → (end_of k s c.at).failed ≡ true) → d ≡ step_of k s c → c.at ≤ length s
-  unfolding step_of
-  begins k f e =
-      by_less (length s) c.at (λ l.
-      let t : (step_of k s c).failed ≡ true = by_test c.failed (λ t. rw t) (λ t. rw t (f l)) in
-      wrong (sym (rw e at h) ∙ t))
-      (λ g. g)
-
-  pub list_begins : d ≡ step_of kind.numbers s c → c.at ≤ length s
-  list_begins =
-      let n = number_at 4 c.at s in
-      begins kind.numbers (λ l. at_cond (λ (x : Cursor). x.failed ≡ true) (ltb 32 n) refl (rw (lt-leb (4 + 4 * n) (length s - c.at) (omega arith))))
-
-  pub payload-begins : d ≡ step_of kind.payload s c → c.at ≤ length s
-  payload-begins = begins kind.payload (λ l. rw (lt-leb (4 + number_at 4 c.at s) (length s - c.at) (omega arith)))
-
--- all bytes up to the closing ones, cut as the code cuts them
-pub up-to : (s : List ℕ) (at k a b : ℕ) → a ≡ min k (length s) → b ≡ min at (length s - a) → length s - a - b ≡ length s - k - at
-up-to s at k a b ea eb = omega arith
 
 -- one byte is its own number
 pub byte_there : (s : List ℕ) (at : ℕ) → get_or s at 0 ≡ number_at 1 at s

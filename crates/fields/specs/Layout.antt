@@ -1,7 +1,6 @@
 -- Kinds of fields (02, K6; 000, "Hello" to "Message exchange"): where each ends in a segment, or the place that its fault is named by.
-use Rattle.std.specs.Prelude.{true, false, cond, List, ℕ, ◌+◌, ◌-◌, ◌*◌, ◌/◌, leb, ltb, length}
+use Rattle.std.specs.Prelude.{Bool, true, false, cond, List, ℕ, ◌+◌, ◌-◌, ◌*◌, ◌/◌, leb, ltb, length}
 use Rattle.buffer.specs.Le.{number_at}
-use Rattle.fields.specs.declared.Cursor.{Cursor}
 
 pub data Kind : Type 0 where
   -- a number of so many bytes, lowest first
@@ -16,6 +15,11 @@ pub data Kind : Type 0 where
   opaque : ℕ → Kind
   -- so many opaque bytes
   fixed : ℕ → Kind
+
+-- a place in a segment; once failed, the place that the fault is named by
+pub record Cursor : Type 0 where
+  pub at : ℕ
+  pub failed : Bool
 
 abbrev pub good : ℕ → Cursor
 good n = record { at = n; failed = false }

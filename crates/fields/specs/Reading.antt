@@ -1,20 +1,10 @@
 -- What a step of the cursor answers.
-use Rattle.std.specs.Prelude.{cond, List, ℕ, take, drop}
-use Rattle.fields.specs.declared.Cursor.{Cursor}
+use Rattle.std.specs.Prelude.{cond, List, ℕ, Result, Ok, Err, take, drop}
+use Rattle.fields.specs.declared.Fault.{Fault}
 use Rattle.fields.specs.declared.Span.{Span}
 use Rattle.fields.specs.declared.NumberList.{NumberList}
-use Rattle.fields.specs.declared.U8Step.{U8Step}
-use Rattle.fields.specs.declared.U8Step.TheVariants as u8
-use Rattle.fields.specs.declared.U32Step.{U32Step}
-use Rattle.fields.specs.declared.U32Step.TheVariants as u32
-use Rattle.fields.specs.declared.U64Step.{U64Step}
-use Rattle.fields.specs.declared.U64Step.TheVariants as u64
-use Rattle.fields.specs.declared.ListStep.{ListStep}
-use Rattle.fields.specs.declared.ListStep.TheVariants as numberList
-use Rattle.fields.specs.declared.SpanStep.{SpanStep}
-use Rattle.fields.specs.declared.SpanStep.TheVariants as span
-use Rattle.fields.specs.Layout.{Kind, step_of}
-use Rattle.fields.specs.Field.{Field, number, numbers, field_at, words_of, Place, nowhere, numbers_at, bytes_at, place_at}
+use Rattle.fields.specs.Layout.{Kind, Cursor, good, fault, step_of}
+use Rattle.fields.specs.Field.{Field, numbers, field_at, words_of, Place, nowhere, numbers_at, bytes_at, place_at}
 
 pub data Step : Type 0 where
   -- a field, where it stands, and the cursor behind it
@@ -35,22 +25,21 @@ span_in s p = take p.len (drop p.at s)
 abbrev pub numbers_in : List ℕ → NumberList → List ℕ
 numbers_in s l = words_of l.count (drop l.at s)
 
-abbrev pub in_u8 : U8Step → Step
-in_u8 (u8.Read n c) = read (number 1 n) nowhere c
-in_u8 (u8.Failed c) = failed c
+-- where a field ends, or its fault
+abbrev pub in_end : Result ℕ Fault → Cursor
+in_end (Ok at) = good at
+in_end (Err e) = fault e.at
 
-abbrev pub in_u32 : (ℕ → Field) → U32Step → Step
-in_u32 f (u32.Read n c) = read (f n) nowhere c
-in_u32 f (u32.Failed c) = failed c
+-- of an answer x, f is the field and p where it stands
+abbrev pub in_step : {A : Type 0} → (A → Field) → (A → Place) → Result (A × ℕ) Fault → Step
+in_step f p (Ok x) = read (f x.0) (p x.0) (good x.1)
+in_step f p (Err e) = failed (fault e.at)
 
-abbrev pub in_u64 : U64Step → Step
-in_u64 (u64.Read n c) = read (number 8 n) nowhere c
-in_u64 (u64.Failed c) = failed c
+abbrev pub in_number : (ℕ → Field) → Result (ℕ × ℕ) Fault → Step
+in_number f r = in_step f (λ _. nowhere) r
 
-abbrev pub in_list : List ℕ → ListStep → Step
-in_list s (numberList.Read l c) = read (numbers (numbers_in s l)) (numbers_at l) c
-in_list s (numberList.Failed c) = failed c
+abbrev pub in_list : List ℕ → Result (NumberList × ℕ) Fault → Step
+in_list s r = in_step (λ l. numbers (numbers_in s l)) numbers_at r
 
-abbrev pub in_span : (List ℕ → Field) → List ℕ → SpanStep → Step
-in_span f s (span.Read p c) = read (f (span_in s p)) (bytes_at p) c
-in_span f s (span.Failed c) = failed c
+abbrev pub in_span : (List ℕ → Field) → List ℕ → Result (Span × ℕ) Fault → Step
+in_span f s r = in_step (λ p. f (span_in s p)) bytes_at r

@@ -1,5 +1,6 @@
 -- What appending a field to a draft comes to. A draft counts up to one byte above the limit of a segment, and a buffer takes what it has room for.
-use Rattle.std.specs.Prelude.{◌≡◌, Bool, true, false, cond, ◌||◌, not, List, ℕ, ◌+◌, ◌≤◌, min, leb, ltb, eqb, length}
+use Rattle.std.specs.Prelude.{◌≡◌, Bool, true, cond, Some, None, List, ℕ, ◌+◌, ◌≤◌, min, leb, ltb, eqb, length}
+use Rattle.std.specs.Option.{option_or}
 use Rattle.std.proofs.lemmas.List.Edits.{sets}
 use Rattle.preamble.specs.Judge.{segment_limit}
 use Rattle.fields.specs.declared.Draft.{Draft}
@@ -27,15 +28,14 @@ abbrev pub capped : ℕ → ℕ
 capped n = min n (segment_limit + 1)
 
 abbrev pub empty : Draft
-empty = record { len = 0; failed = false; place = 0 }
+empty = record { len = 0; fault = None }
 
 -- n bytes more; the first fault is kept
 unfoldable pub counted : Bool → ℕ → ℕ → Draft → Draft
 counted ok into n p =
     record {
       len = capped (p.len + n);
-      failed = p.failed || not ok;
-      place = cond p.failed p.place (cond ok 0 (capped (p.len + into)));
+      fault = option_or p.fault (cond ok None (Some (capped (p.len + into))));
     }
 
 -- a buffer with xs from a place on, as far as there is room

@@ -1,23 +1,33 @@
 // Fields of control frames' bodies: a cursor by value that reads them one by one, and a draft by value that appends them to a buffer.
-#![tactic(auto)]
+#![tactic(auto, unfolding(crate::specs::Layout::step_of, crate::specs::Reading::take_of, crate::specs::Field::Fits, crate::specs::Writing::counted))]
 
-ghost use Rattle.std.specs.Prelude.{◌≡◌, true, cond, ◌+◌, ◌-◌, ◌≤◌, ◌<◌, ltb, length, get_or};
+ghost use Rattle.std.specs.Prelude.{◌≡◌, Result, ℕ, IfOk, ◌+◌, ◌-◌, ◌≤◌, length, get_or, is_none, unwrap_or, true};
 ghost use Rattle.buffer.specs.Le.{le, words};
 ghost use Rattle.preamble.specs.Judge.{segment_limit};
-ghost use Rattle.fields.specs.Layout.{good, step_of};
+ghost use Rattle.refusal.specs.declared.Refusal.TheVariants.{BodyMalformed};
+ghost use Rattle.fields.specs.Layout.{good, end_of};
 ghost use Rattle.fields.specs.Layout as kind;
 ghost use Rattle.fields.specs.Field.{bits_of, WordsFit, number, negative, numbers, payload, opaque, fixed};
-ghost use Rattle.fields.specs.Reading.{numbers_in, in_u8, in_u32, in_u64, in_list, in_span, take_of};
+ghost use Rattle.fields.specs.Reading.{numbers_in, in_end, in_number, in_list, in_span, take_of};
 ghost use Rattle.fields.specs.Writing.{capped, counted, empty, put_at, Put, Appended};
 
-use buffer::{byte_at, min, u32_at, u32_bytes, u64_at};
+use buffer::{byte_at, u32_at, u64_at};
 use preamble::SEGMENT_LIMIT;
+use refusal::Refusal;
 
-// A place in a segment; once failed, the place that the fault is named by.
+// The place in a segment that a fault is named by.
 #[derive(Clone, Copy)]
-pub struct Cursor {
+pub struct Fault {
     pub at: usize,
-    pub failed: bool,
+}
+
+// A body with a fault is malformed at its place.
+impl From<Fault> for Refusal {
+    ghost from_gives = { λ fault why. why ≡ BodyMalformed fault.at };
+
+    fn from(fault: Fault) -> Refusal {
+        Refusal::BodyMalformed(fault.at as u64)
+    }
 }
 
 // Bytes of a segment.
@@ -34,269 +44,152 @@ pub struct NumberList {
     pub count: u32,
 }
 
-// What a step answers: the field and the cursor behind it, or the cursor at its fault.
-#[derive(Clone, Copy)]
-pub enum U8Step {
-    Read(u8, Cursor),
-    Failed(Cursor),
-}
+// What a step answers that reads at the cursor, a place in a segment: the field and the cursor behind it, or its fault.
+pub type Step<T> = Result<(T, usize), Fault>;
 
-#[derive(Clone, Copy)]
-pub enum U32Step {
-    Read(u32, Cursor),
-    Failed(Cursor),
-}
-
-#[derive(Clone, Copy)]
-pub enum U64Step {
-    Read(u64, Cursor),
-    Failed(Cursor),
-}
-
-#[derive(Clone, Copy)]
-pub enum ListStep {
-    Read(NumberList, Cursor),
-    Failed(Cursor),
-}
-
-#[derive(Clone, Copy)]
-pub enum SpanStep {
-    Read(Span, Cursor),
-    Failed(Cursor),
-}
-
-// ---- where a field ends: a cursor at a fault stays there
+// ---- where a field ends
 
 fn remaining(s: &[u8], at: usize) -> usize
     ensures { result ≡ length s.now - at }
 {
-    s.len() - min(at, s.len())
+    s.len().saturating_sub(at)
 }
 
 // Past w bytes.
-fn skip(s: &[u8], c: Cursor, w: usize) -> Cursor
-    ensures { result ≡ step_of (kind.number w) s.now c }
+fn skip(s: &[u8], at: usize, w: usize) -> Result<usize, Fault>
+    ensures { in_end result ≡ end_of (kind.number w) s.now at }
 {
-    if c.failed {
-        return c;
+    if remaining(s, at) < w {
+        return Err(Fault { at });
     }
-    let at = c.at;
-    if w <= remaining(s, at) {
-        Cursor {
-            at: at + w,
-            failed: false,
-        }
-    } else {
-        Cursor {
-            at: at,
-            failed: true,
-        }
-    }
+    Ok(at + w)
 }
 
-fn skip_negative(s: &[u8], c: Cursor) -> Cursor
-    ensures { result ≡ step_of kind.negative s.now c }
+fn skip_negative(s: &[u8], at: usize) -> Result<usize, Fault>
+    ensures { in_end result ≡ end_of kind.negative s.now at }
 {
-    if c.failed {
-        return c;
-    }
-    let at = c.at;
     if u32_at(s, at) < 2147483648 {
-        Cursor {
-            at: at,
-            failed: true,
-        }
-    } else {
-        skip(s, c, 4)
+        return Err(Fault { at });
     }
+    skip(s, at, 4)
 }
 
-fn skip_list(s: &[u8], c: Cursor) -> Cursor
-    ensures { result ≡ step_of kind.numbers s.now c }
+fn skip_list(s: &[u8], at: usize) -> Result<usize, Fault>
+    ensures end { in_end result ≡ end_of kind.numbers s.now at }
+    ensures count { IfOk result (λ end. at + 4 ≤ end) }
 {
-    if c.failed {
-        return c;
-    }
-    let at = c.at;
     let n = u32_at(s, at) as usize;
     if 32 < n {
-        return Cursor {
-            at: at,
-            failed: true,
-        };
+        return Err(Fault { at });
     }
     let room = remaining(s, at);
-    if 4 + 4 * n <= room {
-        Cursor {
-            at: at + (4 + 4 * n),
-            failed: false,
-        }
-    } else {
-        Cursor {
+    if room < 4 + 4 * n {
+        return Err(Fault {
             at: at + room / 4 * 4,
-            failed: true,
-        }
+        });
     }
+    Ok(at + (4 + 4 * n))
 }
 
-fn skip_payload(s: &[u8], c: Cursor) -> Cursor
-    ensures { result ≡ step_of kind.payload s.now c }
+fn skip_payload(s: &[u8], at: usize) -> Result<usize, Fault>
+    ensures end { in_end result ≡ end_of kind.payload s.now at }
+    ensures length { IfOk result (λ end. at + 4 ≤ end) }
 {
-    let at = c.at;
-    skip(s, c, 4 + u32_at(s, at) as usize)
+    skip(s, at, 4 + u32_at(s, at) as usize)
 }
 
-fn skip_rest(s: &[u8], c: Cursor, closing: usize) -> Cursor
-    ensures { result ≡ step_of (kind.opaque closing) s.now c }
+fn skip_rest(s: &[u8], at: usize, closing: usize) -> Result<usize, Fault>
+    ensures { in_end result ≡ end_of (kind.opaque closing) s.now at }
 {
-    if c.failed {
-        return c;
+    if remaining(s, at) < closing {
+        return Err(Fault { at: 0 });
     }
-    let at = c.at;
-    if closing <= remaining(s, at) {
-        Cursor {
-            at: s.len() - closing,
-            failed: false,
-        }
-    } else {
-        Cursor {
-            at: 0,
-            failed: true,
-        }
-    }
+    Ok(s.len() - closing)
 }
 
 // ---- reading: a step for each kind of field
 
-pub fn start() -> Cursor
-    ensures { result ≡ good 0 }
+// The cursor at a segment's front.
+pub fn start() -> usize
+    ensures { result ≡ 0 }
 {
-    Cursor {
-        at: 0,
-        failed: false,
-    }
+    0
 }
 
-pub fn read_u8(s: &[u8], c: Cursor) -> U8Step
-    ensures { in_u8 result ≡ take_of (kind.number 1) s.now c }
+#[tactic(auto, using(crate::proofs::Skips::byte_there), unfolding(crate::specs::Layout::step_of, crate::specs::Reading::take_of))]
+pub fn read_u8(s: &[u8], at: usize) -> Step<u8>
+    ensures { in_number (number 1) result ≡ take_of (kind.number 1) s.now (good at) }
 {
-    let at = c.at;
-    let next = skip(s, c, 1);
-    if next.failed {
-        return U8Step::Failed(next);
-    }
-    U8Step::Read(byte_at(s, at), next)
+    let end = skip(s, at, 1)?;
+    Ok((byte_at(s, at), end))
 }
 
-pub fn read_u32(s: &[u8], c: Cursor) -> U32Step
-    ensures { in_u32 (number 4) result ≡ take_of (kind.number 4) s.now c }
+// One function for each width: a generic one would need a trait with the width and the buffer's reader, and is longer.
+pub fn read_u32(s: &[u8], at: usize) -> Step<u32>
+    ensures { in_number (number 4) result ≡ take_of (kind.number 4) s.now (good at) }
 {
-    let at = c.at;
-    let next = skip(s, c, 4);
-    if next.failed {
-        return U32Step::Failed(next);
-    }
-    U32Step::Read(u32_at(s, at), next)
+    let end = skip(s, at, 4)?;
+    Ok((u32_at(s, at), end))
 }
 
-pub fn read_u64(s: &[u8], c: Cursor) -> U64Step
-    ensures { in_u64 result ≡ take_of (kind.number 8) s.now c }
+pub fn read_u64(s: &[u8], at: usize) -> Step<u64>
+    ensures { in_number (number 8) result ≡ take_of (kind.number 8) s.now (good at) }
 {
-    let at = c.at;
-    let next = skip(s, c, 8);
-    if next.failed {
-        return U64Step::Failed(next);
-    }
-    U64Step::Read(u64_at(s, at), next)
+    let end = skip(s, at, 8)?;
+    Ok((u64_at(s, at), end))
 }
 
 // A signed 32-bit number below zero, as its 32 bits: `error_of` gives the number.
-pub fn read_negative(s: &[u8], c: Cursor) -> U32Step
-    ensures { in_u32 negative result ≡ take_of kind.negative s.now c }
+pub fn read_negative(s: &[u8], at: usize) -> Step<u32>
+    ensures { in_number negative result ≡ take_of kind.negative s.now (good at) }
 {
-    let at = c.at;
-    let next = skip_negative(s, c);
-    if next.failed {
-        return U32Step::Failed(next);
-    }
-    U32Step::Read(u32_at(s, at), next)
-}
-
-// The place behind a 32-bit count.
-fn behind_count(s: &[u8], at: usize) -> usize
-    ensures { at ≤ length s.now → result ≡ at + 4 }
-{
-    min(at, s.len()) + 4
+    let end = skip_negative(s, at)?;
+    Ok((u32_at(s, at), end))
 }
 
 // A 32-bit count, at most 32, and that many 32-bit numbers.
-pub fn read_list(s: &[u8], c: Cursor) -> ListStep
-    ensures { in_list s.now result ≡ take_of kind.numbers s.now c }
+pub fn read_list(s: &[u8], at: usize) -> Step<NumberList>
+    ensures { in_list s.now result ≡ take_of kind.numbers s.now (good at) }
 {
-    let at = c.at;
-    let next = skip_list(s, c);
-    if next.failed {
-        return ListStep::Failed(next);
-    }
-    let numbers = NumberList {
-        at: behind_count(s, at),
-        count: u32_at(s, at),
-    };
-    ListStep::Read(numbers, next)
+    let end = skip_list(s, at)?;
+    let count = u32_at(s, at);
+    Ok((NumberList { at: at + 4, count }, end))
 }
 
 // A 32-bit length and that many bytes.
-pub fn read_payload(s: &[u8], c: Cursor) -> SpanStep
-    ensures { in_span payload s.now result ≡ take_of kind.payload s.now c }
+pub fn read_payload(s: &[u8], at: usize) -> Step<Span>
+    ensures { in_span payload s.now result ≡ take_of kind.payload s.now (good at) }
 {
-    let at = c.at;
-    let next = skip_payload(s, c);
-    if next.failed {
-        return SpanStep::Failed(next);
-    }
-    let n = u32_at(s, at) as usize;
-    let payload = Span {
-        at: behind_count(s, at),
-        len: n,
-    };
-    SpanStep::Read(payload, next)
+    let end = skip_payload(s, at)?;
+    let len = u32_at(s, at) as usize;
+    Ok((Span { at: at + 4, len }, end))
 }
 
-// All bytes but so many closing ones.
-pub fn read_rest(s: &[u8], c: Cursor, closing: usize) -> SpanStep
-    ensures { in_span (opaque closing) s.now result ≡ take_of (kind.opaque closing) s.now c }
+// All bytes but so many closing ones: none from a place that is behind the segment's end.
+pub fn read_rest(s: &[u8], at: usize, closing: usize) -> Step<Span>
+    ensures { in_span (opaque closing) s.now result ≡ take_of (kind.opaque closing) s.now (good at) }
 {
-    let at = c.at;
-    let next = skip_rest(s, c, closing);
-    if next.failed {
-        return SpanStep::Failed(next);
-    }
-    let end = s.len() - min(closing, s.len());
-    let len = end - min(at, end);
-    SpanStep::Read(Span { at: at, len: len }, next)
+    let end = skip_rest(s, at, closing)?;
+    let len = end.saturating_sub(at);
+    Ok((Span { at, len }, end))
 }
 
 // So many opaque bytes.
-pub fn read_bytes(s: &[u8], c: Cursor, w: usize) -> SpanStep
-    ensures { in_span (fixed w) s.now result ≡ take_of (kind.fixed w) s.now c }
+pub fn read_bytes(s: &[u8], at: usize, w: usize) -> Step<Span>
+    ensures { in_span (fixed w) s.now result ≡ take_of (kind.fixed w) s.now (good at) }
 {
-    let at = c.at;
-    let next = skip(s, c, w);
-    if next.failed {
-        return SpanStep::Failed(next);
-    }
-    SpanStep::Read(Span { at: at, len: w }, next)
+    let end = skip(s, at, w)?;
+    Ok((Span { at, len: w }, end))
 }
 
 // The i-th number of a list that was read, or 0 past its end.
 pub fn number_in(s: &[u8], l: NumberList, i: u32) -> u32
     ensures { result ≡ get_or (numbers_in s.now l) i 0 }
 {
-    if i < l.count {
-        let at = l.at;
-        return u32_at(s, min(at, s.len()) + 4 * (i as usize));
+    if l.count <= i {
+        return 0;
     }
-    0
+    u32_at(s, l.at.min(s.len()) + 4 * (i as usize))
 }
 
 // ---- writing: a draft says how long the body is so far, and which field was at fault first
@@ -305,53 +198,24 @@ pub fn number_in(s: &[u8], l: NumberList, i: u32) -> u32
 #[derive(Clone, Copy)]
 pub struct Draft {
     pub len: usize,
-    pub failed: bool,
-    pub place: usize,
-}
-
-fn limit() -> usize
-    ensures { result ≡ segment_limit }
-{
-    SEGMENT_LIMIT as usize
+    pub fault: Option<usize>,
 }
 
 // A sum that stops just above the limit of a segment.
 fn capped_sum(a: usize, n: usize) -> usize
     ensures { result ≡ capped (a + n) }
 {
-    let most = limit();
-    if most < a {
-        return most + 1;
-    }
-    if most - a < n {
-        return most + 1;
-    }
-    a + n
+    a.saturating_add(n).min(SEGMENT_LIMIT as usize + 1)
 }
 
-// n bytes more; where they are not sound, the fault is so many bytes into them.
-fn count(p: Draft, sound: bool, into: usize, n: usize) -> Draft
-    ensures { result ≡ counted sound into n p }
+// n bytes more; a fault of theirs is so many bytes into them.
+fn count(p: Draft, n: usize, fault: Option<usize>) -> Draft
+    ensures { result ≡ counted (is_none fault) (unwrap_or fault 0) n p }
 {
-    let len = capped_sum(p.len, n);
-    if p.failed {
-        return Draft {
-            len: len,
-            failed: true,
-            place: p.place,
-        };
-    }
-    if sound {
-        return Draft {
-            len: len,
-            failed: false,
-            place: 0,
-        };
-    }
+    let fault = fault.map(|into| capped_sum(p.len, into));
     Draft {
-        len: len,
-        failed: true,
-        place: capped_sum(p.len, into),
+        len: capped_sum(p.len, n),
+        fault: p.fault.or(fault),
     }
 }
 
@@ -359,49 +223,17 @@ fn count(p: Draft, sound: bool, into: usize, n: usize) -> Draft
 fn put_at(out: &mut [u8], at: usize, src: &[u8])
     ensures { out.new ≡ put_at at src.now out.old }
 {
-    let room = out.len() - min(at, out.len());
-    let n = min(src.len(), room);
-    let mut i = 0;
-    while i < n {
-        out[at + i] = src[i];
-        i += 1;
-    }
+    let from = at.min(out.len());
+    let n = src.len().min(out.len() - from);
+    out[from..from + n].copy_from_slice(&src[..n]);
 }
 
 // Counts bytes and writes them.
-fn put(out: &mut [u8], p: Draft, sound: bool, into: usize, src: &[u8]) -> Draft
-    ensures { Put src.now sound into p out.old result out.new }
+fn put(out: &mut [u8], p: Draft, src: &[u8], fault: Option<usize>) -> Draft
+    ensures { Put src.now (is_none fault) (unwrap_or fault 0) p out.old result out.new }
 {
-    let at = p.len;
-    put_at(out, at, src);
-    count(p, sound, into, src.len())
-}
-
-// The four bytes of a count.
-fn count_bytes(n: usize) -> [u8; 4]
-    ensures { result ≡ le 4 n }
-{
-    [
-        (n % 256) as u8,
-        (n / 256 % 256) as u8,
-        (n / 256 / 256 % 256) as u8,
-        (n / 256 / 256 / 256 % 256) as u8,
-    ]
-}
-
-fn long_bytes(n: u64) -> [u8; 8]
-    ensures { result ≡ le 8 n }
-{
-    [
-        (n % 256) as u8,
-        (n / 256 % 256) as u8,
-        (n / 256 / 256 % 256) as u8,
-        (n / 256 / 256 / 256 % 256) as u8,
-        (n / 256 / 256 / 256 / 256 % 256) as u8,
-        (n / 256 / 256 / 256 / 256 / 256 % 256) as u8,
-        (n / 256 / 256 / 256 / 256 / 256 / 256 % 256) as u8,
-        (n / 256 / 256 / 256 / 256 / 256 / 256 / 256 % 256) as u8,
-    ]
+    put_at(out, p.len, src);
+    count(p, src.len(), fault)
 }
 
 // A body of no bytes.
@@ -410,59 +242,61 @@ pub fn start_draft() -> Draft
 {
     Draft {
         len: 0,
-        failed: false,
-        place: 0,
+        fault: None,
     }
 }
 
 pub fn append_u8(out: &mut [u8], p: Draft, n: u8) -> Draft
     ensures { Appended (number 1 n) p out.old result out.new }
 {
-    let b = [n];
-    put(out, p, true, 0, &b)
+    put(out, p, &[n], None)
 }
 
 pub fn append_u32(out: &mut [u8], p: Draft, n: u32) -> Draft
     ensures { Appended (number 4 n) p out.old result out.new }
 {
-    let b = u32_bytes(n);
-    put(out, p, true, 0, &b)
+    put(out, p, &n.to_le_bytes(), None)
 }
 
 pub fn append_u64(out: &mut [u8], p: Draft, n: u64) -> Draft
     ensures { Appended (number 8 n) p out.old result out.new }
 {
-    let b = long_bytes(n);
-    put(out, p, true, 0, &b)
+    put(out, p, &u64::to_le_bytes(n), None)
 }
 
 // A signed number by its 32 bits: it is to be below zero.
 pub fn append_negative(out: &mut [u8], p: Draft, n: u32) -> Draft
     ensures { Appended (negative n) p out.old result out.new }
 {
-    let b = u32_bytes(n);
-    put(out, p, 2147483648 <= n, 0, &b)
+    let fault = if n < 2147483648 { Some(0) } else { None };
+    put(out, p, &n.to_le_bytes(), fault)
 }
 
 // Numbers, one behind the other.
 fn append_words(out: &mut [u8], p: Draft, ns: &[u32]) -> Draft
     ensures { Put (words ns.now) true 0 p out.old result out.new × WordsFit ns.now }
 {
-    let mut next = count(p, true, 0, 0);
-    let mut i = 0;
-    while i < ns.len() {
-        next = append_u32(out, next, ns[i]);
-        i += 1;
+    let mut next = count(p, 0, None);
+    for n in ns {
+        next = append_u32(out, next, *n);
     }
     next
+}
+
+// The four lowest bytes of a count.
+fn count_bytes(n: usize) -> [u8; 4]
+    ensures { result ≡ le 4 n }
+{
+    let [a, b, c, d, ..] = n.to_le_bytes();
+    [a, b, c, d]
 }
 
 // A count, at most 32, and that many numbers.
 pub fn append_list(out: &mut [u8], p: Draft, ns: &[u32]) -> Draft
     ensures { Appended (numbers ns.now) p out.old result out.new }
 {
-    let b = count_bytes(ns.len());
-    let next = put(out, p, ns.len() <= 32, 0, &b);
+    let fault = if 32 < ns.len() { Some(0) } else { None };
+    let next = put(out, p, &count_bytes(ns.len()), fault);
     append_words(out, next, ns)
 }
 
@@ -470,30 +304,29 @@ pub fn append_list(out: &mut [u8], p: Draft, ns: &[u32]) -> Draft
 pub fn append_payload(out: &mut [u8], p: Draft, bs: &[u8]) -> Draft
     ensures { Appended (payload bs.now) p out.old result out.new }
 {
-    let b = count_bytes(bs.len());
-    let next = put(out, p, true, 0, &b);
-    put(out, next, true, 0, bs)
+    let next = put(out, p, &count_bytes(bs.len()), None);
+    put(out, next, bs, None)
 }
 
 // Opaque bytes, before so many closing ones.
 pub fn append_rest(out: &mut [u8], p: Draft, bs: &[u8], closing: usize) -> Draft
     ensures { Appended (opaque closing bs.now) p out.old result out.new }
 {
-    put(out, p, true, 0, bs)
+    put(out, p, bs, None)
 }
 
-// How far into bytes that are to be w the fault is: at the first left over, or else at their front.
-fn beyond(n: usize, w: usize) -> usize
-    ensures { result ≡ cond (ltb w n) w 0 }
-{
-    if w < n { w } else { 0 }
-}
-
-// So many opaque bytes.
+// So many opaque bytes: the first left over is at fault, or too few at their front.
 pub fn append_bytes(out: &mut [u8], p: Draft, bs: &[u8], w: usize) -> Draft
     ensures { Appended (fixed w bs.now) p out.old result out.new }
 {
-    put(out, p, bs.len() == w, beyond(bs.len(), w), bs)
+    let fault = if bs.len() == w {
+        None
+    } else if w < bs.len() {
+        Some(w)
+    } else {
+        Some(0)
+    };
+    put(out, p, bs, fault)
 }
 
 // ---- the error of a bad method: its 32 bits and the signed number
@@ -501,19 +334,11 @@ pub fn append_bytes(out: &mut [u8], p: Draft, bs: &[u8], w: usize) -> Draft
 pub fn error_of(bits: u32) -> i32
     ensures { bits_of result ≡ bits }
 {
-    if bits < 2147483648 {
-        bits as i32
-    } else {
-        -1 - ((4294967295 - bits) as i32)
-    }
+    bits.cast_signed()
 }
 
 pub fn bits_of(error: i32) -> u32
     ensures { result ≡ bits_of error }
 {
-    if error < 0 {
-        4294967295 - ((-1 - error) as u32)
-    } else {
-        error as u32
-    }
+    error.cast_unsigned()
 }

@@ -10,14 +10,15 @@ use Rattle.buffer.proofs.Parts.{overwrite-fits}
 use Rattle.aes.specs.Aes.{State}
 use Rattle.gcm.specs.Gcm.{sealed_by}
 use Rattle.gcm.specs.Calls.{limit, Sealing}
-use Rattle.refusal.specs.declared.WriteResult.{WriteResult}
+use Rattle.std.specs.Prelude.{Result}
+use Rattle.refusal.specs.declared.Refusal.{Refusal}
 use Rattle.refusal.specs.Writes.{Done}
 use Rattle.gcm.proofs.Answers.{in-place-fits}
 use Rattle.gcm.proofs.Placing.{sealed-length, sealed-over}
 
 module _ (w : List State) (nonce : List ℕ) where
   -- sealed in the part up to its tag, which was lent
-  pub sealed-part : (n : ℕ) (out ys : List ℕ) (r : WriteResult) → n + 16 ≤ length out → n ≤ limit
+  pub sealed-part : (n : ℕ) (out ys : List ℕ) (r : Result ℕ Refusal) → n + 16 ≤ length out → n ≤ limit
       → Sealing w nonce (take (length (take (n + 16) out) - 16) (take (n + 16) out)) (take (n + 16) out) r ys
       → ys ++ drop (n + 16) out ≡ replace_front (sealed_by w nonce (take n out)) out
   sealed-part n out ys r h k s =

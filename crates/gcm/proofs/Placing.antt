@@ -1,22 +1,26 @@
 -- Where the ciphertext and the tag come to stand.
-use mathlib.Core.List.{List, ◌++◌}
+use mathlib.Core.List.{List, ◌∷◌, ◌++◌}
 use mathlib.Core.Path.{◌≡◌, refl, sym, ap, ap₂, ◌∙◌}
-use Prim.Native.Nat.{ℕ, ◌+◌, ◌-◌, ◌<◌, ◌≤◌, ◌^◌}
+use Prim.Native.Nat.{ℕ, ◌+◌, ◌≤◌}
 use native.Mathlib.Omega.{arith}
 use lib.ListN.{length, take, drop, length-append}
-use lib.Pow.{high, low}
 use lib.Seq.{length-take-le}
 use Rattle.buffer.specs.Splice.{replace_front, overwrite}
 use Rattle.buffer.proofs.Parts.{replace_longer, overwrite-front}
 use Rattle.aes.specs.Aes.{State}
 use Rattle.aes.specs.Counter.{gctr}
 use Rattle.aes.proofs.Counters.{gctr-length}
-use Rattle.ghash.specs.Ghash.{pair}
-use Rattle.gcm.specs.Gcm.{be8, block_bytes, tag_of, sealed_by}
+use Rattle.std.specs.Int.{w128, to_be_bytes}
+use Rattle.gcm.specs.Gcm.{block_bytes, tag_of, sealed_by}
 
-pub bytes-split : (h l : ℕ) → l < 2 ^ 64 → be8 h ++ be8 l ≡ block_bytes (pair h l)
+cons : {x y : ℕ} {xs ys : List ℕ} → x ≡ y → xs ≡ ys → x ∷ xs ≡ y ∷ ys
+cons e f = ap₂ ◌∷◌ e f
+
+-- a block as code writes it
+pub written : (n : ℕ) → to_be_bytes w128 n ≡ block_bytes n
 unfolding block_bytes
-bytes-split h l k = sym (ap₂ (λ (x y : ℕ). be8 x ++ be8 y) (high h 64 k) (low h 64 k))
+written n =
+    cons (omega arith) (cons (omega arith) (cons (omega arith) (cons (omega arith) (cons (omega arith) (cons (omega arith) (cons (omega arith) (cons (omega arith) (cons (omega arith) (cons (omega arith) (cons (omega arith) (cons (omega arith) (cons (omega arith) (cons (omega arith) (cons (omega arith) (cons (omega arith) refl)))))))))))))))
 
 module _ (w : List State) (nonce : List ℕ) where
   pub tag-length : (c : List ℕ) → length (tag_of w nonce c) ≡ 16

@@ -14,7 +14,8 @@ use Rattle.aes.specs.Counter.{gctr}
 use Rattle.aes.proofs.Counters.{gctr-length, gctr-twice}
 use Rattle.gcm.specs.Gcm.{plain, fail, tag_of, sealed_by, tag_fits, same_as, opened_by}
 use Rattle.gcm.specs.Calls.{limit, open_done, Sealing, Opening}
-use Rattle.refusal.specs.declared.WriteResult.{WriteResult}
+use Rattle.std.specs.Prelude.{Result}
+use Rattle.refusal.specs.declared.Refusal.{Refusal}
 use Rattle.refusal.specs.Writes.{wrote, Done, done, outcome_of}
 use Rattle.gcm.proofs.Answers.{seal_long, seal_short, seal_fits, open_right}
 use Rattle.gcm.proofs.Placing.{sealed-length}
@@ -76,14 +77,14 @@ module _ (w : List State) (nonce text : List ℕ) where
       ∙ ap₂ (λ (i : ℕ) (x : List ℕ). done (wrote i) (replace_front x to)) len (ap (λ (i : ℕ). gctr w nonce (take i s)) len ∙ back)
 
   -- a call that wrote has left the sealed bytes
-  module _ (buf after : List ℕ) (r : WriteResult) (sealing : Sealing w nonce text buf r after) (wrote_it : outcome_of r ≡ wrote (length text + 16)) where
+  module _ (buf after : List ℕ) (r : Result ℕ Refusal) (sealing : Sealing w nonce text buf r after) (wrote_it : outcome_of r ≡ wrote (length text + 16)) where
     pub sealed-after : (length text ≤ limit) × (after ≡ replace_front (sealed_by w nonce text) buf)
     sealed-after =
         by_less limit (length text) (λ h. let q = ap (λ (d : Done). d.outcome) (sealing.is ∙ seal_long w nonce text buf h) in wrong cc) (λ h.
         by_less (length buf) (length text + 16) (λ k. let q = ap (λ (d : Done). d.outcome) (sealing.is ∙ seal_short w nonce text buf h k) in wrong cc)
         (λ k. (h, ap (λ (d : Done). d.buffer) (sealing.is ∙ seal_fits w nonce text buf h k))))
 
-    pub calls : (back again : List ℕ) (q : WriteResult) → length text ≤ length back → Opening w nonce (take (length text + 16) after) back q again
+    pub calls : (back again : List ℕ) (q : Result ℕ Refusal) → length text ≤ length back → Opening w nonce (take (length text + 16) after) back q again
         → (outcome_of q ≡ wrote (length text)) × (again ≡ replace_front text back)
     calls to again q h opening =
         let there : take (length text + 16) after ≡ sealed_by w nonce text =

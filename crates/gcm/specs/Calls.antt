@@ -1,11 +1,11 @@
 -- What a call answers and what it leaves in the buffer (02, K3).
-use Rattle.std.specs.Prelude.{◌≡◌, List, [], ◌∷◌, ℕ, ◌+◌, ◌-◌, ◌^◌, leb, length, replicate}
+use Rattle.std.specs.Prelude.{◌≡◌, Result, List, [], ◌∷◌, ℕ, ◌+◌, ◌-◌, ◌^◌, leb, length, replicate}
 use Rattle.buffer.specs.Splice.{replace_front}
 use Rattle.refusal.specs.declared.Refusal.TheVariants as refusal
 use Rattle.refusal.specs.Refusals.{Judged, fine, refused, numbers_of, first_of, unless}
 use Rattle.aes.specs.Aes.{State}
 use Rattle.gcm.specs.Gcm.{Opened, plain, fail, sealed_by, opened_by}
-use Rattle.refusal.specs.declared.WriteResult.{WriteResult}
+use Rattle.refusal.specs.declared.Refusal.{Refusal}
 use Rattle.refusal.specs.Writes.{wrote, refused_for, Done, done, outcome_of}
 
 -- GCM's longest text
@@ -44,8 +44,8 @@ open_done w nonce s buf = by_both (judge_open (length s) (length buf)) (opened_b
 
 -- ---- THE PROMISES of a call that was lent buf, answered r and left `after`
 
-pub record Sealing (w : List State) (nonce text buf : List ℕ) (r : WriteResult) (after : List ℕ) : Type 0 where
+pub record Sealing (w : List State) (nonce text buf : List ℕ) (r : Result ℕ Refusal) (after : List ℕ) : Type 0 where
   pub is : done (outcome_of r) after ≡ seal_done w nonce text buf
 
-pub record Opening (w : List State) (nonce s buf : List ℕ) (r : WriteResult) (after : List ℕ) : Type 0 where
+pub record Opening (w : List State) (nonce s buf : List ℕ) (r : Result ℕ Refusal) (after : List ℕ) : Type 0 where
   pub is : done (outcome_of r) after ≡ open_done w nonce s buf

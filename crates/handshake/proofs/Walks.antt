@@ -6,14 +6,16 @@ use Prim.Native.Nat.{ℕ, suc}
 use native.Mathlib.Omega.{arith}
 use lib.Dec.{eqb}
 use lib.ListN.{length, get_or}
-use borrow.Author.Tests.{eqb-true, eq-eqb}
+use Rattle.std.proofs.Common.{leb, ◌≤◌, Err}
+use Rattle.refusal.specs.declared.Refusal.{Refusal}
+use Rattle.tag.specs.Tags.{Named}
+use Rattle.std.proofs.lemmas.Bool.{eqb-true, eq-eqb, ne_eqb, leb-true, and_parts, and_right}
 use Rattle.refusal.proofs.Booleans.{by_test, wrong, each_true}
 use Rattle.handshake.specs.declared.State.{State}
 use Rattle.handshake.specs.declared.State.TheVariants.{Hello, Auth, More, Signature, Session, Ready, Standby, Wait, Closed}
 use Rattle.handshake.specs.declared.Verdict.{Verdict}
-use Rattle.handshake.specs.declared.Next.{Next}
-use Rattle.handshake.specs.declared.Next.TheVariants.{To, Unexpected}
-use Rattle.handshake.specs.Table.{Asked, nothing, auth, signature_good, features_there, features_missing, reconnect_accepted, reconnect_turned_down, Row, state_number, holds, leads, find}
+use Rattle.std.specs.Prelude.{Option, Some, None}
+use Rattle.handshake.specs.Table.{Asked, nothing, auth, signature_good, features_there, features_missing, reconnect_accepted, reconnect_turned_down, Row, state_number, holds, leads, client_rows, server_rows, find}
 use Rattle.handshake.specs.Steps.{Stepped, taken, refused_at, step_by}
 use Rattle.handshake.specs.Runs.{Side, client, server, rows_of, Entry, Chained, state_by, In, Meets, Walk, end, along, off, PastSignature, AllRefused, Final, closed, wait, standby, EveryRun}
 use Rattle.handshake.specs.Runs as runs
@@ -50,9 +52,9 @@ meets-leads : (r : Row) (s : State) (tag : ℕ) (v : Verdict) → Meets r s tag 
 meets-leads r s tag v m =
     rw (eq-eqb (state_number r.from) (state_number s) (ap state_number m.from), m.asked, eq-eqb tag r.tag (sym m.tag))
 
-data Sought (rs : List Row) (s : State) (tag : ℕ) (v : Verdict) : Next → Type 0 where
-  at : (r : Row) → In r rs → Meets r s tag v → Sought rs s tag v (To r.to)
-  missing : ((r : Row) → In r rs → Meets r s tag v → ⊥) → Sought rs s tag v Unexpected
+data Sought (rs : List Row) (s : State) (tag : ℕ) (v : Verdict) : Option State → Type 0 where
+  at : (r : Row) → In r rs → Meets r s tag v → Sought rs s tag v (Some r.to)
+  missing : ((r : Row) → In r rs → Meets r s tag v → ⊥) → Sought rs s tag v None
 
 in-none : {r : Row} {rs : List Row} → In r rs → rs ≡ [] → ⊥
 in-none (runs.here {rs = rs}) e = let z : suc (length rs) ≡ 0 = ap length e in omega arith
@@ -67,14 +69,38 @@ unfolding find
 look [] s tag v = missing (λ r i m. in-none i refl)
 look (r ∷ rs) s tag v = go (leads r s tag v) (find rs s tag v) refl (look rs s tag v)
   where
-    go : (b : Bool) (n : Next) → leads r s tag v ≡ b → Sought rs s tag v n → Sought (r ∷ rs) s tag v (cond b (To r.to) n)
+    go : (b : Bool) (n : Option State) → leads r s tag v ≡ b → Sought rs s tag v n → Sought (r ∷ rs) s tag v (cond b (Some r.to) n)
     go true n t h = at r runs.here (meets r s tag v t)
     go false n t (at q i m) = at q (runs.there i) m
     go false n t (missing f) = missing (λ q i m. in-cons s tag v t f i m)
 
+-- ---- tags that no row has
+
+listed : List Row → Bool
+listed [] = true
+listed (r ∷ rs) = (leb 1 r.tag && leb r.tag 20) && listed rs
+
+-- no table has a tag outside 1 to 20
+unlisted : (rs : List Row) (s : State) (n : ℕ) (v : Verdict) → listed rs ≡ true → ((1 ≤ n) × (n ≤ 20) → ⊥) → find rs s n v ≡ None
+unfolding listed find
+unlisted [] s n v ok out = refl
+unlisted (r ∷ rs) s n v ok out =
+    let a = and_parts (leb 1 r.tag && leb r.tag 20) (listed rs) ok in
+    let b = and_parts (leb 1 r.tag) (leb r.tag 20) a.0 in
+    let other : eqb n r.tag ≡ false = ne_eqb n r.tag (λ e. out (rw e (leb-true 1 r.tag b.0, leb-true r.tag 20 b.1))) in
+    rw (and_right (holds r.asked v) (eqb n r.tag) other, and_right (eqb (state_number r.from) (state_number s)) false refl) (unlisted rs s n v a.1 out)
+
+pub client_unlisted : (s : State) (n : ℕ) (v : Verdict) (why : Refusal) → Named n (Err why) → find client_rows s n v ≡ None
+unfolding listed
+client_unlisted s n v why h = unlisted client_rows s n v refl (λ r. wrong (h.range.1 r))
+
+pub server_unlisted : (s : State) (n : ℕ) (v : Verdict) (why : Refusal) → Named n (Err why) → find server_rows s n v ≡ None
+unfolding listed
+server_unlisted s n v why h = unlisted server_rows s n v refl (λ r. wrong (h.range.1 r))
+
 -- ---- walks
 
-walk-on : (rs : List Row) (s u : State) (e : Entry) (es : List Entry) (n : Next) → Sought rs s e.tag e.verdict n → e.step ≡ step_by n e.tag → Walk rs e.step.state es u → Walk rs s (e ∷ es) u
+walk-on : (rs : List Row) (s u : State) (e : Entry) (es : List Entry) (n : Option State) → Sought rs s e.tag e.verdict n → e.step ≡ step_by n e.tag → Walk rs e.step.state es u → Walk rs s (e ∷ es) u
 walk-on rs s u e es n (at r i m) h w = along r i m h (rw h at w)
 walk-on rs s u e es n (missing f) h w = off f h (rw h at w)
 
@@ -147,7 +173,7 @@ reaches side es c e = past (both_tables side) (walks (rows_of side) Hello es c) 
 
 -- ---- states that take nothing
 
-takes-nothing : (side : Side) (s : State) (tag : ℕ) (v : Verdict) → Final s → find (rows_of side) s tag v ≡ Unexpected
+takes-nothing : (side : Side) (s : State) (tag : ℕ) (v : Verdict) → Final s → find (rows_of side) s tag v ≡ None
 unfolding find
 takes-nothing client s tag v closed = refl
 takes-nothing client s tag v wait = refl
@@ -157,7 +183,7 @@ takes-nothing server s tag v wait = refl
 takes-nothing server s tag v standby = refl
 
 refused-step : (side : Side) (s : State) (e : Entry) → Final s → Stepped (rows_of side) s e.tag e.verdict e.step → e.step ≡ refused_at e.tag
-refused-step side s e f h = h.step ∙ ap (λ (n : Next). step_by n e.tag) (takes-nothing side s e.tag e.verdict f)
+refused-step side s e f h = h.step ∙ ap (λ (n : Option State). step_by n e.tag) (takes-nothing side s e.tag e.verdict f)
 
 all-refused : (side : Side) (s : State) (es : List Entry) → Final s → Chained (rows_of side) s es → AllRefused es
 all-refused side s [] f c = tt

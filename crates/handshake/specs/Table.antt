@@ -1,12 +1,10 @@
 -- 02's table of handshake steps (K7; the states are those of 004's two diagrams), to be read beside it.
-use Rattle.std.specs.Prelude.{Bool, true, cond, not, ◌&&◌, List, [], ◌∷◌, ◌++◌, ℕ, eqb}
+use Rattle.std.specs.Prelude.{Option, Some, None, Bool, true, cond, not, ◌&&◌, List, [], ◌∷◌, ◌++◌, ℕ, eqb}
 use Rattle.handshake.specs.declared.State.{State}
 use Rattle.handshake.specs.declared.State.TheVariants.{Hello, Auth, More, Signature, Session, Ready, Standby, Wait, Closed}
 use Rattle.handshake.specs.declared.AuthVerdict.{AuthVerdict}
 use Rattle.handshake.specs.declared.AuthVerdict.TheVariants as verdict
 use Rattle.handshake.specs.declared.Verdict.{Verdict}
-use Rattle.handshake.specs.declared.Next.{Next}
-use Rattle.handshake.specs.declared.Next.TheVariants.{To, Unexpected}
 
 -- what is asked of the caller on the way, and the answer that leads there
 pub data Asked : Type 0 where
@@ -109,9 +107,9 @@ holds reconnect_turned_down v = not v.reconnect
 abbrev pub leads : Row → State → ℕ → Verdict → Bool
 leads r s tag v = eqb (state_number r.from) (state_number s) && (holds r.asked v && eqb tag r.tag)
 
-unfoldable pub find : List Row → State → ℕ → Verdict → Next
-find [] s tag v = Unexpected
-find (r ∷ rs) s tag v = cond (leads r s tag v) (To r.to) (find rs s tag v)
+unfoldable pub find : List Row → State → ℕ → Verdict → Option State
+find [] s tag v = None
+find (r ∷ rs) s tag v = cond (leads r s tag v) (Some r.to) (find rs s tag v)
 
 -- a server's auth request by the caller's verdict
 abbrev pub led_to : AuthVerdict → State → State

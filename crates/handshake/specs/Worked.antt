@@ -1,17 +1,12 @@
 -- Worked runs, what each state takes, and worked picks, computed from the definitions as one table. They tell the table apart from near ones.
-use Rattle.std.specs.Prelude.{◌≡◌, Bool, true, false, List, [], ◌∷◌, ◌++◌, ℕ, zero, suc, ◌+◌, replicate}
+use Rattle.std.specs.Prelude.{Option, Some, None, Ok, Err, ◌≡◌, Bool, true, false, List, [], ◌∷◌, ◌++◌, ℕ, zero, suc, ◌+◌, replicate}
 use Rattle.refusal.specs.Refusals.{row}
 use Rattle.handshake.specs.declared.State.{State}
 use Rattle.handshake.specs.declared.State.TheVariants.{Hello, Auth, More, Signature, Session, Ready, Standby, Wait, Closed}
 use Rattle.handshake.specs.declared.AuthVerdict.{AuthVerdict}
 use Rattle.handshake.specs.declared.AuthVerdict.TheVariants as verdict
 use Rattle.handshake.specs.declared.Verdict.{Verdict}
-use Rattle.handshake.specs.declared.Report.TheVariants.{Taken, Refused}
 use Rattle.handshake.specs.declared.Step.{Step}
-use Rattle.handshake.specs.declared.Next.{Next}
-use Rattle.handshake.specs.declared.Next.TheVariants.{To, Unexpected}
-use Rattle.handshake.specs.declared.Picked.{Picked}
-use Rattle.handshake.specs.declared.Picked.TheVariants.{Mode, NoMode}
 use Rattle.handshake.specs.Table.{find}
 use Rattle.handshake.specs.Steps.{step_by}
 use Rattle.handshake.specs.Runs.{Side, client, server, rows_of}
@@ -31,10 +26,10 @@ pub record Came : Type 0 where
 
 -- a tag and the verdict on it lead to a state, or are refused
 abbrev goes : ℕ → Verdict → State → Came
-goes tag v s = record { tag = tag; verdict = v; answer = record { state = s; report = Taken } }
+goes tag v s = record { tag = tag; verdict = v; answer = record { state = s; report = Ok tt } }
 
 abbrev fails : ℕ → Verdict → Came
-fails tag v = record { tag = tag; verdict = v; answer = record { state = Closed; report = Refused (row 21 tag 0 0) } }
+fails tag v = record { tag = tag; verdict = v; answer = record { state = Closed; report = Err (row 21 tag 0 0) } }
 
 abbrev pub Right : Side → State → List Came → Type 0
 Right side s [] = Unit {0}
@@ -100,9 +95,9 @@ infix 20 ◌⇒◌
 abbrev ◌⇒◌ : ℕ → State → Transition
 ◌⇒◌ tag to = record { tag = tag; to = to }
 
-abbrev added : Next → ℕ → List Transition → List Transition
-added (To s) tag ws = (tag ⇒ s) ∷ ws
-added Unexpected tag ws = ws
+abbrev added : Option State → ℕ → List Transition → List Transition
+added (Some s) tag ws = (tag ⇒ s) ∷ ws
+added None tag ws = ws
 
 -- the transitions from a state, of n tags from one on
 unfoldable pub transitions_from : ℕ → ℕ → Side → State → Verdict → List Transition
@@ -172,22 +167,22 @@ Transitions =
 pub record Chosen : Type 0 where
   pub preferred : List ℕ
   pub allowed : List ℕ
-  pub mode : Picked
+  pub mode : Option ℕ
 
-abbrev choice : List ℕ → List ℕ → Picked → Chosen
+abbrev choice : List ℕ → List ℕ → Option ℕ → Chosen
 choice xs ys m = record { preferred = xs; allowed = ys; mode = m }
 
 -- the client's order decides and not the server's; the lists may be of any length, and hold a mode twice
 unfoldable pub choices : List Chosen
 choices =
-    choice (2 ∷ 1 ∷ []) (1 ∷ 2 ∷ []) (Mode 2)
-    ∷ choice (3 ∷ 1 ∷ 2 ∷ []) (2 ∷ 1 ∷ []) (Mode 1)
-    ∷ choice (1 ∷ 1 ∷ []) (5 ∷ 1 ∷ 1 ∷ []) (Mode 1)
-    ∷ choice (3 ∷ 4 ∷ []) (1 ∷ 2 ∷ []) NoMode
-    ∷ choice [] (1 ∷ []) NoMode
-    ∷ choice (1 ∷ []) [] NoMode
-    ∷ choice (0 ∷ []) (0 ∷ []) (Mode 0)
-    ∷ choice (replicate {A = ℕ} 40 3 ++ 7 ∷ 8 ∷ []) (replicate {A = ℕ} 40 4 ++ 8 ∷ 7 ∷ []) (Mode 7)
+    choice (2 ∷ 1 ∷ []) (1 ∷ 2 ∷ []) (Some 2)
+    ∷ choice (3 ∷ 1 ∷ 2 ∷ []) (2 ∷ 1 ∷ []) (Some 1)
+    ∷ choice (1 ∷ 1 ∷ []) (5 ∷ 1 ∷ 1 ∷ []) (Some 1)
+    ∷ choice (3 ∷ 4 ∷ []) (1 ∷ 2 ∷ []) None
+    ∷ choice [] (1 ∷ []) None
+    ∷ choice (1 ∷ []) [] None
+    ∷ choice (0 ∷ []) (0 ∷ []) (Some 0)
+    ∷ choice (replicate {A = ℕ} 40 3 ++ 7 ∷ 8 ∷ []) (replicate {A = ℕ} 40 4 ++ 8 ∷ 7 ∷ []) (Some 7)
     ∷ []
 
 abbrev pub AllChosen : List Chosen → Type 0

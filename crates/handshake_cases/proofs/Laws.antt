@@ -2,7 +2,7 @@
 use mathlib.Core.Path.{◌≡◌, sym, ◌∙◌}
 use mathlib.Core.Bool.{Bool, true, false, ◌&&◌}
 use mathlib.Core.List.{List}
-use Prim.Native.Nat.{ℕ, suc, ◌+◌, ◌-◌, ◌*◌, ◌≤◌, ◌<◌}
+use Prim.Native.Nat.{ℕ, suc, ◌+◌, ◌*◌, ◌≤◌}
 use native.Mathlib.Omega.{arith}
 use borrow.Author.Tests.{leb-true}
 use lib.Dec.{leb}
@@ -26,23 +26,22 @@ pub good-within : (s : List ℕ) (i : ℕ) {b : Bool} → b ≡ step_good s i �
 unfolding step_good
 good-within s i {b} e h = leb-true (i + 2) (length s) (both_left (leb (i + 2) (length s)) _ (sym e ∙ h))
 
-module _ (s : List ℕ) (side : Side) (σ : State) (n i : ℕ) {all : Record} {p q : Page} {b : Bool} (h : 0 < n) (e : b ≡ step_good s i) where
+module _ (s : List ℕ) (side : Side) (σ : State) (n m i : ℕ) {all : Record} {p q : Page} {b : Bool} (h : n ≡ suc m) (e : b ≡ step_good s i) where
   pub steps-broken : b ≡ false → Left all (steps_from s side σ n i) p q → Left all bad_record p q
   unfolding steps_from
-  steps-broken g l = let k : n ≡ suc (n - 1) = omega arith in rw (k, ← e, g) at l
+  steps-broken g l = rw (h, ← e, g) at l
 
   -- a step is made
-  pub steps_on : {tag v : ℕ} {t : Step} {r : Page} → b ≡ true
+  pub steps_on : {k tag v : ℕ} {t : Step} {r : Page} → b ≡ true
+      → k ≡ i + 2
       → tag ≡ get_or s i 0
       → v ≡ get_or s (i + 1) 0
       → t ≡ step_of side σ tag v
       → r ≡ print (step_line t) q
       → Left all (steps_from s side σ n i) p q
-      → Left all (steps_from s side t.state (n - 1) (i + 2)) p r
+      → Left all (steps_from s side t.state m k) p r
   unfolding steps_from
-  steps_on g et ev k printed l =
-      let m : n ≡ suc (n - 1) = omega arith in
-      rw (k, et, ev) (left-next (rw (m, ← e, g) at l) (rw (k, et, ev) at printed))
+  steps_on g f et ev k printed l = rw (f, k, et, ev) (left-next (rw (h, ← e, g) at l) (rw (k, et, ev) at printed))
 
 -- ---- the record of modes
 

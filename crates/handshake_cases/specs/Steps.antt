@@ -1,12 +1,11 @@
 -- P records: one side's handshake steps from hello, run as they are read.
-use Rattle.std.specs.Prelude.{Bool, cond, ◌&&◌, List, [], ◌∷◌, ◌++◌, ℕ, zero, suc, ◌+◌, ◌/◌, ◌%◌, leb, ltb, eqb, length, get_or}
+use Rattle.std.specs.Prelude.{Result, Ok, Err, Bool, cond, ◌&&◌, List, [], ◌∷◌, ◌++◌, ℕ, zero, suc, ◌+◌, ◌/◌, ◌%◌, leb, ltb, eqb, length, get_or}
 use Prim.Native.String.{String}
 use Rattle.buffer.specs.Le.{number_at}
 use Rattle.handshake.specs.declared.State.{State}
 use Rattle.handshake.specs.declared.State.TheVariants.{Hello, Auth, More, Signature, Session, Ready, Standby, Wait, Closed}
 use Rattle.handshake.specs.declared.Verdict.{Verdict}
-use Rattle.handshake.specs.declared.Report.{Report}
-use Rattle.handshake.specs.declared.Report.TheVariants.{Taken, Refused}
+use Rattle.refusal.specs.declared.Numbers.{Numbers}
 use Rattle.handshake.specs.declared.Step.{Step}
 use Rattle.handshake.specs.Table.{auth_of, find}
 use Rattle.handshake.specs.Steps.{step_by}
@@ -27,9 +26,9 @@ state_name Closed = "closed"
 state_name Wait = "wait"
 state_name Standby = "standby"
 
-abbrev pub report_pieces : Report → List Piece
-report_pieces Taken = []
-report_pieces (Refused w) = refused_pieces w ++ (word " " ∷ [])
+abbrev pub report_pieces : Result (Unit {0}) Numbers → List Piece
+report_pieces (Ok u) = []
+report_pieces (Err w) = refused_pieces w ++ (word " " ∷ [])
 
 -- state auth
 -- refused 21 detail 9 0 0 state closed

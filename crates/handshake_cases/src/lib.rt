@@ -3,19 +3,17 @@
 
 ghost use Rattle.std.specs.Prelude.{◌≡◌, ◌≤◌, length};
 ghost use Rattle.handshake.specs.declared.State.TheVariants as state;
-ghost use Rattle.handshake.specs.declared.Picked.TheVariants.{Mode, NoMode};
 ghost use Rattle.text.specs.Line.{word};
-ghost use Rattle.text.specs.Page.{page, put, puts};
-ghost use Rattle.records.specs.Records.{Did, print};
-ghost use Rattle.handshake.specs.Table.{auth_of};
+ghost use Rattle.text.specs.Page.{put, puts};
+ghost use Rattle.records.specs.Records.{Did, print, size_in};
 ghost use Rattle.handshake_cases.specs.Steps.{state_name, report_pieces, step_line, verdict_of, side_of, step_of, step_good, steps_from, steps_record};
 ghost use Rattle.handshake_cases.specs.Modes.{mode_line, own_at, mode_size, mode_record};
 
 use buffer::{byte_at, u16_at};
-use handshake::{AuthVerdict, Picked, Report, State, Verdict, client_step, pick_mode, server_step};
-use records::{Step, bad_record, is_whole, put_refused, read_words, room, sized};
-use refusal::both;
-use text::{put_end, put_field, put_word};
+use handshake::{AuthVerdict, State, Verdict, client_step, pick_mode, server_step};
+use records::{bad_record, put_refused, read_words, start_line, whole_size};
+use refusal::Numbers;
+use text::Page;
 
 // The most steps of a record.
 const STEPS: usize = 4096;
@@ -25,74 +23,56 @@ const STEP: usize = 2;
 
 // ---- lines of steps
 
-fn put_state(text: &mut [u8], at: usize, s: State) -> usize
-    ensures { page text.new result ≡ put (word (state_name s)) (page text.old at) }
+fn put_state(page: &mut Page, s: State)
+    ensures { page.new ≡ put (word (state_name s)) page.old }
 {
     match s {
-        State::Hello => put_word(text, at, b"hello"),
-        State::Auth => put_word(text, at, b"auth"),
-        State::More => put_word(text, at, b"more"),
-        State::Signature => put_word(text, at, b"signature"),
-        State::Session => put_word(text, at, b"session"),
-        State::Ready => put_word(text, at, b"ready"),
-        State::Closed => put_word(text, at, b"closed"),
-        State::Wait => put_word(text, at, b"wait"),
-        State::Standby => put_word(text, at, b"standby"),
+        State::Hello => page.word(b"hello"),
+        State::Auth => page.word(b"auth"),
+        State::More => page.word(b"more"),
+        State::Signature => page.word(b"signature"),
+        State::Session => page.word(b"session"),
+        State::Ready => page.word(b"ready"),
+        State::Closed => page.word(b"closed"),
+        State::Wait => page.word(b"wait"),
+        State::Standby => page.word(b"standby"),
     }
 }
 
-fn put_report(text: &mut [u8], at: usize, report: Report) -> usize
-    ensures { page text.new result ≡ puts (report_pieces report) (page text.old at) }
+fn put_report(page: &mut Page, report: Result<(), Numbers>)
+    ensures { page.new ≡ puts (report_pieces report) page.old }
 {
-    match report {
-        Report::Taken => at,
-        Report::Refused(why) => {
-            let a = put_refused(text, at, why);
-            put_word(text, a, b" ")
-        }
+    if let Err(why) = report {
+        put_refused(page, why);
+        page.word(b" ");
     }
 }
 
-fn print_step(text: &mut [u8], at: usize, step: handshake::Step) -> usize
-    ensures { page text.new result ≡ print (step_line step) (page text.old at) }
+fn print_step(page: &mut Page, step: handshake::Step)
+    ensures { page.new ≡ print (step_line step) page.old }
 {
-    let from = room(text, at);
-    let report = step.report;
-    let state = step.state;
-    let a = put_report(text, from, report);
-    let b = put_word(text, a, b"state ");
-    let c = put_state(text, b, state);
-    put_end(text, c)
+    start_line(page);
+    put_report(page, step.report);
+    page.word(b"state ");
+    put_state(page, step.state);
+    page.end();
 }
 
 // ---- steps
 
-fn auth_of(n: u8) -> AuthVerdict
-    ensures { result ≡ auth_of n }
-{
-    if n == 0 {
-        return AuthVerdict::Stay;
-    }
-    if n == 1 {
-        return AuthVerdict::More;
-    }
-    if n == 2 {
-        return AuthVerdict::Signature;
-    }
-    AuthVerdict::Standby
-}
-
+#[tactic(auto, unfolding(crate::specs::Steps::verdict_of))]
 fn verdict_of(b: u8) -> Verdict
     ensures { result ≡ verdict_of b }
 {
     Verdict {
-        auth: auth_of(b % 4),
+        auth: AuthVerdict::by_number(u64::from(b % 4)),
         signature: b / 4 % 2 == 1,
         features: b / 8 % 2 == 1,
         reconnect: b / 16 % 2 == 1,
     }
 }
 
+#[tactic(auto, unfolding(crate::specs::Steps::step_of))]
 fn make_step(side: u8, s: State, tag: u8, verdict: u8) -> handshake::Step
     ensures { result ≡ step_of (side_of side) s tag verdict }
 {
@@ -104,74 +84,55 @@ fn make_step(side: u8, s: State, tag: u8, verdict: u8) -> handshake::Step
 }
 
 // A step stands at a place, with both its bytes.
+#[tactic(auto, unfolding(crate::specs::Steps::step_good))]
 fn step_good(s: &[u8], at: usize) -> bool
     requires { at ≤ length s.now }
     ensures { result ≡ step_good s.now at }
 {
-    if s.len() - at < STEP {
-        return false;
-    }
-    byte_at(s, at + 1) < 32
+    s.len() - at >= STEP && byte_at(s, at + 1) < 32
 }
 
-fn make_steps(s: &[u8], n: usize, side: u8, text: &mut [u8], at: usize) -> Step
+fn make_steps(s: &[u8], n: usize, side: u8, page: &mut Page) -> Option<usize>
     requires { 4 ≤ length s.now }
-    ensures { Did (steps_from s.now (side_of side) state.Hello n 4) s.now text.old at text.new result }
+    ensures { Did (steps_from s.now (side_of side) state.Hello n 4) s.now page.old page.new result }
 {
     let mut state = State::Hello;
-    let mut place: usize = 4;
-    let mut end = at;
-    let mut left = n;
-    while 0 < left {
+    for i in 0..n {
+        let place = 4 + STEP * i;
         if !step_good(s, place) {
-            return bad_record(text, end);
+            return bad_record(page);
         }
         let step = make_step(side, state, byte_at(s, place), byte_at(s, place + 1));
-        end = print_step(text, end, step);
+        print_step(page, step);
         state = step.state;
-        place += STEP;
-        left -= 1;
     }
-    Step {
-        taken: place,
-        filled: end,
-    }
+    Some(4 + STEP * n)
 }
 
-pub fn steps_record(s: &[u8], text: &mut [u8], at: usize) -> Step
-    ensures { Did (steps_record s.now) s.now text.old at text.new result }
+#[tactic(auto, unfolding(crate::specs::Steps::steps_record))]
+pub fn steps_record(s: &[u8], page: &mut Page) -> Option<usize>
+    ensures { Did (steps_record s.now) s.now page.old page.new result }
 {
     let n = u16_at(s, 2) as usize;
     let side = byte_at(s, 1);
-    if !both(4 <= s.len(), both(side <= 1, n <= STEPS)) {
-        return bad_record(text, at);
+    if !(4 <= s.len() && side <= 1 && n <= STEPS) {
+        return bad_record(page);
     }
-    make_steps(s, n, side, text, at)
+    make_steps(s, n, side, page)
 }
 
 // ---- modes
 
-fn print_picked(text: &mut [u8], at: usize, n: u32) -> usize
-    ensures { page text.new result ≡ print (mode_line (Mode n)) (page text.old at) }
+fn print_mode(page: &mut Page, picked: Option<u32>)
+    ensures { page.new ≡ print (mode_line picked) page.old }
 {
-    let from = room(text, at);
-    let a = put_field(text, from, b"mode", n as u64);
-    put_end(text, a)
-}
-
-fn print_none(text: &mut [u8], at: usize) -> usize
-    ensures { page text.new result ≡ print (mode_line NoMode) (page text.old at) }
-{
-    let from = room(text, at);
-    put_word(text, from, b"mode none\n")
-}
-
-fn print_mode(text: &mut [u8], at: usize, picked: Picked) -> usize
-    ensures { page text.new result ≡ print (mode_line picked) (page text.old at) }
-{
+    start_line(page);
     match picked {
-        Picked::Mode(n) => print_picked(text, at, n),
-        Picked::NoMode => print_none(text, at),
+        Some(n) => {
+            page.field(b"mode", u64::from(n));
+            page.end();
+        }
+        None => page.word(b"mode none\n"),
     }
 }
 
@@ -179,33 +140,29 @@ fn print_mode(text: &mut [u8], at: usize, picked: Picked) -> usize
 fn own_at(s: &[u8]) -> usize
     ensures { (result ≡ own_at s.now) × (result ≤ 1022) }
 {
-    2 + 4 * (byte_at(s, 1) as usize)
+    2 + 4 * usize::from(byte_at(s, 1))
 }
 
-fn mode_size(s: &[u8]) -> usize
-    ensures { result ≡ mode_size s.now }
+fn mode_size(s: &[u8]) -> Option<usize>
+    ensures { result ≡ size_in (mode_size s.now) s.now }
 {
     let n = byte_at(s, 1);
     let from = own_at(s);
     let m = byte_at(s, from);
-    sized(both(n <= 32, m <= 32), from + 1 + 4 * (m as usize))
+    whole_size(n <= 32 && m <= 32, from + 1 + 4 * usize::from(m), s)
 }
 
-pub fn mode_record(s: &[u8], text: &mut [u8], at: usize) -> Step
-    ensures { Did (mode_record s.now) s.now text.old at text.new result }
+pub fn mode_record(s: &[u8], page: &mut Page) -> Option<usize>
+    ensures { Did (mode_record s.now) s.now page.old page.new result }
 {
-    let size = mode_size(s);
-    if !is_whole(size, s) {
-        return bad_record(text, at);
-    }
+    let Some(size) = mode_size(s) else {
+        return bad_record(page);
+    };
     let n = byte_at(s, 1) as usize;
     let from = own_at(s);
     let m = byte_at(s, from) as usize;
     let preferred = read_words(s, 2);
     let own = read_words(s, from + 1);
-    let picked = pick_mode(&preferred[..n], &own[..m]);
-    Step {
-        taken: size,
-        filled: print_mode(text, at, picked),
-    }
+    print_mode(page, pick_mode(&preferred[..n], &own[..m]));
+    Some(size)
 }

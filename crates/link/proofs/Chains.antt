@@ -9,7 +9,8 @@ use lib.Seq.{take-take, drop-drop, length-take-le}
 use Rattle.buffer.proofs.Parts.{drop-take}
 use Rattle.stream.specs.declared.Event.{Event}
 use Rattle.stream.specs.Stream.{Entry, refused_in}
-use Rattle.receiver.specs.declared.Report.TheVariants as report
+use Rattle.std.specs.Prelude.{None, Some, is_some}
+use Rattle.text.specs.Page.{Page}
 use Rattle.receiver.specs.declared.Received.{Received}
 use Rattle.receiver.specs.Step.{Answered}
 use Rattle.receiver.specs.Calls.{Call, piece_at, reported_by}
@@ -23,13 +24,13 @@ use Rattle.link.proofs.Moves.{moves, not_refused}
 -- ---- one call
 
 abbrev moved : Walk → Received → Walk
-moved w o = record { receiver = o.state; segments = w.segments; taken = w.taken + o.taken; entry_end = w.entry_end; frames = w.frames; refused = w.refused; number = w.number; filled = w.filled }
+moved w o = record { receiver = o.state; segments = w.segments; taken = w.taken + o.taken; entry_end = w.entry_end; frames = w.frames; refused = w.refused }
 
-module _ (w : Walk) (s piece text : List ℕ) (o : Received) (s' : List ℕ) (a : Answered w.receiver s piece o s') where
+module _ (w : Walk) (s piece : List ℕ) (text : Page) (o : Received) (s' : List ℕ) (a : Answered w.receiver s piece o s') where
   abbrev es : List Entry
   es = reported o.report (w.taken + o.taken) s'
 
-  advanced : (r : Walk) (text' : List ℕ) → r.receiver ≡ o.state → r.taken ≡ w.taken + o.taken → Noted w es text r text' → Advanced w s piece text r s' text'
+  advanced : (r : Walk) (text' : Page) → r.receiver ≡ o.state → r.taken ≡ w.taken + o.taken → Noted w es text r text' → Advanced w s piece text r s' text'
   advanced r text' p q n =
       let m = moves w.receiver s piece o s' a in
       record {
@@ -43,11 +44,11 @@ module _ (w : Walk) (s piece text : List ℕ) (o : Received) (s' : List ℕ) (a 
         frames-within = omega (arith, m.frames-within (w.taken + o.taken) w.frames s', n.frames);
       }
 
-  pub advance_more : w.refused ≡ false → o.report ≡ report.More → Advanced w s piece text (moved w o) s' text
+  pub advance_more : is_some w.refused ≡ false → o.report ≡ None → Advanced w s piece text (moved w o) s' text
   unfolding last_of frames_of lines_of
   advance_more live e = advanced (moved w o) text refl refl (rw e (record { entry-end = refl; frames = refl; refused = live; end = λ e. not_refused live e; lines = refl }))
 
-  pub advance_event : (e : Event) (r : Walk) (text' : List ℕ) → o.report ≡ report.Event e → NotedEvent (moved w o) e text r text' → Advanced w s piece text r s' text'
+  pub advance_event : (e : Event) (r : Walk) (text' : Page) → o.report ≡ Some e → NotedEvent (moved w o) e text r text' → Advanced w s piece text r s' text'
   advance_event e r text' q n =
       let m = n.noted s' in
       advanced r text' n.receiver n.taken (rw q (record { entry-end = m.entry-end; frames = m.frames; refused = m.refused; end = m.end; lines = m.lines }))
@@ -61,8 +62,8 @@ behind k t bytes stream h e =
     let f : drop k (take (k + length (drop k bytes)) (drop t stream)) ≡ drop k bytes = ap (drop k) (ap (λ (m : ℕ). take m (drop t stream)) (sym n) ∙ e) in
     ap (take (length (drop k bytes))) (sym (drop-drop k t stream)) ∙ sym (drop-take k (length (drop k bytes)) (drop t stream)) ∙ f
 
-module _ (w : Walk) (s bytes text : List ℕ) where
-  pub walked_none : (segments : Segments) → length bytes ≡ 0 → w.refused ≡ false → Walked w s bytes text (with_segments w segments) s text
+module _ (w : Walk) (s bytes : List ℕ) (text : Page) where
+  pub walked_none : (segments : Segments) → length bytes ≡ 0 → is_some w.refused ≡ false → Walked w s bytes text (with_segments w segments) s text
   unfolding last_of frames_of lines_of
   walked_none segments h live = record {
     calls = [];
@@ -76,7 +77,7 @@ module _ (w : Walk) (s bytes text : List ℕ) where
     frames-within = omega arith;
   }
 
-  module _ (n : ℕ) (h : n ≤ length bytes) (r : Walk) (s₁ text₁ : List ℕ) (a : Advanced w s (take n bytes) text r s₁ text₁) where
+  module _ (n : ℕ) (h : n ≤ length bytes) (r : Walk) (s₁ : List ℕ) (text₁ : Page) (a : Advanced w s (take n bytes) text r s₁ text₁) where
     abbrev c : Call
     c = record { size = n; received = a.received; store = s₁ }
 
@@ -88,7 +89,7 @@ module _ (w : Walk) (s bytes text : List ℕ) where
     taken-few : r.taken ≤ w.taken + n
     taken-few = omega (arith, a.within, length-take-le n bytes h)
 
-    pub walked-refused : r.refused ≡ true → Walked w s bytes text r s₁ text₁
+    pub walked-refused : is_some r.refused ≡ true → Walked w s bytes text r s₁ text₁
     walked-refused e = record {
       calls = c ∷ [];
       chained = λ stream q. (lent stream q, tt);
@@ -101,7 +102,7 @@ module _ (w : Walk) (s bytes text : List ℕ) where
       frames-within = a.frames-within;
     }
 
-    pub walked_next : (k : ℕ) (r' : Walk) (s' text' : List ℕ) → r.refused ≡ false → k ≡ r.taken - w.taken → Walked r s₁ (drop k bytes) text₁ r' s' text' → Walked w s bytes text r' s' text'
+    pub walked_next : (k : ℕ) (r' : Walk) (s' : List ℕ) (text' : Page) → is_some r.refused ≡ false → k ≡ r.taken - w.taken → Walked r s₁ (drop k bytes) text₁ r' s' text' → Walked w s bytes text r' s' text'
     walked_next k r' s' text' live ek x =
         let t = w.taken + a.received.taken in
         let et : r.taken ≡ t = a.taken in
@@ -125,18 +126,18 @@ module _ (w : Walk) (s bytes text : List ℕ) where
 
 -- ---- the steps: from place at on, and then behind the k bytes that one call took of n
 
-module _ (w : Walk) (s bytes text : List ℕ) (at : ℕ) where
-  pub step-none : (segments : Segments) (r : Walk) → length bytes ≤ at → w.refused ≡ false → r ≡ with_segments w segments → Walked w s (drop at bytes) text r s text
+module _ (w : Walk) (s bytes : List ℕ) (text : Page) (at : ℕ) where
+  pub step-none : (segments : Segments) (r : Walk) → length bytes ≤ at → is_some w.refused ≡ false → r ≡ with_segments w segments → Walked w s (drop at bytes) text r s text
   step-none segments r h live e = rw e (walked_none w s (drop at bytes) text segments (omega (arith, length-drop at bytes)) live)
 
-  module _ (n : ℕ) (h : at + n ≤ length bytes) (r : Walk) (s₁ text₁ : List ℕ) (a : Advanced w s (take ((at + n) - at) (drop at bytes)) text r s₁ text₁) where
+  module _ (n : ℕ) (h : at + n ≤ length bytes) (r : Walk) (s₁ : List ℕ) (text₁ : Page) (a : Advanced w s (take ((at + n) - at) (drop at bytes)) text r s₁ text₁) where
     within : (at + n) - at ≤ length (drop at bytes)
     within = omega (arith, length-drop at bytes)
 
-    pub step-refused : r.refused ≡ true → Walked w s (drop at bytes) text r s₁ text₁
+    pub step-refused : is_some r.refused ≡ true → Walked w s (drop at bytes) text r s₁ text₁
     step-refused e = walked-refused w s (drop at bytes) text ((at + n) - at) within r s₁ text₁ a e
 
-    pub step-next : (r' : Walk) (s' text' : List ℕ) → r.refused ≡ false → Walked r s₁ (drop (at + (r.taken - w.taken)) bytes) text₁ r' s' text' → Walked w s (drop at bytes) text r' s' text'
+    pub step-next : (r' : Walk) (s' : List ℕ) (text' : Page) → is_some r.refused ≡ false → Walked r s₁ (drop (at + (r.taken - w.taken)) bytes) text₁ r' s' text' → Walked w s (drop at bytes) text r' s' text'
     step-next r' s' text' live x =
         let k = r.taken - w.taken in
         walked_next w s (drop at bytes) text ((at + n) - at) within r s₁ text₁ a k r' s' text' live refl (rw (drop-drop k at bytes) x)

@@ -4,11 +4,11 @@ use mathlib.Core.Bool.{Bool, false}
 use mathlib.Core.List.{List, [], ◌∷◌, ◌++◌, append_assoc}
 use Prim.Native.Nat.{ℕ}
 use Rattle.stream.specs.Stream.{Entry, entry, refused_in}
-use Rattle.receiver.specs.declared.Report.{Report}
-use Rattle.receiver.specs.declared.Report.TheVariants as report
+use Rattle.std.specs.Prelude.{Option, None, Some}
+use Rattle.stream.specs.declared.Event.{Event}
 use Rattle.receiver.specs.Calls.{entered}
 use Rattle.receiver.proofs.Appended.{clean-here, clean-behind, passing-same, refused-append}
-use Rattle.text.specs.Page.{page}
+use Rattle.text.specs.Page.{Page}
 use Rattle.text.proofs.Laws.{puts-append}
 use Rattle.link.specs.declared.Walk.{Walk}
 use Rattle.link.specs.Lines.{line_of, numbered, lines_of, entry_end_by, end_of}
@@ -39,21 +39,21 @@ end-append bad n p (e ∷ es) fs h =
     rw (clean-here e.event (refused_in es) h) (end-append bad n (entry_end_by p e.event e.at) es fs (clean-behind e.event (refused_in es) h))
 
 -- notes of one list behind those of another
-pub noted-next : (w w₁ r : Walk) (es fs : List Entry) (text text₁ text' : List ℕ) → Noted w es text w₁ text₁ → refused_in es ≡ false → Noted w₁ fs text₁ r text' → Noted w (es ++ fs) text r text'
+pub noted-next : (w w₁ r : Walk) (es fs : List Entry) (text text₁ text' : Page) → Noted w es text w₁ text₁ → refused_in es ≡ false → Noted w₁ fs text₁ r text' → Noted w (es ++ fs) text r text'
 noted-next w w₁ r es fs text text₁ text' a h b = record {
   entry-end = b.entry-end ∙ rw a.entry-end (sym (last-append w.entry_end es fs));
   frames = b.frames ∙ rw a.frames (sym (frames-append w.frames es fs));
   refused = b.refused ∙ sym (refused-append es fs h);
   end = λ e bad n p. end-append bad n p es fs h ∙ b.end e bad n (last_of p es);
-  lines = b.lines ∙ rw (a.frames, a.lines, lines-append w.frames es fs h) (sym (puts-append (lines_of w.frames es) (lines_of (frames_of w.frames es) fs) (page text w.filled)));
+  lines = b.lines ∙ rw (a.frames, a.lines, lines-append w.frames es fs h) (sym (puts-append (lines_of w.frames es) (lines_of (frames_of w.frames es) fs) text));
 }
 
 -- a report's entry, before those of later calls
-pub entered-next : (r : Report) (at : ℕ) (s : List ℕ) (es : List Entry) → refused_in (reported r at s) ≡ false → entered r at s es ≡ reported r at s ++ es
-entered-next report.More at s es h = refl
-entered-next (report.Event e) at s es h = rw (clean-here e false h)
+pub entered-next : (r : Option Event) (at : ℕ) (s : List ℕ) (es : List Entry) → refused_in (reported r at s) ≡ false → entered r at s es ≡ reported r at s ++ es
+entered-next None at s es h = refl
+entered-next (Some e) at s es h = rw (clean-here e false h)
 
 -- and behind those of all others
-pub entered-last : (r : Report) (at : ℕ) (s : List ℕ) → entered r at s [] ≡ reported r at s
-entered-last report.More at s = refl
-entered-last (report.Event e) at s = ap (λ (es : List Entry). entry e at s ∷ es) (passing-same e [])
+pub entered-last : (r : Option Event) (at : ℕ) (s : List ℕ) → entered r at s [] ≡ reported r at s
+entered-last None at s = refl
+entered-last (Some e) at s = ap (λ (es : List Entry). entry e at s ∷ es) (passing-same e [])

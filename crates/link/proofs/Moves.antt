@@ -16,8 +16,7 @@ use Rattle.stream.specs.declared.Event.{Event}
 use Rattle.stream.specs.declared.Event.TheVariants as event
 use Rattle.stream.specs.Events.{ends_frame}
 use Rattle.receiver.specs.declared.State.{State}
-use Rattle.receiver.specs.declared.Report.{Report}
-use Rattle.receiver.specs.declared.Report.TheVariants as report
+use Rattle.std.specs.Prelude.{Option, None, Some, is_some}
 use Rattle.receiver.specs.declared.Received.{Received}
 use Rattle.receiver.specs.State.{agrees, is_refused}
 use Rattle.refusal.specs.Refusals.{contradiction}
@@ -28,7 +27,7 @@ use Rattle.receiver.specs.Calls.{piece_at}
 use Rattle.receiver.proofs.Live.{refused_for_lem}
 use Rattle.receiver.proofs.Every.{sound, refused-answer, refuses}
 use Rattle.receiver.proofs.CallLoop.{taken-within}
-use Rattle.text.specs.Page.{page, puts}
+use Rattle.text.specs.Page.{Page, puts}
 use Rattle.link.specs.declared.Walk.{Walk}
 use Rattle.link.specs.Lines.{banner_line, line_of, numbered, lines_of, end_of}
 use Rattle.link.specs.Walks.{last_of, frames_of, NotedEvent, reported, framed}
@@ -47,12 +46,12 @@ numbered-few k e = go (ends_frame e)
     go true = omega arith
     go false = omega arith
 
-reported-few : (r : Report) (at k : ℕ) (s : List ℕ) → frames_of k (reported r at s) ≤ k + 1
+reported-few : (r : Option Event) (at k : ℕ) (s : List ℕ) → frames_of k (reported r at s) ≤ k + 1
 unfolding frames_of
-reported-few report.More at k s = omega arith
-reported-few (report.Event e) at k s = numbered-few k e
+reported-few None at k s = omega arith
+reported-few (Some e) at k s = numbered-few k e
 
-frames-more : (r : Report) (at k : ℕ) (s : List ℕ) → r ≡ report.More → frames_of k (reported r at s) ≡ k
+frames-more : (r : Option Event) (at k : ℕ) (s : List ℕ) → r ≡ None → frames_of k (reported r at s) ≡ k
 unfolding frames_of
 frames-more r at k s e = rw e
 
@@ -104,17 +103,17 @@ moves st s piece o s' a = by_agree (agrees st) refl
 
 -- ---- what a walk makes of an event
 
-abbrev after_banner : Walk → ℕ → Walk
-after_banner w filled = record { receiver = w.receiver; segments = w.segments; taken = w.taken; entry_end = w.taken; frames = w.frames; refused = w.refused; number = w.number; filled = filled }
+abbrev after_banner : Walk → Walk
+after_banner w = record { receiver = w.receiver; segments = w.segments; taken = w.taken; entry_end = w.taken; frames = w.frames; refused = w.refused }
 
 abbrev after_refusal : Walk → ℕ → Walk
-after_refusal w number = record { receiver = w.receiver; segments = w.segments; taken = w.taken; entry_end = w.entry_end; frames = w.frames; refused = true; number = number; filled = w.filled }
+after_refusal w number = record { receiver = w.receiver; segments = w.segments; taken = w.taken; entry_end = w.entry_end; frames = w.frames; refused = Some number }
 
 pub not_refused : {A : Type 0} {b : Bool} → b ≡ false → b ≡ true → A
 not_refused e f = absurd (let z : ◌≡◌ {A = ℕ} 0 1 = cc in omega arith)
 
-module _ (w : Walk) (text : List ℕ) where
-  pub note_first : (h : Header) → w.refused ≡ false → NotedEvent w (event.First h) text w text
+module _ (w : Walk) (text : Page) where
+  pub note_first : (h : Header) → is_some w.refused ≡ false → NotedEvent w (event.First h) text w text
   unfolding last_of frames_of lines_of
   note_first h live = record { receiver = refl; taken = refl; noted = λ s. record { entry-end = refl; frames = refl; refused = live; end = λ e. not_refused live e; lines = refl } }
 
@@ -122,15 +121,15 @@ module _ (w : Walk) (text : List ℕ) where
   unfolding last_of frames_of lines_of end_of
   note_refusal n = record { receiver = refl; taken = refl; noted = λ s. record { entry-end = refl; frames = refl; refused = refl; end = λ e bad n p. refl; lines = refl } }
 
-  module _ (text' : List ℕ) (live : w.refused ≡ false) where
-    pub note_banner : (p : Features) (r : Revision) (filled : ℕ) → page text' filled ≡ puts (banner_line p r) (page text w.filled) → NotedEvent w (event.Banner p r) text (after_banner w filled) text'
+  module _ (text' : Page) (live : is_some w.refused ≡ false) where
+    pub note_banner : (p : Features) (r : Revision) → text' ≡ puts (banner_line p r) text → NotedEvent w (event.Banner p r) text (after_banner w) text'
     unfolding last_of frames_of lines_of
-    note_banner p r filled e = record { receiver = refl; taken = refl; noted = λ s. record { entry-end = refl; frames = refl; refused = live; end = λ e. not_refused live e; lines = e } }
+    note_banner p r e = record { receiver = refl; taken = refl; noted = λ s. record { entry-end = refl; frames = refl; refused = live; end = λ e. not_refused live e; lines = e } }
 
-    pub note_framed : (h : Header) (r : Walk) → r ≡ framed w r.filled → page text' r.filled ≡ puts (line_of w.frames (event.Frame h)) (page text w.filled) → NotedEvent w (event.Frame h) text r text'
+    pub note_framed : (h : Header) (r : Walk) → r ≡ framed w → text' ≡ puts (line_of w.frames (event.Frame h)) text → NotedEvent w (event.Frame h) text r text'
     unfolding last_of frames_of lines_of
     note_framed h r q e = rw q (record { receiver = refl; taken = refl; noted = λ s. record { entry-end = refl; frames = refl; refused = live; end = λ e. not_refused live e; lines = e } })
 
-    pub note_dropped : (h : Header) (r : Walk) → r ≡ framed w r.filled → page text' r.filled ≡ puts (line_of w.frames (event.Dropped h)) (page text w.filled) → NotedEvent w (event.Dropped h) text r text'
+    pub note_dropped : (h : Header) (r : Walk) → r ≡ framed w → text' ≡ puts (line_of w.frames (event.Dropped h)) text → NotedEvent w (event.Dropped h) text r text'
     unfolding last_of frames_of lines_of
     note_dropped h r q e = rw q (record { receiver = refl; taken = refl; noted = λ s. record { entry-end = refl; frames = refl; refused = live; end = λ e. not_refused live e; lines = e } })

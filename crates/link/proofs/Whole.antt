@@ -23,20 +23,19 @@ use Rattle.receiver.specs.declared.State.{State}
 use Rattle.receiver.specs.Step.{started}
 use Rattle.receiver.specs.Calls.{Call, Chained, taken_by, state_by, store_by, reported_by, list_of, AsDefined, Demand3}
 use Rattle.receiver.proofs.Appended.{refused-append, taken-append, state-append, store-append, chained_append, reported-append}
+use Rattle.std.specs.Prelude.{is_some, Ok}
 use Rattle.text.specs.Line.{Piece, text_of}
-use Rattle.text.specs.Page.{page, puts}
+use Rattle.text.specs.Page.{Page, page, puts}
 use Rattle.text.specs.Law.{EveryLine}
-use Rattle.text.proofs.Laws.{puts-append, text-append, text_of_lem}
+use Rattle.text.proofs.Laws.{puts-append, text-append, page_text}
 use Rattle.link.specs.declared.Walk.{Walk}
 use Rattle.link.specs.declared.Part.{Part}
 use Rattle.link.specs.declared.Part.TheVariants.{Count, Table, Bodies, Ended}
-use Rattle.link.specs.declared.Outcome.{Outcome}
-use Rattle.link.specs.declared.Outcome.TheVariants.{Next, Ends}
 use Rattle.link.specs.declared.Link.{Link}
 use Rattle.link.specs.Lines.{lines_of, End, ok, bad_file, open_end, end_line, end_of}
 use Rattle.link.specs.File.{count_of, sum_of, table_of, length_of, behind_table, no_table, bodies_of, is_bad, ours, link_text}
 use Rattle.link.specs.Walks.{last_of, frames_of, end_at}
-use Rattle.link.specs.Reads.{new_walk, begun, wanted_by, wanted_of, count_outcome, table_outcome, bodies_outcome, filled_to, link_after, last_pieces, Settled, ready, BodiesRead, TableRead, WalkRead, ReadBy, ReadOn}
+use Rattle.link.specs.Reads.{Outcome, Ends, link_at, new_walk, begun, wanted_by, wanted_of, count_outcome, table_outcome, bodies_outcome, link_after, last_pieces, Settled, ready, BodiesRead, TableRead, WalkRead, ReadBy, ReadOn}
 use Rattle.link.specs.Links.{Read, Reading, link_by, written_by, asked_by, Checked, EveryLink}
 use Rattle.link.proofs.Counts.{last-append, frames-append, lines-append, end-append}
 use Rattle.link.proofs.Ends.{at-refused, at-bad, at_open}
@@ -69,8 +68,20 @@ chained_same : (stream : List ℕ) (ds : List Call) {st st' : State} {s s' : Lis
 chained_same stream ds a b c x = rw (← a, ← b, ← c) x
 
 -- what a settled read hands back
-settled-link : (P : Link → Type 0) (o' : Outcome) {o : Outcome} {w : Walk} {lent text : List ℕ} {r : Link} → Settled o w lent r text → o ≡ o' → P (link_after o' (filled_to w r.walk.filled)) → P r
-settled-link P o' {o} {w} {lent} {text} {r} x e p = subst P (sym (x.link ∙ ap (λ (k : Outcome). link_after k (filled_to w r.walk.filled)) e)) p
+settled-link : (P : Link → Type 0) (o' : Outcome) {o : Outcome} {w : Walk} {lent text : Page} {r : Link} → Settled o w lent r text → o ≡ o' → P (link_after o' w) → P r
+settled-link P o' {o} {w} {lent} {text} {r} x e p = subst P (sym (x.link ∙ ap (λ (k : Outcome). link_after k w) e)) p
+
+-- and one with which reading ends
+ends-link : (bad : Bool) (w : Walk) → link_after (Ends bad) w ≡ link_at Ended w
+ends-link true w = refl
+ends-link false w = refl
+
+ends-pieces : (bad : Bool) (w : Walk) → last_pieces (Ends bad) w ≡ end_line (end_at bad w)
+ends-pieces true w = refl
+ends-pieces false w = refl
+
+settled-end : (P : Link → Type 0) (bad : Bool) {o : Outcome} {w : Walk} {lent text : Page} {r : Link} → Settled o w lent r text → o ≡ Ends bad → P (link_at Ended w) → P r
+settled-end P bad {o} {w} {lent} {text} {r} x e p = settled-link P (Ends bad) x e (subst P (sym (ends-link bad w)) p)
 
 module _ (law : EveryLine) (demand3 : Demand3) (file store : List ℕ) (bytes : Bytes file) where
   abbrev stream : List ℕ
@@ -128,7 +139,7 @@ module _ (law : EveryLine) (demand3 : Demand3) (file store : List ℕ) (bytes : 
 
   record Counting (t : ℕ) (w : Walk) (s written : List ℕ) : Type 0 where
     place : t ≡ 0
-    new : filled_to w 0 ≡ new_walk
+    new : w ≡ new_walk
     kept : s ≡ store
     nothing : written ≡ []
 
@@ -138,7 +149,7 @@ module _ (law : EveryLine) (demand3 : Demand3) (file store : List ℕ) (bytes : 
     count-within : count_of file ≤ 512
     lengths : left ≡ count_of file
     some : 0 < left
-    new : filled_to w 0 ≡ new_walk
+    new : w ≡ new_walk
     kept : s ≡ store
     nothing : written ≡ []
 
@@ -154,7 +165,7 @@ module _ (law : EveryLine) (demand3 : Demand3) (file store : List ℕ) (bytes : 
     taken : w.taken ≡ taken_by 0 calls
     entry-end : w.entry_end ≡ last_of 0 (reported_by 0 calls)
     frames : w.frames ≡ frames_of 0 (reported_by 0 calls)
-    live : w.refused ≡ false
+    live : is_some w.refused ≡ false
     clean : refused_in (reported_by 0 calls) ≡ false
     frames-within : w.frames ≤ w.taken
     short : length_of file ≤ 4611686018427387904
@@ -164,45 +175,45 @@ module _ (law : EveryLine) (demand3 : Demand3) (file store : List ℕ) (bytes : 
     place : t ≤ End'
     whole : written ≡ link_text file store
 
-  StandsBy : Part → ℕ → ℕ → Walk → List ℕ → List ℕ → Type 0
-  StandsBy Count t left w s written = Counting t w s written
-  StandsBy Table t left w s written = Tabling t left w s written
-  StandsBy Bodies t left w s written = Walking t left (filled_to w 0) s written
-  StandsBy Ended t left w s written = Over t written
+  StandsBy : Part → ℕ → Walk → List ℕ → List ℕ → Type 0
+  StandsBy Count t w s written = Counting t w s written
+  StandsBy (Table n) t w s written = Tabling t n w s written
+  StandsBy (Bodies left) t w s written = Walking t left w s written
+  StandsBy Ended t w s written = Over t written
 
   Stands : ℕ → List ℕ → List ℕ → Link → Type 0
-  Stands t s written l = StandsBy l.part t l.left l.walk s written
+  Stands t s written l = StandsBy l.part t l.walk s written
 
   -- ---- one read
 
   -- with room, the front of the text is what was put there
-  front : {o : Outcome} {w : Walk} {lent text' : List ℕ} {r : Link} → 65536 ≤ length lent → w.filled ≡ 0 → Settled o w lent r text' → take r.walk.filled text' ≡ text_of (last_pieces o w)
-  front {o} {w} {lent} {text'} {r} h z x = text_of_lem law (last_pieces o w) lent text' r.walk.filled (roomy-last o w) h (x.lines ∙ ap (λ (k : ℕ). puts (last_pieces o w) (page lent k)) z)
+  front : {o : Outcome} {w : Walk} (lent : List ℕ) {text' : Page} {r : Link} → 65536 ≤ length lent → Settled o w (page lent 0) r text' → take text'.at text'.bytes ≡ text_of (last_pieces o w)
+  front {o} {w} lent {text'} {r} h x = page_text law (last_pieces o w) lent text' (roomy-last o w) h x.lines
 
   -- nothing was written before
   alone : (written xs ys : List ℕ) → written ≡ [] → xs ≡ ys → written ++ xs ≡ ys
   alone written xs ys e f = rw (e, f)
 
-  module _ (t : ℕ) (w : Walk) (s written lent : List ℕ) (r : Link) (s' text' : List ℕ) (room : 65536 ≤ length lent) where
+  module _ (t : ℕ) (w : Walk) (s written lent : List ℕ) (r : Link) (s' : List ℕ) (text' : Page) (room : 65536 ≤ length lent) where
     abbrev out : List ℕ
-    out = written ++ take r.walk.filled text'
+    out = written ++ take text'.at text'.bytes
 
     abbrev w₀ : Walk
-    w₀ = filled_to w 0
+    w₀ = w
 
     -- an end without a byte walked
-    ends : {o : Outcome} (t' : ℕ) (bad : Bool) → written ≡ [] → Settled o w₀ lent r text' → o ≡ Ends bad → t' ≤ End' → text_of (end_line (end_at bad w₀)) ≡ link_text file store → Stands t' s' out r
+    ends : {o : Outcome} (t' : ℕ) (bad : Bool) → written ≡ [] → Settled o w₀ (page lent 0) r text' → o ≡ Ends bad → t' ≤ End' → text_of (end_line (end_at bad w₀)) ≡ link_text file store → Stands t' s' out r
     unfolding Stands StandsBy
     ends {o} t' bad none x e h q =
-        settled-link (Stands t' s' out) (Ends bad) x e (record { place = h; whole = alone written _ _ none (front room refl x ∙ ap (λ (k : Outcome). text_of (last_pieces k w₀)) e ∙ q) })
+        settled-end (Stands t' s' out) bad x e (record { place = h; whole = alone written _ _ none (front lent room x ∙ ap (λ (k : Outcome). text_of (last_pieces k w₀)) e ∙ ap text_of (ends-pieces bad w₀) ∙ q) })
 
     new-end : (bad : Bool) → w₀ ≡ new_walk → end_at bad w₀ ≡ cond bad bad_file (ok 0)
     new-end true e = ap (end_at true) e
     new-end false e = ap (end_at false) e
 
-    count_next : (left : ℕ) (b : List ℕ) → Counting t w s written → b ≡ take 2 (drop t file) → TableRead (count_outcome b) w₀ s lent r s' text' → Stands (t + 2) s' out r
+    count_next : (b : List ℕ) → Counting t w s written → b ≡ take 2 (drop t file) → TableRead (count_outcome b) w₀ s (page lent 0) r s' text' → Stands (t + 2) s' out r
     unfolding Stands StandsBy text_of
-    count_next left b c eb x = by_tests (ltb (length b) 2) refl (ltb 512 (number_at 2 0 b)) refl (eqb (number_at 2 0 b) 0) refl
+    count_next b c eb x = by_tests (ltb (length b) 2) refl (ltb 512 (number_at 2 0 b)) refl (eqb (number_at 2 0 b) 0) refl
       where
         t0 : t ≡ 0
         t0 = c.place
@@ -228,8 +239,8 @@ module _ (law : EveryLine) (demand3 : Demand3) (file store : List ℕ) (bytes : 
             ends (t + 2) false c.nothing x.settled (rw (ep, eq, ez)) (omega (arith, t0))
             (ap (λ (e : End). text_of (end_line e)) (new-end false c.new) ∙ ok-text (table-there (omega (arith, l, ltb-false (length b) 2 ep)) (omega arith) (omega arith)) (no_length zero'))
         by_tests false ep false eq false ez =
-            let eo : count_outcome b ≡ Next Table (number_at 2 0 b) = rw (ep, eq, ez) in
-            settled-link (Stands (t + 2) s' out) (Next Table (number_at 2 0 b)) x.settled eo (record {
+            let eo : count_outcome b ≡ Ok (Table (number_at 2 0 b)) = rw (ep, eq, ez) in
+            settled-link (Stands (t + 2) s' out) (Ok (Table (number_at 2 0 b))) x.settled eo (record {
               place = omega (arith, t0);
               counted = omega (arith, l, ltb-false (length b) 2 ep);
               count-within = omega (arith, n, ltb-false 512 (number_at 2 0 b) eq);
@@ -237,10 +248,10 @@ module _ (law : EveryLine) (demand3 : Demand3) (file store : List ℕ) (bytes : 
               some = omega (arith, eqb-false (number_at 2 0 b) 0 ez);
               new = c.new;
               kept = x.store ∙ c.kept;
-              nothing = alone written _ _ c.nothing (front room refl x.settled ∙ ap (λ (k : Outcome). text_of (last_pieces k w₀)) eo);
+              nothing = alone written _ _ c.nothing (front lent room x.settled ∙ ap (λ (k : Outcome). text_of (last_pieces k w₀)) eo);
             })
 
-    table-next : (left : ℕ) (b : List ℕ) → Tabling t left w s written → b ≡ take (4 * min left 512) (drop t file) → TableRead (table_outcome (min left 512) b) w₀ s lent r s' text' → Stands (t + 4 * min left 512) s' out r
+    table-next : (left : ℕ) (b : List ℕ) → Tabling t left w s written → b ≡ take (4 * min left 512) (drop t file) → TableRead (table_outcome (min left 512) b) w₀ s (page lent 0) r s' text' → Stands (t + 4 * min left 512) s' out r
     unfolding Stands StandsBy last_of frames_of lines_of text_of
     table-next left b c eb x = by_tests (ltb (length b) (4 * m)) refl (eqb (sum_of m b) 0) refl
       where
@@ -273,8 +284,8 @@ module _ (law : EveryLine) (demand3 : Demand3) (file store : List ℕ) (bytes : 
             ends (t + 4 * m) false c.nothing x.settled (rw (ep, ez)) (omega (arith, em, c.place))
             (ap (λ (e : End). text_of (end_line e)) (new-end false c.new) ∙ ok-text (there ep) (sym sum ∙ eqb-true (sum_of m b) 0 ez))
         by_tests false ep false ez =
-            let eo : table_outcome m b ≡ Next Bodies (sum_of m b) = rw (ep, ez) in
-            settled-link (Stands (t + 4 * m) s' out) (Next Bodies (sum_of m b)) x.settled eo (record {
+            let eo : table_outcome m b ≡ Ok (Bodies (sum_of m b)) = rw (ep, ez) in
+            settled-link (Stands (t + 4 * m) s' out) (Ok (Bodies (sum_of m b))) x.settled eo (record {
               table = there ep;
               place = omega (arith, em, t0, c.place);
               rest = omega (arith, sum, t0);
@@ -286,14 +297,14 @@ module _ (law : EveryLine) (demand3 : Demand3) (file store : List ℕ) (bytes : 
               taken = t0;
               entry-end = ap (λ (v : Walk). v.entry_end) c.new;
               frames = ap (λ (v : Walk). v.frames) c.new;
-              live = ap (λ (v : Walk). v.refused) c.new;
+              live = ap (λ (v : Walk). is_some v.refused) c.new;
               clean = refl;
               frames-within = omega (arith, t0, ap (λ (v : Walk). v.frames) c.new);
               short = few-length c.count-within;
-              lines = alone written _ _ c.nothing (front room refl x.settled ∙ ap (λ (k : Outcome). text_of (last_pieces k w₀)) eo);
+              lines = alone written _ _ c.nothing (front lent room x.settled ∙ ap (λ (k : Outcome). text_of (last_pieces k w₀)) eo);
             })
 
-    module _ (left : ℕ) (b : List ℕ) (k : Walking t left w₀ s written) (eb : b ≡ take (min left 16384) (drop t file)) (y : BodiesRead left w₀ s b lent r s' text') where
+    module _ (left : ℕ) (b : List ℕ) (k : Walking t left w₀ s written) (eb : b ≡ take (min left 16384) (drop t file)) (y : BodiesRead left w₀ s b (page lent 0) r s' text') where
       abbrev u : ℕ
       u = w.taken
 
@@ -319,7 +330,7 @@ module _ (law : EveryLine) (demand3 : Demand3) (file store : List ℕ) (bytes : 
       fs = reported_by u ds
 
       abbrev o : Outcome
-      o = bodies_outcome left (length b) w'.refused
+      o = bodies_outcome left (length b) (is_some w'.refused)
 
       -- the bytes are the stream's next ones
       behind-is : drop t file ≡ drop u (behind_table file)
@@ -366,18 +377,18 @@ module _ (law : EveryLine) (demand3 : Demand3) (file store : List ℕ) (bytes : 
       adds = subst AddsUp listed defined.adds
 
       -- the text so far
-      pieces : page text' r.walk.filled ≡ puts (lines_of w.frames fs ++ last_pieces o w') (page lent 0)
+      pieces : text' ≡ puts (lines_of w.frames fs ++ last_pieces o w') (page lent 0)
       pieces = y.settled.lines ∙ ap (puts (last_pieces o w')) y.walked.noted.lines ∙ sym (puts-append (lines_of w.frames fs) (last_pieces o w') (page lent 0))
 
-      fronted : take r.walk.filled text' ≡ text_of (lines_of w.frames fs ++ last_pieces o w')
-      fronted = text_of_lem law (lines_of w.frames fs ++ last_pieces o w') lent text' r.walk.filled (roomy es w.frames u ds o w' k.clean adds (omega (arith, y.walked.within, y.walked.taken, b-length))) room pieces
+      fronted : take text'.at text'.bytes ≡ text_of (lines_of w.frames fs ++ last_pieces o w')
+      fronted = page_text law (lines_of w.frames fs ++ last_pieces o w') lent text' (roomy es w.frames u ds o w' k.clean adds (omega (arith, y.walked.within, y.walked.taken, b-length))) room pieces
 
       out-is : out ≡ text_of (lines_of 0 (es ++ fs) ++ last_pieces o w')
       out-is =
           let x = lines_of 0 es in
           let z = lines_of (frames_of 0 es) fs in
           let last = last_pieces o w' in
-          ap (λ (l : List ℕ). l ++ take r.walk.filled text') k.lines
+          ap (λ (l : List ℕ). l ++ take text'.at text'.bytes) k.lines
           ∙ ap (λ (l : List ℕ). text_of x ++ l) fronted
           ∙ ap (λ (n : ℕ). text_of x ++ text_of (lines_of n fs ++ last)) k.frames
           ∙ sym (text-append x (z ++ last))
@@ -388,19 +399,19 @@ module _ (law : EveryLine) (demand3 : Demand3) (file store : List ℕ) (bytes : 
       over : (bad bad' : Bool) → o ≡ Ends bad' → is_bad file ≡ bad → (trace_of ours stream store).entries ≡ es ++ fs → end_of bad (length stream) 0 (es ++ fs) ≡ end_at bad' w' → Stands (t + m) s' out r
       unfolding Stands StandsBy
       over bad bad' eo eb' g q =
-          settled-link (Stands (t + m) s' out) (Ends bad') y.settled eo (record {
+          settled-end (Stands (t + m) s' out) bad' y.settled eo (record {
             place = omega (arith, k.place, k.rest);
-            whole = out-is ∙ ap (λ (v : Outcome). text_of (lines_of 0 (es ++ fs) ++ last_pieces v w')) eo ∙ ap (λ (e : End). text_of (lines_of 0 (es ++ fs) ++ end_line e)) (sym q) ∙ text_by stream bad (es ++ fs) (bodies_by false k.table) eb' g;
+            whole = out-is ∙ ap (λ (v : Outcome). text_of (lines_of 0 (es ++ fs) ++ last_pieces v w')) eo ∙ ap (λ (l : List Piece). text_of (lines_of 0 (es ++ fs) ++ l)) (ends-pieces bad' w') ∙ ap (λ (e : End). text_of (lines_of 0 (es ++ fs) ++ end_line e)) (sym q) ∙ text_by stream bad (es ++ fs) (bodies_by false k.table) eb' g;
           })
 
-      refused_over : w'.refused ≡ true → Stands (t + m) s' out r
+      refused_over : is_some w'.refused ≡ true → Stands (t + m) s' out r
       refused_over er =
           let a : refused_in (es ++ fs) ≡ true = refused-append es fs k.clean ∙ sym y.walked.noted.refused ∙ er in
           let g = defined.whole (ap refused_in listed ∙ a) in
           over (is_bad file) false (rw er) refl (sym g.0 ∙ listed)
           (end-append (is_bad file) (length stream) 0 es fs k.clean ∙ y.walked.noted.end er (is_bad file) (length stream) (last_of 0 es) ∙ at-refused w' false er)
 
-      module _ (er : w'.refused ≡ false) where
+      module _ (er : is_some w'.refused ≡ false) where
         clean' : refused_in (es ++ fs) ≡ false
         clean' = refused-append es fs k.clean ∙ sym y.walked.noted.refused ∙ er
 
@@ -442,8 +453,8 @@ module _ (law : EveryLine) (demand3 : Demand3) (file store : List ℕ) (bytes : 
         more e f =
             let n : length b ≡ m = omega (arith, ltb-false (length b) m e, b-length) in
             let g = leb-false left (length b) f in
-            let eo : o ≡ Next Bodies (left - length b) = rw (er, e, f) in
-            settled-link (Stands (t + m) s' out) (Next Bodies (left - length b)) y.settled eo (record {
+            let eo : o ≡ Ok (Bodies (left - length b)) = rw (er, e, f) in
+            settled-link (Stands (t + m) s' out) (Ok (Bodies (left - length b))) y.settled eo (record {
               table = k.table;
               place = omega (arith, k.place, whole');
               rest = omega (arith, k.rest, whole');
@@ -464,54 +475,54 @@ module _ (law : EveryLine) (demand3 : Demand3) (file store : List ℕ) (bytes : 
 
       walk-next : Stands (t + m) s' out r
       walk-next =
-          by_test w'.refused refused_over (λ er.
+          by_test (is_some w'.refused) refused_over (λ er.
           by_test (ltb (length b) m) (short-over er) (λ e.
           by_test (leb left (length b)) (all-over er e) (more er e)))
 
-    bodies_next : (left : ℕ) (b : List ℕ) → Walking t left w₀ s written → b ≡ take (min left 16384) (drop t file) → WalkRead (ready w₀) left w₀ s b lent r s' text' → Stands (t + min left 16384) s' out r
+    bodies_next : (left : ℕ) (b : List ℕ) → Walking t left w₀ s written → b ≡ take (min left 16384) (drop t file) → WalkRead (ready w₀) left w₀ s b (page lent 0) r s' text' → Stands (t + min left 16384) s' out r
     bodies_next left b k eb x =
         let ok : ready w₀ ≡ true = rw (k.live, le-leb w.taken 4611686018427387904 (omega (arith, k.short, k.rest)), le-leb w.frames 4611686018427387904 (omega (arith, k.short, k.rest, k.frames-within))) in
-        walk-next left b k eb (subst (λ (c : Bool). WalkRead c left w₀ s b lent r s' text') ok x)
+        walk-next left b k eb (subst (λ (c : Bool). WalkRead c left w₀ s b (page lent 0) r s' text') ok x)
 
     -- by what comes next
-    part-next : (p : Part) (left : ℕ) (b : List ℕ) → StandsBy p t left w s written → b ≡ take (wanted_by p left) (drop t file) → ReadBy p left w₀ s b lent r s' text' → Stands (t + wanted_by p left) s' out r
-    unfolding Stands StandsBy
-    part-next Count left b k eb x = count_next left b k eb x
-    part-next Table left b k eb x = table-next left b k eb x
-    part-next Bodies left b k eb x = bodies_next left b k eb x
-    part-next Ended left b k eb x =
-        let none : take r.walk.filled text' ≡ [] = rw x.link in
+    part-next : (p : Part) (b : List ℕ) → StandsBy p t w s written → b ≡ take (wanted_by p) (drop t file) → ReadBy p w₀ s b (page lent 0) r s' text' → Stands (t + wanted_by p) s' out r
+    unfolding Stands StandsBy page
+    part-next Count b k eb x = count_next b k eb x
+    part-next (Table n) b k eb x = table-next n b k eb x
+    part-next (Bodies left) b k eb x = bodies_next left b k eb x
+    part-next Ended b k eb x =
+        let none : take text'.at text'.bytes ≡ [] = rw x.kept in
         subst (Stands (t + 0) s' out) (sym x.link) (record { place = omega (arith, k.place); whole = ap (λ (l : List ℕ). written ++ l) none ∙ append-nil written ∙ k.whole })
 
   -- ---- all reads
 
-  asks : (p : Part) (t left : ℕ) (w : Walk) (s written : List ℕ) → StandsBy p t left w s written → t + wanted_by p left ≤ End'
+  asks : (p : Part) (t : ℕ) (w : Walk) (s written : List ℕ) → StandsBy p t w s written → t + wanted_by p ≤ End'
   unfolding StandsBy
-  asks Count t left w s written k = omega (arith, k.place)
-  asks Table t left w s written k = omega (arith, k.place, k.lengths)
-  asks Bodies t left w s written k = omega (arith, k.place, k.rest)
-  asks Ended t left w s written k = omega (arith, k.place)
+  asks Count t w s written k = omega (arith, k.place)
+  asks (Table n) t w s written k = omega (arith, k.place, k.lengths)
+  asks (Bodies left) t w s written k = omega (arith, k.place, k.rest)
+  asks Ended t w s written k = omega (arith, k.place)
 
   -- nothing is wanted: reading is over
-  over-at : (p : Part) (t left : ℕ) (w : Walk) (s written : List ℕ) → StandsBy p t left w s written → wanted_by p left ≡ 0 → written ≡ link_text file store
+  over-at : (p : Part) (t : ℕ) (w : Walk) (s written : List ℕ) → StandsBy p t w s written → wanted_by p ≡ 0 → written ≡ link_text file store
   unfolding StandsBy
-  over-at Count t left w s written k e = absurd (omega arith)
-  over-at Table t left w s written k e = absurd (omega (arith, k.some))
-  over-at Bodies t left w s written k e = absurd (omega (arith, k.some))
-  over-at Ended t left w s written k e = k.whole
+  over-at Count t w s written k e = absurd (omega arith)
+  over-at (Table n) t w s written k e = absurd (omega (arith, k.some))
+  over-at (Bodies left) t w s written k e = absurd (omega (arith, k.some))
+  over-at Ended t w s written k e = k.whole
 
-  read_next : (t : ℕ) (l : Link) (s written lent : List ℕ) (r : Link) (s' text' : List ℕ) → Stands t s written l → 65536 ≤ length lent → ReadOn l s (take (wanted_of l) (drop t file)) lent r s' text' → Stands (t + wanted_of l) s' (written ++ take r.walk.filled text') r
+  read_next : (t : ℕ) (l : Link) (s written : List ℕ) (lent : Page) (r : Link) (s' : List ℕ) (text' : Page) → Stands t s written l → 65536 ≤ length lent.bytes → ReadOn l s (take (wanted_of l) (drop t file)) lent r s' text' → Stands (t + wanted_of l) s' (written ++ take text'.at text'.bytes) r
   unfolding Stands ReadOn
   read_next t l s written lent r s' text' k room x =
-      part-next t l.walk s written lent r s' text' room l.part l.left (take (wanted_of l) (take (wanted_of l) (drop t file))) k (take-take (wanted_of l) (wanted_of l) (drop t file) (le_refl (wanted_of l))) x
+      part-next t l.walk s written lent.bytes r s' text' room l.part (take (wanted_of l) (take (wanted_of l) (drop t file))) k (take-take (wanted_of l) (wanted_of l) (drop t file) (le_refl (wanted_of l))) x
 
   reads : (rs : List Read) (t : ℕ) (l : Link) (s written : List ℕ) → Stands t s written l → Reading file l s t rs
       → (wanted_of (link_by l rs) ≡ 0 → written ++ written_by rs ≡ link_text file store) × (t + asked_by l rs ≤ End')
   unfolding Stands
-  reads [] t l s written k x = (λ e. append-nil written ∙ over-at l.part t l.left l.walk s written k e, omega (arith, asks l.part t l.left l.walk s written k))
+  reads [] t l s written k x = (λ e. append-nil written ∙ over-at l.part t l.walk s written k e, omega (arith, asks l.part t l.walk s written k))
   reads (r ∷ rs) t l s written k x =
       let n = wanted_of l in
-      let ih = reads rs (t + n) r.link r.store (written ++ take r.link.walk.filled r.text) (read_next t l s written r.lent r.link r.store r.text k x.1 x.0) x.2 in
+      let ih = reads rs (t + n) r.link r.store (written ++ take r.text.at r.text.bytes) (read_next t l s written r.lent r.link r.store r.text k x.1 x.0) x.2 in
       (λ e. sym (append_assoc written _ _) ∙ ih.0 e, omega (arith, ih.1))
 
   pub checked : (rs : List Read) → Reading file begun store 0 rs → Checked file store rs

@@ -15,11 +15,11 @@ use Rattle.receiver.proofs.Appended.{adds-behind, Between, taken_more, reported-
 use Rattle.text.specs.Line.{Piece, width}
 use Rattle.text.proofs.Laws.{width-append}
 use Rattle.link.specs.declared.Walk.{Walk}
-use Rattle.link.specs.declared.Outcome.{Outcome}
-use Rattle.link.specs.declared.Outcome.TheVariants.{Next, Ends}
+use Rattle.std.specs.Prelude.{Ok, Err}
+use Rattle.link.specs.declared.Part.TheVariants.{Count, Table, Bodies, Ended}
 use Rattle.link.specs.Lines.{banner_line, role_line, lines_of, End, ok, cut, refused_at, bad_file, end_line}
 use Rattle.link.specs.Walks.{end_at}
-use Rattle.link.specs.Reads.{last_pieces}
+use Rattle.link.specs.Reads.{Outcome, last_pieces}
 
 -- ---- widths
 
@@ -37,8 +37,11 @@ end-width (refused_at r n) = omega arith
 end-width bad_file = omega arith
 
 last-width : (o : Outcome) (w : Walk) → width (last_pieces o w) ≤ 109
-last-width (Next p n) w = omega arith
-last-width (Ends bad) w = end-width (end_at bad w)
+last-width (Ok Count) w = omega arith
+last-width (Ok (Table n)) w = omega arith
+last-width (Ok (Bodies left)) w = omega arith
+last-width (Ok Ended) w = end-width (end_at false w)
+last-width (Err e) w = end-width (end_at true w)
 
 -- ---- how long the lines are between two bytes: a line has at most 109 bytes, and a frame 32 or more
 

@@ -8,15 +8,15 @@ ghost use Rattle.std.specs.Prelude.{◌≡◌, true, ◌≤◌, min, length};
 ghost use Rattle.link.specs.Worked.{Worked};
 ghost use Rattle.link.specs.File.{sum_of};
 ghost use Rattle.link.specs.Links.{EveryLink};
-ghost use Rattle.link.specs.Reads.{begun, wanted_of, count_outcome, table_outcome, bodies_outcome, Settled, ready, BodiesRead, ReadOn};
+ghost use Rattle.link.specs.declared.Part.TheVariants.{Ended};
+ghost use Rattle.link.specs.Reads.{begun, link_at, wanted_of, count_outcome, table_outcome, bodies_outcome, Settled, ready, BodiesRead, ReadOn};
 
 use banner::Features;
 use buffer::{min, part, u16_at, u32_at};
 use lines::put_last;
 use receiver::{State, every_cutting, start};
-use refusal::both;
 use steps::walk_bytes;
-use text::every_line;
+use text::{Page, every_line};
 
 // Segments of the frame under way that are left, and how many bytes are left of the first of them.
 #[derive(Clone, Copy)]
@@ -34,19 +34,18 @@ pub struct Walk {
     pub taken: u64,
     pub entry_end: u64,
     pub frames: u64,
-    // Whether the stream is refused, and the refusal's number.
-    pub refused: bool,
-    pub number: u8,
-    // Where the text ends.
-    pub filled: usize,
+    // The refusal's number, where the stream is refused.
+    pub refused: Option<u8>,
 }
 
 // What comes next in the file.
 #[derive(Clone, Copy)]
 pub enum Part {
     Count,
-    Table,
-    Bodies,
+    // So many lengths of the table.
+    Table(u16),
+    // So many bytes of the bodies.
+    Bodies(u64),
     Ended,
 }
 
@@ -54,17 +53,12 @@ pub enum Part {
 #[derive(Clone, Copy)]
 pub struct Link {
     pub part: Part,
-    // How many lengths of the table, or bytes of the bodies, are to come.
-    pub left: u64,
     pub walk: Walk,
 }
 
-// What follows bytes of the file: another part, of which so much is to come, or the end, where the file is bad or not.
+// The file ends before its last body does, or its count is above 512.
 #[derive(Clone, Copy)]
-enum Outcome {
-    Next(Part, u64),
-    Ends(bool),
-}
+struct BadFile;
 
 // A link of which nothing was read.
 pub fn begin() -> Link
@@ -74,19 +68,15 @@ pub fn begin() -> Link
         supported: 1,
         required: 0,
     });
-    let state = first.state;
     Link {
         part: Part::Count,
-        left: 0,
         walk: Walk {
-            receiver: state,
+            receiver: first.state,
             segments: Segments { left: 0, bytes: 0 },
             taken: 0,
             entry_end: 0,
             frames: 0,
-            refused: false,
-            number: 0,
-            filled: 0,
+            refused: None,
         },
     }
 }
@@ -95,29 +85,28 @@ pub fn begin() -> Link
 pub fn wanted(link: Link) -> usize
     ensures { result ≡ wanted_of link }
 {
-    let next = link.part;
-    match next {
+    match link.part {
         Part::Count => 2,
-        Part::Table => 4 * min(link.left as usize, 512),
-        Part::Bodies => min(link.left as usize, 16384),
+        Part::Table(n) => 4 * min(n as usize, 512),
+        Part::Bodies(left) => min(left as usize, 16384),
         Part::Ended => 0,
     }
 }
 
-fn count_outcome(bytes: &[u8]) -> Outcome
+fn count_outcome(bytes: &[u8]) -> Result<Part, BadFile>
     ensures { result ≡ count_outcome bytes.now }
 {
     if bytes.len() < 2 {
-        return Outcome::Ends(true);
+        return Err(BadFile);
     }
     let n = u16_at(bytes, 0);
     if 512 < n {
-        return Outcome::Ends(true);
+        return Err(BadFile);
     }
     if n == 0 {
-        return Outcome::Ends(false);
+        return Ok(Part::Ended);
     }
-    Outcome::Next(Part::Table, n as u64)
+    Ok(Part::Table(n))
 }
 
 fn wide(n: u32) -> u64
@@ -132,61 +121,63 @@ fn sum_of(n: usize, table: &[u8]) -> u64
     ensures { result ≡ sum_of n table.now }
 {
     let mut sum: u64 = 0;
-    let mut i: usize = 0;
-    while i < n {
+    for i in 0..n {
         sum += wide(u32_at(table, 4 * i));
-        i += 1;
     }
     sum
 }
 
-fn table_outcome(n: usize, bytes: &[u8]) -> Outcome
+fn table_outcome(n: usize, bytes: &[u8]) -> Result<Part, BadFile>
     requires { n ≤ 512 }
     ensures { result ≡ table_outcome n bytes.now }
 {
     if bytes.len() < 4 * n {
-        return Outcome::Ends(true);
+        return Err(BadFile);
     }
     let sum = sum_of(n, bytes);
     if sum == 0 {
-        return Outcome::Ends(false);
+        return Ok(Part::Ended);
     }
-    Outcome::Next(Part::Bodies, sum)
+    Ok(Part::Bodies(sum))
 }
 
-fn bodies_outcome(left: u64, n: usize, refused: bool) -> Outcome
+fn bodies_outcome(left: u64, n: usize, refused: bool) -> Result<Part, BadFile>
     ensures { result ≡ bodies_outcome left n refused }
 {
     if refused {
-        return Outcome::Ends(false);
+        return Ok(Part::Ended);
     }
     if n < min(left as usize, 16384) {
-        return Outcome::Ends(true);
+        return Err(BadFile);
     }
     if left <= n as u64 {
-        return Outcome::Ends(false);
+        return Ok(Part::Ended);
     }
-    Outcome::Next(Part::Bodies, left - n as u64)
+    Ok(Part::Bodies(left - n as u64))
+}
+
+fn ended(w: Walk) -> Link
+    ensures { result ≡ link_at Ended w }
+{
+    Link {
+        part: Part::Ended,
+        walk: w,
+    }
 }
 
 // Goes on, or writes the last line.
-fn settle(outcome: Outcome, w: Walk, text: &mut [u8]) -> Link
-    ensures { Settled outcome w text.old result text.new }
+fn settle(outcome: Result<Part, BadFile>, w: Walk, page: &mut Page) -> Link
+    ensures { Settled outcome w page.old result page.new }
 {
     match outcome {
-        Outcome::Next(part, left) => Link {
-            part: part,
-            left: left,
-            walk: w,
-        },
-        Outcome::Ends(bad) => {
-            let mut last = w;
-            last.filled = put_last(text, w, bad);
-            Link {
-                part: Part::Ended,
-                left: 0,
-                walk: last,
-            }
+        Ok(Part::Ended) => {
+            put_last(page, w, false);
+            ended(w)
+        }
+        Ok(part) => Link { part, walk: w },
+        Err(_) => {
+            put_last(page, w, true);
+            ended(w)
         }
     }
 }
@@ -195,52 +186,36 @@ fn settle(outcome: Outcome, w: Walk, text: &mut [u8]) -> Link
 fn is_ready(w: Walk) -> bool
     ensures { result ≡ ready w }
 {
-    both(
-        !w.refused,
-        both(
-            w.taken <= 4611686018427387904,
-            w.frames <= 4611686018427387904,
-        ),
-    )
+    w.refused.is_none() && (w.taken <= 4611686018427387904 && w.frames <= 4611686018427387904)
 }
 
-fn read_bodies(left: u64, w: Walk, bytes: &[u8], store: &mut [u8], text: &mut [u8]) -> Link
+fn read_bodies(left: u64, w: Walk, bytes: &[u8], store: &mut [u8], page: &mut Page) -> Link
     requires { (ready w ≡ true) × (length bytes.now ≤ 16384) }
-    ensures { BodiesRead left w store.old bytes.now text.old result store.new text.new }
+    ensures { BodiesRead left w store.old bytes.now page.old result store.new page.new }
 {
-    let next = walk_bytes(w, bytes, store, text);
-    let outcome = bodies_outcome(left, bytes.len(), next.refused);
-    settle(outcome, next, text)
+    let next = walk_bytes(w, bytes, store, page);
+    let outcome = bodies_outcome(left, bytes.len(), next.refused.is_some());
+    settle(outcome, next, page)
 }
 
-// Reads the next bytes of a file, no more than are wanted, and puts their lines at the front of the text. Where they are fewer than wanted, the
+// Reads the next bytes of a file, no more than are wanted, and puts their lines on the page, from its front on. Where they are fewer than wanted, the
 // file ends with them.
-pub fn read(link: Link, bytes: &[u8], store: &mut [u8], text: &mut [u8]) -> Link
-    ensures { ReadOn link store.old bytes.now text.old result store.new text.new }
+pub fn read(link: Link, bytes: &[u8], store: &mut [u8], page: &mut Page) -> Link
+    ensures { ReadOn link store.old bytes.now page.old result store.new page.new }
 {
     let lent = part(bytes, 0, wanted(link));
-    let mut w = link.walk;
-    w.filled = 0;
-    let left = link.left;
-    let next = link.part;
-    match next {
-        Part::Count => settle(count_outcome(lent), w, text),
-        Part::Table => settle(table_outcome(min(left as usize, 512), lent), w, text),
-        Part::Bodies => {
+    let w = link.walk;
+    page.clear();
+    match link.part {
+        Part::Count => settle(count_outcome(lent), w, page),
+        Part::Table(n) => settle(table_outcome(min(n as usize, 512), lent), w, page),
+        Part::Bodies(left) => {
             if is_ready(w) {
-                return read_bodies(left, w, lent, store, text);
+                return read_bodies(left, w, lent, store, page);
             }
-            Link {
-                part: Part::Ended,
-                left: 0,
-                walk: w,
-            }
+            ended(w)
         }
-        Part::Ended => Link {
-            part: Part::Ended,
-            left: 0,
-            walk: w,
-        },
+        Part::Ended => ended(w),
     }
 }
 

@@ -1,6 +1,6 @@
 // The walk: a preamble step and a segment step that call each other on what is left of the bytes.
-ghost use Rattle.std.specs.Prelude.{◌≡◌, false, ◌+◌, ◌-◌, ◌≤◌, ◌<◌, length, drop};
-ghost use Rattle.text.specs.Page.{page, puts};
+ghost use Rattle.std.specs.Prelude.{◌≡◌, false, is_some, ◌+◌, ◌-◌, ◌≤◌, ◌<◌, length, drop};
+ghost use Rattle.text.specs.Page.{puts};
 ghost use Rattle.link.specs.Lines.{frame_line};
 ghost use Rattle.link.specs.Walks.{Fits, framed, with_segments, NotedEvent, Advanced, Walked};
 
@@ -10,62 +10,64 @@ use banner::Revision;
 use body::{epilogue_length, first_sum_length};
 use buffer::min;
 use preamble::Header;
-use receiver::{Report, Stage, State, receive};
+use receiver::{Stage, State, receive};
 use stream::Event;
+use text::Page;
 
 // ---- one call of the receiver
 
 // A frame or a drop that ends at the last byte taken, after the word for it.
-fn note_frame(w: Walk, h: Header, letters: &[u8], text: &mut [u8]) -> Walk
+fn note_frame(w: Walk, h: Header, letters: &[u8], page: &mut Page) -> Walk
     requires { w.frames + 1 < 18446744073709551616 }
-    ensures value { result ≡ framed w result.filled }
-    ensures filled_after { page text.new result.filled ≡ puts (frame_line letters.now (w.frames + 1) h) (page text.old w.filled) }
+    ensures value { result ≡ framed w }
+    ensures lines { page.new ≡ puts (frame_line letters.now (w.frames + 1) h) page.old }
 {
-    let mut next = w;
-    next.entry_end = w.taken;
-    next.frames = w.frames + 1;
-    next.filled = put_frame(text, w.filled, letters, w.frames + 1, h);
-    next
+    put_frame(page, letters, w.frames + 1, h);
+    let entry_end = w.taken;
+    Walk {
+        entry_end,
+        frames: w.frames + 1,
+        ..w
+    }
 }
 
 // An event at the last byte taken: its line, and the counts.
-fn note(w: Walk, event: Event, text: &mut [u8]) -> Walk
-    requires { (w.refused ≡ false) × (w.frames + 1 < 18446744073709551616) }
-    ensures { NotedEvent w event text.old result text.new }
+fn note(w: Walk, event: Event, page: &mut Page) -> Walk
+    requires { (is_some w.refused ≡ false) × (w.frames + 1 < 18446744073709551616) }
+    ensures { NotedEvent w event page.old result page.new }
 {
     match event {
         Event::Banner(peer, revision) => {
-            let mut next = w;
-            next.entry_end = w.taken;
-            next.filled = put_banner(text, w.filled, peer, revision);
-            next
+            put_banner(page, peer, revision);
+            Walk {
+                entry_end: w.taken,
+                ..w
+            }
         }
         Event::First(_) => w,
-        Event::Frame(h) => { note_frame(w, h, b"frame", text) }
-        Event::Dropped(h) => { note_frame(w, h, b"drop", text) }
-        Event::Refused(n) => {
-            let mut next = w;
-            next.refused = true;
-            next.number = n.number;
-            next
-        }
+        Event::Frame(h) => note_frame(w, h, b"frame", page),
+        Event::Dropped(h) => note_frame(w, h, b"drop", page),
+        Event::Refused(n) => Walk {
+            refused: Some(n.number),
+            ..w
+        },
     }
 }
 
 // Lends the receiver a piece, once.
-fn advance(w: Walk, piece: &[u8], store: &mut [u8], text: &mut [u8]) -> Walk
+fn advance(w: Walk, piece: &[u8], store: &mut [u8], page: &mut Page) -> Walk
     requires { Fits w (length piece.now) }
-    ensures { Advanced w store.old piece.now text.old result store.new text.new }
+    ensures { Advanced w store.old piece.now page.old result store.new page.new }
 {
     let o = receive(w.receiver, piece, store);
-    let report = o.report;
-    let state = o.state;
-    let mut next = w;
-    next.receiver = state;
-    next.taken = w.taken + o.taken as u64;
-    match report {
-        Report::More => next,
-        Report::Event(e) => note(next, e, text),
+    let next = Walk {
+        receiver: o.state,
+        taken: w.taken + o.taken as u64,
+        ..w
+    };
+    match o.report {
+        None => next,
+        Some(e) => note(next, e, page),
     }
 }
 
@@ -122,7 +124,7 @@ fn segments_at(state: State, left: u8) -> Segments
     let sum = sum_behind(revision, header, k);
     let end = epilogue_behind(revision, header, left);
     Segments {
-        left: left,
+        left,
         bytes: n + sum + end,
     }
 }
@@ -158,10 +160,8 @@ fn segments_behind(state: State, segments: Segments, k: usize) -> Segments
 fn preamble_bytes(state: State, n: usize) -> usize
     ensures { (result ≤ n) × (0 < n → 0 < result) }
 {
-    let position = state.position;
-    let stage = position.stage;
-    let got = position.got;
-    match stage {
+    let got = state.position.got;
+    match state.position.stage {
         Stage::Preamble => { if got < 32 { min(32 - got, n) } else { n } }
         _ => n,
     }
@@ -170,29 +170,27 @@ fn preamble_bytes(state: State, n: usize) -> usize
 fn kept(w: Walk, segments: Segments) -> Walk
     ensures { result ≡ with_segments w segments }
 {
-    let mut next = w;
-    next.segments = segments;
-    next
+    Walk { segments, ..w }
 }
 
 // Reads a preamble, or the banner, and hands on to its segments.
 #[cycle(preamble_step_segment_step)]
-fn preamble_step(w: Walk, bytes: &[u8], at: usize, store: &mut [u8], text: &mut [u8]) -> Walk
+fn preamble_step(w: Walk, bytes: &[u8], at: usize, store: &mut [u8], page: &mut Page) -> Walk
     requires { (at ≤ length bytes.now) × Fits w (length bytes.now - at) }
-    ensures { Walked w store.old (drop at bytes.now) text.old result store.new text.new }
+    ensures { Walked w store.old (drop at bytes.now) page.old result store.new page.new }
 {
     if bytes.len() <= at {
         return kept(w, Segments { left: 0, bytes: 0 });
     }
     let n = preamble_bytes(w.receiver, bytes.len() - at);
     let end = at + n;
-    let next = advance(w, &bytes[at..end], store, text);
-    if next.refused {
+    let next = advance(w, &bytes[at..end], store, page);
+    if next.refused.is_some() {
         return next;
     }
     let k = (next.taken - w.taken) as usize;
     let segments = all_segments(next.receiver);
-    segment_step(next, segments, bytes, at + k, store, text)
+    segment_step(next, segments, bytes, at + k, store, page)
 }
 
 // Reads a segment and goes on with the next; the last one hands back to the next preamble.
@@ -203,30 +201,30 @@ fn segment_step(
     bytes: &[u8],
     at: usize,
     store: &mut [u8],
-    text: &mut [u8],
+    page: &mut Page,
 ) -> Walk
     requires { (at ≤ length bytes.now) × (segments.left ≤ 4) × Fits w (length bytes.now - at) }
-    ensures { Walked w store.old (drop at bytes.now) text.old result store.new text.new }
+    ensures { Walked w store.old (drop at bytes.now) page.old result store.new page.new }
 {
     if segments.left == 0 {
-        return preamble_step(w, bytes, at, store, text);
+        return preamble_step(w, bytes, at, store, page);
     }
     if bytes.len() <= at {
         return kept(w, segments);
     }
     if segments.bytes == 0 {
         let behind = segments_behind(w.receiver, segments, 0);
-        return segment_step(w, behind, bytes, at, store, text);
+        return segment_step(w, behind, bytes, at, store, page);
     }
     let n = min(segments.bytes, bytes.len() - at);
     let end = at + n;
-    let next = advance(w, &bytes[at..end], store, text);
-    if next.refused {
+    let next = advance(w, &bytes[at..end], store, page);
+    if next.refused.is_some() {
         return next;
     }
     let k = (next.taken - w.taken) as usize;
     let left = segments_behind(next.receiver, segments, k);
-    segment_step(next, left, bytes, at + k, store, text)
+    segment_step(next, left, bytes, at + k, store, page)
 }
 
 // No frame has more than four.
@@ -240,10 +238,10 @@ fn at_most_four(segments: Segments) -> Segments
 }
 
 // All bytes that are lent, from where the walk stands.
-pub(crate) fn walk_bytes(w: Walk, bytes: &[u8], store: &mut [u8], text: &mut [u8]) -> Walk
+pub(crate) fn walk_bytes(w: Walk, bytes: &[u8], store: &mut [u8], page: &mut Page) -> Walk
     requires { Fits w (length bytes.now) }
-    ensures { Walked w store.old bytes.now text.old result store.new text.new }
+    ensures { Walked w store.old bytes.now page.old result store.new page.new }
 {
     let segments = at_most_four(w.segments);
-    segment_step(w, segments, bytes, 0, store, text)
+    segment_step(w, segments, bytes, 0, store, page)
 }

@@ -4,12 +4,12 @@ use mathlib.Core.List.{List, [], ◌∷◌}
 use mathlib.Core.Bool.{Bool, true, false, cond}
 use Prim.Native.Nat.{ℕ, ◌+◌}
 use Rattle.refusal.specs.declared.Refusal.TheVariants as refusal
-use Rattle.refusal.specs.declared.Judgement.{Judgement}
-use Rattle.refusal.specs.declared.Judgement.TheVariants as judgement
+use Rattle.refusal.specs.declared.Refusal.{Refusal}
+use Rattle.std.specs.Prelude.{Result, Ok, Err}
 use Rattle.refusal.specs.Refusals.{Judged, fine, refused, judged_by, contradiction}
 use Rattle.stream.specs.declared.Event.TheVariants as event
 use Rattle.receiver.specs.declared.State as crc-state
-use Rattle.receiver.specs.declared.Report.TheVariants as report
+use Rattle.std.specs.Prelude.{Some, None}
 use Rattle.receiver.specs.Calls.{piece_at}
 use Rattle.sealed_receiver.specs.declared.State as secure-state
 use Rattle.refusal.proofs.Booleans.{by_test}
@@ -66,7 +66,7 @@ module _ (st : State) (p : AbiConnection) (s piece : List ℕ) (o : AbiReceived)
       (λ q.
       let e = answer_by p s piece false (rw (w.stands.fit, k, q)) in
       let a = contradicted st s piece contradiction q refl in (
-        h.received ∙ ap (λ (x : AbiAnswer). x.received) e ∙ ap (λ (x : AbiConnection). handed x (crc.report_words 0 (report.Event (event.Refused contradiction)))) w.words ∙ ap abi_received a.received,
+        h.received ∙ ap (λ (x : AbiAnswer). x.received) e ∙ ap (λ (x : AbiConnection). handed x (crc.report_words 0 (Some (event.Refused contradiction)))) w.words ∙ ap abi_received a.received,
         h.store ∙ ap (λ (x : AbiAnswer). x.store) e ∙ a.store,
       ))
 
@@ -84,8 +84,8 @@ module _ (st : State) (p : AbiConnection) (s piece : List ℕ) (o : AbiReceived)
 -- ---- and a try to switch
 
 -- what a try to switch is judged, as the code has it
-abbrev pub judgement_of : State → Judgement
-judgement_of st = cond (agrees st) (cond (may_be_switched st) judgement.Fine (judgement.Refused refusal.SwitchRefused)) (judgement.Refused refusal.StateContradicts)
+abbrev pub judgement_of : State → Result (Unit {0}) Refusal
+judgement_of st = cond (agrees st) (cond (may_be_switched st) (Ok tt) (Err refusal.SwitchRefused)) (Err refusal.StateContradicts)
 
 pub judged : (st : State) → judged_by (judgement_of st) ≡ judge_switch st
 unfolding judge_switch

@@ -9,14 +9,14 @@ use Rattle.refusal.specs.declared.Refusal.TheVariants.{StateContradicts}
 use Rattle.refusal.specs.Refusals.{numbers_of, contradiction}
 use Rattle.refusal.proofs.Booleans.{by_test}
 use Rattle.banner.specs.declared.Features.{Features}
-use Rattle.refusal.specs.declared.WriteResult.TheVariants as built
+use Rattle.std.specs.Prelude.{Ok, Err}
 use Rattle.refusal.specs.Writes as writes
 use Rattle.banner.specs.declared.Revision.{Revision}
 use Rattle.builder.specs.Build.{frame_done, banner_done}
 use Rattle.stream.specs.declared.Event.TheVariants as event
 use Rattle.receiver.specs.declared.State as crc-state
-use Rattle.receiver.specs.declared.Report.{Report}
-use Rattle.receiver.specs.declared.Report.TheVariants as report
+use Rattle.receiver.specs.Report.{Report}
+use Rattle.std.specs.Prelude.{Some, None}
 use Rattle.receiver.specs.Step.{started}
 use Rattle.receiver.specs.Every as receiver
 use Rattle.connection.specs.declared.Mode.{Mode}
@@ -93,18 +93,18 @@ module _ (every : connection.EveryCall) where
           record { received = a.received; number = h.kind; abi = received_is; answered = d; sound = sound_of (connection_of p) s piece a.received s' d }
 
   stays : (p : AbiConnection) (s piece : List ℕ) (i : ℕ) (r : AbiReceived) (s' : List ℕ) → ReceivedBy p s piece i r s'
-      → (n : Numbers) → fits p ≡ true → agrees (connection_of p) ≡ true → (t : ℕ) → r.report ≡ report_words t (report.Event (event.Refused n))
+      → (n : Numbers) → fits p ≡ true → agrees (connection_of p) ≡ true → (t : ℕ) → r.report ≡ report_words t (Some (event.Refused n))
       → (s₂ piece₂ : List ℕ) (i₂ : ℕ) (r₂ : AbiReceived) (s₃ : List ℕ) → ReceivedBy r.state s₂ piece₂ i₂ r₂ s₃ → AbiRefuses r.state n s₂ i₂ r₂ s₃
   stays p s piece i r s' h n k g t e s₂ piece₂ i₂ r₂ s₃ h₂ =
       let first : r ≡ (abi_answer_of p (answer (connection_of p) s piece)).received = received_is p s piece i r s' h k (rule_of (connection_of p) g) in
       let x : Received = (answer (connection_of p) s piece).received in
       let v = sound_of (connection_of p) s piece x (answer (connection_of p) s piece).store (record { received = refl; store = refl }) in
-      let reported : x.report ≡ report.Event (event.Refused n) = refused-back x.taken t x.report n (sym (ap (λ (y : AbiReceived). y.report) first) ∙ e) in
+      let reported : x.report ≡ Some (event.Refused n) = refused-back x.taken t x.report n (sym (ap (λ (y : AbiReceived). y.report) first) ∙ e) in
       let b = h.answered.back k in
       let q : ready_rule (connection_of r.state) ≡ true = ap ready_rule b.state ∙ rule_of x.state (v.agreeing g) in
       let z : Answer = answer x.state s₂ piece₂ in
       let y = v.stays n g reported s₂ piece₂ z.received z.store (record { received = refl; store = refl }) in
-      let again : r₂ ≡ handed (next r.state x.state) (report_words 0 (report.Event (event.Refused n))) =
+      let again : r₂ ≡ handed (next r.state x.state) (report_words 0 (Some (event.Refused n))) =
       received_is r.state s₂ piece₂ i₂ r₂ s₃ h₂ b.fit q
       ∙ ap (λ (c : State). (abi_answer_of r.state (answer c s₂ piece₂)).received) b.state
       ∙ ap (λ (c : Received). handed (next r.state c.state) (report_words c.taken c.report)) (as_one y.state y.taken y.report) in
@@ -134,10 +134,10 @@ demand1_in_c every calls = record {
 -- ---- demand 2
 
 -- a build that wrote something was not refused
-accepted-is : (d : writes.Done) (b : Written) (l : List ℕ) → abi_done b l ≡ in_abi d → 0 < b.written → (w : ℕ) → b.written ≡ w → writes.done (writes.outcome_of (built.Wrote w)) l ≡ d
+accepted-is : (d : writes.Done) (b : Written) (l : List ℕ) → abi_done b l ≡ in_abi d → 0 < b.written → (w : ℕ) → b.written ≡ w → writes.done (writes.outcome_of (Ok w)) l ≡ d
 accepted-is d b l e z w v = go d.outcome refl
   where
-    go : (x : writes.WriteOutcome) → d.outcome ≡ x → writes.done (writes.outcome_of (built.Wrote w)) l ≡ d
+    go : (x : writes.WriteOutcome) → d.outcome ≡ x → writes.done (writes.outcome_of (Ok w)) l ≡ d
     go (writes.wrote n) q =
         let p : abi_done b l ≡ abi_done (abi_result (writes.wrote n)) d.buffer = e ∙ ap (λ (x : writes.WriteOutcome). abi_done (abi_result x) d.buffer) q in
         let m : b.written ≡ n = ap (λ (x : AbiDone). x.answer.written) p in

@@ -6,15 +6,15 @@ use Prim.Native.Nat.{ℕ, ◌+◌}
 use lib.Dec.{ltb, eqb}
 use Rattle.refusal.specs.Refusals.{judged_by, is_fine, unless, contradiction}
 use Rattle.refusal.specs.declared.Refusal.TheVariants as refusal
-use Rattle.refusal.specs.declared.Judgement.{Judgement}
-use Rattle.refusal.specs.declared.Judgement.TheVariants as judgement
+use Rattle.refusal.specs.declared.Refusal.{Refusal}
+use Rattle.std.specs.Prelude.{Result, Ok, Err}
 use Rattle.refusal.proofs.Booleans.{at_test}
 use Rattle.banner.specs.declared.Features.{Features}
 use Rattle.banner.specs.Bits.{missing}
 use Rattle.banner.specs.Banner.{judge_own}
 use Rattle.stream.specs.declared.Event.TheVariants as event
-use Rattle.receiver.specs.declared.Report.{Report}
-use Rattle.receiver.specs.declared.Report.TheVariants as report
+use Rattle.receiver.specs.Report.{Report}
+use Rattle.std.specs.Prelude.{Some, None}
 use Rattle.receiver.specs.Calls.{piece_at}
 use Rattle.session.specs.declared.Session.{Session}
 use Rattle.session.specs.Calls.{fresh_session}
@@ -43,7 +43,7 @@ use Rattle.mahuixen.proofs.Chain.{abi_form, judgement_of, judged, answered, swit
 -- what it reports is what the connection does
 reported : (st : State) (p : AbiConnection) (s bytes : List ℕ) → AbiOf st p → report_by p s bytes ≡ (answer st s bytes).received.report
 reported st p s bytes w =
-    ap (λ (b : Bool). cond b (answer (connection_of p) s bytes).received.report (report.Event (event.Refused contradiction))) w.stands.fit
+    ap (λ (b : Bool). cond b (answer (connection_of p) s bytes).received.report (Some (event.Refused contradiction))) w.stands.fit
     ∙ ap (λ (x : State). (answer x s bytes).received.report) w.stands.state
 
 module _ (st : State) (x : Session) (s bytes : List ℕ) where
@@ -140,12 +140,12 @@ as_delivery-calls stream st p x q s t (handed n k o ∷ ps) w e h =
 
 -- ---- a start
 
-abbrev own_judgement : Features → Judgement
-own_judgement own = cond (is_fine (judge_own own.supported own.required)) judgement.Fine (judgement.Refused refusal.OwnFeatures)
+abbrev own_judgement : Features → Result (Unit {0}) Refusal
+own_judgement own = cond (is_fine (judge_own own.supported own.required)) (Ok tt) (Err refusal.OwnFeatures)
 
 own-judged : (own : Features) → judged_by (own_judgement own) ≡ judge_own own.supported own.required
 own-judged own =
-    at_test (λ b. judged_by (cond (is_fine (unless b refusal.OwnFeatures)) judgement.Fine (judgement.Refused refusal.OwnFeatures)) ≡ unless b refusal.OwnFeatures)
+    at_test (λ b. judged_by (cond (is_fine (unless b refusal.OwnFeatures)) (Ok tt) (Err refusal.OwnFeatures)) ≡ unless b refusal.OwnFeatures)
     (ltb own.supported 2 && ltb own.required 2 && eqb (missing 64 own.required own.supported) 0) (λ _. refl) (λ _. refl)
 
 -- ---- connections

@@ -11,7 +11,7 @@ use Rattle.builder.specs.Build.{banner_length}
 use Rattle.stream.specs.declared.Event.TheVariants as event
 use Rattle.stream.specs.Stream.{entry, trace_of}
 use Rattle.receiver.specs.declared.Received as crc
-use Rattle.receiver.specs.declared.Report.TheVariants as report
+use Rattle.std.specs.Prelude.{Some, None}
 use Rattle.receiver.specs.Step.{started}
 use Rattle.receiver.specs.Calls.{Call, Chained, taken_by, list_of}
 use Rattle.receiver.specs.Every.{AnyCall, Handed, all_taken, all_reported, unfinished_by}
@@ -42,7 +42,7 @@ pub record InnerCall (p : AbiConnection) (s piece : List ℕ) (n : ℕ) (r : Abi
 pub record AbiRefuses (p : AbiConnection) (why : Numbers) (s : List ℕ) (n : ℕ) (r : AbiReceived) (s' : List ℕ) : Type 0 where
   pub number : n ≡ 4
   pub state : r.state ≡ p
-  pub report : r.report ≡ report_words 0 (report.Event (event.Refused why))
+  pub report : r.report ≡ report_words 0 (Some (event.Refused why))
   pub store : s' ≡ s
 
 pub record AbiSound (p : AbiConnection) (s piece : List ℕ) (n : ℕ) (r : AbiReceived) (s' : List ℕ) : Type 0 where
@@ -51,7 +51,7 @@ pub record AbiSound (p : AbiConnection) (s piece : List ℕ) (n : ℕ) (r : AbiR
   pub unready : ready_rule (connection_of p) ≡ false → AbiRefuses p contradiction s n r s'
   pub inner : fits p ≡ true → ready_rule (connection_of p) ≡ true → InnerCall p s piece n r s'
   -- a refused stream stays refused: every later call, with any store and any piece
-  pub stays : (why : Numbers) → fits p ≡ true → agrees (connection_of p) ≡ true → (t : ℕ) → r.report ≡ report_words t (report.Event (event.Refused why))
+  pub stays : (why : Numbers) → fits p ≡ true → agrees (connection_of p) ≡ true → (t : ℕ) → r.report ≡ report_words t (Some (event.Refused why))
       → (s₂ piece₂ : List ℕ) (n₂ : ℕ) (r₂ : AbiReceived) (s₃ : List ℕ) → ReceivedBy r.state s₂ piece₂ n₂ r₂ s₃ → AbiRefuses r.state why s₂ n₂ r₂ s₃
 
 -- ---- demand 1: bytes add up, over any calls from a start, each given the state that the last one handed back; with no switch, they are calls of the receiver

@@ -3,7 +3,7 @@ use Rattle.std.specs.Prelude.{◌≡◌, ◌↔◌, List, [], ◌∷◌, ◌++�
 use Rattle.buffer.specs.Splice.{splice}
 use Rattle.refusal.specs.declared.Refusal.TheVariants.{StateContradicts, SwitchRefused, NoncesSpent}
 use Rattle.refusal.specs.Refusals.{fine, numbers_of}
-use Rattle.refusal.specs.declared.WriteResult.TheVariants as built
+use Rattle.std.specs.Prelude.{Ok, Err}
 use Rattle.aes.specs.Aes.{key_expansion}
 use Rattle.secure.specs.Layout.{Part, nonces_of, sealed_parts, frame_parts, part_count}
 use Rattle.sealed_builder.specs.declared.Sending.{Sending}
@@ -54,7 +54,7 @@ build_of key b = record {
   source = b.source;
   buffer = b.buffer;
   queued = b.queued;
-  answer = record { built = built.Wrote (written_by b); sending = sending_of b.sealed.numbers key b.sealed.nonce };
+  answer = record { built = Ok (written_by b); sending = sending_of b.sealed.numbers key b.sealed.nonce };
   after = b.sealed.buffer;
 }
 

@@ -1,6 +1,6 @@
 -- Demand 2 of sealed frames, of calls by C: handed over exactly when, and what was built comes back, with the switch on both sides made by C.
 use Rattle.std.specs.Prelude.{◌≡◌, List, [], ◌∷◌, ◌++◌, ℕ, ◌+◌, ◌-◌, ◌≤◌, ◌<◌, length, take}
-use Rattle.refusal.specs.declared.Judgement.TheVariants as judgement
+use Rattle.std.specs.Prelude.{Result, Ok, Err}
 use Rattle.refusal.specs.Refusals.{fine}
 use Rattle.banner.specs.declared.Features.{Features}
 use Rattle.banner.specs.declared.Revision.{Revision}
@@ -63,7 +63,7 @@ made_by l = record {
   key = l.key;
   receiving = l.receiving;
   sending = l.sending;
-  switched = record { state = switched_state fine (connection_of l.state) l.key l.receiving; sending = fresh_sending l.key l.sending; judgement = judgement.Fine };
+  switched = record { state = switched_state fine (connection_of l.state) l.key l.receiving; sending = fresh_sending l.key l.sending; judgement = (Ok tt) };
 }
 
 abbrev pub link_of : AbiSwitchedLink → SwitchedLink

@@ -1,5 +1,6 @@
 -- The first fault of two, and where there is none.
-use mathlib.Core.Path.{◌≡◌, refl}
+use mathlib.Core.Path.{◌≡◌, refl, ap, ◌∙◌}
+use mathlib.Core.List.{List, [], ◌∷◌, map}
 use mathlib.Core.Bool.{Bool, true, false, not, ◌&&◌, and-true, not-not}
 use Prim.Native.Nat.{ℕ, zero, suc, ◌+◌}
 use lib.Dec.{leb, ltb, eqb, eqb-suc-zero}
@@ -8,7 +9,10 @@ use Rattle.refusal.proofs.Booleans.{by_less}
 use Rattle.preamble.specs.declared.Header.{Header}
 use Rattle.preamble.specs.declared.Segment.{Segment}
 use Rattle.preamble.specs.Layout.{total}
-use Rattle.preamble.specs.Judge.{first, fault_when, length_wrong, align_wrong, shape_fault, limit_fault, segment_limit, frame_limit}
+use Rattle.refusal.specs.declared.Refusal.{Refusal}
+use Rattle.refusal.specs.declared.Refusal.TheVariants as refusal
+use Rattle.refusal.specs.Refusals.{first_of, or_else}
+use Rattle.preamble.specs.Judge.{first, first_fault, fault_when, unless_fault, count_fault, segment_fault, judge_shape, judge_limits, judge_flags, above, length_wrong, align_wrong, shape_fault, limit_fault, segment_limit, frame_limit}
 
 pub first-is : (a b : ℕ) → (a ≡ 0 → ⊥) → a ≡ first a b
 first-is zero b n = absurd (n refl)
@@ -18,6 +22,52 @@ first-is (suc a) b n = refl
 pub first-last : (a : ℕ) → first a 0 ≡ a
 first-last zero = refl
 first-last (suc a) = refl
+
+-- ---- the first fault of a list is the first refusal of a list
+
+module _ (why : ℕ → Refusal) where
+  by-first : (a b : ℕ) → unless_fault why (first a b) ≡ or_else (unless_fault why a) (unless_fault why b)
+  by-first zero b = refl
+  by-first (suc a) b = rw (eqb-suc-zero a) refl
+
+  by-list : (fs : List ℕ) → unless_fault why (first_fault fs) ≡ first_of (map (unless_fault why) fs)
+  by-list [] = refl
+  by-list (f ∷ fs) = by-first f (first_fault fs) ∙ ap (or_else (unless_fault why f)) (by-list fs)
+
+abbrev pub shape_faults : Header → List ℕ
+shape_faults h =
+    count_fault h.count
+    ∷ segment_fault h.count 1 2 h.s1
+    ∷ segment_fault h.count 2 8 h.s2
+    ∷ segment_fault h.count 3 14 h.s3
+    ∷ segment_fault h.count 4 20 h.s4
+    ∷ []
+
+pub shape_order : (h : Header) → judge_shape h ≡ first_of (map (unless_fault refusal.Shape) (shape_faults h))
+unfolding shape_fault
+shape_order h = by-list refusal.Shape (shape_faults h)
+
+abbrev pub limit_faults : Header → List ℕ
+limit_faults h =
+    above segment_limit 2 h.s1.len
+    ∷ above segment_limit 8 h.s2.len
+    ∷ above segment_limit 14 h.s3.len
+    ∷ above segment_limit 20 h.s4.len
+    ∷ above frame_limit 2 h.s1.len
+    ∷ above frame_limit 8 (h.s1.len + h.s2.len)
+    ∷ above frame_limit 14 (h.s1.len + h.s2.len + h.s3.len)
+    ∷ above frame_limit 20 (total h)
+    ∷ []
+
+pub limit_order : (h : Header) → judge_limits h ≡ first_of (map (unless_fault refusal.Limit) (limit_faults h))
+unfolding limit_fault
+limit_order h = by-list refusal.Limit (limit_faults h)
+
+abbrev pub flag_faults : ℕ → ℕ → List ℕ
+flag_faults flags reserved = fault_when (not (eqb flags 0)) 26 ∷ fault_when (not (eqb reserved 0)) 27 ∷ []
+
+pub flag_order : (flags reserved : ℕ) → judge_flags flags reserved ≡ first_of (map (unless_fault refusal.Flags) (flag_faults flags reserved))
+flag_order flags reserved = by-list refusal.Flags (flag_faults flags reserved)
 
 -- ---- no fault
 

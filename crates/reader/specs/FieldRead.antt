@@ -1,11 +1,12 @@
 -- What the reader's calls answer, by the cursor's definitions.
-use Rattle.std.specs.Prelude.{List, ℕ}
+use Rattle.std.specs.Prelude.{List, ℕ, Result, Ok, Err}
+use Rattle.fields.specs.declared.Fault.{Fault}
+use Rattle.fields.specs.declared.Span.{Span}
+use Rattle.fields.specs.declared.NumberList.{NumberList}
 use Rattle.fields.specs.Layout.{Kind, good}
 use Rattle.fields.specs.Field.{Field, number, negative, payload, opaque, fixed, Place, nowhere, numbers_at, bytes_at}
 use Rattle.fields.specs.Field as field
 use Rattle.fields.specs.Reading.{Step, read, failed, take_of, span_in, numbers_in}
-use Rattle.reader.specs.declared.FieldRead.{FieldRead}
-use Rattle.reader.specs.declared.FieldRead.TheVariants as taken
 
 -- what a field holds
 pub data Content : Type 0 where
@@ -27,11 +28,19 @@ pub data Shown : Type 0 where
   -- the place of its fault
   off : ℕ → Shown
 
-abbrev pub shown : List ℕ → FieldRead → Shown
-shown s (taken.Number n next) = got (value n) nowhere next
-shown s (taken.List l next) = got (numbers (numbers_in s l)) (numbers_at l) next
-shown s (taken.Bytes p next) = got (bytes (span_in s p)) (bytes_at p) next
-shown s (taken.Failed at) = off at
+-- of an answer x, f is what the field holds and p where that stands
+abbrev pub shown : {A : Type 0} → (A → Content) → (A → Place) → Result (A × ℕ) Fault → Shown
+shown f p (Ok x) = got (f x.0) (p x.0) x.1
+shown f p (Err e) = off e.at
+
+abbrev pub shown_number : Result (ℕ × ℕ) Fault → Shown
+shown_number r = shown value (λ _. nowhere) r
+
+abbrev pub shown_list : List ℕ → Result (NumberList × ℕ) Fault → Shown
+shown_list s r = shown (λ l. numbers (numbers_in s l)) numbers_at r
+
+abbrev pub shown_bytes : List ℕ → Result (Span × ℕ) Fault → Shown
+shown_bytes s r = shown (λ p. bytes (span_in s p)) bytes_at r
 
 abbrev pub show_of : Step → Shown
 show_of (read f p d) = got (content_of f) p d.at

@@ -25,11 +25,11 @@ use Rattle.receiver.specs.declared.Stage.{Stage}
 use Rattle.receiver.specs.declared.Stage.TheVariants as stage
 use Rattle.receiver.specs.declared.Known.{Known}
 use Rattle.receiver.specs.declared.State.{State}
-use Rattle.receiver.specs.declared.Report.{Report}
-use Rattle.receiver.specs.declared.Report.TheVariants as report
+use Rattle.receiver.specs.Report.{Report}
+use Rattle.std.specs.Prelude.{Some, None}
 use Rattle.receiver.specs.declared.Received.{Received}
 use Rattle.receiver.specs.State.{size_of, is_refused, has_first_sum, agrees}
-use Rattle.receiver.specs.Step.{at, with_peer, with_header, with_first, absorbed, stored, size, Stepped, unless_refused, end_banner, end_frame, begin_epilogue, begin_rest, begin_body, report_first, behind_first_sum, reached, chunk, finish, on_byte, onward, feed, Answered, Running}
+use Rattle.receiver.specs.Step.{with_peer, with_header, with_first, absorbed, stored, size, Stepped, unless_refused, end_banner, end_frame, begin_epilogue, begin_rest, begin_body, report_first, behind_first_sum, reached, chunk, finish, on_byte, onward, feed, Answered, Running}
 use Rattle.receiver.specs.Every.{AnyCall, Handed, all_taken, role_length, length_of, all_reported, came_before, unfinished, unfinished_after, unfinished_by, Refuses}
 use Rattle.body.proofs.Ends.{no_length}
 use Rattle.receiver.proofs.Entries.{at-report}
@@ -39,8 +39,8 @@ use Rattle.receiver.proofs.Every.{feeding, by_answer, refuses}
 
 -- n bytes of the stream since the last report, by the report and the state that it leaves
 abbrev Counts : Report → ℕ → State → Type 0
-Counts report.More n st = n ≡ unfinished st
-Counts (report.Event e) n st = passing e (n ≡ role_length (role_of e) st.known + unfinished st) (λ m. Unit {0})
+Counts None n st = n ≡ unfinished st
+Counts (Some e) n st = passing e (n ≡ role_length (role_of e) st.known + unfinished st) (λ m. Unit {0})
 
 abbrev CountsStep : ℕ → Stepped → Type 0
 CountsStep n x = Counts x.report n x.state
@@ -155,10 +155,10 @@ refused-next n m st s r s' g a =
     }
 
 fed-next : (n : ℕ) (r : Report) (taken : ℕ) (st : State) (s : List ℕ) → After r st s → Counts r (n + taken) st → Next n (record { state = st; taken = taken; report = r })
-fed-next n report.More taken st s a c = record { adds = c ∙ sym (zero-add (unfinished st)); stands = record { agree = a.agree; counts = λ _. refl } }
-fed-next n (report.Event e) taken st s a c =
-    by_event (λ w. After (report.Event w) st s → Counts (report.Event w) (n + taken) st → Next n (record { state = st; taken = taken; report = report.Event w }))
-    (λ w p b d. record { adds = rw p (rw p at d); stands = record { agree = after-agrees (report.Event w) st s b; counts = λ _. rw p } })
+fed-next n None taken st s a c = record { adds = c ∙ sym (zero-add (unfinished st)); stands = record { agree = a.agree; counts = λ _. refl } }
+fed-next n (Some e) taken st s a c =
+    by_event (λ w. After (Some w) st s → Counts (Some w) (n + taken) st → Next n (record { state = st; taken = taken; report = Some w }))
+    (λ w p b d. record { adds = rw p (rw p at d); stands = record { agree = after-agrees (Some w) st s b; counts = λ _. rw p } })
     (λ m b d. record { adds = sym (zero-add (n + taken)); stands = record { agree = b.agree; counts = λ i. absurd (true≢false (sym (ap is_refused b.stage) ∙ i)) } })
     e
     a

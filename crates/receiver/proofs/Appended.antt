@@ -12,8 +12,8 @@ use Rattle.stream.specs.Stream.{Entry, refused_in}
 use Rattle.stream.specs.Adds.{Adds}
 use Rattle.stream.proofs.Events.{by_event, by_adds}
 use Rattle.receiver.specs.declared.State.{State}
-use Rattle.receiver.specs.declared.Report.{Report}
-use Rattle.receiver.specs.declared.Report.TheVariants as report
+use Rattle.receiver.specs.Report.{Report}
+use Rattle.std.specs.Prelude.{Some, None}
 use Rattle.receiver.proofs.Entries.{at-report}
 use Rattle.receiver.specs.Calls.{Call, Chained, taken_by, state_by, store_by, entered, reported_by}
 
@@ -75,9 +75,9 @@ chained_append stream st s t [] ds a b = b
 chained_append stream st s t (c ∷ cs) ds a b = (a.0, chained_append stream c.received.state c.store (t + c.received.taken) cs ds a.1 b)
 
 pub entered-append : (r : Report) (at : ℕ) (s : List ℕ) (xs es fs : List Entry) → refused_in (entered r at s es) ≡ false → (refused_in es ≡ false → xs ≡ es ++ fs) → entered r at s xs ≡ entered r at s es ++ fs
-entered-append report.More at s xs es fs h f = f h
-entered-append (report.Event w) at s xs es fs h f =
-    by_event (λ v. refused_in (entered (report.Event v) at s es) ≡ false → entered (report.Event v) at s xs ≡ entered (report.Event v) at s es ++ fs)
+entered-append None at s xs es fs h f = f h
+entered-append (Some w) at s xs es fs h f =
+    by_event (λ v. refused_in (entered (Some v) at s es) ≡ false → entered (Some v) at s xs ≡ entered (Some v) at s es ++ fs)
     (λ v p c. rw (p, f (rw p at c))) (λ n c. absurd (true≢false c)) w h
 
 pub reported-append : (t : ℕ) (cs ds : List Call) → refused_in (reported_by t cs) ≡ false → reported_by t (cs ++ ds) ≡ reported_by t cs ++ reported_by (taken_by t cs) ds

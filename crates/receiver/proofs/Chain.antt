@@ -13,7 +13,7 @@ use Rattle.banner.specs.Banner.{judge_own}
 use Rattle.stream.specs.Stream.{Entry, Trace, trace_of}
 use Rattle.stream.proofs.Laws.{trace-refused}
 use Rattle.stream.specs.Adds.{AllAddUp}
-use Rattle.stream.proofs.Sums.{all-add-up}
+use Rattle.stream.proofs.Sums.{all_add_up}
 use Rattle.receiver.specs.declared.Stage.TheVariants as stage
 use Rattle.receiver.specs.declared.State.{State}
 use Rattle.receiver.specs.declared.Received.{Received}
@@ -101,7 +101,7 @@ module _ (own : Features) (store : List ℕ) (ok : judge_own own.supported own.r
         same = λ stream' cs' ch' e.
             let z = same_end receiver cs cs' r (runs stream' cs' ch') (rw (sub-zero (taken_by 0 cs), sub-zero (taken_by 0 cs')) e) in
             (rw s₀ z.0, z.1);
-        adds = rw (ok, ap (λ (t : Trace). t.entries) d) (all-add-up own (take (taken_by 0 cs) stream) store);
+        adds = rw (ok, ap (λ (t : Trace). t.entries) d) (all_add_up own (take (taken_by 0 cs) stream) store);
         agreeing = rw s₀ (standing-agrees r.standing);
       }
 

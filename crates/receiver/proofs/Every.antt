@@ -8,7 +8,7 @@ use borrow.Author.Tests.{lt-ltb, le-ltb}
 use Rattle.refusal.specs.declared.Numbers.{Numbers}
 use Rattle.stream.specs.declared.Event.TheVariants as event
 use Rattle.receiver.specs.declared.State.{State}
-use Rattle.receiver.specs.declared.Report.TheVariants as report
+use Rattle.std.specs.Prelude.{Some}
 use Rattle.receiver.specs.declared.Received.{Received}
 use Rattle.receiver.specs.State.{is_refused, agrees}
 use Rattle.refusal.specs.Refusals.{contradiction}
@@ -62,7 +62,7 @@ refuses st' n a e = record { state = rw (a.received, e); taken = rw (a.received,
 
 record Well (x : Answer) : Type 0 where
   agree : agrees x.received.state ≡ true
-  has_refused : (n : Numbers) → x.received.report ≡ report.Event (event.Refused n) → RefusedFor n x.received.state
+  has_refused : (n : Numbers) → x.received.report ≡ Some (event.Refused n) → RefusedFor n x.received.state
 
 well : (st : State) (s piece : List ℕ) → agrees st ≡ true → Well (answer st s piece)
 well st s piece e =
@@ -74,7 +74,7 @@ well st s piece e =
 
 pub sound : (st : State) (s piece : List ℕ) (r : Received) (s' : List ℕ) → Answered st s piece r s' → Sound st s piece r s'
 sound st s piece r s' a =
-    let has_refused : agrees st ≡ true → (n : Numbers) → r.report ≡ report.Event (event.Refused n) → RefusedFor n r.state =
+    let has_refused : agrees st ≡ true → (n : Numbers) → r.report ≡ Some (event.Refused n) → RefusedFor n r.state =
     λ e n q. rw a.received ((well st s piece e).has_refused n (ap (λ (x : Received). x.report) (sym a.received) ∙ q))
     in
     record {

@@ -11,8 +11,8 @@ use lib.Seq.{drop-drop, take_all, length-take-le}
 use Rattle.refusal.specs.declared.Numbers.{Numbers}
 use Rattle.refusal.proofs.Booleans.{wrong}
 use Rattle.buffer.proofs.Parts.{rest, rest-is}
-use Rattle.receiver.specs.declared.Report.{Report}
-use Rattle.receiver.specs.declared.Report.TheVariants as report
+use Rattle.receiver.specs.Report.{Report}
+use Rattle.std.specs.Prelude.{Some, None}
 use Rattle.receiver.specs.Step.{is_more}
 use Rattle.receiver.proofs.Machine.{Stepped, Answer, onward, feed, After}
 use Rattle.receiver.proofs.Gathers.{Gathering, chunk, byte_step, chunk-append, inside}
@@ -23,25 +23,25 @@ behind k a = record { state = a.state; taken = k + a.taken; report = a.report; s
 
 -- k bytes came to y; without a report, what follows counts on
 abbrev pub onwards : {State : Type 0} → Report → ℕ → Stepped State → Answer State → Answer State
-onwards report.More k y a = behind k a
-onwards (report.Event e) k y a = record { state = y.state; taken = k; report = report.Event e; store = y.store }
+onwards None k y a = behind k a
+onwards (Some e) k y a = record { state = y.state; taken = k; report = Some e; store = y.store }
 
 onward-one : {State : Type 0} (r : Report) (y : Stepped State) (a : Answer State) → onward r y a ≡ onwards r 1 y a
-onward-one report.More y a = refl
-onward-one (report.Event e) y a = refl
+onward-one None y a = refl
+onward-one (Some e) y a = refl
 
 one_more : {State : Type 0} (r : Report) (k : ℕ) (y : Stepped State) (a : Answer State) → behind 1 (onwards r k y a) ≡ onwards r (suc k) y a
-one_more report.More k y a = let e : 1 + (k + a.taken) ≡ suc k + a.taken = omega arith in rw e
-one_more (report.Event v) k y a = rw (one-add k)
+one_more None k y a = let e : 1 + (k + a.taken) ≡ suc k + a.taken = omega arith in rw e
+one_more (Some v) k y a = rw (one-add k)
 
 onwards-report : {State : Type 0} (r : Report) (k : ℕ) (y : Stepped State) (a : Answer State) → is_more r ≡ false
     → onwards r k y a ≡ record { state = y.state; taken = k; report = r; store = y.store }
-onwards-report report.More k y a e = wrong (sym e)
-onwards-report (report.Event v) k y a e = refl
+onwards-report None k y a e = wrong (sym e)
+onwards-report (Some v) k y a e = refl
 
-is-more : (r : Report) → is_more r ≡ true → r ≡ report.More
-is-more report.More e = refl
-is-more (report.Event v) e = wrong e
+is-more : (r : Report) → is_more r ≡ true → r ≡ None
+is-more None e = refl
+is-more (Some v) e = wrong e
 
 -- ---- a chunk
 
@@ -78,7 +78,7 @@ module _ (g : Gathering) where
 
   -- a piece that ends within what is gathered
   pub held : ((x : g.State) → g.absorbed x [] ≡ x) → (x : g.State) (s piece : List ℕ) → g.got x + length piece < g.size x
-      → feed (byte_step g) x s piece ≡ record { state = g.absorbed x piece; taken = length piece; report = report.More; store = g.stored x s piece }
+      → feed (byte_step g) x s piece ≡ record { state = g.absorbed x piece; taken = length piece; report = None; store = g.stored x s piece }
   unfolding feed
   held none x s [] l = rw (none x, g.stored-none x s)
   held none x s (b ∷ bs) l =
@@ -111,7 +111,7 @@ module _ {g : Gathering} (w : Lasting g) where
   begin piece s x r = record { within = zero-le; running = r; fed = rw zero-add; same = refl }
 
   pub finished : {piece store₀ : List ℕ} {x₀ : g.State} {store : List ℕ} {x : g.State} {at : ℕ} → Midway w piece store₀ x₀ store x at → length piece ≤ at
-      → feed (byte_step g) x₀ store₀ piece ≡ record { state = x; taken = at; report = report.More; store = store }
+      → feed (byte_step g) x₀ store₀ piece ≡ record { state = x; taken = at; report = None; store = store }
   unfolding feed
   finished {piece} {at = at} m l = m.fed ∙ rw (drop_of_length-le piece {i = at} l, add-zero at)
 

@@ -24,7 +24,7 @@ use Rattle.stream.specs.Stream.{Trace, ended, after, zeroed, first_wrong, first_
 use Rattle.receiver.specs.declared.Stage.TheVariants as stage
 use Rattle.receiver.specs.declared.Known.{Known}
 use Rattle.receiver.specs.declared.State.{State}
-use Rattle.receiver.specs.declared.Report.TheVariants as report
+use Rattle.std.specs.Prelude.{None}
 use Rattle.receiver.specs.State.{blank, has_first_sum}
 use Rattle.receiver.specs.Step.{Stepped, absorbed, at, next_frame, refused_state, silent, refuse, end_frame, begin_epilogue, begin_rest, begin_body, report_first, behind_first_sum, with_first, finish}
 use Rattle.receiver.proofs.Scan.{scan}
@@ -67,10 +67,10 @@ first-epilogue : (r : Revision) (h : Header) → no_first_sum r h ≡ false → 
 first-epilogue Msgr20 h e c = refl
 first-epilogue Msgr21 h e c = lt-leb h.count 1 (ltb-true 1 h.count c)
 
-pub rest-silent : (v : Known) (got : ℕ) (s : List ℕ) → has_first_sum v ≡ true → ltb 1 v.header.count ≡ true → (begin_rest v got s).report ≡ report.More
+pub rest-silent : (v : Known) (got : ℕ) (s : List ℕ) → has_first_sum v ≡ true → ltb 1 v.header.count ≡ true → (begin_rest v got s).report ≡ None
 rest-silent v got s e c =
     let has = first-epilogue v.revision v.header (not-true (no_first_sum v.revision v.header) e) c in
-    at_cond (λ (x : Stepped). x.report ≡ report.More) (ltb got (total v.header)) refl (rw has)
+    at_cond (λ (x : Stepped). x.report ≡ None) (ltb got (total v.header)) refl (rw has)
 
 -- and the store stays
 rest-store : (v : Known) (got : ℕ) (s : List ℕ) → (begin_rest v got s).store ≡ s

@@ -1,6 +1,6 @@
 -- A machine whose step gathers bytes up to a number and then finishes: bytes taken together give what they give one after the other, and a list of bytes ends
 -- within what is gathered, or fills it.
-use Prim.Native.Nat.{ℕ, suc, ◌+◌, ◌-◌, ◌≤◌, ◌<◌}
+use Prim.Native.Nat.{ℕ, suc, ◌+◌, ◌≤◌, ◌<◌}
 use mathlib.Core.List.{List, [], ◌∷◌, ◌++◌, append-nil}
 use mathlib.Core.Path.{◌≡◌, refl, sym, ap, ◌∙◌}
 use mathlib.Core.Bool.{Bool, true, false}
@@ -13,8 +13,8 @@ use lib.Dec.{ltb}
 use borrow.Author.Tests.{lt-ltb, le-ltb}
 use Rattle.refusal.proofs.Booleans.{by_less}
 use Rattle.stream.specs.Stream.{Trace, ended, after}
-use Rattle.receiver.specs.declared.Report.{Report}
-use Rattle.receiver.specs.declared.Report.TheVariants as report
+use Rattle.receiver.specs.Report.{Report}
+use Rattle.std.specs.Prelude.{Some, None}
 use Rattle.receiver.proofs.Machine.{Stepped, Scanned, with, scan, scan-none}
 
 -- so many bytes and more
@@ -29,7 +29,7 @@ pub record Gathering : Type 1 where
   pub absorbed : State → List ℕ → State
   pub stored : State → List ℕ → List ℕ → List ℕ
   pub reached : State → List ℕ → Bool → Stepped State
-  pub silent : (x : State) (s : List ℕ) → reached x s true ≡ record { state = x; store = s; report = report.More }
+  pub silent : (x : State) (s : List ℕ) → reached x s true ≡ record { state = x; store = s; report = None }
   pub got-absorbed : (x : State) (xs : List ℕ) → got (absorbed x xs) ≡ got x + length xs
   pub size-absorbed : (x : State) (xs : List ℕ) → size (absorbed x xs) ≡ size x
   pub absorbed-append : (x : State) (xs ys : List ℕ) → absorbed (absorbed x xs) ys ≡ absorbed x (xs ++ ys)
@@ -41,12 +41,12 @@ abbrev pub trace_by : {State : Type 0} → Scanned State → Trace
 trace_by c = record { entries = c.entries; store = c.store }
 
 abbrev pub note_trace : Report → ℕ → List ℕ → Trace → Trace
-note_trace report.More at s t = t
-note_trace (report.Event e) at s t = after e at s t
+note_trace None at s t = t
+note_trace (Some e) at s t = after e at s t
 
 with-trace : {State : Type 0} (r : Report) (at : ℕ) (s : List ℕ) (c : Scanned State) → trace_by (with r at s c) ≡ note_trace r at s (trace_by c)
-with-trace report.More at s c = refl
-with-trace (report.Event e) at s c = refl
+with-trace None at s c = refl
+with-trace (Some e) at s c = refl
 
 module _ (g : Gathering) where
   -- bytes that do not go past the last one
@@ -61,7 +61,7 @@ module _ (g : Gathering) where
 
   -- bytes before the last one are silent
   pub inside : (x : g.State) (s xs : List ℕ) → g.got x + length xs < g.size x
-      → chunk x s xs ≡ record { state = g.absorbed x xs; store = g.stored x s xs; report = report.More }
+      → chunk x s xs ≡ record { state = g.absorbed x xs; store = g.stored x s xs; report = None }
   inside x s xs h = rw (chunk, lt-ltb (g.got x + length xs) (g.size x) h) (g.silent (g.absorbed x xs) (g.stored x s xs))
 
   pub scan-chunk : (x : g.State) (s : List ℕ) (P b : ℕ) (bs ys : List ℕ) → g.got x + length (b ∷ bs) ≤ g.size x

@@ -11,7 +11,7 @@ use Rattle.refusal.specs.declared.Numbers.{Numbers}
 use Rattle.refusal.proofs.Booleans.{wrong}
 use Rattle.stream.specs.declared.Event.TheVariants as event
 use Rattle.stream.specs.Stream.{Entry, refused_in}
-use Rattle.receiver.specs.declared.Report.TheVariants as report
+use Rattle.std.specs.Prelude.{Some}
 use Rattle.receiver.specs.Calls.{piece_at, entered, due_taken, due_report}
 use Rattle.receiver.proofs.Entries.{noted, noted-append, next-due, Skips, Stops, skips_none, skips_noted, stops-refusal, by_report, enters, clean-noted}
 use Rattle.receiver.proofs.Machine.{Machine, Answer, Scanned, before, scan, scan-none, scan-append, scan-behind, AsScan, feed-scan, After, passed-running, fed-after}
@@ -50,7 +50,7 @@ module _ (m : Machine) where
 
   abbrev pub Repeats : Numbers → List m.Call → Type 0
   Repeats n [] = Unit {0}
-  Repeats n (c ∷ cs) = ((m.answer c).taken ≡ 0) × ((m.answer c).report ≡ report.Event (event.Refused n)) × Repeats n cs
+  Repeats n (c ∷ cs) = ((m.answer c).taken ≡ 0) × ((m.answer c).report ≡ Some (event.Refused n)) × Repeats n cs
 
   -- the machine runs and gave no refusal, or is refused
   pub data Standing (x : m.State) (s : List ℕ) (es : List Entry) : Type 0 where

@@ -34,7 +34,7 @@ use Rattle.receiver.specs.declared.Place.{Place}
 use Rattle.receiver.specs.declared.Place.TheVariants as place
 use Rattle.receiver.specs.declared.Known.{Known}
 use Rattle.receiver.specs.declared.State.{State}
-use Rattle.receiver.specs.declared.Report.{Report}
+use Rattle.receiver.specs.Report.{Report}
 use Rattle.buffer.specs.Zeros.{all_zero}
 use Rattle.receiver.specs.State.{stage_of, size_of, place_of, is_refused, needed, blank, has_first_sum, given, own_rule, payload_rule, peer_rule, revision_rule, header_rule, first_sum_rule, first_rule, refusal_rule, rules, least_of, count_rule, in_block, block_rule, agrees_at, agrees}
 use Rattle.receiver.specs.Step.{at, only_own, with_payload, with_peer, with_revision, with_header, with_first, next_frame, refused_state, block_with, store_with, absorbed, stored, size, Stepped, refuse, unless_refused, end_banner, end_frame, begin_epilogue, begin_rest, begin_body, report_first, behind_first_sum, reached, chunk, finish, on_byte, feed, needed_by, Running}

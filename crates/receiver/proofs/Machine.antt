@@ -10,8 +10,8 @@ use Rattle.refusal.specs.declared.Numbers.{Numbers}
 use Rattle.stream.specs.declared.Event.TheVariants as event
 use Rattle.stream.specs.Stream.{Entry}
 use Rattle.stream.proofs.Events.{by_event}
-use Rattle.receiver.specs.declared.Report.{Report}
-use Rattle.receiver.specs.declared.Report.TheVariants as report
+use Rattle.receiver.specs.Report.{Report}
+use Rattle.std.specs.Prelude.{Some, None}
 use Rattle.stream.specs.Events.{passing}
 use Rattle.receiver.proofs.Entries.{at-report, noted, noted-append, Behind, behind-noted, Fills, Passes}
 
@@ -38,12 +38,12 @@ pub record Scanned (State : Type 0) : Type 0 where
 pub record Silent {State : Type 0} (Q : State → Type 0) (s : List ℕ) (y : Stepped State) : Type 0 where
   pub state : Q y.state
   pub store : y.store ≡ s
-  pub report : y.report ≡ report.More
+  pub report : y.report ≡ None
 
 -- one byte came to x; without a report, what follows counts on
 abbrev pub onward : {State : Type 0} → Report → Stepped State → Answer State → Answer State
-onward report.More x a = record { state = a.state; taken = 1 + a.taken; report = a.report; store = a.store }
-onward (report.Event e) x a = record { state = x.state; taken = 1; report = report.Event e; store = x.store }
+onward None x a = record { state = a.state; taken = 1 + a.taken; report = a.report; store = a.store }
+onward (Some e) x a = record { state = x.state; taken = 1; report = Some e; store = x.store }
 
 -- a report, before what comes after
 abbrev pub with : {State : Type 0} → Report → ℕ → List ℕ → Scanned State → Scanned State
@@ -56,7 +56,7 @@ before es c = record { entries = es ++ c.entries; state = c.state; store = c.sto
 module _ {State : Type 0} (on_byte : State → List ℕ → ℕ → Stepped State) where
   -- a piece: byte after byte, up to and including the first that gives a report
   unfoldable pub feed : State → List ℕ → List ℕ → Answer State
-  feed x s [] = record { state = x; taken = 0; report = report.More; store = s }
+  feed x s [] = record { state = x; taken = 0; report = None; store = s }
   feed x s (b ∷ bs) = onward (on_byte x s b).report (on_byte x s b) (feed (on_byte x s b).state (on_byte x s b).store bs)
 
   -- every byte, from the state x and the store s, P bytes being taken before
@@ -120,16 +120,16 @@ module _ {State : Type 0} (on_byte : State → List ℕ → ℕ → Stepped Stat
 module _ {State : Type 0} (Running : State → List ℕ → Type 0) (RefusedFor : Numbers → State → Type 0) where
   -- what holds behind a report
   abbrev pub After : Report → State → List ℕ → Type 0
-  After report.More x s = Running x s
-  After (report.Event e) x s = passing e (Running x s) (λ n. RefusedFor n x)
+  After None x s = Running x s
+  After (Some e) x s = passing e (Running x s) (λ n. RefusedFor n x)
 
   pub passed-running : (r : Report) (x : State) (s : List ℕ) → Passes r → After r x s → Running x s
-  passed-running report.More x s p a = a
-  passed-running (report.Event e) x s p a = rw p at a
+  passed-running None x s p a = a
+  passed-running (Some e) x s p a = rw p at a
 
   pub by_after : {C : Type 0} (r : Report) (x : State) (s : List ℕ) → (Running x s → C) → ((n : Numbers) → RefusedFor n x → C) → After r x s → C
-  by_after report.More x s f g a = f a
-  by_after {C} (report.Event e) x s f g a = by_event (λ w. After (report.Event w) x s → C) (λ w p b. f (rw p at b)) g e a
+  by_after None x s f g a = f a
+  by_after {C} (Some e) x s f g a = by_event (λ w. After (Some w) x s → C) (λ w p b. f (rw p at b)) g e a
 
   module _ (on_byte : State → List ℕ → ℕ → Stepped State)
       (keeps : (x : State) (s : List ℕ) (b : ℕ) → Running x s → After (on_byte x s b).report (on_byte x s b).state (on_byte x s b).store) where
@@ -145,13 +145,13 @@ module _ {State : Type 0} (Running : State → List ℕ → Type 0) (RefusedFor 
 -- what holds behind a report of one machine, of another
 pub after_map : {A B : Type 0} (R : A → List ℕ → Type 0) (G : Numbers → A → Type 0) (R' : B → List ℕ → Type 0) (G' : Numbers → B → Type 0) (r : Report) (x : A) (y : B) (s : List ℕ)
     → (R x s → R' y s) → ((n : Numbers) → G n x → G' n y) → After R G r x s → After R' G' r y s
-after_map R G R' G' report.More x y s f g a = f a
-after_map R G R' G' (report.Event e) x y s f g a =
-    by_event (λ w. After R G (report.Event w) x s → After R' G' (report.Event w) y s) (λ w p b. rw p (f (rw p at b))) g e a
+after_map R G R' G' None x y s f g a = f a
+after_map R G R' G' (Some e) x y s f g a =
+    by_event (λ w. After R G (Some w) x s → After R' G' (Some w) y s) (λ w p b. rw p (f (rw p at b))) g e a
 
 -- a call of a refused machine takes nothing, changes nothing and repeats the refusal
 abbrev pub refused_again : {State : Type 0} → Numbers → State → List ℕ → Answer State
-refused_again n x s = record { state = x; taken = 0; report = report.Event (event.Refused n); store = s }
+refused_again n x s = record { state = x; taken = 0; report = Some (event.Refused n); store = s }
 
 -- A MACHINE, and what is asked of it
 pub record Machine : Type 1 where
@@ -191,26 +191,26 @@ module _ (m : Machine) (x : m.State) (s piece : List ℕ) (c : m.Call) where
   next-stands (refuses n g) a = rw (m.repeats n x s piece c g a) (refuses n g)
 
   -- behind a refusal it is refused
-  pub refuses-next : Stands m x s → m.Answered x s piece c → (n : Numbers) → (m.answer c).report ≡ report.Event (event.Refused n) → m.RefusedFor n (m.answer c).state
+  pub refuses-next : Stands m x s → m.Answered x s piece c → (n : Numbers) → (m.answer c).report ≡ Some (event.Refused n) → m.RefusedFor n (m.answer c).state
   refuses-next (runs r) a n q = rw q at (fed-after r a)
   refuses-next (refuses k g) a n q =
       let e = m.repeats k x s piece c g a in
-      let w : report.Event (event.Refused k) ≡ report.Event (event.Refused n) = rw e at q in
+      let w : Some (event.Refused k) ≡ Some (event.Refused n) = rw e at q in
       let i : k ≡ n = cc in
       rw (e, ← i) g
 
 -- a piece is begun
 module _ {A : Type 0} (on_byte : A → List ℕ → ℕ → Stepped A) where
   onward-some : (r : Report) (y : Stepped A) (a : Answer A) → 0 < (onward r y a).taken
-  onward-some report.More y a = omega arith
-  onward-some (report.Event e) y a = omega arith
+  onward-some None y a = omega arith
+  onward-some (Some e) y a = omega arith
 
   pub feed-some : (x : A) (s piece : List ℕ) → 0 < length piece → 0 < (feed on_byte x s piece).taken
   unfolding feed
   feed-some x s [] h = absurd (omega arith)
   feed-some x s (b ∷ bs) h = onward-some (on_byte x s b).report (on_byte x s b) (feed on_byte (on_byte x s b).state (on_byte x s b).store bs)
 
-  pub feed-none : (x : A) (s piece : List ℕ) → length piece ≡ 0 → ((feed on_byte x s piece).taken ≡ 0) × ((feed on_byte x s piece).report ≡ report.More)
+  pub feed-none : (x : A) (s piece : List ℕ) → length piece ≡ 0 → ((feed on_byte x s piece).taken ≡ 0) × ((feed on_byte x s piece).report ≡ None)
   unfolding feed
   feed-none x s [] h = (refl, refl)
   feed-none x s (b ∷ bs) h = absurd (omega arith)

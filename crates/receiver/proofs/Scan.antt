@@ -4,8 +4,8 @@ use mathlib.Core.List.{List, [], ◌∷◌}
 use mathlib.Core.Path.{◌≡◌, refl, ap, ◌∙◌}
 use lib.ListN.{length}
 use Rattle.receiver.specs.declared.State.{State}
-use Rattle.receiver.specs.declared.Report.{Report}
-use Rattle.receiver.specs.declared.Report.TheVariants as report
+use Rattle.receiver.specs.Report.{Report}
+use Rattle.std.specs.Prelude.{Some, None}
 use Rattle.receiver.specs.Step.{Stepped, on_byte, Answer, onward, feed}
 use Rattle.receiver.proofs.Machine as machine
 
@@ -27,8 +27,8 @@ abbrev pub machine_answer : Answer → machine.Answer State
 machine_answer a = record { state = a.received.state; taken = a.received.taken; report = a.received.report; store = a.store }
 
 machine_onward : (r : Report) (x : Stepped) (a : Answer) → machine_answer (onward r 1 x a) ≡ machine.onward r (bare x) (machine_answer a)
-machine_onward report.More x a = refl
-machine_onward (report.Event e) x a = refl
+machine_onward None x a = refl
+machine_onward (Some e) x a = refl
 
 pub machine_feed : (st : State) (s piece : List ℕ) → machine_answer (feed st s piece) ≡ machine.feed byte_step st s piece
 unfolding feed machine.feed

@@ -1,17 +1,15 @@
 -- Demand 3: one claim about every stream and every list of calls on it. `Chained` is what a list of calls is, `AsDefined` what is claimed of it.
-use Rattle.std.specs.Prelude.{◌≡◌, List, [], ◌∷◌, true, cond, ℕ, ◌+◌, ◌-◌, ◌≤◌, min, length, take, drop, leb}
+use Rattle.std.specs.Prelude.{◌≡◌, List, [], ◌∷◌, true, cond, ℕ, ◌+◌, ◌-◌, ◌≤◌, min, length, take, drop, leb, Some, None}
 use Rattle.refusal.specs.declared.Numbers.{Numbers}
 use Rattle.refusal.specs.Refusals.{Judged, fine, refused}
 use Rattle.banner.specs.declared.Features.{Features}
 use Rattle.banner.specs.Banner.{judge_own}
-use Rattle.stream.specs.declared.Event.{Event}
 use Rattle.stream.specs.declared.Event.TheVariants as event
 use Rattle.stream.specs.Events.{passing}
 use Rattle.stream.specs.Stream.{Entry, entry, refused_in, trace_of}
 use Rattle.stream.specs.Adds.{AddsUp}
 use Rattle.receiver.specs.declared.State.{State}
-use Rattle.receiver.specs.declared.Report.{Report}
-use Rattle.receiver.specs.declared.Report.TheVariants as report
+use Rattle.receiver.specs.Report.{Report}
 use Rattle.receiver.specs.declared.Received.{Received}
 use Rattle.receiver.specs.State.{agrees}
 use Rattle.receiver.specs.Step.{Answered, started}
@@ -50,8 +48,8 @@ store_by s (c ∷ cs) = store_by c.store cs
 
 -- a report's entry, before those of later calls; a refusal is entered once, and ends the list
 abbrev pub entered : Report → ℕ → List ℕ → List Entry → List Entry
-entered report.More at s es = es
-entered (report.Event e) at s es = entry e at s ∷ passing e es (λ n. [])
+entered None at s es = es
+entered (Some e) at s es = entry e at s ∷ passing e es (λ n. [])
 
 abbrev pub reported_by : ℕ → List Call → List Entry
 reported_by t [] = []
@@ -71,10 +69,10 @@ due_taken (e ∷ es) t k = cond (leb e.at t) (passing e.event (due_taken es t k)
 
 -- and its report: that entry, more wanted, or the refusal again
 unfoldable pub due_report : List Entry → ℕ → ℕ → Report
-due_report [] t k = report.More
+due_report [] t k = None
 due_report (e ∷ es) t k =
-    cond (leb e.at t) (passing e.event (due_report es t k) (λ n. report.Event (event.Refused n)))
-    (cond (leb e.at (t + k)) (report.Event e.event) report.More)
+    cond (leb e.at t) (passing e.event (due_report es t k) (λ n. Some (event.Refused n)))
+    (cond (leb e.at (t + k)) (Some e.event) None)
 
 abbrev pub Each : List Entry → List ℕ → ℕ → List Call → Type 0
 Each es stream t [] = Unit {0}
@@ -86,7 +84,7 @@ Each es stream t (c ∷ cs) =
 -- every call takes nothing and repeats the refusal
 abbrev pub Repeats : Numbers → List Call → Type 0
 Repeats n [] = Unit {0}
-Repeats n (c ∷ cs) = (c.received.taken ≡ 0) × (c.received.report ≡ report.Event (event.Refused n)) × Repeats n cs
+Repeats n (c ∷ cs) = (c.received.taken ≡ 0) × (c.received.report ≡ Some (event.Refused n)) × Repeats n cs
 
 abbrev pub EachBy : Judged → List Entry → List ℕ → List Call → Type 0
 EachBy fine es stream cs = Each es stream 0 cs

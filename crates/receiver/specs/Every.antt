@@ -1,5 +1,5 @@
 -- What holds of every call, whatever its state, store and piece, and of every list of calls in which each is given the state that the last one handed back.
-use Rattle.std.specs.Prelude.{◌≡◌, List, [], ◌∷◌, true, false, ℕ, ◌+◌, ◌<◌, length}
+use Rattle.std.specs.Prelude.{◌≡◌, List, [], ◌∷◌, true, false, ℕ, ◌+◌, ◌<◌, length, Some, None}
 use Rattle.refusal.specs.declared.Numbers.{Numbers}
 use Rattle.banner.specs.declared.Features.{Features}
 use Rattle.preamble.specs.Layout.{total}
@@ -10,8 +10,7 @@ use Rattle.receiver.specs.declared.Stage.{Stage}
 use Rattle.receiver.specs.declared.Stage.TheVariants as stage
 use Rattle.receiver.specs.declared.Known.{Known}
 use Rattle.receiver.specs.declared.State.{State}
-use Rattle.receiver.specs.declared.Report.{Report}
-use Rattle.receiver.specs.declared.Report.TheVariants as report
+use Rattle.receiver.specs.Report.{Report}
 use Rattle.receiver.specs.declared.Received.{Received}
 use Rattle.receiver.specs.State.{is_refused, agrees}
 use Rattle.refusal.specs.Refusals.{contradiction}
@@ -23,24 +22,24 @@ use Rattle.receiver.specs.Step.{Answered, Running, short_store, needed_by, refus
 pub record Refuses (st : State) (n : Numbers) (s : List ℕ) (r : Received) (s' : List ℕ) : Type 0 where
   pub state : r.state ≡ st
   pub taken : r.taken ≡ 0
-  pub report : r.report ≡ report.Event (event.Refused n)
+  pub report : r.report ≡ Some (event.Refused n)
   pub store : s' ≡ s
 
 pub record Sound (st : State) (s piece : List ℕ) (r : Received) (s' : List ℕ) : Type 0 where
   -- 26 exactly where the fields contradict each other: it takes nothing, changes nothing and hands the state back
   pub contradicts : agrees st ≡ false → Refuses st contradiction s r s'
-  pub never26 : agrees st ≡ true → r.report ≡ report.Event (event.Refused contradiction) → ⊥
+  pub never26 : agrees st ≡ true → r.report ≡ Some (event.Refused contradiction) → ⊥
   -- and a call that does not give it hands back no such state
   pub agreeing : agrees st ≡ true → agrees r.state ≡ true
   -- any other refusal stays: every later call, with any store and any piece, takes nothing, changes nothing and repeats it
-  pub stays : (n : Numbers) → agrees st ≡ true → r.report ≡ report.Event (event.Refused n)
+  pub stays : (n : Numbers) → agrees st ≡ true → r.report ≡ Some (event.Refused n)
       → (s₂ piece₂ : List ℕ) (r₂ : Received) (s₃ : List ℕ) → Answered r.state s₂ piece₂ r₂ s₃ → Refuses r.state n s₂ r₂ s₃
   -- a store that is too short for the frame under way: 10, and nothing is taken or changed
   pub short : agrees st ≡ true → is_refused st.position.stage ≡ false → length s < needed_by st
       → Refuses (refused_state st.known (short_store st)) (short_store st) s r s'
   -- on a live receiver with a store long enough, a piece that is not empty gives up at least one byte, and an empty one asks for more
   pub progress : Running st s → 0 < length piece → 0 < r.taken
-  pub nothing : Running st s → length piece ≡ 0 → (r.taken ≡ 0) × (r.report ≡ report.More)
+  pub nothing : Running st s → length piece ≡ 0 → (r.taken ≡ 0) × (r.report ≡ None)
 
 -- ---- bytes add up
 
@@ -68,8 +67,8 @@ role_length (frame_end h) v = wire_length v.revision h
 role_length (stream_end n) v = 0
 
 abbrev pub length_of : Report → Known → ℕ
-length_of report.More v = 0
-length_of (report.Event e) v = role_length (role_of e) v
+length_of None v = 0
+length_of (Some e) v = role_length (role_of e) v
 
 abbrev pub all_reported : List AnyCall → ℕ
 all_reported [] = 0
@@ -94,8 +93,8 @@ unfinished st = came_before st.position.stage st.known + st.position.got
 
 -- with a refusal, the bytes of its banner or frame: those that were unfinished at the last report or call before it, and those that the refused call took
 abbrev pub unfinished_after : Report → ℕ → Received → ℕ
-unfinished_after report.More n r = unfinished r.state
-unfinished_after (report.Event e) n r = passing e (unfinished r.state) (λ m. n + r.taken)
+unfinished_after None n r = unfinished r.state
+unfinished_after (Some e) n r = passing e (unfinished r.state) (λ m. n + r.taken)
 
 abbrev pub unfinished_by : ℕ → List AnyCall → ℕ
 unfinished_by n [] = n

@@ -1,3 +1,4 @@
+pub mod Report
 pub mod State
 pub mod Step
 pub mod Calls

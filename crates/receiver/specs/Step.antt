@@ -1,8 +1,9 @@
 -- What a call of the receiver answers, byte by byte. The claim over lists of calls (Calls) ties it to the definition over whole streams.
-use Rattle.std.specs.Prelude.{◌≡◌, List, [], ◌∷◌, Bool, true, false, cond, ℕ, ◌+◌, ◌-◌, ◌≤◌, min, length, take, leb, ltb, eqb}
+use Rattle.std.specs.Prelude.{Result, Ok, Err, ◌≡◌, List, [], ◌∷◌, Bool, true, false, cond, ℕ, ◌+◌, ◌-◌, ◌≤◌, min, length, take, leb, ltb, eqb, Some, None}
 use Rattle.std.proofs.lemmas.List.Edits.{sets}
 use Rattle.buffer.specs.Le.{number_at}
 use Rattle.refusal.specs.declared.Numbers.{Numbers}
+use Rattle.refusal.specs.declared.Refusal.{Refusal}
 use Rattle.refusal.specs.declared.Refusal.TheVariants as refusal
 use Rattle.refusal.specs.Refusals.{Judged, fine, refused, numbers_of, judged_by, no_refusal, contradiction}
 use Rattle.banner.specs.declared.Features.{Features}
@@ -14,7 +15,6 @@ use Rattle.preamble.specs.Layout.{total, no_header}
 use Rattle.preamble.specs.Judge.{header_of, judge_preamble}
 use Rattle.body.specs.Body.{segment_sum, no_epilogue}
 use Rattle.body.specs.End.{Ended, whole, dropped, refused_for, ending}
-use Rattle.stream.specs.declared.Event.{Event}
 use Rattle.stream.specs.declared.Event.TheVariants as event
 use Rattle.stream.specs.Stream.{zeroed}
 use Rattle.receiver.specs.declared.Stage.{Stage}
@@ -23,8 +23,7 @@ use Rattle.receiver.specs.declared.Place.{Place}
 use Rattle.receiver.specs.declared.Place.TheVariants as place
 use Rattle.receiver.specs.declared.Known.{Known}
 use Rattle.receiver.specs.declared.State.{State}
-use Rattle.receiver.specs.declared.Report.{Report}
-use Rattle.receiver.specs.declared.Report.TheVariants as report
+use Rattle.receiver.specs.Report.{Report}
 use Rattle.receiver.specs.declared.Received.{Received}
 use Rattle.receiver.specs.declared.Transition.{Transition}
 use Rattle.receiver.specs.declared.Moved.{Moved}
@@ -82,31 +81,40 @@ pub record Stepped : Type 0 where
 abbrev pub stepped : State → List ℕ → Report → Stepped
 stepped st s r = record { state = st; store = s; report = r }
 
+-- a transition to a stage of which so many bytes came
+abbrev pub to : Stage → ℕ → Known → Report → Transition
+to k got v r = record { stage = k; got = got; known = v; report = r }
+
 -- as a transition says it, which leaves the block empty
 abbrev pub stepped_by : Transition → List ℕ → Stepped
 stepped_by t s = stepped (at t.stage t.got t.known) s t.report
 
 abbrev pub silent : State → List ℕ → Stepped
-silent st s = stepped st s report.More
+silent st s = stepped st s None
 
 abbrev pub refuse : Known → Numbers → List ℕ → Stepped
-refuse v n s = stepped (refused_state v n) s (report.Event (event.Refused n))
+refuse v n s = stepped (refused_state v n) s (Some (event.Refused n))
 
 abbrev pub unless_refused : Judged → Known → List ℕ → Stepped → Stepped
 unless_refused fine v s x = x
 unless_refused (refused n) v s x = refuse v n s
+
+-- a transition that is made unless something is refused
+abbrev pub stepped_as : Result Transition Refusal → Known → List ℕ → Stepped
+stepped_as (Ok t) v s = stepped_by t s
+stepped_as (Err r) v s = refuse v (numbers_of r) s
 
 -- the peer's features are known
 abbrev pub end_banner : Known → List ℕ → Stepped
 end_banner v s =
     unless_refused (judge_features v.own.supported v.own.required v.peer.supported v.peer.required) v s
     (stepped (at stage.Preamble 0 (with_revision v (revision_of v.own.supported v.peer.supported))) s
-    (report.Event (event.Banner v.peer (revision_of v.own.supported v.peer.supported))))
+    (Some (event.Banner v.peer (revision_of v.own.supported v.peer.supported))))
 
 -- how a frame ends
 abbrev pub end_frame : Ended → Known → List ℕ → Stepped
-end_frame whole v s = stepped (next_frame v) s (report.Event (event.Frame v.header))
-end_frame dropped v s = stepped (next_frame v) (zeroed v.header s) (report.Event (event.Dropped v.header))
+end_frame whole v s = stepped (next_frame v) s (Some (event.Frame v.header))
+end_frame dropped v s = stepped (next_frame v) (zeroed v.header s) (Some (event.Dropped v.header))
 end_frame (refused_for n) v s = refuse v n (zeroed v.header s)
 
 -- behind the segments: the epilogue, where there is one
@@ -123,7 +131,7 @@ begin_body v s = cond (has_first_sum v) (silent (at stage.First 0 v) s) (begin_r
 
 -- segment 1's checksum holds: it is reported early where more segments follow
 abbrev pub report_first : Bool → Header → Stepped → Stepped
-report_first follow h x = cond follow (stepped x.state x.store (report.Event (event.First h))) x
+report_first follow h x = cond follow (stepped x.state x.store (Some (event.First h))) x
 
 abbrev pub behind_first_sum : Known → List ℕ → Stepped
 behind_first_sum v s = report_first (ltb 1 v.header.count) v.header (begin_rest (with_first v) v.header.s1.len s)
@@ -190,16 +198,16 @@ answered st taken r s = record { received = record { state = st; taken = taken; 
 
 -- k bytes came to x; without a report, what follows counts on
 abbrev pub onward : Report → ℕ → Stepped → Answer → Answer
-onward report.More k x a = answered a.received.state (k + a.received.taken) a.received.report a.store
-onward (report.Event e) k x a = answered x.state k (report.Event e) x.store
+onward None k x a = answered a.received.state (k + a.received.taken) a.received.report a.store
+onward (Some e) k x a = answered x.state k (Some e) x.store
 
 -- a piece: byte after byte, up to and including the first that gives a report
 unfoldable pub feed : State → List ℕ → List ℕ → Answer
-feed st s [] = answered st 0 report.More s
+feed st s [] = answered st 0 None s
 feed st s (b ∷ bs) = onward (on_byte st s b).report 1 (on_byte st s b) (feed (on_byte st s b).state (on_byte st s b).store bs)
 
 abbrev pub refuse_unchanged : State → Numbers → List ℕ → Answer
-refuse_unchanged st n s = answered st 0 (report.Event (event.Refused n)) s
+refuse_unchanged st n s = answered st 0 (Some (event.Refused n)) s
 
 abbrev pub needed_by : State → ℕ
 needed_by st = needed st.position.stage st.known
@@ -227,11 +235,11 @@ moved_to m block = record { state = state_at m.stage m.got block m.known; taken 
 
 -- a refusal that takes nothing
 abbrev pub refusing : Stage → ℕ → Known → Numbers → Taken
-refusing k got v n = taken.Moved (record { stage = k; got = got; known = v; taken = 0; report = report.Event (event.Refused n) })
+refusing k got v n = taken.Moved (record { stage = k; got = got; known = v; taken = 0; report = Some (event.Refused n) })
 
 -- and, where the piece may have been held, with the stage and what was known before, and the piece's length
 abbrev pub received_by : Stage → Known → List ℕ → ℕ → Taken → Received
-received_by k v block n (taken.Partial got) = record { state = state_at k got block v; taken = n; report = report.More }
+received_by k v block n (taken.Partial got) = record { state = state_at k got block v; taken = n; report = None }
 received_by k v block n (taken.Moved m) = moved_to m block
 
 -- ---- the start
@@ -252,8 +260,8 @@ pub record StartedWith (own : Features) (r : Started) : Type 0 where
 -- ---- what the inner functions promise
 
 abbrev pub is_more : Report → Bool
-is_more report.More = true
-is_more (report.Event e) = false
+is_more None = true
+is_more (Some e) = false
 
 -- as many bytes as the stage still reads, or as the piece has
 abbrev pub fitting : State → List ℕ → ℕ

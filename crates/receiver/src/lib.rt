@@ -15,12 +15,12 @@ use banner::{Features, Revision, judge_own};
 use buffer::min;
 use pieces::{feed, fill};
 use preamble::Header;
-use refusal::{Judgement, Numbers, Refusal, numbers_of};
+use refusal::{Numbers, Refusal};
 use states::{agree, fresh, is_refused, needed_by, only_own, place_of, refused_state, size_of};
 use stream::Event;
 
 // What the next bytes of the stream are.
-#[derive(Clone, Copy)]
+#[derive(Clone, Copy, PartialEq, Eq)]
 pub enum Stage {
     Magic,
     Length,
@@ -35,7 +35,7 @@ pub enum Stage {
 }
 
 // Where the bytes of a stage go.
-#[derive(Clone, Copy)]
+#[derive(Clone, Copy, PartialEq, Eq)]
 pub enum Place {
     Block,
     Store,
@@ -53,7 +53,7 @@ pub struct Position {
 }
 
 // What it knows from earlier bytes. A field that the stage does not use yet, or no longer, is zero.
-#[derive(Clone, Copy)]
+#[derive(Clone, Copy, PartialEq, Eq, Default)]
 pub struct Known {
     pub own: Features,
     pub payload: u16,
@@ -72,18 +72,12 @@ pub struct State {
     pub known: Known,
 }
 
-#[derive(Clone, Copy)]
-pub enum Report {
-    More,
-    Event(Event),
-}
-
 // What a call answers.
 #[derive(Clone, Copy)]
 pub struct Received {
     pub state: State,
     pub taken: usize,
-    pub report: Report,
+    pub report: Option<Event>,
 }
 
 // What the last byte of a stage comes to. The block is empty behind it.
@@ -92,7 +86,7 @@ pub struct Transition {
     pub stage: Stage,
     pub got: usize,
     pub known: Known,
-    pub report: Report,
+    pub report: Option<Event>,
 }
 
 // What a step or a call comes to, without the block, which stands elsewhere.
@@ -102,7 +96,7 @@ pub struct Moved {
     pub got: usize,
     pub known: Known,
     pub taken: usize,
-    pub report: Report,
+    pub report: Option<Event>,
 }
 
 #[derive(Clone, Copy)]
@@ -116,24 +110,20 @@ pub enum Taken {
 #[derive(Clone, Copy)]
 pub struct Started {
     pub state: State,
-    pub judgement: Judgement,
+    pub judgement: Result<(), Refusal>,
 }
 
 // A receiver with our own features.
+#[tactic(auto, unfolding(crate::specs::Step::started))]
 pub fn start(own: Features) -> Started
     ensures { StartedWith own result }
 {
-    let v = judge_own(own.supported, own.required);
-    match v {
-        Judgement::Fine => Started {
-            state: fresh(own),
-            judgement: v,
-        },
-        Judgement::Refused(why) => Started {
-            state: refused_state(own, numbers_of(why)),
-            judgement: Judgement::Refused(why),
-        },
-    }
+    let judgement = judge_own(own.supported, own.required);
+    let state = match judgement {
+        Ok(()) => fresh(own),
+        Err(why) => refused_state(own, Numbers::from(why)),
+    };
+    Started { state, judgement }
 }
 
 // Takes nothing and refuses.
@@ -141,11 +131,11 @@ fn refuse_unchanged(stage: Stage, got: usize, known: Known, n: Numbers) -> Taken
     ensures { result ≡ refusing stage got known n }
 {
     Taken::Moved(Moved {
-        stage: stage,
-        got: got,
-        known: known,
+        stage,
+        got,
+        known,
         taken: 0,
-        report: Report::Event(Event::Refused(n)),
+        report: Some(Event::Refused(n)),
     })
 }
 
@@ -154,39 +144,32 @@ fn received_with(stage: Stage, known: Known, block: [u8; 32], n: usize, t: Taken
     ensures { result ≡ received_by stage known block n t }
 {
     match t {
-        Taken::Partial(to) => Received {
+        Taken::Partial(got) => Received {
             state: State {
-                position: Position {
-                    stage: stage,
-                    got: to,
-                    block: block,
-                },
-                known: known,
+                position: Position { stage, got, block },
+                known,
             },
             taken: n,
-            report: Report::More,
+            report: None,
         },
-        Taken::Moved(m) => {
-            let next = m.stage;
-            let learnt = m.known;
-            let report = m.report;
-            Received {
-                state: State {
-                    position: Position {
-                        stage: next,
-                        got: m.got,
-                        block: block,
-                    },
-                    known: learnt,
+        Taken::Moved(m) => Received {
+            state: State {
+                position: Position {
+                    stage: m.stage,
+                    got: m.got,
+                    block,
                 },
-                taken: m.taken,
-                report: report,
-            }
-        }
+                known: m.known,
+            },
+            taken: m.taken,
+            report: m.report,
+        },
     }
 }
 
 // A call on a state whose block is changed where it stands. Most pieces that a network hands in piecemeal end no stage: little is written then.
+// What a state is made of goes by itself, here and below: a state by value, or one that holds the block, was slower (docs/DECISIONS.md, "A call in place").
+#[tactic(auto, unfolding(crate::specs::Step::answer))]
 pub fn receive_in(
     stage: Stage,
     got: usize,
@@ -198,14 +181,14 @@ pub fn receive_in(
     ensures { Answered (state_at stage got block.old known) store.old piece.now (received_by stage known block.new (length piece.now) result) store.new }
 {
     if !agree(stage, got, block, known) {
-        return refuse_unchanged(stage, got, known, numbers_of(Refusal::StateContradicts));
+        return refuse_unchanged(stage, got, known, Numbers::from(Refusal::StateContradicts));
     }
     if is_refused(stage) {
         return refuse_unchanged(stage, got, known, known.refusal);
     }
     let need = needed_by(stage, known);
     if (store.len() as u64) < need {
-        let n = numbers_of(Refusal::StoreShort(need));
+        let n = Numbers::from(Refusal::StoreShort(need));
         *block = [0u8; 32];
         return refuse_unchanged(Stage::Refused, 0, only_own(known.own, n), n);
     }
@@ -220,22 +203,22 @@ pub fn receive_in(
 pub fn receive(state: State, piece: &[u8], store: &mut [u8]) -> Received
     ensures { Answered state store.old piece.now result store.new }
 {
-    let position = state.position;
-    let stage = position.stage;
-    let known = state.known;
-    let mut block = position.block;
-    let t = receive_in(stage, position.got, known, &mut block, piece, store);
-    received_with(stage, known, block, piece.len(), t)
+    let Position { stage, got, block } = state.position;
+    let mut left = block;
+    let t = receive_in(stage, got, state.known, &mut left, piece, store);
+    received_with(stage, state.known, left, piece.len(), t)
 }
 
 // DEMAND 3, as a promise: it holds of every start, stream and store, and of every list of calls of `receive`. The body does nothing:
 // the promise is a theorem.
+#[tactic(auto, using(crate::proofs::Chain::demand3))]
 pub fn every_cutting()
     ensures { Demand3 }
 {}
 
 // What holds of every call, as a promise: 26 exactly for a state that contradicts itself, which no start and no other call hands back; a refused
 // stream stays refused, whatever the later calls lend; at least one byte of a piece that is not empty; bytes add up.
+#[tactic(auto, using(crate::proofs::Chain::every_call))]
 pub fn every_call()
     ensures { EveryCall }
 {}
@@ -256,20 +239,13 @@ pub struct AllReceived {
 pub fn receive_all(own: Features, stream: &[u8], cuts: &[usize], store: &mut [u8]) -> AllReceived
     ensures { ReceivedAll own stream.now cuts.now store.old result.state result.taken store.new }
 {
-    let first = start(own);
-    let mut state = first.state;
-    let mut t: usize = 0;
-    let mut i: usize = 0;
-    while i < cuts.len() {
-        let k = min(cuts[i], stream.len() - t);
-        let end = t + k;
-        let o = receive(state, &stream[t..end], store);
+    let mut state = start(own).state;
+    let mut taken: usize = 0;
+    for &cut in cuts {
+        let end = taken + min(cut, stream.len() - taken);
+        let o = receive(state, &stream[taken..end], store);
         state = o.state;
-        t = t + o.taken;
-        i += 1;
+        taken += o.taken;
     }
-    AllReceived {
-        state: state,
-        taken: t,
-    }
+    AllReceived { state, taken }
 }

@@ -2,12 +2,12 @@
 ghost use Rattle.std.specs.Prelude.{◌≡◌, ◌+◌, ◌≤◌, ◌<◌, length};
 ghost use Rattle.receiver.specs.declared.Place.TheVariants as places;
 ghost use Rattle.receiver.specs.State.{size_of, needed};
-ghost use Rattle.receiver.specs.Step.{state_at, block_with, store_with, is_more, Chunked, Fed, Running, moved_to};
+ghost use Rattle.receiver.specs.Step.{state_at, block_with, store_with, Chunked, Fed, Running, moved_to};
 
 use crate::states::{place_of, size_of};
 use crate::transitions::end_stage;
-use crate::{Known, Moved, Place, Report, Stage};
-use buffer::{min, part, put};
+use crate::{Known, Moved, Place, Stage};
+use buffer::{min, part};
 
 // Puts a stage's next bytes at their place, behind the `at` that came.
 pub(crate) fn fill(place: Place, at: usize, block: &mut [u8], bytes: &[u8], store: &mut [u8])
@@ -15,8 +15,8 @@ pub(crate) fn fill(place: Place, at: usize, block: &mut [u8], bytes: &[u8], stor
     ensures { (block.new ≡ block_with place at block.old bytes.now) × (store.new ≡ store_with place at store.old bytes.now) }
 {
     match place {
-        Place::Block => put(&mut block[at..], bytes),
-        Place::Store => put(&mut store[at..], bytes),
+        Place::Block => block[at..at + bytes.len()].copy_from_slice(bytes),
+        Place::Store => store[at..at + bytes.len()].copy_from_slice(bytes),
         Place::Nowhere => {}
     }
 }
@@ -40,33 +40,21 @@ fn step(
     let to = got + m;
     if to < n {
         return Moved {
-            stage: stage,
+            stage,
             got: to,
-            known: known,
+            known,
             taken: m,
-            report: Report::More,
+            report: None,
         };
     }
     let t = end_stage(stage, block, known, store);
     *block = [0u8; 32];
-    let next = t.stage;
-    let learnt = t.known;
-    let report = t.report;
     Moved {
-        stage: next,
+        stage: t.stage,
         got: t.got,
-        known: learnt,
+        known: t.known,
         taken: m,
-        report: report,
-    }
-}
-
-fn is_more(report: Report) -> bool
-    ensures { result ≡ is_more report }
-{
-    match report {
-        Report::More => true,
-        Report::Event(_) => false,
+        report: t.report,
     }
 }
 
@@ -82,34 +70,20 @@ pub(crate) fn feed(
     requires { Running (state_at from came block.old knew) store.old }
     ensures { Fed (state_at from came block.old knew) store.old piece.now (moved_to result block.new) store.new }
 {
-    let mut stage = from;
-    let mut got = came;
-    let mut known = knew;
-    let mut at: usize = 0;
-    while at < piece.len() {
-        let o = step(stage, got, known, block, &piece[at..], store);
-        let next = o.stage;
-        let learnt = o.known;
-        let report = o.report;
-        at += o.taken;
-        stage = next;
-        got = o.got;
-        known = learnt;
-        if !is_more(report) {
-            return Moved {
-                stage: stage,
-                got: got,
-                known: known,
-                taken: at,
-                report: report,
-            };
-        }
+    // Each step decides how much it takes, so no iterator cuts the piece.
+    let mut m = Moved {
+        stage: from,
+        got: came,
+        known: knew,
+        taken: 0,
+        report: None,
+    };
+    while m.report.is_none() && m.taken < piece.len() {
+        let o = step(m.stage, m.got, m.known, block, &piece[m.taken..], store);
+        m = Moved {
+            taken: m.taken + o.taken,
+            ..o
+        };
     }
-    Moved {
-        stage: stage,
-        got: got,
-        known: known,
-        taken: at,
-        report: Report::More,
-    }
+    m
 }

@@ -1,5 +1,5 @@
 // States that follow from one another, and what a state says of itself.
-ghost use Rattle.std.specs.Prelude.{◌≡◌, cond, ◌&&◌, ◌||◌, ◌-◌, ◌^◌, leb, ltb, length, drop};
+ghost use Rattle.std.specs.Prelude.{◌≡◌, ◌&&◌, ◌||◌, ◌^◌, leb, ltb, drop};
 ghost use Rattle.buffer.specs.Zeros.{all_zero};
 ghost use Rattle.refusal.specs.Refusals.{no_refusal};
 ghost use Rattle.preamble.specs.Layout.{no_header};
@@ -14,8 +14,8 @@ use banner::{
 };
 use body::{epilogue_length, no_first_sum};
 use buffer::u64_at;
-use preamble::{Header, Segment, header_is_fine, is_no_header, no_header, total_of};
-use refusal::{Numbers, both, either, is_fine, is_no_refusal};
+use preamble::{Header, header_is_fine, is_no_header, no_header, total_of};
+use refusal::{Numbers, is_no_refusal, no_refusal};
 
 // ---- states
 
@@ -25,11 +25,11 @@ pub(crate) fn state_at(stage: Stage, got: usize, known: Known) -> State
 {
     State {
         position: Position {
-            stage: stage,
-            got: got,
+            stage,
+            got,
             block: [0u8; 32],
         },
-        known: known,
+        known,
     }
 }
 
@@ -37,25 +37,10 @@ pub(crate) fn state_at(stage: Stage, got: usize, known: Known) -> State
 pub(crate) fn only_own(own: Features, refusal: Numbers) -> Known
     ensures { result ≡ only_own own refusal }
 {
-    let none = Segment { len: 0, align: 0 };
     Known {
-        own: own,
-        payload: 0,
-        peer: Features {
-            supported: 0,
-            required: 0,
-        },
-        revision: Revision::Msgr20,
-        header: Header {
-            tag: 0,
-            count: 0,
-            s1: none,
-            s2: none,
-            s3: none,
-            s4: none,
-        },
-        first: false,
-        refusal: refusal,
+        own,
+        refusal,
+        ..Known::default()
     }
 }
 
@@ -63,13 +48,7 @@ pub(crate) fn only_own(own: Features, refusal: Numbers) -> Known
 pub(crate) fn fresh(own: Features) -> State
     ensures { result ≡ at stage.Magic 0 (only_own own no_refusal) }
 {
-    let none = Numbers {
-        number: 0,
-        first: 0,
-        second: 0,
-        third: 0,
-    };
-    state_at(Stage::Magic, 0, only_own(own, none))
+    state_at(Stage::Magic, 0, only_own(own, no_refusal()))
 }
 
 pub(crate) fn refused_state(own: Features, n: Numbers) -> State
@@ -81,53 +60,36 @@ pub(crate) fn refused_state(own: Features, n: Numbers) -> State
 pub(crate) fn with_payload(v: Known, payload: u16) -> Known
     ensures { result ≡ with_payload v payload }
 {
-    let mut next = v;
-    next.payload = payload;
-    next
+    Known { payload, ..v }
 }
 
 pub(crate) fn with_peer(v: Known, peer: Features) -> Known
     ensures { result ≡ with_peer v peer }
 {
-    let mut next = v;
-    next.peer = peer;
-    next
+    Known { peer, ..v }
 }
 
 pub(crate) fn with_revision(v: Known, revision: Revision) -> Known
     ensures { result ≡ with_revision v revision }
 {
-    let own = v.own;
-    let peer = v.peer;
-    let header = v.header;
-    let refusal = v.refusal;
-    Known {
-        own: own,
-        payload: v.payload,
-        peer: peer,
-        revision: revision,
-        header: header,
-        first: v.first,
-        refusal: refusal,
-    }
+    Known { revision, ..v }
 }
 
 pub(crate) fn with_header(v: Known, header: Header) -> Known
     ensures { result ≡ with_header v header }
 {
-    let mut next = v;
-    next.header = header;
-    next.first = false;
-    next
+    Known {
+        header,
+        first: false,
+        ..v
+    }
 }
 
 // Segment 1's checksum holds.
 pub(crate) fn with_first(v: Known) -> Known
     ensures { result ≡ with_first v }
 {
-    let mut next = v;
-    next.first = true;
-    next
+    Known { first: true, ..v }
 }
 
 // No frame yet.
@@ -139,48 +101,27 @@ pub(crate) fn without_header(v: Known) -> Known
 
 // ---- stages
 
+// Its place in their order.
 pub fn rank(stage: Stage) -> u8
     ensures { result ≡ rank stage }
 {
-    match stage {
-        Stage::Magic => 0,
-        Stage::Length => 1,
-        Stage::Payload => 2,
-        Stage::Skip => 3,
-        Stage::Preamble => 4,
-        Stage::First => 5,
-        Stage::FirstSum => 6,
-        Stage::Rest => 7,
-        Stage::Epilogue => 8,
-        Stage::Refused => 9,
-    }
-}
-
-fn past_features(payload: u16) -> usize
-    ensures { result ≡ payload - 16 }
-{
-    if payload < 16 {
-        0
-    } else {
-        (payload - 16) as usize
-    }
+    stage as u8
 }
 
 // How many bytes the stage reads.
 pub(crate) fn size_of(stage: Stage, v: Known) -> usize
     ensures { result ≡ size_of stage v }
 {
-    let revision = v.revision;
     match stage {
         Stage::Magic => 8,
         Stage::Length => 2,
         Stage::Payload => 16,
-        Stage::Skip => past_features(v.payload),
+        Stage::Skip => (v.payload as usize).saturating_sub(16),
         Stage::Preamble => 32,
         Stage::First => v.header.s1.len as usize,
         Stage::FirstSum => 4,
         Stage::Rest => total_of(v.header) as usize,
-        Stage::Epilogue => epilogue_length(revision, v.header),
+        Stage::Epilogue => epilogue_length(v.revision, v.header),
         Stage::Refused => 0,
     }
 }
@@ -190,36 +131,28 @@ pub(crate) fn place_of(stage: Stage) -> Place
     ensures { result ≡ place_of stage }
 {
     match stage {
-        Stage::Magic => Place::Block,
-        Stage::Length => Place::Block,
-        Stage::Payload => Place::Block,
-        Stage::Skip => Place::Nowhere,
-        Stage::Preamble => Place::Block,
-        Stage::First => Place::Store,
-        Stage::FirstSum => Place::Block,
-        Stage::Rest => Place::Store,
-        Stage::Epilogue => Place::Block,
-        Stage::Refused => Place::Nowhere,
+        Stage::First | Stage::Rest => Place::Store,
+        Stage::Skip | Stage::Refused => Place::Nowhere,
+        _ => Place::Block,
     }
 }
 
 pub(crate) fn is_refused(stage: Stage) -> bool
     ensures { result ≡ is_refused stage }
 {
-    rank(stage) == 9
+    stage == Stage::Refused
 }
 
 fn in_body(stage: Stage) -> bool
     ensures { result ≡ in_body stage }
 {
-    let n = rank(stage);
-    both(4 < n, n < 9)
+    4 < rank(stage) && rank(stage) < 9
 }
 
 fn live_from(n: u8, stage: Stage) -> bool
     ensures { result ≡ live_from n stage }
 {
-    both(n <= rank(stage), !is_refused(stage))
+    n <= rank(stage) && !is_refused(stage)
 }
 
 // The store that an unfinished frame needs.
@@ -235,37 +168,30 @@ pub(crate) fn needed_by(stage: Stage, v: Known) -> u64
 
 // ---- what refusal 26 asks
 
-// One of two tests, by a third: a function, so that a chain of tests is one equation.
-fn pick(test: bool, a: bool, b: bool) -> bool
-    ensures { result ≡ cond test a b }
-{
-    if test { a } else { b }
-}
-
 // A refusal that a receiver gives.
 fn is_given(n: Numbers) -> bool
     ensures { result ≡ given n }
 {
     let k = n.number;
-    let known = either(both(1 <= k, k <= 12), either(k == 16, k == 24));
-    let one = both(n.second == 0, n.third == 0);
-    both(known, either(either(k == 3, k == 4), one))
+    let known = (1 <= k && k <= 12) || k == 16 || k == 24;
+    let one = n.second == 0 && n.third == 0;
+    known && (k == 3 || k == 4 || one)
 }
 
 fn own_rule(stage: Stage, v: Known) -> bool
     ensures { result ≡ own_rule stage v }
 {
-    if both(is_refused(stage), v.refusal.number == 16) {
+    if is_refused(stage) && v.refusal.number == 16 {
         return true;
     }
-    is_fine(judge_own(v.own.supported, v.own.required))
+    judge_own(v.own.supported, v.own.required).is_ok()
 }
 
 fn payload_rule(stage: Stage, v: Known) -> bool
     ensures { result ≡ payload_rule stage v }
 {
     if live_from(2, stage) {
-        return is_fine(judge_length(v.payload));
+        return judge_length(v.payload).is_ok();
     }
     v.payload == 0
 }
@@ -282,21 +208,18 @@ fn peer_rule(stage: Stage, v: Known) -> bool
 fn revision_rule(stage: Stage, v: Known) -> bool
     ensures { result ≡ revision_rule stage v }
 {
-    let revision = v.revision;
     if live_from(4, stage) {
         let chosen = revision_of(v.own.supported, v.peer.supported);
-        let fine = is_fine(judge_features(v.own, v.peer));
-        return both(fine, same_revision(chosen, revision));
+        return judge_features(v.own, v.peer).is_ok() && same_revision(chosen, v.revision);
     }
-    !is_msgr21(revision)
+    !is_msgr21(v.revision)
 }
 
 // Segment 1 has its checksum behind it.
 pub(crate) fn has_first_sum(v: Known) -> bool
     ensures { result ≡ has_first_sum v }
 {
-    let revision = v.revision;
-    !no_first_sum(revision, v.header)
+    !no_first_sum(v.revision, v.header)
 }
 
 fn header_rule(stage: Stage, v: Known) -> bool
@@ -313,9 +236,8 @@ fn first_rules(stage: Stage, v: Known) -> bool
 {
     let n = rank(stage);
     let sum = has_first_sum(v);
-    let first = pick(either(n == 5, n == 6), sum, true);
-    let behind = both(either(n == 7, n == 8), sum);
-    both(first, pick(v.first, behind, !behind))
+    let behind = (n == 7 || n == 8) && sum;
+    (sum || !(n == 5 || n == 6)) && v.first == behind
 }
 
 fn refusal_rule(stage: Stage, v: Known) -> bool
@@ -331,7 +253,7 @@ fn refusal_rule(stage: Stage, v: Known) -> bool
 fn least_of(stage: Stage, v: Known) -> usize
     ensures { result ≡ least_of stage v }
 {
-    if both(rank(stage) == 7, has_first_sum(v)) {
+    if rank(stage) == 7 && has_first_sum(v) {
         v.header.s1.len as usize
     } else {
         0
@@ -344,21 +266,17 @@ fn count_rule(stage: Stage, v: Known, got: usize) -> bool
     if is_refused(stage) {
         return got == 0;
     }
-    both(least_of(stage, v) <= got, got < size_of(stage, v))
+    least_of(stage, v) <= got && got < size_of(stage, v)
 }
 
 // How many bytes of the stage stand in the block.
 fn in_block(place: Place, got: usize) -> usize
     ensures { result ≡ in_block place got }
 {
-    match place {
-        Place::Block => got,
-        Place::Store => 0,
-        Place::Nowhere => 0,
-    }
+    if place == Place::Block { got } else { 0 }
 }
 
-// A number has at most n bytes that are not zero, its lowest ones.
+// A number has at most n bytes that are not zero, its lowest ones. The bounds are written out: each is proved by computation, as a shift is not.
 fn is_within(w: u64, n: usize) -> bool
     ensures { result ≡ (leb 8 n || ltb w (256 ^ n)) }
 {
@@ -375,21 +293,14 @@ fn is_within(w: u64, n: usize) -> bool
     }
 }
 
-fn minus(a: usize, b: usize) -> usize
-    ensures { result ≡ a - b }
-{
-    if a < b { 0 } else { a - b }
-}
-
-// Zeros from a place on, eight bytes at a time.
-fn zeros_from(block: &[u8], from: usize) -> bool
-    requires { length block.now ≡ 32 }
+// Zeros from a place on, eight bytes at a time; each number is looked at, which costs less than branches.
+fn zeros_from(block: &[u8; 32], from: usize) -> bool
     ensures { result ≡ all_zero (drop from block.now) }
 {
-    let fourth = is_within(u64_at(block, 24), minus(from, 24));
-    let last = both(is_within(u64_at(block, 16), minus(from, 16)), fourth);
-    let rest = both(is_within(u64_at(block, 8), minus(from, 8)), last);
-    both(is_within(u64_at(block, 0), from), rest)
+    is_within(u64_at(block, 0), from)
+        & is_within(u64_at(block, 8), from.saturating_sub(8))
+        & is_within(u64_at(block, 16), from.saturating_sub(16))
+        & is_within(u64_at(block, 24), from.saturating_sub(24))
 }
 
 fn block_rule(stage: Stage, got: usize, block: &[u8; 32]) -> bool
@@ -401,32 +312,28 @@ fn block_rule(stage: Stage, got: usize, block: &[u8; 32]) -> bool
 fn banner_rules(stage: Stage, v: Known) -> bool
     ensures { result ≡ ((own_rule stage v && payload_rule stage v) && (peer_rule stage v && revision_rule stage v)) }
 {
-    let first = both(own_rule(stage, v), payload_rule(stage, v));
-    both(first, both(peer_rule(stage, v), revision_rule(stage, v)))
+    (own_rule(stage, v) && payload_rule(stage, v))
+        && (peer_rule(stage, v) && revision_rule(stage, v))
 }
 
 fn rules_hold(stage: Stage, v: Known) -> bool
     ensures { result ≡ rules stage v }
 {
-    let frame = both(header_rule(stage, v), first_rules(stage, v));
-    let rest = both(frame, refusal_rule(stage, v));
-    both(banner_rules(stage, v), rest)
+    banner_rules(stage, v)
+        && (header_rule(stage, v) && first_rules(stage, v) && refusal_rule(stage, v))
 }
 
 // The fields agree: what refusal 26 asks.
+#[tactic(auto, unfolding(crate::specs::State::agrees_at))]
 pub(crate) fn agree(stage: Stage, got: usize, block: &[u8; 32], known: Known) -> bool
     ensures { result ≡ agrees_at stage got block.now known }
 {
-    let counted = both(rules_hold(stage, known), count_rule(stage, known, got));
-    both(counted, block_rule(stage, got, block))
+    rules_hold(stage, known) && count_rule(stage, known, got) && block_rule(stage, got, block)
 }
 
 pub fn agrees_with_itself(st: State) -> bool
     ensures { result ≡ agrees st }
 {
-    let position = st.position;
-    let known = st.known;
-    let stage = position.stage;
-    let block = position.block;
-    agree(stage, position.got, &block, known)
+    let Position { stage, got, block } = st.position;
+    agree(stage, got, &block, st.known)
 }

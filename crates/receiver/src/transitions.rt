@@ -1,96 +1,77 @@
 // What the last byte of a stage comes to. A transition that leaves the store alone promises its answer for every store.
-ghost use Rattle.std.specs.Prelude.{◌≡◌, List, ℕ, ◌≤◌, length};
-ghost use Rattle.refusal.specs.Refusals.{judged_by};
-ghost use Rattle.preamble.specs.Layout.{total};
-ghost use Rattle.body.specs.End.{whole, dropped, refused_for};
+ghost use Rattle.std.specs.Prelude.{◌≡◌, List, ℕ, ◌≤◌, length, Some, None};
+ghost use Rattle.preamble.specs.Layout.{no_header, total};
+ghost use Rattle.stream.specs.declared.Event.TheVariants as event;
 ghost use Rattle.stream.specs.Stream.{zeroed};
 ghost use Rattle.receiver.specs.declared.Stage.TheVariants as stage;
-ghost use Rattle.receiver.specs.declared.Report.TheVariants as report;
 ghost use Rattle.receiver.specs.State.{needed};
-ghost use Rattle.receiver.specs.Step.{at, stepped, stepped_by, silent, refuse, unless_refused, end_banner, end_frame, begin_epilogue, begin_rest, begin_body, behind_first_sum, finish};
+ghost use Rattle.receiver.specs.Step.{with_header, only_own, to, stepped_by, stepped_as, end_banner, begin_epilogue, begin_rest, begin_body, behind_first_sum, finish};
 
 use crate::states::{
     has_first_sum, only_own, with_first, with_header, with_payload, with_peer, with_revision,
     without_header,
 };
-use crate::{Known, Report, Stage, Transition};
+use crate::{Known, Stage, Transition};
 use banner::{judge_features, judge_length, judge_magic, read_features, revision_of};
 use body::{Ending, end_of, no_epilogue, segment_sum};
 use buffer::{part, put_zeros, u16_at, u32_at};
 use preamble::{Header, judge_read, read_block, total_of};
-use refusal::{Judgement, Numbers, Refusal, numbers_of};
+use refusal::{Numbers, Refusal};
 use stream::Event;
 
-// At a stage of which so many bytes came.
-fn at_stage(stage: Stage, got: usize, v: Known, report: Report) -> Transition
-    ensures { (s : List ℕ) → stepped_by result s ≡ stepped (at stage got v) s report }
+// More bytes are wanted, at a stage of which so many came.
+fn more(stage: Stage, got: usize, known: Known) -> Transition
+    ensures { result ≡ to stage got known None }
 {
     Transition {
-        stage: stage,
-        got: got,
-        known: v,
-        report: report,
+        stage,
+        got,
+        known,
+        report: None,
     }
 }
 
-fn more(stage: Stage, got: usize, v: Known) -> Transition
-    ensures { (s : List ℕ) → stepped_by result s ≡ silent (at stage got v) s }
-{
-    at_stage(stage, got, v, Report::More)
-}
-
 fn refuse(v: Known, n: Numbers) -> Transition
-    ensures { (s : List ℕ) → stepped_by result s ≡ refuse v n s }
+    ensures { result ≡ to stage.Refused 0 (only_own v.own n) (Some (event.Refused n)) }
 {
-    at_stage(
-        Stage::Refused,
-        0,
-        only_own(v.own, n),
-        Report::Event(Event::Refused(n)),
-    )
+    Transition {
+        report: Some(Event::Refused(n)),
+        ..more(Stage::Refused, 0, only_own(v.own, n))
+    }
 }
 
 // A preamble comes next, its first byte first.
 fn begin_preamble(v: Known, event: Event) -> Transition
-    ensures { (s : List ℕ) → stepped_by result s ≡ stepped (at stage.Preamble 0 v) s (report.Event event) }
+    ensures { result ≡ to stage.Preamble 0 v (Some event) }
 {
-    at_stage(Stage::Preamble, 0, v, Report::Event(event))
-}
-
-fn unless_refused(judgement: Judgement, v: Known, t: Transition) -> Transition
-    ensures { (s : List ℕ) → stepped_by result s ≡ unless_refused (judged_by judgement) v s (stepped_by t s) }
-{
-    match judgement {
-        Judgement::Fine => t,
-        Judgement::Refused(why) => refuse(v, numbers_of(why)),
+    Transition {
+        report: Some(event),
+        ..more(Stage::Preamble, 0, v)
     }
 }
 
 // The peer's features are known.
-fn end_banner(v: Known) -> Transition
-    ensures { (s : List ℕ) → stepped_by result s ≡ end_banner v s }
+fn end_banner(v: Known) -> Result<Transition, Refusal>
+    ensures { (s : List ℕ) → stepped_as result v s ≡ end_banner v s }
 {
-    let own = v.own;
-    let peer = v.peer;
-    let revision = revision_of(own.supported, peer.supported);
-    let t = begin_preamble(with_revision(v, revision), Event::Banner(peer, revision));
-    unless_refused(judge_features(own, peer), v, t)
+    judge_features(v.own, v.peer)?;
+    let revision = revision_of(v.own.supported, v.peer.supported);
+    let known = with_revision(v, revision);
+    Ok(begin_preamble(known, Event::Banner(v.peer, revision)))
 }
 
 // A frame is whole.
 fn end_whole(v: Known) -> Transition
-    ensures { (s : List ℕ) → stepped_by result s ≡ end_frame whole v s }
+    ensures { result ≡ to stage.Preamble 0 (with_header v no_header) (Some (event.Frame v.header)) }
 {
-    let header = v.header;
-    begin_preamble(without_header(v), Event::Frame(header))
+    begin_preamble(without_header(v), Event::Frame(v.header))
 }
 
 // Behind the segments.
 fn begin_epilogue(v: Known) -> Transition
     ensures { (s : List ℕ) → stepped_by result s ≡ begin_epilogue v s }
 {
-    let revision = v.revision;
-    if no_epilogue(revision, v.header) {
+    if no_epilogue(v.revision, v.header) {
         end_whole(v)
     } else {
         more(Stage::Epilogue, 0, v)
@@ -119,66 +100,49 @@ fn begin_body(v: Known) -> Transition
     }
 }
 
-fn end_magic(block: &[u8], v: Known) -> Transition
-    ensures { (s : List ℕ) → stepped_by result s ≡ finish stage.Magic block.now v s }
+#[tactic(auto, unfolding(crate::specs::Step::finish))]
+fn end_magic(block: &[u8], v: Known) -> Result<Transition, Refusal>
+    ensures { (s : List ℕ) → stepped_as result v s ≡ finish stage.Magic block.now v s }
 {
-    let judgement = judge_magic(part(block, 0, 8));
-    unless_refused(judgement, v, more(Stage::Length, 0, v))
+    judge_magic(part(block, 0, 8))?;
+    Ok(more(Stage::Length, 0, v))
 }
 
-fn end_length(block: &[u8], v: Known) -> Transition
-    ensures { (s : List ℕ) → stepped_by result s ≡ finish stage.Length block.now v s }
+#[tactic(auto, unfolding(crate::specs::Step::finish))]
+fn end_length(block: &[u8], v: Known) -> Result<Transition, Refusal>
+    ensures { (s : List ℕ) → stepped_as result v s ≡ finish stage.Length block.now v s }
 {
     let n = u16_at(block, 0);
-    let next = more(Stage::Payload, 0, with_payload(v, n));
-    unless_refused(judge_length(n), v, next)
+    judge_length(n)?;
+    Ok(more(Stage::Payload, 0, with_payload(v, n)))
 }
 
-fn end_payload(block: &[u8], v: Known) -> Transition
-    ensures { (s : List ℕ) → stepped_by result s ≡ finish stage.Payload block.now v s }
+#[tactic(auto, unfolding(crate::specs::Step::finish))]
+fn end_payload(block: &[u8], v: Known) -> Result<Transition, Refusal>
+    ensures { (s : List ℕ) → stepped_as result v s ≡ finish stage.Payload block.now v s }
 {
     let known = with_peer(v, read_features(part(block, 0, 16)));
     if v.payload <= 16 {
         end_banner(known)
     } else {
-        more(Stage::Skip, 0, known)
+        Ok(more(Stage::Skip, 0, known))
     }
 }
 
-fn end_preamble(block: &[u8; 32], v: Known, store: usize) -> Transition
-    ensures { (s : List ℕ) → length s ≡ store → stepped_by result s ≡ finish stage.Preamble block.now v s }
+#[tactic(auto, unfolding(crate::specs::Step::finish, preamble::specs::Judge::judge_preamble))]
+fn end_preamble(block: &[u8; 32], v: Known, store: usize) -> Result<Transition, Refusal>
+    ensures { (s : List ℕ) → length s ≡ store → stepped_as result v s ≡ finish stage.Preamble block.now v s }
 {
     let p = read_block(block);
-    let judgement = judge_read(p, block, store);
-    match judgement {
-        Judgement::Fine => begin_body(with_header(v, p.header)),
-        Judgement::Refused(why) => refuse(v, numbers_of(why)),
-    }
+    judge_read(p, block, store)?;
+    Ok(begin_body(with_header(v, p.header)))
 }
 
 // Zeros in the store's first T bytes.
 fn zero_segments(store: &mut [u8], h: Header)
-    requires { total h ≤ length store.old }
-    ensures { store.new ≡ zeroed h store.old }
+    ensures { total h ≤ length store.old → store.new ≡ zeroed h store.old }
 {
     put_zeros(store, total_of(h) as usize);
-}
-
-fn refuse_frame(v: Known, n: Numbers, store: &mut [u8]) -> Transition
-    requires { total v.header ≤ length store.old }
-    ensures { stepped_by result store.new ≡ end_frame (refused_for n) v store.old }
-{
-    zero_segments(store, v.header);
-    refuse(v, n)
-}
-
-fn drop_frame(v: Known, store: &mut [u8]) -> Transition
-    requires { total v.header ≤ length store.old }
-    ensures { stepped_by result store.new ≡ end_frame dropped v store.old }
-{
-    let header = v.header;
-    zero_segments(store, header);
-    begin_preamble(without_header(v), Event::Dropped(header))
 }
 
 // Segment 1's checksum holds: it is reported early where more segments follow.
@@ -187,52 +151,59 @@ fn behind_first_sum(v: Known, n: usize) -> Transition
     ensures { (s : List ℕ) → stepped_by result s ≡ behind_first_sum v s }
 {
     let t = begin_rest(with_first(v), n);
-    let header = v.header;
-    if 1 < header.count {
-        let next = t.stage;
-        let learnt = t.known;
-        return Transition {
-            stage: next,
-            got: t.got,
-            known: learnt,
-            report: Report::Event(Event::First(header)),
-        };
+    if v.header.count <= 1 {
+        return t;
     }
-    t
+    Transition {
+        report: Some(Event::First(v.header)),
+        ..t
+    }
 }
 
-fn end_first_sum(block: &[u8], v: Known, store: &mut [u8]) -> Transition
+#[tactic(auto, unfolding(crate::specs::Step::finish))]
+fn end_first_sum(block: &[u8], v: Known, store: &mut [u8]) -> Result<Transition, Refusal>
     requires { total v.header ≤ length store.old }
-    ensures { stepped_by result store.new ≡ finish stage.FirstSum block.now v store.old }
+    ensures { stepped_as result v store.new ≡ finish stage.FirstSum block.now v store.old }
 {
     let n = v.header.s1.len as usize;
     let stored = u32_at(block, 0);
     let sum = segment_sum(part(store, 0, n));
     if stored == sum {
-        return behind_first_sum(v, n);
+        return Ok(behind_first_sum(v, n));
     }
-    refuse_frame(v, numbers_of(Refusal::SegmentChecksum(1)), store)
+    zero_segments(store, v.header);
+    Err(Refusal::SegmentChecksum(1))
 }
 
-fn end_epilogue(block: &[u8], v: Known, store: &mut [u8]) -> Transition
+#[tactic(auto, unfolding(crate::specs::Step::finish))]
+fn end_epilogue(block: &[u8], v: Known, store: &mut [u8]) -> Result<Transition, Refusal>
     requires { total v.header ≤ length store.old }
-    ensures { stepped_by result store.new ≡ finish stage.Epilogue block.now v store.old }
+    ensures { stepped_as result v store.new ≡ finish stage.Epilogue block.now v store.old }
 {
-    let revision = v.revision;
-    let header = v.header;
-    let n = total_of(header) as usize;
-    let end = end_of(revision, header, block, part(store, 0, n));
-    match end {
-        Ending::Whole => end_whole(v),
-        Ending::Dropped => drop_frame(v, store),
-        Ending::Refused(why) => refuse_frame(v, numbers_of(why), store),
+    let n = total_of(v.header) as usize;
+    match end_of(v.revision, v.header, block, part(store, 0, n)) {
+        Ok(Ending::Whole) => Ok(end_whole(v)),
+        Ok(Ending::Dropped) => {
+            zero_segments(store, v.header);
+            Ok(begin_preamble(without_header(v), Event::Dropped(v.header)))
+        }
+        Err(why) => {
+            zero_segments(store, v.header);
+            Err(why)
+        }
     }
 }
 
 // The last byte of the stage came.
-pub(crate) fn end_stage(stage: Stage, block: &[u8; 32], v: Known, store: &mut [u8]) -> Transition
+#[tactic(auto, unfolding(crate::specs::Step::finish))]
+fn judge_end(
+    stage: Stage,
+    block: &[u8; 32],
+    v: Known,
+    store: &mut [u8],
+) -> Result<Transition, Refusal>
     requires { needed stage v ≤ length store.old }
-    ensures { stepped_by result store.new ≡ finish stage block.now v store.old }
+    ensures { stepped_as result v store.new ≡ finish stage block.now v store.old }
 {
     match stage {
         Stage::Magic => end_magic(block, v),
@@ -240,10 +211,21 @@ pub(crate) fn end_stage(stage: Stage, block: &[u8; 32], v: Known, store: &mut [u
         Stage::Payload => end_payload(block, v),
         Stage::Skip => end_banner(v),
         Stage::Preamble => end_preamble(block, v, store.len()),
-        Stage::First => more(Stage::FirstSum, 0, v),
+        Stage::First => Ok(more(Stage::FirstSum, 0, v)),
         Stage::FirstSum => end_first_sum(block, v, store),
-        Stage::Rest => begin_epilogue(v),
+        Stage::Rest => Ok(begin_epilogue(v)),
         Stage::Epilogue => end_epilogue(block, v, store),
-        Stage::Refused => more(Stage::Refused, 0, v),
+        Stage::Refused => Ok(more(Stage::Refused, 0, v)),
+    }
+}
+
+// The same, where a refusal is the stage that follows.
+pub(crate) fn end_stage(stage: Stage, block: &[u8; 32], v: Known, store: &mut [u8]) -> Transition
+    requires { needed stage v ≤ length store.old }
+    ensures { stepped_by result store.new ≡ finish stage block.now v store.old }
+{
+    match judge_end(stage, block, v, store) {
+        Ok(t) => t,
+        Err(why) => refuse(v, Numbers::from(why)),
     }
 }

@@ -1,6 +1,6 @@
 -- Laws of records: lines, buffers that count up, steps, records that are run as they are read, and lists of numbers.
 use mathlib.Core.Path.{◌≡◌, refl, sym, ap, ◌∙◌}
-use mathlib.Core.Bool.{Bool, true, false}
+use mathlib.Core.Bool.{Bool, true, false, cond}
 use mathlib.Core.List.{List, [], ◌∷◌, ◌++◌, append_assoc}
 use Prim.Native.Nat.{ℕ, zero, suc, ◌+◌, ◌%◌, ◌≤◌, ◌<◌}
 use native.Mathlib.Nat.{not-suc-le-zero, le_of_suc-le-suc}
@@ -17,9 +17,9 @@ use Rattle.refusal.specs.Writes.{WriteOutcome, Done, done}
 use Rattle.fields.specs.Field.{words_of}
 use Rattle.fields.proofs.Skips.{length-words}
 use Rattle.text.specs.Line.{Piece}
-use Rattle.text.specs.Page.{Page, page}
-use Rattle.records.specs.declared.Step.{Step}
-use Rattle.records.specs.Records.{outcome_line, done_line, Record, Did, sized, whole, is_whole, bad_record, line_then, read_all, print, prints, counted}
+use Rattle.text.specs.Page.{Page}
+use Rattle.std.specs.Prelude.{Option, None, Some}
+use Rattle.records.specs.Records.{outcome_line, done_line, Record, Did, taken_of, sized, size_in, whole, is_whole, bad_record, line_then, read_all, print, prints, counted}
 
 -- ---- buffers
 
@@ -40,39 +40,49 @@ counted-more l first i h =
 pub whole-within : (n : ℕ) (s : List ℕ) → is_whole n s ≡ true → n ≤ length s
 whole-within n s e = leb-true n (length s) (both_right (ltb 0 n) (leb n (length s)) e)
 
-module _ {s before : List ℕ} {at : ℕ} {after : List ℕ} {r : Step} where
-  pub did_none : (r.taken ≡ 0) × (page after r.filled ≡ prints bad_record.lines (page before at)) → Did bad_record s before at after r
-  did_none d = record { taken = d.0; printed = d.1; within = omega arith }
-
-  -- code that found a record of m bytes bad, or whole
-  pub did_bad : (lines : List (List Piece)) {n m : ℕ} {b : Bool} → m ≡ n → b ≡ is_whole m s → b ≡ false
-      → (r.taken ≡ 0) × (page after r.filled ≡ prints bad_record.lines (page before at))
-      → Did (whole n s lines) s before at after r
+module _ {s : List ℕ} {before after : Page} {r : Option ℕ} where
+  -- code that found a record bad, or whole
+  pub did_bad : (n : ℕ) (lines : List (List Piece)) {x : Option ℕ} → x ≡ size_in n s → x ≡ None → Did bad_record s before after r → Did (whole n s lines) s before after r
   unfolding whole
-  did_bad lines {b = b} k e h d = rw (← k, ← e, h) (did_none d)
+  did_bad n lines e h d = go (is_whole n s) (sym h ∙ e)
+    where
+      go : (b : Bool) → None ≡ cond b (Some n) None → Did (cond b (record { size = n; lines = lines }) bad_record) s before after r
+      go false e = d
+      go true e = cc
 
-  pub did_whole : (lines : List (List Piece)) {n m : ℕ} {b : Bool} → m ≡ n → b ≡ is_whole m s → b ≡ true
-      → r.taken ≡ m
-      → page after r.filled ≡ prints lines (page before at)
-      → Did (whole n s lines) s before at after r
+  pub did_whole : (n : ℕ) (lines : List (List Piece)) {m : ℕ} → Some m ≡ size_in n s → taken_of r ≡ m → after ≡ prints lines before → Did (whole n s lines) s before after r
   unfolding whole
-  did_whole lines {m = m} {b} k e h t p =
-      let w = whole-within m s (sym e ∙ h) in
-      rw (← k, ← e, h) (record { taken = t; printed = p; within = omega arith })
+  did_whole n lines {m} e t p = go (is_whole n s) refl e
+    where
+      go : (b : Bool) → is_whole n s ≡ b → Some m ≡ cond b (Some n) None → Did (cond b (record { size = n; lines = lines }) bad_record) s before after r
+      go true h e =
+          let k : m ≡ n = cc in
+          let w = whole-within n s h in
+          record { taken = t ∙ k; printed = p; within = omega arith }
+      go false h e = cc
 
--- one that is whole, of a call that writes: what it came to and its buffer's checksum are printed
-pub did_done : (w : WriteOutcome) (buf : List ℕ) {d : Done} {n m sum : ℕ} {b : Bool} {s before : List ℕ} {at : ℕ} {after : List ℕ} {r : Step}
-    → m ≡ n → b ≡ is_whole m s → b ≡ true
-    → r.taken ≡ m
-    → done w buf ≡ d
-    → sum ≡ crc_of 4294967295 buf
-    → page after r.filled ≡ print (outcome_line w sum) (page before at)
-    → Did (whole n s (done_line d ∷ [])) s before at after r
-unfolding prints
-did_done w buf k e h t f g p = did_whole _ k e h t (p ∙ rw (g, ← f))
+  -- of a call that writes: what it came to and its buffer's checksum are printed
+  pub did_done : (n : ℕ) (w : WriteOutcome) (buf : List ℕ) {d : Done} {m sum : ℕ} → Some m ≡ size_in n s → taken_of r ≡ m
+      → done w buf ≡ d
+      → sum ≡ crc_of 4294967295 buf
+      → after ≡ print (outcome_line w sum) before
+      → Did (whole n s (done_line d ∷ [])) s before after r
+  unfolding prints
+  did_done n w buf e t f g p = did_whole n _ e t (p ∙ rw (g, ← f))
 
-pub seen-whole : (s : List ℕ) {n m : ℕ} {b : Bool} → m ≡ n → b ≡ is_whole m s → b ≡ true → is_whole n s ≡ true
-seen-whole s {b = b} k e h = rw (← k, ← e) h
+pub size-good : (n : ℕ) (s : List ℕ) {m : ℕ} → Some m ≡ size_in n s → is_whole n s ≡ true
+size-good n s {m} e = go (is_whole n s) e
+  where
+    go : (b : Bool) → Some m ≡ cond b (Some n) None → b ≡ true
+    go true e = refl
+    go false e = cc
+
+pub size-bad : (n : ℕ) (s : List ℕ) → None ≡ size_in n s → is_whole n s ≡ false
+size-bad n s e = go (is_whole n s) e
+  where
+    go : (b : Bool) → None ≡ cond b (Some n) None → b ≡ false
+    go true e = cc
+    go false e = refl
 
 -- a size of 0 is no record
 pub sized-good : (good : Bool) (n : ℕ) (s : List ℕ) → is_whole (sized good n) s ≡ true → good ≡ true
@@ -94,13 +104,13 @@ pub left-next : {all d : Record} {line : List Piece} {p q r : Page} → Left all
 unfolding prints
 left-next {all} {d} {line} {p} {q} {r} l e = record { size = l.size; lines = ap (prints d.lines) e ∙ l.lines }
 
-module _ {all : Record} {s before : List ℕ} {at : ℕ} {after : List ℕ} {r : Step} where
-  pub did_all : (n : ℕ) → Left all (read_all n) (page before at) (page after r.filled) → r.taken ≡ n → n ≤ length s → Did all s before at after r
+module _ {all : Record} {s : List ℕ} {before after : Page} {r : Option ℕ} where
+  pub did_all : (n : ℕ) → Left all (read_all n) before after → taken_of r ≡ n → n ≤ length s → Did all s before after r
   unfolding prints
   did_all n l t h = record { taken = t ∙ l.size; printed = l.lines; within = omega arith }
 
-  pub did_broken : {q : Page} → Left all bad_record (page before at) q → (r.taken ≡ 0) × (page after r.filled ≡ prints bad_record.lines q) → Did all s before at after r
-  did_broken l d = record { taken = d.0 ∙ l.size; printed = d.1 ∙ l.lines; within = omega arith }
+  pub did_broken : {q : Page} → Left all bad_record before q → Did bad_record s q after r → Did all s before after r
+  did_broken l d = record { taken = d.taken ∙ l.size; printed = d.printed ∙ l.lines; within = d.within }
 
 -- ---- lists
 

@@ -1,11 +1,10 @@
 -- What a record comes to: how many bytes it has, and the lines that it prints.
-use Rattle.std.specs.Prelude.{◌≡◌, Bool, cond, ◌&&◌, List, [], ◌∷◌, ◌++◌, ℕ, zero, suc, ◌+◌, ◌-◌, ◌%◌, ◌≤◌, leb, ltb, length}
+use Rattle.std.specs.Prelude.{◌≡◌, Bool, cond, ◌&&◌, List, [], ◌∷◌, ◌++◌, ℕ, zero, suc, ◌+◌, ◌-◌, ◌%◌, ◌≤◌, leb, ltb, length, Option, None, Some}
 use Rattle.crc32c.specs.Crc.{crc_of}
 use Rattle.refusal.specs.declared.Numbers.{Numbers}
 use Rattle.refusal.specs.Writes.{WriteOutcome, wrote, refused_for, Done}
 use Rattle.text.specs.Line.{Piece, word, number, field, hex, newline}
 use Rattle.text.specs.Page.{Page, page, puts}
-use Rattle.records.specs.declared.Step.{Step}
 
 -- ---- lines
 
@@ -68,6 +67,10 @@ allowed n = leb n 65536
 abbrev pub is_whole : ℕ → List ℕ → Bool
 is_whole n s = ltb 0 n && leb n (length s)
 
+-- the size of a record of which all bytes are there
+abbrev pub size_in : ℕ → List ℕ → Option ℕ
+size_in n s = cond (is_whole n s) (Some n) None
+
 -- a bad record has no bytes
 abbrev pub bad_record : Record
 bad_record = record { size = 0; lines = bad_line ∷ [] }
@@ -83,11 +86,16 @@ line_then line d = record { size = d.size; lines = line ∷ d.lines }
 abbrev pub read_all : ℕ → Record
 read_all n = record { size = n; lines = [] }
 
+-- how many bytes a record has: none where it is bad
+abbrev pub taken_of : Option ℕ → ℕ
+taken_of None = 0
+taken_of (Some n) = n
+
 -- THE PROMISE OF A STEP: the record's bytes are taken, and its lines printed
-pub record Did (d : Record) (s before : List ℕ) (at : ℕ) (after : List ℕ) (r : Step) : Type 0 where
-  pub taken : r.taken ≡ d.size
-  pub printed : page after r.filled ≡ prints d.lines (page before at)
-  pub within : r.taken ≤ length s
+pub record Did (d : Record) (s : List ℕ) (before after : Page) (r : Option ℕ) : Type 0 where
+  pub taken : taken_of r ≡ d.size
+  pub printed : after ≡ prints d.lines before
+  pub within : taken_of r ≤ length s
 
 -- ---- fields
 

@@ -4,7 +4,8 @@ use mathlib.Core.Bool.{Bool, true, false, cond, ◌&&◌}
 use mathlib.Core.List.{List, [], ◌∷◌, ◌++◌}
 use Rattle.refusal.specs.declared.Numbers.{Numbers}
 use Rattle.refusal.specs.declared.Refusal.{Refusal}
-use Rattle.refusal.specs.Refusals.{Judged, fine, refused, is_fine, or_else, first_of, unless}
+use Rattle.std.specs.Prelude.{Result, Ok, Err, is_ok}
+use Rattle.refusal.specs.Refusals.{Judged, fine, refused, judged_by, is_fine, or_else, first_of, unless}
 use Rattle.refusal.proofs.Booleans.{wrong}
 
 -- a judgement by its cases
@@ -15,6 +16,11 @@ by_judgement_lem (refused n) f r = r n refl
 pub fine-is : (j : Judged) → is_fine j ≡ true → j ≡ fine
 fine-is fine e = refl
 fine-is (refused n) e = wrong e
+
+-- a judgement that code asks by itself
+pub ok-fine : (r : Result (Unit {0}) Refusal) → is_ok r ≡ is_fine (judged_by r)
+ok-fine (Ok u) = refl
+ok-fine (Err why) = refl
 
 -- behind the last judgement nothing is wrong
 pub or_else_last : (j : Judged) → or_else j fine ≡ j

@@ -1,11 +1,9 @@
 -- 01's table of refusals, the one place of their numbers and details (three, 0 where a case has fewer), and judgements, which name a case.
-use Rattle.std.specs.Prelude.{Bool, true, false, cond, ◌&&◌, List, [], ◌∷◌, ℕ, eqb}
+use Rattle.std.specs.Prelude.{Result, Ok, Err, Bool, true, false, cond, ◌&&◌, List, [], ◌∷◌, ℕ, eqb}
 use Rattle.refusal.specs.declared.Missing.{Missing}
 use Rattle.refusal.specs.declared.Numbers.{Numbers}
 use Rattle.refusal.specs.declared.Refusal.{Refusal}
 use Rattle.refusal.specs.declared.Refusal.TheVariants.{Magic, BannerLength, PeerRequires, PeerLacks, PreambleChecksum, Shape, Flags, Tag, Limit, StoreShort, SegmentChecksum, LateStatus, SourceLength, NoRoom, AbortOneSegment, OwnFeatures, AuthTag, NoncesSpent, Padding, BodyMalformed, UnexpectedTag, TableFull, AckAhead, NonCanonical, NumbersSpent, StateContradicts, SwitchRefused}
-use Rattle.refusal.specs.declared.Judgement.{Judgement}
-use Rattle.refusal.specs.declared.Judgement.TheVariants as judgement
 
 -- a number and three details
 abbrev pub row : ℕ → ℕ → ℕ → ℕ → Numbers
@@ -67,9 +65,9 @@ pub data Judged : Type 0 where
 abbrev pub refused_with : Refusal → Judged
 refused_with r = refused (numbers_of r)
 
-abbrev pub judged_by : Judgement → Judged
-judged_by judgement.Fine = fine
-judged_by (judgement.Refused r) = refused_with r
+abbrev pub judged_by : Result (Unit {0}) Refusal → Judged
+judged_by (Ok u) = fine
+judged_by (Err r) = refused_with r
 
 abbrev pub is_fine : Judged → Bool
 is_fine fine = true

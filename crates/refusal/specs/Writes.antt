@@ -1,8 +1,7 @@
 -- What a call that writes into a lent buffer comes to.
-use Rattle.std.specs.Prelude.{List, ℕ}
+use Rattle.std.specs.Prelude.{Result, Ok, Err, List, ℕ}
 use Rattle.refusal.specs.declared.Numbers.{Numbers}
-use Rattle.refusal.specs.declared.WriteResult.{WriteResult}
-use Rattle.refusal.specs.declared.WriteResult.TheVariants as result
+use Rattle.refusal.specs.declared.Refusal.{Refusal}
 use Rattle.refusal.specs.Refusals.{numbers_of}
 
 -- so many bytes, or a refusal in 01's numbers
@@ -23,6 +22,6 @@ pub record Done : Type 0 where
 abbrev pub done : WriteOutcome → List ℕ → Done
 done o l = record { outcome = o; buffer = l }
 
-abbrev pub outcome_of : WriteResult → WriteOutcome
-outcome_of (result.Wrote n) = wrote n
-outcome_of (result.Refused r) = refused_for (numbers_of r)
+abbrev pub outcome_of : Result ℕ Refusal → WriteOutcome
+outcome_of (Ok n) = wrote n
+outcome_of (Err r) = refused_for (numbers_of r)

@@ -1,8 +1,8 @@
-// What can be turned away, as 01's table has it: cases, their numbers and details, and judgements put in order.
+// What can be turned away, as 01's table has it: cases, their numbers and details. A judgement is a `Result<(), Refusal>`, and `?` puts judgements in order.
 #![tactic(auto)]
 
-ghost use Rattle.std.specs.Prelude.{◌≡◌, ◌&&◌, ◌||◌};
-ghost use Rattle.refusal.specs.Refusals.{row, numbers_of, no_refusal, is_no_refusal, judged_by, is_fine, or_else, unless};
+ghost use Rattle.std.specs.Prelude.{◌≡◌};
+ghost use Rattle.refusal.specs.Refusals.{row, numbers_of, no_refusal, is_no_refusal, judged_by, unless};
 
 // Feature bits that one side requires and the other does not support.
 #[derive(Clone, Copy)]
@@ -50,23 +50,9 @@ pub enum Refusal {
     SwitchRefused,
 }
 
-// What a judgement comes to.
-#[derive(Clone, Copy)]
-pub enum Judgement {
-    Fine,
-    Refused(Refusal),
-}
-
-// What a call that writes into a lent buffer comes to: so many bytes, or a refusal.
-#[derive(Clone, Copy)]
-pub enum WriteResult {
-    Wrote(usize),
-    Refused(Refusal),
-}
-
-// A refusal as numbers.
+// A refusal as numbers; all are 0 where there is none.
 #[repr(C)]
-#[derive(Clone, Copy)]
+#[derive(Clone, Copy, PartialEq, Eq, Default)]
 pub struct Numbers {
     pub number: u8,
     pub first: u64,
@@ -78,8 +64,8 @@ fn one(number: u8, first: u64) -> Numbers
     ensures { result ≡ row number first 0 0 }
 {
     Numbers {
-        number: number,
-        first: first,
+        number,
+        first,
         second: 0,
         third: 0,
     }
@@ -89,7 +75,7 @@ fn three(number: u8, m: Missing) -> Numbers
     ensures { result ≡ row number m.bits m.lowest m.count }
 {
     Numbers {
-        number: number,
+        number,
         first: m.bits,
         second: m.lowest as u64,
         third: m.count as u64,
@@ -131,61 +117,30 @@ pub fn numbers_of(refusal: Refusal) -> Numbers
     }
 }
 
+impl From<Refusal> for Numbers {
+    ghost from_gives = { λ refusal numbers. numbers ≡ numbers_of refusal };
+
+    fn from(refusal: Refusal) -> Numbers {
+        numbers_of(refusal)
+    }
+}
+
 // The numbers of no refusal.
 pub fn no_refusal() -> Numbers
     ensures { result ≡ no_refusal }
 {
-    one(0, 0)
+    Numbers::default()
 }
 
 pub fn is_no_refusal(n: Numbers) -> bool
     ensures { result ≡ is_no_refusal n }
 {
-    let details = both(n.second == 0, n.third == 0);
-    both(both(n.number == 0, n.first == 0), details)
-}
-
-// Nothing is wrong.
-pub fn is_fine(v: Judgement) -> bool
-    ensures { result ≡ is_fine (judged_by v) }
-{
-    match v {
-        Judgement::Fine => true,
-        Judgement::Refused(_) => false,
-    }
-}
-
-// The first of two judgements that is a refusal.
-pub fn or_else(a: Judgement, b: Judgement) -> Judgement
-    ensures { judged_by result ≡ or_else (judged_by a) (judged_by b) }
-{
-    match a {
-        Judgement::Fine => b,
-        Judgement::Refused(refusal) => Judgement::Refused(refusal),
-    }
+    n == no_refusal()
 }
 
 // The refusal, unless a test held.
-pub fn unless(ok: bool, refusal: Refusal) -> Judgement
+pub fn unless(ok: bool, refusal: Refusal) -> Result<(), Refusal>
     ensures { judged_by result ≡ unless ok refusal }
 {
-    if ok {
-        Judgement::Fine
-    } else {
-        Judgement::Refused(refusal)
-    }
-}
-
-// Both tests hold. A function, so that a chain of tests is one equation and no joined branches.
-pub fn both(a: bool, b: bool) -> bool
-    ensures { result ≡ (a && b) }
-{
-    if a { b } else { false }
-}
-
-// Whether one of them holds.
-pub fn either(a: bool, b: bool) -> bool
-    ensures { result ≡ (a || b) }
-{
-    if a { true } else { b }
+    if ok { Ok(()) } else { Err(refusal) }
 }

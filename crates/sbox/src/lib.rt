@@ -3,13 +3,23 @@
 
 mod table;
 
-ghost use Rattle.sbox.specs.Sbox.{Inverts, Ruled};
+ghost use Rattle.std.specs.Prelude.{◌≡◌};
+ghost use Rattle.sbox.specs.Sbox.{Inverts, Ruled, sbox};
 
-// The table, for a caller that holds it: a constant is stored anew wherever it is named.
+use table::SBOX;
+
+// The table, as an array of the caller's.
 pub fn sbox_table() -> [u8; 256]
     ensures { Ruled result }
 {
-    table::SBOX
+    SBOX
+}
+
+// What a byte is substituted by.
+pub fn substituted(b: u8) -> u8
+    ensures { result ≡ sbox b }
+{
+    SBOX[b as usize]
 }
 
 // Every byte but 0 has its inverse. The body does nothing: the promise is a theorem about the definition.

@@ -15,15 +15,14 @@ ghost use Rattle.sealed_builder.specs.Nonces.{NoNonceTwice};
 ghost use Rattle.sealed_builder.specs.States.{EveryBuild};
 ghost use Rattle.sealed_builder.specs.Trip.{SentBack};
 
-use aes::key_expansion;
+use aes::{RoundKeys, key_expansion};
 use banner::Revision;
 use body::late_byte;
-use buffer::{behind, part, put, put_zeros, u32_bytes};
+use buffer::{behind, part, put, put_zeros};
 use builder::{judge_abort, room};
-use crc32c::checksum;
 use gcm::seal_in_place;
-use preamble::{Header, judge_header, preamble_front, total_of};
-use refusal::{Judgement, Refusal, WriteResult, both, either, or_else, unless};
+use preamble::{Header, judge_header, preamble_bytes, total_of};
+use refusal::{Refusal, unless};
 use secure::{
     all_zero, last_part_length, next_nonce, no_last_part, no_second_part, padding, part_count,
     sealed_length,
@@ -45,13 +44,14 @@ pub struct Sending {
 // What a build comes to.
 #[derive(Clone, Copy)]
 pub struct Sealed {
-    pub built: WriteResult,
+    pub built: Result<usize, Refusal>,
     pub sending: Sending,
 }
 
 // ---- sending states
 
 // What a switch hands back.
+#[tactic(auto, unfolding(crate::specs::Build::fresh_sending))]
 pub fn fresh_sending(key: [u8; 16], nonce: [u8; 12]) -> Sending
     ensures { result ≡ fresh_sending key nonce }
 {
@@ -65,30 +65,26 @@ pub fn fresh_sending(key: [u8; 16], nonce: [u8; 12]) -> Sending
 }
 
 // What a refused one does.
+#[tactic(auto, unfolding(crate::specs::Build::refused_sending, crate::specs::Build::fresh_sending))]
 pub fn refused_sending() -> Sending
     ensures { result ≡ refused_sending }
 {
-    let key = [0u8; 16];
-    let nonce = [0u8; 12];
     Sending {
-        key,
-        nonce,
-        spent: 0,
-        exhausted: false,
         refused: true,
+        ..fresh_sending([0; 16], [0; 12])
     }
 }
 
+#[tactic(auto, unfolding(crate::specs::Build::agrees))]
 fn agrees_with_itself(s: Sending) -> bool
     ensures { result ≡ agrees s }
 {
-    let key = s.key;
-    let nonce = s.nonce;
-    let none = both(s.spent == 0, !s.exhausted);
-    let zero = both(all_zero(&key), both(all_zero(&nonce), none));
-    both(either(!s.exhausted, s.spent == 0), either(!s.refused, zero))
+    let zero = all_zero(&s.key) && all_zero(&s.nonce) && s.spent == 0 && !s.exhausted;
+    (!s.exhausted || s.spent == 0) && (!s.refused || zero)
 }
 
+// Case by case: a frame has three parts at most, and a loop would want an invariant for them.
+#[tactic(auto, unfolding(secure::specs::Layout::nonce_after))]
 fn nonces_after(nonce: [u8; 12], k: u64) -> [u8; 12]
     requires { (1 ≤ k) × (k ≤ 3) }
     ensures { result ≡ nonce_after k nonce }
@@ -105,20 +101,17 @@ fn nonces_after(nonce: [u8; 12], k: u64) -> [u8; 12]
 }
 
 // Behind k parts more.
+#[tactic(auto, unfolding(crate::specs::Build::sent_more))]
 fn sent_more(s: Sending, k: u64) -> Sending
     requires { (1 ≤ k) × (k ≤ 3) × (s.spent + k ≤ all_nonces) }
     ensures { result ≡ sent_more s k }
 {
-    let key = s.key;
-    let last = s.nonce;
-    let nonce = nonces_after(last, k);
-    let spent = std::num::wrapping_add_u64(s.spent, k);
+    let spent = s.spent.wrapping_add(k);
     Sending {
-        key,
-        nonce,
+        nonce: nonces_after(s.nonce, k),
         spent,
         exhausted: spent == 0,
-        refused: s.refused,
+        ..s
     }
 }
 
@@ -128,12 +121,10 @@ fn nonces_left(s: Sending, k: u64) -> bool
     requires { (1 ≤ k) × (k ≤ 3) }
     ensures { result ≡ nat_le (spent_of s + k) all_nonces }
 {
-    if s.exhausted {
-        return false;
-    }
-    s.spent <= 0xFFFFFFFFFFFFFFFF - (k - 1)
+    !s.exhausted && s.spent <= u64::MAX - (k - 1)
 }
 
+#[tactic(auto, unfolding(crate::specs::Build::judge_earlier), using(refusal::proofs::Judgements::or_else_last))]
 fn judge_earlier(
     s: Sending,
     h: Header,
@@ -141,20 +132,19 @@ fn judge_earlier(
     source: usize,
     space: usize,
     queued: usize,
-) -> Judgement
+) -> Result<(), Refusal>
     ensures { judged_by result ≡ judge_earlier s h abort source space queued }
 {
+    unless(agrees_with_itself(s), Refusal::StateContradicts)?;
+    unless(!s.refused, Refusal::SwitchRefused)?;
+    judge_header(h)?;
+    unless(source as u64 == total_of(h), Refusal::SourceLength)?;
+    judge_abort(Revision::Msgr21, h.count, abort)?;
     let n = sealed_length(h);
-    let v14 = unless(room(n, space, queued), Refusal::NoRoom(n));
-    let v15 = or_else(judge_abort(Revision::Msgr21, h.count, abort), v14);
-    let t = total_of(h);
-    let v13 = or_else(unless(source as u64 == t, Refusal::SourceLength), v15);
-    let v6 = or_else(judge_header(h), v13);
-    let v27 = or_else(unless(!s.refused, Refusal::SwitchRefused), v6);
-    let v26 = unless(agrees_with_itself(s), Refusal::StateContradicts);
-    or_else(v26, v27)
+    unless(room(n, space, queued), Refusal::NoRoom(n))
 }
 
+#[tactic(auto, unfolding(crate::specs::Build::judge_sealed))]
 fn judge_sealed(
     s: Sending,
     h: Header,
@@ -162,25 +152,35 @@ fn judge_sealed(
     source: usize,
     space: usize,
     queued: usize,
-) -> Judgement
+) -> Result<(), Refusal>
     ensures { judged_by result ≡ judge_sealed s h abort source space queued }
 {
-    let earlier = judge_earlier(s, h, abort, source, space, queued);
-    let left = nonces_left(s, part_count(h));
-    or_else(earlier, unless(left, Refusal::NoncesSpent))
+    judge_earlier(s, h, abort, source, space, queued)?;
+    unless(nonces_left(s, part_count(h)), Refusal::NoncesSpent)
+}
+
+// ---- a frame, and what seals it
+
+// A frame's segments are those of its header, one behind the other; the first one stands by itself.
+#[derive(Clone, Copy)]
+struct Frame<'a> {
+    header: Header,
+    abort: bool,
+    first: &'a [u8],
+    rest: &'a [u8],
+    ghost first_whole: { length first.now ≡ header.s1.len },
+    ghost first_short: { header.s1.len < 4294967296 },
+    ghost rest_whole: { length rest.now ≡ rest_length header },
+}
+
+// The round keys of the key, and the nonce of the next part.
+#[derive(Clone, Copy)]
+struct Sealer<'a> {
+    w: &'a RoundKeys,
+    nonce: [u8; 12],
 }
 
 // ---- texts, each laid into the front of the part that is lent
-
-fn put_preamble(out: &mut [u8], h: Header)
-    requires { 32 ≤ length out.old }
-    ensures { out.new ≡ replace_front (preamble_bytes h) out.old }
-{
-    let front = preamble_front(h);
-    put(out, &front);
-    let sum = u32_bytes(checksum(0, &front));
-    put(&mut out[28..], &sum);
-}
 
 fn put_inline(out: &mut [u8], first: &[u8])
     requires { 48 ≤ length out.old }
@@ -192,11 +192,12 @@ fn put_inline(out: &mut [u8], first: &[u8])
     put_zeros(&mut out[n..], 48 - n);
 }
 
+#[tactic(auto, unfolding(secure::specs::Layout::first_text))]
 fn put_first(out: &mut [u8], h: Header, first: &[u8])
     requires { 80 ≤ length out.old }
     ensures { out.new ≡ replace_front (first_text h first.now) out.old }
 {
-    put_preamble(out, h);
+    put(out, &preamble_bytes(h));
     put_inline(&mut out[32..], first);
 }
 
@@ -239,7 +240,7 @@ fn put_fourth(out: &mut [u8], abort: bool, n: usize, rest: &[u8])
     put_epilogue(&mut out[e..], abort);
 }
 
-// And from the one before it on.
+// And from the one before it on. Three functions in place of a loop: each proof is one step, and a loop would carry all of them.
 fn put_third(out: &mut [u8], abort: bool, n: usize, n4: usize, rest: &[u8])
     requires { (length rest.now ≡ n + n4) × (round_up n + round_up n4 + 16 ≤ length out.old) }
     ensures { out.new ≡ replace_front (padded_from (n ∷ n4 ∷ []) (late_byte Msgr21 abort) (rest_sent abort rest.now)) out.old }
@@ -250,109 +251,94 @@ fn put_third(out: &mut [u8], abort: bool, n: usize, n4: usize, rest: &[u8])
 }
 
 // Segments 2 to 4 and the epilogue.
-fn put_last(out: &mut [u8], h: Header, abort: bool, rest: &[u8])
-    requires { (length rest.now ≡ rest_length h) × (last_part h ≤ length out.old + 16) }
-    ensures { out.new ≡ replace_front (last_text h (late_byte Msgr21 abort) (rest_sent abort rest.now)) out.old }
+#[tactic(auto, unfolding(secure::specs::Layout::last_text))]
+fn put_last(out: &mut [u8], f: &Frame)
+    requires { last_part f.now.header ≤ length out.old + 16 }
+    ensures { out.new ≡ replace_front (last_text f.now.header (late_byte Msgr21 f.now.abort) (rest_sent f.now.abort f.now.rest.now)) out.old }
 {
-    let n = h.s2.len as usize;
-    let n3 = h.s3.len as usize;
-    let n4 = h.s4.len as usize;
+    let n = f.header.s2.len as usize;
+    let n3 = f.header.s3.len as usize;
+    let n4 = f.header.s4.len as usize;
     let e = n + padding(n);
-    put_padded(out, abort, part(rest, 0, n));
-    put_third(&mut out[e..], abort, n3, n4, behind(rest, n));
+    put_padded(out, f.abort, part(f.rest, 0, n));
+    put_third(&mut out[e..], f.abort, n3, n4, behind(f.rest, n));
 }
 
 // ---- parts, each sealed where its text was laid
 
 // Seals the n first bytes, and puts their tag behind them.
-fn seal_front(out: &mut [u8], w: &[[[u8; 4]; 4]; 11], nonce: [u8; 12], n: usize)
+fn seal_front(out: &mut [u8], k: &Sealer, n: usize)
     requires { (n + 16 ≤ length out.old) × (n ≤ limit) }
-    ensures { out.new ≡ replace_front (sealed_by w.now nonce (take n out.old)) out.old }
+    ensures { out.new ≡ replace_front (sealed_by k.now.w.now k.now.nonce (take n out.old)) out.old }
 {
-    let e = n + 16;
-    seal_in_place(w, nonce, &mut out[..e]);
+    // No refusal is left: there is room for the tag, and the text is not too long.
+    let _ = seal_in_place(k.w, k.nonce, &mut out[..n + 16]);
 }
 
-fn seal_first(out: &mut [u8], w: &[[[u8; 4]; 4]; 11], nonce: [u8; 12], h: Header, first: &[u8])
+fn seal_first(out: &mut [u8], k: &Sealer, f: &Frame)
     requires { 96 ≤ length out.old }
-    ensures { out.new ≡ replace_front (sealed_by w.now nonce (first_text h first.now)) out.old }
+    ensures { out.new ≡ replace_front (sealed_by k.now.w.now k.now.nonce (first_text f.now.header f.now.first.now)) out.old }
 {
-    put_first(out, h, first);
-    seal_front(out, w, nonce, 80);
+    put_first(out, f.header, f.first);
+    seal_front(out, k, 80);
 }
 
-fn seal_second_part(out: &mut [u8], w: &[[[u8; 4]; 4]; 11], nonce: [u8; 12], first: &[u8])
-    requires { (round_up (length first.now - 48) + 16 ≤ length out.old) × (length first.now < 4294967296) }
-    ensures { out.new ≡ replace_front (sealed_by w.now nonce (second_text first.now)) out.old }
+fn seal_second_part(out: &mut [u8], k: &Sealer, f: &Frame)
+    requires { round_up (f.now.header.s1.len - 48) + 16 ≤ length out.old }
+    ensures { out.new ≡ replace_front (sealed_by k.now.w.now k.now.nonce (second_text f.now.first.now)) out.old }
 {
-    let tail = behind(first, 48);
+    let tail = behind(f.first, 48);
     let n = tail.len();
     let m = n + padding(n);
     put_padded(out, false, tail);
-    seal_front(out, w, nonce, m);
+    seal_front(out, k, m);
 }
 
-fn seal_last(
-    out: &mut [u8],
-    w: &[[[u8; 4]; 4]; 11],
-    nonce: [u8; 12],
-    h: Header,
-    abort: bool,
-    rest: &[u8],
-)
-    requires { (length rest.now ≡ rest_length h) × (last_part_length h ≤ length out.old) }
-    ensures { out.new ≡ replace_front (sealed_parts w.now (parts_from nonce (unless_none (no_last_part h) (last_text h (late_byte Msgr21 abort) (rest_sent abort rest.now))))) out.old }
+fn seal_last(out: &mut [u8], k: &Sealer, f: &Frame)
+    requires { last_part_length f.now.header ≤ length out.old }
+    ensures { out.new ≡ replace_front (sealed_parts k.now.w.now (parts_from k.now.nonce (unless_none (no_last_part f.now.header) (last_text f.now.header (late_byte Msgr21 f.now.abort) (rest_sent f.now.abort f.now.rest.now))))) out.old }
 {
-    if no_last_part(h) {
+    if no_last_part(f.header) {
         return;
     }
-    let n = (last_part_length(h) - 16) as usize;
-    put_last(out, h, abort, rest);
-    seal_front(out, w, nonce, n);
+    let n = (last_part_length(f.header) - 16) as usize;
+    put_last(out, f);
+    seal_front(out, k, n);
 }
 
 // The parts behind the first one.
-fn seal_later(
-    out: &mut [u8],
-    w: &[[[u8; 4]; 4]; 11],
-    nonce: [u8; 12],
-    h: Header,
-    abort: bool,
-    first: &[u8],
-    rest: &[u8],
-)
-    requires { (length first.now ≡ h.s1.len) × (length first.now < 4294967296) × (length rest.now ≡ rest_length h) × (second_part_length h + last_part_length h ≤ length out.old) }
-    ensures { out.new ≡ replace_front (sealed_parts w.now (parts_from nonce (later_texts h (late_byte Msgr21 abort) first.now (rest_sent abort rest.now)))) out.old }
+fn seal_later(out: &mut [u8], k: &Sealer, f: &Frame)
+    requires { second_part_length f.now.header + last_part_length f.now.header ≤ length out.old }
+    ensures { out.new ≡ replace_front (sealed_parts k.now.w.now (parts_from k.now.nonce (later_texts f.now.header (late_byte Msgr21 f.now.abort) f.now.first.now (rest_sent f.now.abort f.now.rest.now)))) out.old }
 {
-    if no_second_part(h) {
-        seal_last(out, w, nonce, h, abort, rest);
+    if no_second_part(f.header) {
+        seal_last(out, k, f);
         return;
     }
-    let n = first.len() - 48;
+    let n = f.first.len() - 48;
     let a = n + padding(n) + 16;
-    let next = next_nonce(nonce);
-    seal_second_part(out, w, nonce, first);
-    seal_last(&mut out[a..], w, next, h, abort, rest);
+    let nonce = next_nonce(k.nonce);
+    seal_second_part(out, k, f);
+    seal_last(&mut out[a..], &Sealer { w: k.w, nonce }, f);
 }
 
 // A whole frame.
-fn put_sealed(
-    out: &mut [u8],
-    w: &[[[u8; 4]; 4]; 11],
-    nonce: [u8; 12],
-    h: Header,
-    abort: bool,
-    source: &[u8],
-)
+fn put_sealed(out: &mut [u8], k: &Sealer, h: Header, abort: bool, source: &[u8])
     requires { (length source.now ≡ total h) × (sealed_length h ≤ length out.old) }
-    ensures { out.new ≡ replace_front (sealed_parts w.now (frame_parts nonce h abort source.now)) out.old }
+    ensures { out.new ≡ replace_front (sealed_parts k.now.w.now (frame_parts k.now.nonce h abort source.now)) out.old }
 {
     let n = h.s1.len as usize;
     let first = part(source, 0, n);
     let rest = behind(source, n);
-    let next = next_nonce(nonce);
-    seal_first(out, w, nonce, h, first);
-    seal_later(&mut out[96..], w, next, h, abort, first, rest);
+    let f = Frame {
+        header: h,
+        abort,
+        first,
+        rest,
+    };
+    let nonce = next_nonce(k.nonce);
+    seal_first(out, k, &f);
+    seal_later(&mut out[96..], &Sealer { w: k.w, nonce }, &f);
 }
 
 // ---- the builder
@@ -368,20 +354,20 @@ pub fn build_sealed(
 ) -> Sealed
     ensures { BuiltSealed sending header abort source.now buf.old queued result buf.new }
 {
-    let judgement = judge_sealed(sending, header, abort, source.len(), buf.len(), queued);
-    match judgement {
-        Judgement::Refused(why) => {
-            let built = WriteResult::Refused(why);
-            Sealed { built, sending }
-        }
-        Judgement::Fine => {
-            let key = sending.key;
+    match judge_sealed(sending, header, abort, source.len(), buf.len(), queued) {
+        Err(why) => Sealed {
+            built: Err(why),
+            sending,
+        },
+        Ok(()) => {
+            let w = key_expansion(sending.key);
             let nonce = sending.nonce;
-            let w = key_expansion(key);
-            put_sealed(&mut buf[queued..], &w, nonce, header, abort, source);
-            let built = WriteResult::Wrote(sealed_length(header) as usize);
-            let sending = sent_more(sending, part_count(header));
-            Sealed { built, sending }
+            let k = Sealer { w: &w, nonce };
+            put_sealed(&mut buf[queued..], &k, header, abort, source);
+            Sealed {
+                built: Ok(sealed_length(header) as usize),
+                sending: sent_more(sending, part_count(header)),
+            }
         }
     }
 }
@@ -397,6 +383,7 @@ pub fn no_nonce_twice()
 {}
 
 // What is built comes back: a theorem too.
+#[tactic(auto, using(crate::proofs::Trip::sent_back))]
 pub fn sent_back()
     ensures { SentBack }
 {}

@@ -17,7 +17,7 @@ use Rattle.body.specs.End.{Ended, whole, dropped, refused_for}
 use Rattle.stream.specs.Events.{Role, banner_end, first_end, frame_end, stream_end, role_of, is_frame_end}
 use Rattle.stream.specs.Stream.{Entry, Trace, unless_refused, trace_of}
 use Rattle.stream.specs.Adds.{AddsAt, Adds, AddsUp, AllAddUp}
-use Rattle.stream.proofs.Sums.{all-add-up}
+use Rattle.stream.proofs.Sums.{all_add_up}
 use Rattle.stream.proofs.Events.{by_front}
 use Rattle.aes.specs.Aes.{State, key_expansion}
 use Rattle.gcm.specs.Gcm.{Opened, plain, fail, opened_by}
@@ -130,13 +130,13 @@ module _ (next : ℕ → List ℕ → Trace) (store : List ℕ) (g : (at : ℕ) 
 
 with-adds : (sw : Switch) (own : Features) (stream store : List ℕ) → AddsWith sw (trace_with sw own stream store).entries
 unfolding AllAddUp
-with-adds none own stream store = all-add-up own stream store
+with-adds none own stream store = all_add_up own stream store
 with-adds (behind n key nonce) own stream store =
     all-behind (λ at s. sealed_trace key nonce 0 at (drop at stream) s) (trace_of own stream store).store (λ at s. sealed-add key nonce at (drop at stream) s) n
-    (trace_of own stream store).entries (all-add-up own stream store)
+    (trace_of own stream store).entries (all_add_up own stream store)
 
-pub switched-add-up : SwitchedAddUp
+pub switched_add_up : SwitchedAddUp
 unfolding SwitchedAddUp SwitchedDemand3
-switched-add-up own stream store cs ch =
+switched_add_up own stream store cs ch =
     let d = switched-demand3 own stream store cs ch in
     rw d.reports (with-adds (switch_by 0 cs) own (take (taken_by 0 cs) stream) store)

@@ -159,8 +159,8 @@ module _ (own : Features) (store : List ℕ) (r : Revision) (F : Front) (X : Lis
   through cs ch q (refused e) =
       entries-behind X _ (((switched-demand3 own (bytes_in F ++ X) store cs ch).whole e).0 ∙ ap (λ (x : Switch). (trace_with x own (bytes_in F ++ X) store).entries) q)
 
-pub handed-over : SealedHandedOver
-handed-over = record {
+pub handed_over : SealedHandedOver
+handed_over = record {
   anywhere = anywhere;
   behind = λ own store r F X b. record {
     defined = entries-behind own store r F X b X _ refl;

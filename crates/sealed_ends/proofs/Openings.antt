@@ -16,8 +16,8 @@ use Rattle.refusal.proofs.Booleans.{by_test, at_cond, wrong}
 use Rattle.refusal.proofs.Judgements.{passed}
 use Rattle.preamble.specs.Judge.{header_of}
 use Rattle.body.specs.End.{Ended, whole, dropped, refused_for}
-use Rattle.receiver.specs.declared.Report.{Report}
-use Rattle.receiver.specs.declared.Report.TheVariants as report
+use Rattle.receiver.specs.Report.{Report}
+use Rattle.std.specs.Prelude.{Some, None}
 use Rattle.gcm.specs.Gcm.{Opened, plain, fail, opened}
 use Rattle.secure.specs.Layout.{all_nonces, nonce_after, inline_length, no_second_part, no_last_part}
 use Rattle.secure.specs.Reading.{judge_nonce, judge_padding, judge_first, last_ended, zeroed}
@@ -218,9 +218,9 @@ module _ (r : Receiving) (os : List Opening) (later : sealed.State → List ℕ 
     (ih : (y : sealed.State) (s : List ℕ) → is_refused y.position.stage ≡ false → opened_of y.known.receiving ≤ all_nonces → AfterOpenings y.known.receiving (later y s) (rest y s).received.state) where
   by_report : (p : Report) (x : Stepped) (a : Ran r os) → On r a.count x.state
       → AfterOpenings r (os ++ unless_reported p (later x.state x.store)) (step.onward p 1 x (rest x.state x.store)).received.state
-  by_report report.More x a o =
+  by_report None x a o =
       after_more r os (later x.state x.store) x.state (rest x.state x.store).received.state a o (ih x.state x.store o.live (fewer r os x.state a o))
-  by_report (report.Event e) x a o = rw (append-nil os) (further a o)
+  by_report (Some e) x a o = rw (append-nil os) (further a o)
 
   by_byte : (x : Stepped) → Byte r os x
       → AfterOpenings r (os ++ unless_reported x.report (later x.state x.store)) (step.onward x.report 1 x (rest x.state x.store)).received.state
@@ -345,5 +345,5 @@ one_key_lem : (st : State) (c : Try) (cs : List AnyCall) → Made st c → Hande
 unfolding fresh_receiving
 one_key_lem st c cs m ch = (from-switch st c cs m ch).under
 
-pub no-nonce-opened-twice : NoNonceOpenedTwice
-no-nonce-opened-twice = record { different = different; one_key = one_key_lem; counted = counted; only = only }
+pub no_nonce_opened_twice : NoNonceOpenedTwice
+no_nonce_opened_twice = record { different = different; one_key = one_key_lem; counted = counted; only = only }

@@ -3,8 +3,8 @@ use Rattle.std.specs.Prelude.{◌≡◌, List, [], ◌∷◌, ◌++◌, Bool, tr
 use Rattle.refusal.specs.declared.Refusal.TheVariants as refusal
 use Rattle.refusal.specs.Refusals.{Judged, fine, refused, numbers_of, judged_by}
 use Rattle.preamble.specs.declared.Header.{Header}
-use Rattle.receiver.specs.declared.Report.{Report}
-use Rattle.receiver.specs.declared.Report.TheVariants as report
+use Rattle.receiver.specs.Report.{Report}
+use Rattle.std.specs.Prelude.{Some, None}
 use Rattle.gcm.specs.Gcm.{Opened, opened}
 use Rattle.secure.specs.Reading.{judge_nonce, zeroed}
 use Rattle.sealed_receiver.specs.declared.Stage.{Stage}
@@ -88,8 +88,8 @@ byte_by os st s b = reached_by os (ltb (st.position.got + 1) (size st)) (absorbe
 
 -- a piece: byte after byte, up to and including the first that gives a report
 abbrev pub unless_reported : Report → List Opening → List Opening
-unless_reported report.More os = os
-unless_reported (report.Event e) os = []
+unless_reported None os = os
+unless_reported (Some e) os = []
 
 unfoldable pub openings_in : sealed.State → List ℕ → List ℕ → List Opening
 openings_in st s [] = []

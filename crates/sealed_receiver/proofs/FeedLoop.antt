@@ -1,7 +1,9 @@
 -- The loop over a piece: from one chunk to the next (Feeding), in the terms of what the receiver's functions promise.
-use Rattle.std.proofs.Common.{◌≡◌, ℕ, ◌+◌, ◌<◌, ◌≤◌, false, List, length, sym, ap, ◌∙◌}
+use Rattle.std.proofs.Common.{◌≡◌, ℕ, ◌+◌, ◌<◌, ◌≤◌, true, false, List, length, sym, refl, ap, ◌∙◌}
 use Rattle.buffer.proofs.Parts.{rest}
-use Rattle.receiver.specs.declared.Report.TheVariants as report
+use Rattle.std.specs.Prelude.{Some, None, is_some}
+use Rattle.refusal.proofs.Booleans.{wrong}
+use Rattle.receiver.specs.Report.{Report}
 use Rattle.receiver.specs.Step.{is_more}
 use Rattle.receiver.proofs.Machine as machine
 use Rattle.receiver.proofs.Gathers.{byte_step}
@@ -37,6 +39,15 @@ reported {piece} {store₀} {st₀} {store} {st} {at} {o} {store'} t e =
     fed st₀ store₀ piece (record { state = o.state; taken = at + o.taken; report = o.report }) store' (feeding.reported t e)
 
 pub finished : {piece store₀ : List ℕ} {st₀ : State} {store : List ℕ} {st : State} {at : ℕ} → Midway piece store₀ st₀ store st at → length piece ≤ at
-    → Fed st₀ store₀ piece (record { state = st; taken = at; report = report.More }) store
+    → Fed st₀ store₀ piece (record { state = st; taken = at; report = None }) store
 finished {piece} {store₀} {st₀} {store} {st} {at} m l =
-    fed st₀ store₀ piece (record { state = st; taken = at; report = report.More }) store (feeding.finished lasting m l)
+    fed st₀ store₀ piece (record { state = st; taken = at; report = None }) store (feeding.finished lasting m l)
+
+-- a report, as code tests it
+pub some-report : (r : Report) → is_some r ≡ true → is_more r ≡ false
+some-report None e = wrong e
+some-report (Some v) e = refl
+
+pub no-report : (r : Report) → is_some r ≡ false → is_more r ≡ true
+no-report None e = refl
+no-report (Some v) e = wrong (sym e)

@@ -1,5 +1,5 @@
 -- The first part: what its judgements come to, and what follows them.
-use Rattle.std.proofs.Common.{◌≡◌, ℕ, ◌+◌, ◌-◌, ◌≤◌, List, [], ◌∷◌, ◌++◌, length, take, drop, sym, ap, ◌∙◌, append_assoc, arith, length-take, take_at}
+use Rattle.std.proofs.Common.{◌≡◌, ℕ, ◌+◌, ◌-◌, ◌≤◌, List, [], ◌∷◌, ◌++◌, length, take, drop, sym, ap, ◌∙◌, arith, length-take, take_at}
 use Rattle.buffer.specs.Splice.{replace_front, overwrite}
 use Rattle.buffer.proofs.Parts.{overwrite-fits}
 use Rattle.refusal.specs.declared.Numbers.{Numbers}
@@ -12,7 +12,7 @@ use Rattle.secure.specs.Reading.{judge_padding, judge_first}
 use Rattle.sealed_receiver.specs.declared.Stage.TheVariants as stage
 use Rattle.sealed_receiver.specs.declared.Receiving.{Receiving}
 use Rattle.sealed_receiver.specs.declared.Known.{Known}
-use Rattle.sealed_receiver.specs.Step.{Stepped, refuse, unless_refused, with_header, with_opened, judge_part, part_text, begin_second_part, after_first_part, finish}
+use Rattle.sealed_receiver.specs.Step.{refuse, unless_refused, with_header, with_opened, judge_part, part_text, begin_second_part, after_first_part, finish}
 use Rattle.sealed_receiver.proofs.Openings.{part-text-length}
 use Rattle.secure.proofs.Bounds.{segments-fit}
 use Rattle.secure.proofs.Parts.{first_fits}
@@ -29,9 +29,9 @@ module _ (text : List ℕ) (store : ℕ) where
   abbrev padded : Judged
   padded = judge_padding (drop (32 + h.s1.len) text)
 
-  pub judged-first : or_else (first_of (preamble_judgements (preamble_of text) text)) (or_else room padded) ≡ judge_first text store
+  pub judged_first : or_else (first_of (preamble_judgements (preamble_of text) text)) (or_else room padded) ≡ judge_first text store
   unfolding judge_first
-  judged-first =
+  judged_first =
       ap (λ (j : Judged). or_else (first_of (preamble_judgements (preamble_of text) text)) (or_else room j)) (sym (or_else_last padded))
       ∙ first-append (preamble_judgements (preamble_of text) text) (room ∷ padded ∷ [])
 
@@ -57,28 +57,20 @@ module _ (v : Known) (text s : List ℕ) where
 
 -- ---- opened in the block
 
-module _ (v : Known) (b b' s : List ℕ) (same : b' ≡ b) where
+module _ (v : Known) (b s : List ℕ) where
   abbrev r : Receiving
   r = v.receiving
 
-  abbrev answer : List ℕ → Stepped
-  answer x = unless_refused (judge_part r x) s (after_first_part (with_opened v) (part_text r x) s)
-
-  pub first_unopened : (n : Numbers) → judge_part r b' ≡ refused n → refuse n s ≡ finish stage.First b v s
+  pub first_unopened : (n : Numbers) → judge_part r b ≡ refused n → refuse n s ≡ finish stage.First b v s
   unfolding finish
-  first_unopened n j =
-      sym (ap (λ (x : Judged). unless_refused x s (after_first_part (with_opened v) (part_text r b') s)) j) ∙ ap answer same
+  first_unopened n j = sym (ap (λ (x : Judged). unless_refused x s (after_first_part (with_opened v) (part_text r b) s)) j)
 
-  pub first-opened : (ys post text : List ℕ) → length b ≡ 96 → judge_part r b' ≡ fine
-      → ys ≡ part_text r b' ++ drop (length b' - 16) b' → text ≡ take 80 (ys ++ post)
+  pub first-opened : (ys text : List ℕ) → length b ≡ 96 → judge_part r b ≡ fine
+      → ys ≡ part_text r b ++ drop (length b - 16) b → text ≡ take 80 ys
       → after_first_part (with_opened v) text s ≡ finish stage.First b v s
   unfolding finish
-  first-opened ys post text l j ey et =
-      let tag : List ℕ = drop (length b' - 16) b' in
-      let lt : length (part_text r b') ≡ 80 = part-text-length r b' j ∙ omega (arith, ap length same) in
-      let is : text ≡ part_text r b' =
-      et ∙ ap (λ (t : List ℕ). take 80 (t ++ post)) ey ∙ ap (take 80) (append_assoc (part_text r b') tag post)
-      ∙ take_at (part_text r b') (tag ++ post) 80 lt in
+  first-opened ys text l j ey et =
+      let lt : length (part_text r b) ≡ 80 = part-text-length r b j ∙ omega arith in
+      let is : text ≡ part_text r b = et ∙ ap (take 80) ey ∙ take_at (part_text r b) (drop (length b - 16) b) 80 lt in
       ap (λ (t : List ℕ). after_first_part (with_opened v) t s) is
-      ∙ sym (ap (λ (x : Judged). unless_refused x s (after_first_part (with_opened v) (part_text r b') s)) j)
-      ∙ ap answer same
+      ∙ sym (ap (λ (x : Judged). unless_refused x s (after_first_part (with_opened v) (part_text r b) s)) j)

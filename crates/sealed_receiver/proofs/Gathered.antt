@@ -1,8 +1,8 @@
 -- The receiver gathers the bytes of a part (Gathers): a piece, fed byte by byte, is the machine's.
 use Rattle.std.proofs.Common.{◌≡◌, ℕ, ◌+◌, Bool, true, false, List, [], ◌∷◌, ◌++◌, length, sym, refl, ap, ◌∙◌, add_assoc}
 use lib.Seq.{sets}
-use Rattle.receiver.specs.declared.Report.{Report}
-use Rattle.receiver.specs.declared.Report.TheVariants as report
+use Rattle.receiver.specs.Report.{Report}
+use Rattle.std.specs.Prelude.{Some, None}
 use Rattle.receiver.proofs.Machine as machine
 use Rattle.buffer.proofs.Sets.{sets-append}
 use Rattle.receiver.proofs.Gathers.{Gathering, got-append, byte_step}
@@ -60,8 +60,8 @@ abbrev pub machine_answer : Answer → machine.Answer State
 machine_answer a = record { state = a.received.state; taken = a.received.taken; report = a.received.report; store = a.store }
 
 machine_onward : (r : Report) (x : Stepped) (a : Answer) → machine_answer (onward r 1 x a) ≡ machine.onward r (bare x) (machine_answer a)
-machine_onward report.More x a = refl
-machine_onward (report.Event e) x a = refl
+machine_onward None x a = refl
+machine_onward (Some e) x a = refl
 
 pub machine_feed : (st : State) (s piece : List ℕ) → machine_answer (feed st s piece) ≡ machine.feed (byte_step parts) st s piece
 unfolding feed machine.feed on_byte

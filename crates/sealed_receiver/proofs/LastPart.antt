@@ -69,7 +69,7 @@ module _ (h : Header) (text : List ℕ) (r₂ r₃ r₄ : ℕ)
       && all_zero (drop h.s3.len (take (round_up h.s3.len) (drop r₂ text)))
       && (all_zero (drop h.s4.len (take (round_up h.s4.len) (drop (r₂ + r₃) text))) && all_zero (drop (r₂ + r₃ + r₄ + 1) text))
 
-  padded-is : zeros₂ ≡ all_zero (padding_of (last_lengths h) text)
+  pub padded-is : zeros₂ ≡ all_zero (padding_of (last_lengths h) text)
   padded-is =
       and_assoc (all_zero (drop h.s2.len (take (round_up h.s2.len) text)))
       (all_zero (drop h.s3.len (take (round_up h.s3.len) (drop r₂ text))))
@@ -78,11 +78,11 @@ module _ (h : Header) (text : List ℕ) (r₂ r₃ r₄ : ℕ)
       ∙ ap₂ (places (0 + round_up h.s2.len)) fourth_at epilogue-at
       ∙ sym (padded-at (last_lengths h) 0 text)
 
-  pub last-ended : (late : ℕ) (padded : Bool) → late ≡ get_or text (r₂ + r₃ + r₄) 0 → padded ≡ zeros₂
+  pub last-ended : (late : ℕ) (padded : Bool) → late ≡ get_or text (r₂ + r₃ + r₄) 0 → padded ≡ all_zero (padding_of (last_lengths h) text)
       → by_late_status (late_of Msgr21 late) late (unless padded refusal.Padding) ≡ last_ended h text
   unfolding last_ended
   last-ended late padded el ep =
-      ap₂ (λ (b : ℕ) (p : Bool). by_late_status (late_of Msgr21 b) b (unless p refusal.Padding)) (el ∙ late_is) (ep ∙ padded-is)
+      ap₂ (λ (b : ℕ) (p : Bool). by_late_status (late_of Msgr21 b) b (unless p refusal.Padding)) (el ∙ late_is) ep
 
 -- ---- segments 3 and 4 moved behind those before them
 

@@ -17,7 +17,7 @@ use Rattle.body.specs.declared.Late.{Late}
 use Rattle.body.specs.declared.Late.TheVariants as late
 use Rattle.banner.specs.declared.Revision.TheVariants.{Msgr21}
 use Rattle.body.specs.End.{Ended, whole, dropped, refused_for, late_of}
-use Rattle.receiver.specs.declared.Report.{Report}
+use Rattle.receiver.specs.Report.{Report}
 use Rattle.preamble.specs.Layout.{no_header}
 use Rattle.buffer.proofs.Sets.{drop-sets}
 use Rattle.buffer.proofs.Zeros.{zeros-later}

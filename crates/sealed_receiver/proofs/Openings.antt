@@ -2,16 +2,14 @@
 use Rattle.std.proofs.Common.{◌≡◌, ℕ, suc, ◌+◌, ◌-◌, ◌<◌, ◌≤◌, Bool, true, false, cond, ◌||◌, leb, List, ◌++◌, length, drop, sym, refl, ap, ◌∙◌, ap₂, arith, lt-ltb, le-leb}
 use Rattle.refusal.specs.declared.Numbers.{Numbers}
 use Rattle.refusal.specs.declared.Refusal.TheVariants as refusal
-use Rattle.refusal.specs.declared.Judgement.{Judgement}
-use Rattle.refusal.specs.declared.Judgement.TheVariants as judgement
-use Rattle.refusal.specs.Refusals.{Judged, fine, refused, numbers_of, refused_with, judged_by, or_else, unless}
+use Rattle.refusal.specs.declared.Refusal.{Refusal}
+use Rattle.std.specs.Prelude.{Result, Ok, Err}
+use Rattle.refusal.specs.Refusals.{Judged, fine, refused, numbers_of, refused_with, or_else, unless}
 use Rattle.refusal.proofs.Judgements.{both-fine}
 use Rattle.aes.specs.Aes.{State, key_expansion}
 use Rattle.gcm.specs.Gcm.{Opened, plain, fail, opened_by, opened}
 use Rattle.refusal.specs.Writes as writes
 use Rattle.gcm.specs.Calls.{limit, by_tag, Opening}
-use Rattle.refusal.specs.declared.WriteResult.{WriteResult}
-use Rattle.refusal.specs.declared.WriteResult.TheVariants as outcome
 use Rattle.refusal.specs.Writes.{wrote, Done, done, outcome_of}
 use Rattle.gcm.proofs.Opened.{text-length}
 use Rattle.gcm.proofs.Answers.{open_in_place}
@@ -49,7 +47,7 @@ enough false m e l = ap (λ (i : ℕ). leb i m) e
 
 -- ---- no nonce is left
 
-pub none_left : (r : Receiving) (bytes after : List ℕ) → r.exhausted ≡ true → OpenedPart r bytes (judgement.Refused refusal.NoncesSpent) after
+pub none_left : (r : Receiving) (bytes after : List ℕ) → r.exhausted ≡ true → OpenedPart r bytes (Err refusal.NoncesSpent) after
 unfolding judge_part
 none_left r bytes after e =
     let j : judge_part r bytes ≡ refused_with refusal.NoncesSpent =
@@ -58,31 +56,31 @@ none_left r bytes after e =
 
 -- ---- the answers of an opening
 
-wrote-is : (o : WriteResult) (n : ℕ) → outcome_of o ≡ wrote n → judged_as o ≡ fine
-wrote-is (outcome.Wrote m) n e = refl
-wrote-is (outcome.Refused x) n e = cc
+wrote-is : (o : Result ℕ Refusal) (n : ℕ) → outcome_of o ≡ wrote n → judged_as o ≡ fine
+wrote-is (Ok m) n e = refl
+wrote-is (Err x) n e = cc
 
-refused-is : (o : WriteResult) (n : Numbers) → outcome_of o ≡ writes.refused_for n → judged_as o ≡ refused n
-refused-is (outcome.Wrote m) n e = cc
-refused-is (outcome.Refused x) n e = cc
+refused-is : (o : Result ℕ Refusal) (n : Numbers) → outcome_of o ≡ writes.refused_for n → judged_as o ≡ refused n
+refused-is (Ok m) n e = cc
+refused-is (Err x) n e = cc
 
-module _ (r : Receiving) (bytes after : List ℕ) (v : Judgement) (o : WriteResult) (ev : judged_by v ≡ judged_as o) where
+module _ (r : Receiving) (bytes after : List ℕ) (o : Result ℕ Refusal) where
   by_opened : (x : Opened) → opened r.key r.nonce bytes ≡ x → judge_part r bytes ≡ judge_opened x → part_text r bytes ≡ text_of x
-      → done (outcome_of o) after ≡ by_tag x (length bytes - 16) bytes → OpenedPart r bytes v after
+      → done (outcome_of o) after ≡ by_tag x (length bytes - 16) bytes → OpenedPart r bytes o after
   by_opened (plain text) ex j t d =
       let n : length text ≡ length bytes - 16 = text-length (key_expansion r.key) r.nonce bytes text ex in
       record {
-        judged = ev ∙ wrote-is o (length bytes - 16) (ap (λ (x : Done). x.outcome) d) ∙ sym j;
+        judged = wrote-is o (length bytes - 16) (ap (λ (x : Done). x.outcome) d) ∙ sym j;
         text = λ f. ap (λ (x : Done). x.buffer) d ∙ ap₂ (λ (y : List ℕ) (k : ℕ). y ++ drop k bytes) (sym t) n;
       }
   by_opened fail ex j t d =
       record {
-        judged = ev ∙ refused-is o (numbers_of refusal.AuthTag) (ap (λ (x : Done). x.outcome) d) ∙ sym j;
+        judged = refused-is o (numbers_of refusal.AuthTag) (ap (λ (x : Done). x.outcome) d) ∙ sym j;
         text = λ f. differ (sym j ∙ f);
       }
 
   pub opened-part : r.exhausted ≡ false → r.opened < all_nonces → 16 ≤ length bytes → length bytes ≤ limit + 16
-      → Opening (key_expansion r.key) r.nonce bytes bytes o after → OpenedPart r bytes v after
+      → Opening (key_expansion r.key) r.nonce bytes bytes o after → OpenedPart r bytes o after
   unfolding judge_part part_text
   opened-part e l h k opening =
       let x : Opened = opened r.key r.nonce bytes in

@@ -3,16 +3,20 @@ use Rattle.std.proofs.Common.{◌≡◌, ℕ, ◌+◌, ◌-◌, ◌≤◌, List,
 use Rattle.buffer.specs.Splice.{splice}
 use Rattle.buffer.proofs.Parts.{length-splice}
 use Rattle.refusal.specs.declared.Numbers.{Numbers}
-use Rattle.refusal.specs.Refusals.{Judged, fine, refused}
+use Rattle.refusal.specs.declared.Refusal.{Refusal}
+use Rattle.refusal.specs.Refusals.{Judged, fine, refused, numbers_of}
+use Rattle.std.specs.Prelude.{Result, Ok, Err}
+use Rattle.std.specs.Result.{IsErrAnd}
+use Rattle.sealed_receiver.specs.declared.Transition.{Transition}
 use Rattle.preamble.specs.declared.Header.{Header}
 use Rattle.body.specs.End.{Ended, whole, dropped, refused_for}
 use Rattle.stream.specs.declared.Event.TheVariants as event
-use Rattle.receiver.specs.declared.Report.TheVariants as report
+use Rattle.std.specs.Prelude.{Some}
 use Rattle.secure.specs.Layout.{needed}
 use Rattle.secure.specs.Reading.{zeroed}
 use Rattle.sealed_receiver.specs.declared.Receiving.{Receiving}
 use Rattle.sealed_receiver.specs.declared.Known.{Known}
-use Rattle.sealed_receiver.specs.Step.{Stepped, stepped, refuse, unless_refused, judge_part, part_text, next_frame, end_frame}
+use Rattle.sealed_receiver.specs.Step.{Stepped, stepped, stepped_as, stepped_in, refuse, unless_refused, judge_part, part_text, next_frame, end_frame}
 use Rattle.buffer.proofs.Splices.{splice-before, splice-from, splice-behind, splice-again, given_back}
 use Rattle.sealed_receiver.proofs.Openings.{part-text-length}
 use Rattle.secure.proofs.Stores.{zeroed-same, holding-same}
@@ -22,10 +26,20 @@ use Rattle.secure.proofs.Stores.{zeroed-same, holding-same}
 pub end_same : (v : Known) (s s' : List ℕ) → drop (needed v.header) s' ≡ drop (needed v.header) s → (o : Ended) (payload : List ℕ)
     → length payload ≤ needed v.header → end_frame o v payload s' ≡ end_frame o v payload s
 end_same v s s' d whole payload l =
-    ap (λ (t : List ℕ). stepped (next_frame v) t (report.Event (event.Frame v.header))) (holding-same v.header s s' d payload l)
+    ap (λ (t : List ℕ). stepped (next_frame v) t (Some (event.Frame v.header))) (holding-same v.header s s' d payload l)
 end_same v s s' d dropped payload l =
-    ap (λ (t : List ℕ). stepped (next_frame v) t (report.Event (event.Dropped v.header))) (zeroed-same v.header s s' d)
+    ap (λ (t : List ℕ). stepped (next_frame v) t (Some (event.Dropped v.header))) (zeroed-same v.header s s' d)
 end_same v s s' d (refused_for n) payload l = ap (refuse n) (zeroed-same v.header s s' d)
+
+-- ---- what a refusal that is handed on leaves
+
+pub refused-as : (o : Result Transition Refusal) (why : Refusal) (s : List ℕ) {x : Stepped} → IsErrAnd o (λ e. e ≡ why) → refuse (numbers_of why) s ≡ x → stepped_as o s ≡ x
+refused-as (Ok t) why s p e = absurd p
+refused-as (Err y) why s p e = ap (λ (r : Refusal). refuse (numbers_of r) s) p ∙ e
+
+pub refused-in : (h : Header) (o : Result Transition Refusal) (why : Refusal) (s : List ℕ) {x : Stepped} → IsErrAnd o (λ e. e ≡ why) → refuse (numbers_of why) (zeroed h s) ≡ x → stepped_in h o s ≡ x
+refused-in h (Ok t) why s p e = absurd p
+refused-in h (Err y) why s p e = ap (λ (r : Refusal). refuse (numbers_of r) (zeroed h s)) p ∙ e
 
 -- ---- a part lent from byte i on: n bytes, which are p by the definition, a text of q bytes and its tag
 

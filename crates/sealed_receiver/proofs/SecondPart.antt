@@ -5,7 +5,7 @@ use Rattle.buffer.specs.Splice.{splice, overwrite}
 use Rattle.buffer.proofs.Parts.{rest, back, length_rest, overwrite-fits, placed, drop-take}
 use Rattle.refusal.specs.declared.Numbers.{Numbers}
 use Rattle.refusal.specs.declared.Refusal.TheVariants as refusal
-use Rattle.refusal.specs.Refusals.{fine, refused, numbers_of, unless}
+use Rattle.refusal.specs.Refusals.{Judged, fine, refused, unless}
 use Rattle.preamble.specs.declared.Header.{Header}
 use Rattle.preamble.specs.Layout.{total}
 use Rattle.preamble.specs.Judge.{judge_header}
@@ -59,11 +59,11 @@ module _ (v : Known) (s : List ℕ) where
     padding-is : drop k text ≡ take pad (drop n s)
     padding-is = ap (drop k) text-is ∙ drop-take k pad (drop inline_length s) ∙ ap (take pad) rest_from
 
-    pub rest-unpadded : all_zero (take pad (drop n s)) ≡ false → refuse (numbers_of refusal.Padding) (zeroed h s) ≡ after_second_part v text s
+    pub rest-unpadded : (m : Numbers) → refused m ≡ unless (all_zero (take pad (drop n s))) refusal.Padding → refuse m (zeroed h s) ≡ after_second_part v text s
     unfolding after_second_part
-    rest-unpadded z =
+    rest-unpadded m z =
         let next : Stepped = begin_last v (splice s inline_length (take k text ++ replicate (padding k + 16) 0)) in
-        sym (ap (λ (b : Bool). unless_refused (unless b refusal.Padding) (zeroed h s) next) (ap all_zero padding-is ∙ z))
+        sym (ap (λ (j : Judged). unless_refused j (zeroed h s) next) (ap (λ (x : List ℕ). unless (all_zero x) refusal.Padding) padding-is ∙ sym z))
 
     module _ (room : needed h ≤ length s) (z : all_zero (take pad (drop n s)) ≡ true) where
       room_for : n + pad + 16 ≤ length s

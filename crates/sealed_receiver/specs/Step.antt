@@ -1,21 +1,17 @@
 -- What a call of the receiver of sealed frames answers, byte by byte (02, K4). The claim over lists of calls ties it to the definition over whole streams.
-use Rattle.std.specs.Prelude.{◌≡◌, ℕ, ◌+◌, ◌-◌, ◌<◌, ◌≤◌, min, Bool, true, false, cond, List, [], ◌∷◌, ◌++◌, length, take, drop, replicate, nat_lt}
+use Rattle.std.specs.Prelude.{Some, None, Result, Ok, Err, ◌≡◌, ℕ, ◌+◌, ◌-◌, ◌<◌, ◌≤◌, min, Bool, true, false, cond, List, [], ◌∷◌, ◌++◌, length, take, drop, replicate, nat_lt}
 use Rattle.std.proofs.lemmas.List.Edits.{sets}
 use Rattle.buffer.specs.Splice.{replace_front, splice}
 use Rattle.refusal.specs.declared.Numbers.{Numbers}
 use Rattle.refusal.specs.declared.Refusal.TheVariants as refusal
-use Rattle.refusal.specs.declared.Judgement.{Judgement}
-use Rattle.refusal.specs.Refusals.{contradiction, Judged, fine, refused, numbers_of, refused_with, judged_by, or_else, is_fine, no_refusal}
+use Rattle.refusal.specs.declared.Refusal.{Refusal}
+use Rattle.refusal.specs.Refusals.{contradiction, Judged, fine, refused, numbers_of, refused_with, or_else, is_fine, no_refusal}
 use Rattle.preamble.specs.declared.Header.{Header}
 use Rattle.preamble.specs.Layout.{total, no_header}
 use Rattle.preamble.specs.Judge.{header_of, judge_header}
 use Rattle.body.specs.End.{Ended, whole, dropped, refused_for}
-use Rattle.stream.specs.declared.Event.{Event}
 use Rattle.stream.specs.declared.Event.TheVariants as event
-use Rattle.receiver.specs.declared.Report.{Report}
-use Rattle.receiver.specs.declared.Report.TheVariants as report
-use Rattle.refusal.specs.declared.WriteResult.{WriteResult}
-use Rattle.refusal.specs.declared.WriteResult.TheVariants as outcome
+use Rattle.receiver.specs.Report.{Report}
 use Rattle.gcm.specs.Gcm.{Opened, plain, fail, opened}
 use Rattle.secure.specs.Layout as layout
 use Rattle.secure.specs.Layout.{padding, inline_length, no_second_part, no_last_part, last_lengths}
@@ -26,6 +22,7 @@ use Rattle.sealed_receiver.specs.declared.Receiving.{Receiving}
 use Rattle.sealed_receiver.specs.declared.Known.{Known}
 use Rattle.sealed_receiver.specs.declared.State.{State}
 use Rattle.sealed_receiver.specs.declared.Received.{Received}
+use Rattle.sealed_receiver.specs.declared.Transition.{Transition}
 use Rattle.sealed_receiver.specs.State.{is_first, is_refused, in_frame, size_of, place_of, needed, opened_of, fresh_receiving, opened_more, no_receiving, agrees}
 
 -- ---- states that follow from one another
@@ -75,14 +72,23 @@ abbrev pub stepped : State → List ℕ → Report → Stepped
 stepped st s r = record { state = st; store = s; report = r }
 
 abbrev pub silent : State → List ℕ → Stepped
-silent st s = stepped st s report.More
+silent st s = stepped st s None
 
 abbrev pub refuse : Numbers → List ℕ → Stepped
-refuse n s = stepped (refused_state n) s (report.Event (event.Refused n))
+refuse n s = stepped (refused_state n) s (Some (event.Refused n))
 
 abbrev pub unless_refused : Judged → List ℕ → Stepped → Stepped
 unless_refused fine s x = x
 unless_refused (refused n) s x = refuse n s
+
+-- a transition that is made unless something is refused; behind a refused later part zeros stand in what the frame needs of the store
+abbrev pub stepped_as : Result Transition Refusal → List ℕ → Stepped
+stepped_as (Ok t) s = stepped t.state s t.report
+stepped_as (Err r) s = refuse (numbers_of r) s
+
+abbrev pub stepped_in : Header → Result Transition Refusal → List ℕ → Stepped
+stepped_in h (Ok t) s = stepped t.state s t.report
+stepped_in h (Err r) s = refuse (numbers_of r) (zeroed h s)
 
 -- a part: 18 in place of opening it, 17, and its text
 abbrev pub judge_opened : Opened → Judged
@@ -101,8 +107,8 @@ part_text r bytes = text_of (opened r.key r.nonce bytes)
 
 -- how a frame ends, whose segments are these
 abbrev pub end_frame : Ended → Known → List ℕ → List ℕ → Stepped
-end_frame whole v segments s = stepped (next_frame v) (holding v.header segments s) (report.Event (event.Frame v.header))
-end_frame dropped v segments s = stepped (next_frame v) (zeroed v.header s) (report.Event (event.Dropped v.header))
+end_frame whole v segments s = stepped (next_frame v) (holding v.header segments s) (Some (event.Frame v.header))
+end_frame dropped v segments s = stepped (next_frame v) (zeroed v.header s) (Some (event.Dropped v.header))
 end_frame (refused_for n) v segments s = refuse n (zeroed v.header s)
 
 -- behind segment 1: the last part, where there is one
@@ -187,16 +193,16 @@ answered st taken r s = record { received = record { state = st; taken = taken; 
 
 -- k bytes came to x; without a report, what follows counts on
 abbrev pub onward : Report → ℕ → Stepped → Answer → Answer
-onward report.More k x a = answered a.received.state (k + a.received.taken) a.received.report a.store
-onward (report.Event e) k x a = answered x.state k (report.Event e) x.store
+onward None k x a = answered a.received.state (k + a.received.taken) a.received.report a.store
+onward (Some e) k x a = answered x.state k (Some e) x.store
 
 -- a piece: byte after byte, up to and including the first that gives a report
 unfoldable pub feed : State → List ℕ → List ℕ → Answer
-feed st s [] = answered st 0 report.More s
+feed st s [] = answered st 0 None s
 feed st s (b ∷ bs) = onward (on_byte st s b).report 1 (on_byte st s b) (feed (on_byte st s b).state (on_byte st s b).store bs)
 
 abbrev pub refuse_unchanged : State → Numbers → List ℕ → Answer
-refuse_unchanged st n s = answered st 0 (report.Event (event.Refused n)) s
+refuse_unchanged st n s = answered st 0 (Some (event.Refused n)) s
 
 abbrev pub needed_by : State → ℕ
 needed_by st = needed st.position.stage st.known.header
@@ -220,14 +226,14 @@ pub record Answered (st : State) (s piece : List ℕ) (r : Received) (s' : List 
 
 -- ---- what the inner functions promise
 
--- a part that was opened where it stands: 18 or 17, or its text at its front
-pub record OpenedPart (r : Receiving) (bytes : List ℕ) (v : Judgement) (after : List ℕ) : Type 0 where
-  pub judged : judged_by v ≡ judge_part r bytes
-  pub text : judge_part r bytes ≡ fine → after ≡ part_text r bytes ++ drop (length bytes - 16) bytes
+abbrev pub judged_as : Result ℕ Refusal → Judged
+judged_as (Ok n) = fine
+judged_as (Err r) = refused_with r
 
-abbrev pub judged_as : WriteResult → Judged
-judged_as (outcome.Wrote n) = fine
-judged_as (outcome.Refused r) = refused_with r
+-- a part that was opened where it stands: 18 or 17, or its text at its front
+pub record OpenedPart (r : Receiving) (bytes : List ℕ) (v : Result ℕ Refusal) (after : List ℕ) : Type 0 where
+  pub judged : judged_as v ≡ judge_part r bytes
+  pub text : judge_part r bytes ≡ fine → after ≡ part_text r bytes ++ drop (length bytes - 16) bytes
 
 -- the segments of a last part, whose text stands behind segment 1, one behind the other; nothing changes behind what the frame needs
 pub record ClosedUp (h : Header) (s after : List ℕ) : Type 0 where

@@ -11,15 +11,14 @@ ghost use Rattle.sealed_receiver.specs.Worked.{WorkedStates};
 
 use pieces::take_piece;
 use preamble::{Header, no_header};
-use receiver::Report;
-use refusal::{Numbers, Refusal, numbers_of};
+use refusal::{Numbers, Refusal};
 use states::{
     agrees_with_itself, fresh_receiving, is_refused, knowing, needed_by, refused_state, state_at,
 };
 use stream::Event;
 
 // Which part the next bytes of the stream are of.
-#[derive(Clone, Copy)]
+#[derive(Clone, Copy, PartialEq, Eq)]
 pub enum Stage {
     First,
     Second,
@@ -67,17 +66,18 @@ pub struct State {
 pub struct Received {
     pub state: State,
     pub taken: usize,
-    pub report: Report,
+    pub report: Option<Event>,
 }
 
 // What the last byte of a part comes to.
 #[derive(Clone, Copy)]
 pub struct Transition {
     pub state: State,
-    pub report: Report,
+    pub report: Option<Event>,
 }
 
 // A receiver with the key and the nonce of a switch.
+#[tactic(auto, unfolding(crate::specs::Step::switched))]
 pub fn switch_on(key: [u8; 16], nonce: [u8; 12]) -> State
     ensures { result ≡ switched key nonce }
 {
@@ -88,13 +88,13 @@ pub fn switch_on(key: [u8; 16], nonce: [u8; 12]) -> State
 }
 
 // Takes nothing and refuses.
-fn refuse_unchanged(st: State, n: Numbers) -> Received
-    ensures { (s : List ℕ) → result ≡ (refuse_unchanged st n s).received }
+fn refuse_unchanged(state: State, n: Numbers) -> Received
+    ensures { (s : List ℕ) → result ≡ (refuse_unchanged state n s).received }
 {
     Received {
-        state: st,
+        state,
         taken: 0,
-        report: Report::Event(Event::Refused(n)),
+        report: Some(Event::Refused(n)),
     }
 }
 
@@ -103,17 +103,15 @@ pub fn receive(state: State, piece: &[u8], store: &mut [u8]) -> Received
     ensures { Answered state store.old piece.now result store.new }
 {
     if !agrees_with_itself(state) {
-        return refuse_unchanged(state, numbers_of(Refusal::StateContradicts));
+        return refuse_unchanged(state, Numbers::from(Refusal::StateContradicts));
     }
-    let position = state.position;
-    let stage = position.stage;
-    let known = state.known;
+    let stage = state.position.stage;
     if is_refused(stage) {
-        return refuse_unchanged(state, known.refusal);
+        return refuse_unchanged(state, state.known.refusal);
     }
-    let need = needed_by(stage, known.header);
+    let need = needed_by(stage, state.known.header);
     if (store.len() as u64) < need {
-        let n = numbers_of(Refusal::StoreShort(need));
+        let n = Numbers::from(Refusal::StoreShort(need));
         return refuse_unchanged(refused_state(n), n);
     }
     take_piece(state, piece, store)

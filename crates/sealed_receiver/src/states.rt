@@ -8,7 +8,7 @@ ghost use Rattle.sealed_receiver.specs.Step.{at, knowing, with_opened, with_head
 use crate::{Known, Position, Receiving, Stage, State};
 use buffer::behind;
 use preamble::{Header, header_is_fine, is_no_header, no_header};
-use refusal::{Numbers, both, either, is_no_refusal, no_refusal};
+use refusal::{Numbers, is_no_refusal, no_refusal};
 use secure::{
     all_zero, last_part_length, needed_of, next_nonce, no_second_part, second_part_length,
 };
@@ -21,11 +21,11 @@ pub(crate) fn state_at(stage: Stage, known: Known) -> State
 {
     State {
         position: Position {
-            stage: stage,
+            stage,
             got: 0,
             block: [0u8; 96],
         },
-        known: known,
+        known,
     }
 }
 
@@ -33,8 +33,8 @@ pub(crate) fn knowing(receiving: Receiving, header: Header) -> Known
     ensures { result ≡ knowing receiving header }
 {
     Known {
-        receiving: receiving,
-        header: header,
+        receiving,
+        header,
         refusal: no_refusal(),
     }
 }
@@ -43,19 +43,14 @@ pub(crate) fn knowing(receiving: Receiving, header: Header) -> Known
 pub(crate) fn with_opened(v: Known) -> Known
     ensures { result ≡ with_opened v }
 {
-    let mut next = v;
-    next.receiving = opened_more(v.receiving);
-    next.refusal = no_refusal();
-    next
+    knowing(opened_more(v.receiving), v.header)
 }
 
 // Another frame.
 pub(crate) fn with_header(v: Known, header: Header) -> Known
     ensures { result ≡ with_header v header }
 {
-    let mut next = v;
-    next.header = header;
-    next
+    Known { header, ..v }
 }
 
 pub(crate) fn next_frame(v: Known) -> State
@@ -64,41 +59,37 @@ pub(crate) fn next_frame(v: Known) -> State
     state_at(Stage::First, with_header(v, no_header()))
 }
 
+#[tactic(auto, unfolding(crate::specs::State::fresh_receiving))]
 pub(crate) fn fresh_receiving(key: [u8; 16], nonce: [u8; 12]) -> Receiving
     ensures { result ≡ fresh_receiving key nonce }
 {
     Receiving {
-        key: key,
-        nonce: nonce,
+        key,
+        nonce,
         opened: 0,
         exhausted: false,
     }
 }
 
 // One part more was opened.
+#[tactic(auto, unfolding(crate::specs::State::opened_more))]
 fn opened_more(r: Receiving) -> Receiving
     ensures { result ≡ opened_more r }
 {
-    let key = r.key;
-    let last = r.nonce;
-    let opened = std::num::wrapping_add_u64(r.opened, 1);
+    let opened = r.opened.wrapping_add(1);
     Receiving {
-        key: key,
-        nonce: next_nonce(last),
-        opened: opened,
+        nonce: next_nonce(r.nonce),
+        opened,
         exhausted: opened == 0,
+        ..r
     }
 }
 
+#[tactic(auto, unfolding(crate::specs::State::no_receiving, crate::specs::State::fresh_receiving))]
 fn no_receiving() -> Receiving
     ensures { result ≡ no_receiving }
 {
-    Receiving {
-        key: [0u8; 16],
-        nonce: [0u8; 12],
-        opened: 0,
-        exhausted: false,
-    }
+    fresh_receiving([0; 16], [0; 12])
 }
 
 // Refused from now on: no key is kept.
@@ -118,23 +109,13 @@ pub(crate) fn refused_state(n: Numbers) -> State
 pub(crate) fn is_first(stage: Stage) -> bool
     ensures { result ≡ is_first stage }
 {
-    match stage {
-        Stage::First => true,
-        Stage::Second => false,
-        Stage::Last => false,
-        Stage::Refused => false,
-    }
+    matches!(stage, Stage::First)
 }
 
 pub(crate) fn is_refused(stage: Stage) -> bool
     ensures { result ≡ is_refused stage }
 {
-    match stage {
-        Stage::First => false,
-        Stage::Second => false,
-        Stage::Last => false,
-        Stage::Refused => true,
-    }
+    matches!(stage, Stage::Refused)
 }
 
 // How many bytes a part has, with its tag.
@@ -164,7 +145,7 @@ pub(crate) fn place_of(stage: Stage, h: Header) -> usize
 pub(crate) fn in_frame(stage: Stage) -> bool
     ensures { result ≡ in_frame stage }
 {
-    !either(is_first(stage), is_refused(stage))
+    !(is_first(stage) || is_refused(stage))
 }
 
 pub(crate) fn needed_by(stage: Stage, h: Header) -> u64
@@ -181,10 +162,7 @@ pub(crate) fn needed_by(stage: Stage, h: Header) -> u64
 fn is_no_receiving(r: Receiving) -> bool
     ensures { result ≡ is_no_receiving r }
 {
-    let key = r.key;
-    let nonce = r.nonce;
-    let keys = both(all_zero(&key), all_zero(&nonce));
-    both(keys, both(r.opened == 0, !r.exhausted))
+    all_zero(&r.key) && all_zero(&r.nonce) && r.opened == 0 && !r.exhausted
 }
 
 fn receiving_rule(stage: Stage, r: Receiving) -> bool
@@ -193,27 +171,17 @@ fn receiving_rule(stage: Stage, r: Receiving) -> bool
     if is_refused(stage) {
         return is_no_receiving(r);
     }
-    either(!r.exhausted, r.opened == 0)
+    !r.exhausted || r.opened == 0
 }
 
-// The parts of a frame before its last one.
-fn before_last(h: Header) -> u64
-    ensures { (result ≡ 1 + (if no_second_part h then 0 else 1)) × (result < 3) }
-{
-    if no_second_part(h) {
-        return 1;
-    }
-    2
-}
-
-// And before any.
+// The parts of a frame before this one.
 fn opened_before(stage: Stage, h: Header) -> u64
     ensures { (result ≡ opened_before stage h) × (result < 3) }
 {
     match stage {
         Stage::First => 0,
         Stage::Second => 1,
-        Stage::Last => before_last(h),
+        Stage::Last => 1 + u64::from(!no_second_part(h)),
         Stage::Refused => 0,
     }
 }
@@ -221,7 +189,7 @@ fn opened_before(stage: Stage, h: Header) -> u64
 fn opened_rule(stage: Stage, h: Header, r: Receiving) -> bool
     ensures { result ≡ opened_rule stage h r }
 {
-    either(r.exhausted, opened_before(stage, h) <= r.opened)
+    r.exhausted || opened_before(stage, h) <= r.opened
 }
 
 fn header_rule(stage: Stage, h: Header) -> bool
@@ -238,9 +206,8 @@ fn is_given(n: Numbers) -> bool
     ensures { result ≡ given n }
 {
     let k = n.number;
-    let later = either(k == 12, both(17 <= k, k <= 19));
-    let known = either(both(5 <= k, k <= 10), later);
-    both(known, both(n.second == 0, n.third == 0))
+    let known = (5 <= k && k <= 10) || k == 12 || (17 <= k && k <= 19);
+    known && n.second == 0 && n.third == 0
 }
 
 fn refusal_rule(stage: Stage, n: Numbers) -> bool
@@ -280,28 +247,19 @@ fn block_rule(stage: Stage, got: usize, block: [u8; 96]) -> bool
 fn rules_hold(stage: Stage, v: Known) -> bool
     ensures { result ≡ rules stage v }
 {
-    let receiving = v.receiving;
-    let header = v.header;
-    let refusal = v.refusal;
-    let last = both(header_rule(stage, header), refusal_rule(stage, refusal));
-    let nonces = both(
-        receiving_rule(stage, receiving),
-        opened_rule(stage, header, receiving),
-    );
-    both(nonces, last)
+    receiving_rule(stage, v.receiving)
+        && opened_rule(stage, v.header, v.receiving)
+        && header_rule(stage, v.header)
+        && refusal_rule(stage, v.refusal)
 }
 
 // The fields agree: what refusal 26 asks.
+#[tactic(auto, unfolding(crate::specs::State::agrees_at))]
 pub fn agrees_with_itself(st: State) -> bool
     ensures { result ≡ agrees st }
 {
-    let position = st.position;
-    let known = st.known;
-    let stage = position.stage;
-    let block = position.block;
-    let counted = both(
-        rules_hold(stage, known),
-        count_rule(stage, known.header, position.got),
-    );
-    both(counted, block_rule(stage, position.got, block))
+    let Position { stage, got, block } = st.position;
+    rules_hold(stage, st.known)
+        && count_rule(stage, st.known.header, got)
+        && block_rule(stage, got, block)
 }

@@ -1,5 +1,5 @@
 -- The first part read by what it opens to, and the ends of the list: too few bytes for a first part, and none.
-use Rattle.std.proofs.Common.{◌≡◌, ℕ, zero, suc, ◌+◌, ◌-◌, ◌<◌, cond, ltb, List, [], length, take, drop, refl, lt-ltb}
+use Rattle.std.proofs.Common.{◌≡◌, ℕ, zero, suc, ◌+◌, ◌<◌, cond, ltb, List, [], length, take, drop, refl, lt-ltb}
 use Rattle.preamble.specs.Judge.{header_of}
 use Rattle.stream.specs.Stream.{ended, unless_refused}
 use Rattle.aes.specs.Aes.{State, key_expansion}

@@ -1,5 +1,5 @@
 -- Nonces one behind the other, and their counters.
-use Rattle.std.proofs.Common.{◌≡◌, ℕ, zero, suc, ◌+◌, ◌-◌, ◌*◌, ◌/◌, ◌%◌, ◌^◌, ◌<◌, ◌≤◌, List, [], ◌∷◌, ◌++◌, length, sym, refl, ap, ◌∙◌, mod-lt, suc-add, div-add-mod', zero-add, arith}
+use Rattle.std.proofs.Common.{◌≡◌, ℕ, zero, suc, ◌+◌, ◌*◌, ◌/◌, ◌%◌, ◌^◌, ◌<◌, ◌≤◌, List, [], ◌∷◌, ◌++◌, length, sym, refl, ap, ◌∙◌, mod-lt, suc-add, div-add-mod', zero-add, arith}
 use native.Mathlib.Nat.{mod-add-mod}
 use Rattle.buffer.specs.Le.{number_at}
 use Rattle.buffer.proofs.Numbers.{le_of-le}

@@ -10,10 +10,11 @@ use borrow.Author.Tests.{leb-true, le-leb, lt-leb, lt-ltb, le-ltb}
 use Rattle.refusal.specs.declared.Refusal.TheVariants as why
 use Rattle.refusal.specs.Refusals.{Judged, fine, refused, unless, first_of, by_judgement}
 use Rattle.refusal.proofs.Booleans.{by_test, by_less}
+use Rattle.std.specs.Prelude.{Result, Err}
+use Rattle.refusal.specs.declared.Numbers.{Numbers}
 use Rattle.session.specs.declared.Session.{Session}
 use Rattle.session.specs.declared.Message.{Message}
 use Rattle.session.specs.declared.Answer.{Answer}
-use Rattle.session.specs.declared.Answer.TheVariants as answer
 use Rattle.session.specs.declared.Outcome.{Outcome}
 use Rattle.session.specs.Calls.{places, final_number, held_from, held_of, agrees, fresh_session, outcome, refusing}
 use Rattle.session.specs.Laws.{Call, accept, ack, reconnect, reset, call_of, Event, accepted, acknowledged, dropped, nothing, above, after}
@@ -170,7 +171,7 @@ module _ (past : List Event) (s t : Session) (u : Upto past s) where
 
 -- ---- the next call
 
-answer_by : (j : Judged) (s t : Session) (r : Answer) → (by_judgement j (outcome t r) (refusing s)).answer ≡ by_judgement j r answer.Refused
+answer_by : (j : Judged) (s t : Session) (r : Result Answer Numbers) → (by_judgement j (outcome t r) (refusing s)).answer ≡ by_judgement j r Err
 answer_by fine s t r = refl
 answer_by (refused n) s t r = refl
 

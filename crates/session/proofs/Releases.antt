@@ -9,6 +9,8 @@ use lib.Dec.{leb, ltb}
 use lib.ListN.{length}
 use Rattle.refusal.specs.Refusals.{Judged, fine, refused, by_judgement}
 use Rattle.refusal.proofs.Booleans.{at_cond}
+use Rattle.std.specs.Prelude.{Result, Ok, Err}
+use Rattle.refusal.specs.declared.Numbers.{Numbers}
 use Rattle.session.specs.declared.Session.{Session}
 use Rattle.session.specs.declared.Message.{Message}
 use Rattle.session.specs.declared.Answer.{Answer}
@@ -33,25 +35,25 @@ one_releases m (c ∷ cs) = cond (releases m c) true (one_releases m cs)
 -- ---- fates
 
 -- an event of a call that does not release the message m
-by_event : (P : session.Event → Type 0) (m : ℕ) (c : session.Call) (r : Answer) → releases m c ≡ false
+by_event : (P : session.Event → Type 0) (m : ℕ) (c : session.Call) (r : Result Answer Numbers) → releases m c ≡ false
     → ((x : Message) → P (session.accepted x)) → ((n : ℕ) → leb m n ≡ false → P (session.acknowledged n)) → P session.nothing → P (event_of c r)
-by_event P m (session.accept h) (answer.Accepted n) e a k z = a _
-by_event P m (session.accept h) answer.Done e a k z = z
-by_event P m (session.accept h) (answer.Resend n) e a k z = z
-by_event P m (session.accept h) (answer.Refused n) e a k z = z
-by_event P m (session.ack n) (answer.Accepted i) e a k z = k n e
-by_event P m (session.ack n) answer.Done e a k z = k n e
-by_event P m (session.ack n) (answer.Resend i) e a k z = k n e
-by_event P m (session.ack n) (answer.Refused i) e a k z = z
-by_event P m (session.reconnect n) (answer.Accepted i) e a k z = k n e
-by_event P m (session.reconnect n) answer.Done e a k z = k n e
-by_event P m (session.reconnect n) (answer.Resend i) e a k z = k n e
-by_event P m (session.reconnect n) (answer.Refused i) e a k z = z
+by_event P m (session.accept h) (Ok (answer.Accepted n)) e a k z = a _
+by_event P m (session.accept h) (Ok answer.Done) e a k z = z
+by_event P m (session.accept h) (Ok (answer.Resend n)) e a k z = z
+by_event P m (session.accept h) (Err n) e a k z = z
+by_event P m (session.ack n) (Ok (answer.Accepted i)) e a k z = k n e
+by_event P m (session.ack n) (Ok answer.Done) e a k z = k n e
+by_event P m (session.ack n) (Ok (answer.Resend i)) e a k z = k n e
+by_event P m (session.ack n) (Err i) e a k z = z
+by_event P m (session.reconnect n) (Ok (answer.Accepted i)) e a k z = k n e
+by_event P m (session.reconnect n) (Ok answer.Done) e a k z = k n e
+by_event P m (session.reconnect n) (Ok (answer.Resend i)) e a k z = k n e
+by_event P m (session.reconnect n) (Err i) e a k z = z
 by_event P m (session.reset true) r e a k z = absurd (true≢false e)
 by_event P m (session.reset false) r e a k z = z
 
 -- a call that does not release the message leaves its fate to the later ones
-pub stays : (m : ℕ) (c : session.Call) (r : Answer) (es : List session.Event) → releases m c ≡ false → fate_of m (event_of c r ∷ es) ≡ fate_of m es
+pub stays : (m : ℕ) (c : session.Call) (r : Result Answer Numbers) (es : List session.Event) → releases m c ≡ false → fate_of m (event_of c r ∷ es) ≡ fate_of m es
 unfolding fate_of
 stays m c r es e = by_event (λ (v : session.Event). fate_of m (v ∷ es) ≡ fate_of m es) m c r e (λ x. refl) (λ n l. rw l) refl
 
@@ -75,7 +77,7 @@ mem_above x n (y ∷ ms) e (Memᴰ.head p) =
     rw l (Memᴰ.head p)
 mem_above x n (y ∷ ms) e (Memᴰ.tail k) = at_cond (Memᴰ x) (ltb n y.number) (Memᴰ.tail (mem_above x n ms e k)) (mem_above x n ms e k)
 
-keeps : (c : session.Call) (r : Answer) (ms : List Message) (x : Message) → releases x.number c ≡ false → Memᴰ x ms → Memᴰ x (after (event_of c r) ms)
+keeps : (c : session.Call) (r : Result Answer Numbers) (ms : List Message) (x : Message) → releases x.number c ≡ false → Memᴰ x ms → Memᴰ x (after (event_of c r) ms)
 keeps c r ms x e k =
     by_event (λ (v : session.Event). Memᴰ x (after v ms)) x.number c r e (λ y. Memᴰ.append_left _ k) (λ n l. mem_above x n ms l k) k
 
@@ -95,7 +97,7 @@ call-keeps every s c x g e k =
 
 -- ---- handles
 
-pub kept : (s t : Session) (j : Judged) (r : Answer) → t.handles ≡ s.handles → (by_judgement j (outcome t r) (refusing s)).session.handles ≡ s.handles
+pub kept : (s t : Session) (j : Judged) (r : Result Answer Numbers) → t.handles ≡ s.handles → (by_judgement j (outcome t r) (refusing s)).session.handles ≡ s.handles
 kept s t fine r h = h
 kept s t (refused n) r h = refl
 

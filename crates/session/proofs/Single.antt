@@ -12,14 +12,14 @@ use Rattle.refusal.specs.declared.Refusal.TheVariants as why
 use Rattle.refusal.specs.Refusals.{unless, first_of, row, by_judgement}
 use Rattle.refusal.proofs.Judgements.{or_else_last}
 use Rattle.refusal.proofs.Booleans.{by_test, at_test, wrong}
+use Rattle.std.specs.Prelude.{Result, Some, Ok, Err}
 use Rattle.session.specs.declared.Session.{Session}
 use Rattle.session.specs.declared.Answer.{Answer}
 use Rattle.session.specs.declared.Answer.TheVariants as answer
 use Rattle.session.specs.declared.Outcome.{Outcome}
-use Rattle.session.specs.declared.Held.TheVariants as held
 use Rattle.session.specs.Calls.{places, final_number, message_at, held_from, held_of, agrees, fresh_session, judge_state, judge_accept, judge_ack, adding, releasing, acked, cleared, outcome, refusing, accept_of, ack_of, reconnect_of, reset_of, held_at}
 use Rattle.session.specs.Laws.{Call, accept, ack, reconnect, reset, call_of, Event, accepted, acknowledged, dropped, nothing, event_of, above, after, held_answers, Sound, EveryCall}
-use Rattle.session.proofs.Table.{held_more, all_above, some-above, found-held, Agreeing, agreeing, agrees_by, held-size}
+use Rattle.session.proofs.Table.{held_more, all_above, some-above, found-held, Agreeing, agreeing, agrees_by, held_size}
 
 -- ---- the calls, by their tests
 
@@ -34,24 +34,24 @@ contradicted s (reset full) e = rw e
 module _ (s : Session) (ok : agrees s ≡ true) where
   -- the judgements behind 26
   abbrev pub accept_by : Bool → Bool → ℕ → Outcome
-  accept_by left room h = by_judgement (first_of (unless left why.NumbersSpent ∷ unless room why.TableFull ∷ [])) (outcome (adding s (s.last + 1) h) (answer.Accepted (s.last + 1))) (refusing s)
+  accept_by left room h = by_judgement (first_of (unless left why.NumbersSpent ∷ unless room why.TableFull ∷ [])) (outcome (adding s (s.last + 1) h) (Ok (answer.Accepted (s.last + 1)))) (refusing s)
 
-  abbrev pub ack_by : Bool → ℕ → Answer → Outcome
+  abbrev pub ack_by : Bool → ℕ → Result Answer Numbers → Outcome
   ack_by sent n r = by_judgement (unless sent why.AckAhead) (outcome (acked s n) r) (refusing s)
 
   pub accept-is : (h : ℕ) → accept_of s h ≡ accept_by (ltb s.last final_number) (ltb (length (held_of s)) places) h
   unfolding accept_of judge_accept judge_state
   accept-is h = rw ok
 
-  pub ack-is : (n : ℕ) → ack_of s n ≡ ack_by (leb n s.last) n answer.Done
+  pub ack-is : (n : ℕ) → ack_of s n ≡ ack_by (leb n s.last) n (Ok answer.Done)
   unfolding ack_of judge_ack judge_state
   ack-is n = rw (ok, or_else_last (unless (leb n s.last) why.AckAhead))
 
-  pub reconnect-is : (n : ℕ) → reconnect_of s n ≡ ack_by (leb n s.last) n (answer.Resend (length (held_of (acked s n))))
+  pub reconnect-is : (n : ℕ) → reconnect_of s n ≡ ack_by (leb n s.last) n (Ok (answer.Resend (length (held_of (acked s n)))))
   unfolding reconnect_of judge_ack judge_state
   reconnect-is n = rw (ok, or_else_last (unless (leb n s.last) why.AckAhead))
 
-  pub reset-is : (full : Bool) → reset_of s full ≡ outcome (cleared s full) answer.Done
+  pub reset-is : (full : Bool) → reset_of s full ≡ outcome (cleared s full) (Ok answer.Done)
   unfolding reset_of judge_state
   reset-is full = rw ok
 
@@ -64,10 +64,10 @@ Moves dropped s t = (t.last ≡ s.last) × (s.released ≤ t.released)
 Moves nothing s t = t ≡ s
 
 pub record Good (s : Session) (c : Call) (o : Outcome) : Type 0 where
-  pub never26 : o.answer ≡ answer.Refused (row 26 0 0 0) → ⊥
+  pub never26 : o.answer ≡ Err (row 26 0 0 0) → ⊥
   pub agreeing : agrees o.session ≡ true
   pub sized : length o.session.handles ≡ places
-  pub unchanged : (n : Numbers) → o.answer ≡ answer.Refused n → o.session ≡ s
+  pub unchanged : (n : Numbers) → o.answer ≡ Err n → o.session ≡ s
   pub table : held_of o.session ≡ after (event_of c o.answer) (held_of s)
   pub moves : Moves (event_of c o.answer) s o.session
 
@@ -101,54 +101,54 @@ acked-is s ok n sent =
     })
 
 module _ (s : Session) (ok : agrees s ≡ true) (sized : length s.handles ≡ places) where
-  good-refused : (c : Call) (n : Numbers) → (n.number ≡ 26 → ⊥) → event_of c (answer.Refused n) ≡ nothing → Good s c (refusing s n)
+  good-refused : (c : Call) (n : Numbers) → (n.number ≡ 26 → ⊥) → event_of c (Err n) ≡ nothing → Good s c (refusing s n)
   good-refused c n other e = record { never26 = λ k. other (cc); agreeing = ok; sized = sized; unchanged = λ m k. refl; table = rw e; moves = rw e }
 
   -- a call that is not refused
-  good-done : (c : Call) (r : Answer) (t : Session) → ((m : Numbers) → r ≡ answer.Refused m → ⊥) → agrees t ≡ true → length t.handles ≡ places
+  good-done : (c : Call) (r : Result Answer Numbers) (t : Session) → ((m : Numbers) → r ≡ Err m → ⊥) → agrees t ≡ true → length t.handles ≡ places
       → held_of t ≡ after (event_of c r) (held_of s) → Moves (event_of c r) s t → Good s c (outcome t r)
   good-done c r t not ok' sized' table moves =
       record { never26 = not (row 26 0 0 0); agreeing = ok'; sized = sized'; unchanged = λ m k. absurd (not m k); table = table; moves = moves }
 
-  good-accepted : (h : ℕ) → length (held_of s) < places → Good s (accept h) (outcome (adding s (s.last + 1) h) (answer.Accepted (s.last + 1)))
+  good-accepted : (h : ℕ) → length (held_of s) < places → Good s (accept h) (outcome (adding s (s.last + 1) h) (Ok (answer.Accepted (s.last + 1))))
   good-accepted h room =
       let a : Agreeing s = agreeing s ok in
-      let k : length (held_of s) ≡ s.last - s.released = held-size s in
+      let k : length (held_of s) ≡ s.last - s.released = held_size s in
       let more : s.last + 1 - s.released ≡ suc (s.last - s.released) = omega arith in
       let next : s.released + suc (s.last - s.released) ≡ s.last + 1 = omega arith in
-      good-done (accept h) (answer.Accepted (s.last + 1)) (adding s (s.last + 1) h) (λ m e. wrong (cc)) (agrees_by (adding s (s.last + 1) h) (omega arith) (omega arith))
+      good-done (accept h) (Ok (answer.Accepted (s.last + 1))) (adding s (s.last + 1) h) (λ m e. wrong (cc)) (agrees_by (adding s (s.last + 1) h) (omega arith) (omega arith))
       (length-set s.handles ((s.last + 1) % places) h ∙ sized)
       (rw (more, ← next) (held_more s.handles s.released (s.last - s.released) h sized (omega arith)))
       (refl, refl, omega arith)
 
-  good-acked : (c : Call) (n : ℕ) (r : Answer) → ((m : Numbers) → r ≡ answer.Refused m → ⊥) → event_of c r ≡ acknowledged n → n ≤ s.last → Good s c (outcome (acked s n) r)
+  good-acked : (c : Call) (n : ℕ) (r : Result Answer Numbers) → ((m : Numbers) → r ≡ Err m → ⊥) → event_of c r ≡ acknowledged n → n ≤ s.last → Good s c (outcome (acked s n) r)
   good-acked c n r not e sent =
       let k : Acked s n (acked s n) = acked-is s ok n sent in
       good-done c r (acked s n) not k.agreeing (ap length k.kept ∙ sized) (rw e k.table) (rw e k.moves)
 
-  good-reset : (full : Bool) → Good s (reset full) (outcome (cleared s full) answer.Done)
+  good-reset : (full : Bool) → Good s (reset full) (outcome (cleared s full) (Ok answer.Done))
   unfolding held_from
   good-reset true =
       let a : Agreeing s = agreeing s ok in
       let none : s.last - s.last ≡ 0 = omega arith in
-      good-done (reset true) answer.Done (releasing s s.last) (λ m e. wrong (cc)) (agrees_by (releasing s s.last) (omega arith) (omega arith)) sized (rw none) (refl, a.order)
-  good-reset false = good-done (reset false) answer.Done s (λ m e. wrong (cc)) ok sized refl refl
+      good-done (reset true) (Ok answer.Done) (releasing s s.last) (λ m e. wrong (cc)) (agrees_by (releasing s s.last) (omega arith) (omega arith)) sized (rw none) (refl, a.order)
+  good-reset false = good-done (reset false) (Ok answer.Done) s (λ m e. wrong (cc)) ok sized refl refl
 
   accept-good : (left room : Bool) (h : ℕ) → (room ≡ true → length (held_of s) < places) → Good s (accept h) (accept_by s ok left room h)
   accept-good true true h k = good-accepted h (k refl)
   accept-good true false h k = good-refused (accept h) (row 22 0 0 0) (λ e. omega arith) refl
   accept-good false room h k = good-refused (accept h) (row 25 0 0 0) (λ e. omega arith) refl
 
-  ack-good : (c : Call) (n : ℕ) (r : Answer) → ((m : Numbers) → r ≡ answer.Refused m → ⊥) → event_of c r ≡ acknowledged n → event_of c (answer.Refused (row 23 0 0 0)) ≡ nothing
+  ack-good : (c : Call) (n : ℕ) (r : Result Answer Numbers) → ((m : Numbers) → r ≡ Err m → ⊥) → event_of c r ≡ acknowledged n → event_of c (Err (row 23 0 0 0)) ≡ nothing
       → (sent : Bool) → (sent ≡ true → n ≤ s.last) → Good s c (ack_by s ok sent n r)
   ack-good c n r not e e' true k = good-acked c n r not e (k refl)
   ack-good c n r not e e' false k = good-refused c (row 23 0 0 0) (λ z. omega arith) e'
 
   pub good : (c : Call) → Good s c (call_of s c)
   good (accept h) = rw (accept-is s ok h) (accept-good (ltb s.last final_number) (ltb (length (held_of s)) places) h (ltb-true (length (held_of s)) places))
-  good (ack n) = rw (ack-is s ok n) (ack-good (ack n) n answer.Done (λ m e. wrong (cc)) refl refl (leb n s.last) (leb-true n s.last))
+  good (ack n) = rw (ack-is s ok n) (ack-good (ack n) n (Ok answer.Done) (λ m e. wrong (cc)) refl refl (leb n s.last) (leb-true n s.last))
   good (reconnect n) =
-      rw (reconnect-is s ok n) (ack-good (reconnect n) n (answer.Resend (length (held_of (acked s n)))) (λ m e. wrong (cc)) refl refl (leb n s.last) (leb-true n s.last))
+      rw (reconnect-is s ok n) (ack-good (reconnect n) n (Ok (answer.Resend (length (held_of (acked s n))))) (λ m e. wrong (cc)) refl refl (leb n s.last) (leb-true n s.last))
   good (reset full) = rw (reset-is s ok full) (good-reset full)
 
 -- ---- the claim
@@ -164,11 +164,11 @@ sound s c sized =
     record { contradicts = λ _. o; never26 = λ ok _. wrong (cc); agreeing = λ ok. cc; sized = rw o sized; unchanged = λ n _. rw o; table = λ ok. cc })
 
 -- what `held_at` gives are the messages held
-at-is : (s : Session) → agrees s ≡ true → (i : ℕ) → i < s.last - s.released → held_at s i ≡ held.At (message_at s.handles (s.released + 1 + i))
+at-is : (s : Session) → agrees s ≡ true → (i : ℕ) → i < s.last - s.released → held_at s i ≡ Ok (Some (message_at s.handles (s.released + 1 + i)))
 unfolding held_at judge_state
-at-is s ok i h = rw ok (found-held s.handles s.released (s.last - s.released) i h)
+at-is s ok i h = rw (ok, found-held s.handles s.released (s.last - s.released) i h)
 
-held-answers : (s : Session) → agrees s ≡ true → (i k : ℕ) → i + k ≡ s.last - s.released → held_answers s i k ≡ map held.At (held_from s.handles (s.released + i) k)
+held-answers : (s : Session) → agrees s ≡ true → (i k : ℕ) → i + k ≡ s.last - s.released → held_answers s i k ≡ map (λ m. Ok (Some m)) (held_from s.handles (s.released + i) k)
 unfolding held_answers held_from
 held-answers s ok i zero e = refl
 held-answers s ok i (suc k) e =
@@ -176,10 +176,10 @@ held-answers s ok i (suc k) e =
     let next : s.released + (i + 1) ≡ s.released + i + 1 = omega arith in
     rw (at-is s ok i (omega arith), held-answers s ok (i + 1) k (omega arith), here, next)
 
-resent-held : (s : Session) → agrees s ≡ true → held_answers s 0 (length (held_of s)) ≡ map held.At (held_of s)
+resent-held : (s : Session) → agrees s ≡ true → held_answers s 0 (length (held_of s)) ≡ map (λ m. Ok (Some m)) (held_of s)
 resent-held s ok =
     let start : s.released + 0 ≡ s.released = omega arith in
-    rw (held-size s) (rw start at (held-answers s ok 0 (s.last - s.released) (omega arith)))
+    rw (held_size s) (rw start at (held-answers s ok 0 (s.last - s.released) (omega arith)))
 
 pub every_call : EveryCall
 every_call = record {
@@ -192,7 +192,7 @@ every_call = record {
       (rw (ack-is s ok n, sent, covered), rw (reconnect-is s ok n, sent, covered));
   resends = λ s n ok sent.
       let k : Acked s n (acked s n) = acked-is s ok n sent in
-      rw (reconnect-is s ok n, le-leb n s.last sent) (resent-held (acked s n) k.agreeing ∙ ap (map held.At) k.table);
+      rw (reconnect-is s ok n, le-leb n s.last sent) (resent-held (acked s n) k.agreeing ∙ ap (map (λ m. Ok (Some m))) k.table);
   none = λ s n ok ahead.
       let o : reconnect_of s n ≡ refusing s (row 23 0 0 0) = rw (reconnect-is s ok n, lt-leb n s.last ahead) in
       (o, rw o);

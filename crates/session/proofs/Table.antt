@@ -9,20 +9,15 @@ use lib.ListN.{length, set}
 use lib.Seq.{get_or-set_same, get_or-set_other}
 use lib.Dec.{leb, ltb}
 use borrow.Author.Tests.{lt-ltb, le-ltb, ltb-true, leb-true, le-leb}
-use Rattle.refusal.specs.declared.Numbers.{Numbers}
-use Rattle.refusal.specs.declared.Refusal.{Refusal}
-use Rattle.refusal.specs.declared.Judgement.{Judgement}
-use Rattle.refusal.specs.declared.Judgement.TheVariants as judgement
 use Rattle.refusal.specs.declared.Refusal.TheVariants as why
-use Rattle.refusal.specs.Refusals.{Judged, fine, numbers_of, judged_by, unless, by_judgement}
+use Rattle.refusal.specs.Refusals.{fine, unless}
 use Rattle.refusal.proofs.Judgements.{passed, all-fine}
 use Rattle.refusal.proofs.Booleans.{by_less, each_true}
 use Rattle.session.specs.declared.Session.{Session}
 use Rattle.session.specs.declared.Message.{Message}
-use Rattle.session.specs.declared.Answer.TheVariants as answer
-use Rattle.session.specs.declared.Held.TheVariants as held
+use Rattle.std.specs.Prelude.{Some, None}
 use Rattle.session.specs.Laws.{above}
-use Rattle.session.specs.Calls.{places, final_number, message, message_at, held_from, held_of, agrees, judge_state, judge_accept, found, outcome}
+use Rattle.session.specs.Calls.{places, final_number, message, message_at, held_from, held_of, agrees, judge_state, judge_accept, found}
 
 -- ---- the messages of the k numbers above n
 
@@ -77,7 +72,7 @@ some-above hs n (suc k) m low high =
     rw (le-ltb m (n + 1) g, z) (some-above hs (n + 1) k m g (omega arith)))
 
 -- the message at a place
-pub found-held : (hs : List ℕ) (n k i : ℕ) → i < k → found (held_from hs n k) i ≡ held.At (message_at hs (n + 1 + i))
+pub found-held : (hs : List ℕ) (n k i : ℕ) → i < k → found (held_from hs n k) i ≡ Some (message_at hs (n + 1 + i))
 unfolding held_from found
 found-held hs n zero i h = absurd (omega arith)
 found-held hs n (suc k) zero h =
@@ -87,7 +82,7 @@ found-held hs n (suc k) (suc i) h =
     let e : n + 1 + 1 + i ≡ n + 1 + suc i = omega arith in
     rw e at (found-held hs (n + 1) k i (omega arith))
 
-found-beyond : (hs : List ℕ) (n k i : ℕ) → k ≤ i → found (held_from hs n k) i ≡ held.Beyond
+found-beyond : (hs : List ℕ) (n k i : ℕ) → k ≤ i → found (held_from hs n k) i ≡ None
 unfolding held_from found
 found-beyond hs n zero i h = refl
 found-beyond hs n (suc k) zero h = absurd (omega arith)
@@ -95,19 +90,15 @@ found-beyond hs n (suc k) (suc i) h = found-beyond hs (n + 1) k i (omega arith)
 
 -- ---- sessions
 
-pub held-size : (s : Session) → length (held_of s) ≡ s.last - s.released
-held-size s = held-length s.handles s.released (s.last - s.released)
+pub held_size : (s : Session) → length (held_of s) ≡ s.last - s.released
+held_size s = held-length s.handles s.released (s.last - s.released)
 
 -- the message at a place, by the count k of those held
-pub at_place : (s : Session) (i k : ℕ) → k ≡ s.last - s.released → i < k → held.At (message_at s.handles (s.released + 1 + i)) ≡ found (held_of s) i
+pub at_place : (s : Session) (i k : ℕ) → k ≡ s.last - s.released → i < k → Some (message_at s.handles (s.released + 1 + i)) ≡ found (held_of s) i
 at_place s i k e h = sym (found-held s.handles s.released (s.last - s.released) i (rw e at h))
 
-pub beyond-place : (s : Session) (i k : ℕ) → k ≡ s.last - s.released → k ≤ i → held.Beyond ≡ found (held_of s) i
-beyond-place s i k e h = sym (found-beyond s.handles s.released (s.last - s.released) i (rw e at h))
-
--- as many messages are to be sent again as are held
-pub resend_held : (s t : Session) (k : ℕ) → s ≡ t → k ≡ s.last - s.released → outcome s (answer.Resend k) ≡ outcome t (answer.Resend (length (held_of t)))
-resend_held s t k e is = cc (held-size s)
+pub beyond_place : (s : Session) (i k : ℕ) → k ≡ s.last - s.released → k ≤ i → None ≡ found (held_of s) i
+beyond_place s i k e h = sym (found-beyond s.handles s.released (s.last - s.released) i (rw e at h))
 
 -- what the fields of a session that agrees with itself say
 pub record Agreeing (s : Session) : Type 0 where
@@ -125,17 +116,8 @@ unfolding agrees
 agrees_by s order room = rw (le-leb s.released s.last order, le-leb (s.last - s.released) places room)
 
 -- where a session is not turned away
-pub fine-accept : (s : Session) → judge_accept s ≡ fine → s.last < final_number
+pub fine_accept : (s : Session) → judge_accept s ≡ fine → s.last < final_number
 unfolding judge_accept
-fine-accept s e =
+fine_accept s e =
     ltb-true s.last final_number
     (passed (ltb s.last final_number) why.NumbersSpent (all-fine (judge_state s ∷ unless (ltb s.last final_number) why.NumbersSpent ∷ unless (ltb (length (held_of s)) places) why.TableFull ∷ []) e).1.0)
-
--- ---- what a call answers, by its judgement
-
-module _ {A : Type 0} (v : Judgement) (j : Judged) (refusal : Numbers → A) (a b : A) (by : judged_by v ≡ j) where
-  pub when_fine : v ≡ judgement.Fine → b ≡ a → b ≡ by_judgement j a refusal
-  when_fine e is = rw (sym by ∙ ap judged_by e) is
-
-  pub when_refused : (why : Refusal) → v ≡ judgement.Refused why → b ≡ refusal (numbers_of why) → b ≡ by_judgement j a refusal
-  when_refused why e is = rw (sym by ∙ ap judged_by e) is

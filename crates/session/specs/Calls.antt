@@ -1,5 +1,5 @@
 -- A session, what it holds, and what each call answers.
-use Rattle.std.specs.Prelude.{List, [], ◌∷◌, Bool, cond, ◌&&◌, ℕ, zero, suc, ◌+◌, ◌-◌, ◌%◌, length, get_or, set, replicate, leb, ltb}
+use Rattle.std.specs.Prelude.{Result, Ok, Err, Option, Some, None, List, [], ◌∷◌, Bool, cond, ◌&&◌, ℕ, zero, suc, ◌+◌, ◌-◌, ◌%◌, length, get_or, set, replicate, leb, ltb}
 use Rattle.refusal.specs.declared.Numbers.{Numbers}
 use Rattle.refusal.specs.declared.Refusal.TheVariants as refusal
 use Rattle.refusal.specs.Refusals.{Judged, unless, first_of, by_judgement}
@@ -8,8 +8,6 @@ use Rattle.session.specs.declared.Message.{Message}
 use Rattle.session.specs.declared.Answer.{Answer}
 use Rattle.session.specs.declared.Answer.TheVariants as answer
 use Rattle.session.specs.declared.Outcome.{Outcome}
-use Rattle.session.specs.declared.Held.{Held}
-use Rattle.session.specs.declared.Held.TheVariants as held
 
 -- so many messages are held at most
 abbrev pub places : ℕ
@@ -74,31 +72,31 @@ cleared s full = cond full (releasing s s.last) s
 
 -- ---- THE ANSWERS OF THE CALLS
 
-abbrev pub outcome : Session → Answer → Outcome
+abbrev pub outcome : Session → Result Answer Numbers → Outcome
 outcome s r = record { session = s; answer = r }
 
 -- a refusal hands the session back as it was
 abbrev pub refusing : Session → Numbers → Outcome
-refusing s n = outcome s (answer.Refused n)
+refusing s n = outcome s (Err n)
 
 unfoldable pub accept_of : Session → ℕ → Outcome
-accept_of s h = by_judgement (judge_accept s) (outcome (adding s (s.last + 1) h) (answer.Accepted (s.last + 1))) (refusing s)
+accept_of s h = by_judgement (judge_accept s) (outcome (adding s (s.last + 1) h) (Ok (answer.Accepted (s.last + 1)))) (refusing s)
 
 unfoldable pub ack_of : Session → ℕ → Outcome
-ack_of s n = by_judgement (judge_ack s n) (outcome (acked s n) answer.Done) (refusing s)
+ack_of s n = by_judgement (judge_ack s n) (outcome (acked s n) (Ok answer.Done)) (refusing s)
 
 -- reconnect_ok with the msg_seq n
 unfoldable pub reconnect_of : Session → ℕ → Outcome
-reconnect_of s n = by_judgement (judge_ack s n) (outcome (acked s n) (answer.Resend (length (held_of (acked s n))))) (refusing s)
+reconnect_of s n = by_judgement (judge_ack s n) (outcome (acked s n) (Ok (answer.Resend (length (held_of (acked s n)))))) (refusing s)
 
 unfoldable pub reset_of : Session → Bool → Outcome
-reset_of s full = by_judgement (judge_state s) (outcome (cleared s full) answer.Done) (refusing s)
+reset_of s full = by_judgement (judge_state s) (outcome (cleared s full) (Ok answer.Done)) (refusing s)
 
 -- the message at a place of a list
-unfoldable pub found : List Message → ℕ → Held
-found [] i = held.Beyond
-found (m ∷ ms) zero = held.At m
+unfoldable pub found : List Message → ℕ → Option Message
+found [] i = None
+found (m ∷ ms) zero = Some m
 found (m ∷ ms) (suc i) = found ms i
 
-unfoldable pub held_at : Session → ℕ → Held
-held_at s i = by_judgement (judge_state s) (found (held_of s) i) held.Refused
+unfoldable pub held_at : Session → ℕ → Result (Option Message) Numbers
+held_at s i = by_judgement (judge_state s) (Ok (found (held_of s) i)) Err

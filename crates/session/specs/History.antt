@@ -1,5 +1,6 @@
 -- Every history of calls: one claim about every list of calls from a fresh session, each given the session that the last one handed back.
-use Rattle.std.specs.Prelude.{◌≡◌, List, [], ◌∷◌, ◌++◌, Bool, true, false, cond, ℕ, zero, suc, ◌+◌, ◌≤◌, max, length, leb, ltb}
+use Rattle.std.specs.Prelude.{Result, Ok, Err, ◌≡◌, List, [], ◌∷◌, ◌++◌, Bool, true, false, cond, ℕ, zero, suc, ◌+◌, ◌≤◌, max, length, leb, ltb}
+use Rattle.refusal.specs.declared.Numbers.{Numbers}
 use Rattle.refusal.specs.declared.Refusal.TheVariants as refusal
 use Rattle.refusal.specs.Refusals.{Judged, unless, first_of, by_judgement}
 use Rattle.session.specs.declared.Session.{Session}
@@ -85,18 +86,18 @@ highest (nothing ∷ es) = highest es
 
 -- ---- the answer that is due, by the events before the call
 
-abbrev pub due_by : Judged → Answer → Answer
-due_by j r = by_judgement j r answer.Refused
+abbrev pub due_by : Judged → Result Answer Numbers → Result Answer Numbers
+due_by j r = by_judgement j r Err
 
-abbrev pub due : List Event → Call → Answer
+abbrev pub due : List Event → Call → Result Answer Numbers
 due past (accept h) =
     due_by (first_of (unless (ltb (length (accepted_in past)) final_number) refusal.NumbersSpent ∷ unless (ltb (length (with_fate is_held past)) places) refusal.TableFull ∷ []))
-    (answer.Accepted (length (accepted_in past) + 1))
-due past (ack n) = due_by (unless (leb n (length (accepted_in past))) refusal.AckAhead) answer.Done
+    (Ok (answer.Accepted (length (accepted_in past) + 1)))
+due past (ack n) = due_by (unless (leb n (length (accepted_in past))) refusal.AckAhead) (Ok answer.Done)
 due past (reconnect n) =
     due_by (unless (leb n (length (accepted_in past))) refusal.AckAhead)
-    (answer.Resend (length (with_fate is_held (past ++ (acknowledged n ∷ [])))))
-due past (reset full) = answer.Done
+    (Ok (answer.Resend (length (with_fate is_held (past ++ (acknowledged n ∷ []))))))
+due past (reset full) = Ok answer.Done
 
 -- from the session s, after those events
 abbrev pub Each : List Event → Session → List Entry → Type 0

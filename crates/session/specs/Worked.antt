@@ -1,24 +1,44 @@
 -- Worked histories, computed from the definitions as one table. The second program has the same calls and prints the same lines by its own reading of the rules.
-use Rattle.std.specs.Prelude.{◌≡◌, List, [], ◌∷◌, ◌++◌, true, false, ℕ, zero, suc, ◌+◌, replicate}
+use Rattle.std.specs.Prelude.{Result, Ok, Err, Option, Some, None, ◌≡◌, List, [], ◌∷◌, ◌++◌, true, false, ℕ, zero, suc, ◌+◌, replicate}
+use Rattle.refusal.specs.declared.Numbers.{Numbers}
 use Rattle.refusal.specs.Refusals.{row}
 use Rattle.session.specs.declared.Session.{Session}
 use Rattle.session.specs.declared.Message.{Message}
 use Rattle.session.specs.declared.Answer.{Answer}
-use Rattle.session.specs.declared.Answer.TheVariants.{Accepted, Done, Resend, Refused}
-use Rattle.session.specs.declared.Held.{Held}
-use Rattle.session.specs.declared.Held.TheVariants.{At, Beyond}
-use Rattle.session.specs.declared.Held.TheVariants as held
+use Rattle.session.specs.declared.Answer.TheVariants as answer
 use Rattle.session.specs.Calls.{places, message, held_of, refusing, accept_of, ack_of, reconnect_of, reset_of, held_at}
 use Rattle.session.specs.Laws.{Call, accept, ack, reconnect, reset, call_of}
+
+-- ---- what a call answers, in one word
+
+abbrev pub Accepted : ℕ → Result Answer Numbers
+Accepted n = Ok (answer.Accepted n)
+
+abbrev pub Done : Result Answer Numbers
+Done = Ok answer.Done
+
+abbrev pub Resend : ℕ → Result Answer Numbers
+Resend k = Ok (answer.Resend k)
+
+abbrev pub Refused : Numbers → Result Answer Numbers
+Refused n = Err n
+
+abbrev pub At : Message → Result (Option Message) Numbers
+At m = Ok (Some m)
+
+abbrev pub Beyond : Result (Option Message) Numbers
+Beyond = Ok None
+
+-- ---- histories
 
 infix 70 ◌⇒◌
 pub data Act : Type 0 where
   -- k messages with the handles h, h + 1, .. get the numbers n, n + 1, ..
   sends : ℕ → ℕ → ℕ → Act
   -- a call and its answer
-  ◌⇒◌ : Call → Answer → Act
+  ◌⇒◌ : Call → Result Answer Numbers → Act
   -- a place and what `held_at` gives there
-  finds : ℕ → Held → Act
+  finds : ℕ → Result (Option Message) Numbers → Act
 
 -- k messages with the numbers n, n + 1, .. and the handles h, h + 1, ..
 abbrev pub run : ℕ → ℕ → ℕ → List Message
@@ -38,8 +58,8 @@ history n acts ms = record { start = n; acts = acts; held = ms }
 -- ---- what an example says of the definitions
 
 pub data Reply : Type 0 where
-  said : Answer → Reply
-  gave : Held → Reply
+  said : Result Answer Numbers → Reply
+  gave : Result (Option Message) Numbers → Reply
 
 abbrev pub accepts : ℕ → ℕ → List Reply
 accepts zero n = []
@@ -93,7 +113,7 @@ Contradicts s =
     × (ack_of s 0 ≡ refusing s (row 26 0 0 0))
     × (reconnect_of s 0 ≡ refusing s (row 26 0 0 0))
     × (reset_of s true ≡ refusing s (row 26 0 0 0))
-    × (held_at s 0 ≡ held.Refused (row 26 0 0 0))
+    × (held_at s 0 ≡ Err (row 26 0 0 0))
 
 -- THE TABLE
 unfoldable pub examples : List Example

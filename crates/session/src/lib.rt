@@ -1,19 +1,20 @@
 // A session that outlives its connections: the messages sent and not yet acknowledged, each a number and the caller's handle, to be sent again after a reconnect.
 #![tactic(auto)]
 
-ghost use Rattle.std.specs.Prelude.{◌≡◌, ◌-◌};
-ghost use Rattle.refusal.specs.Refusals.{numbers_of, judged_by};
-ghost use Rattle.session.specs.Calls.{agrees, judge_state, judge_accept, judge_ack, outcome, refusing, adding, releasing, acked, cleared, fresh_session, accept_of, ack_of, reconnect_of, reset_of, held_at};
+ghost use Rattle.std.specs.Prelude.{◌≡◌, ◌-◌, length};
+ghost use Rattle.std.specs.Fn.{FnOnceReturnsAtMut};
+ghost use Rattle.refusal.specs.Refusals.{judged_by};
+ghost use Rattle.session.specs.Calls.{held_of, agrees, judge_state, judge_accept, judge_ack, outcome, acked, fresh_session, accept_of, ack_of, reconnect_of, reset_of, held_at};
 ghost use Rattle.session.specs.Laws.{EveryCall};
 ghost use Rattle.session.specs.History.{EveryHistory};
 ghost use Rattle.session.specs.Worked.{Worked};
 
-use refusal::{Judgement, Numbers, Refusal, both, numbers_of, or_else, unless};
+use refusal::{Numbers, Refusal, unless};
 
 // What a session is between two calls. Held are the messages with the numbers above `released` up to `last`.
 #[derive(Clone, Copy)]
 pub struct Session {
-    // The handle of a held message stands at its number modulo 64.
+    // The handle of a held message stands at its number modulo 64. An array and two numbers, as in C: a queue would need a heap.
     pub handles: [u64; 64],
     // Up to this number none is held any more: acknowledged or dropped.
     pub released: u64,
@@ -21,121 +22,76 @@ pub struct Session {
     pub last: u64,
 }
 
-#[derive(Clone, Copy)]
+#[derive(Clone, Copy, PartialEq, Eq)]
 pub struct Message {
     pub number: u64,
     pub handle: u64,
 }
 
-#[derive(Clone, Copy)]
+// What a call that is not refused answers.
+#[derive(Clone, Copy, PartialEq, Eq)]
 pub enum Answer {
     // The message's number.
     Accepted(u64),
     Done,
     // How many messages are to be sent again: those that `held_at` gives, from 0 on.
     Resend(u64),
-    Refused(Numbers),
 }
 
 // The session after a call, and its answer.
 #[derive(Clone, Copy)]
 pub struct Outcome {
     pub session: Session,
-    pub answer: Answer,
-}
-
-// The message at a place of those held, oldest first.
-#[derive(Clone, Copy)]
-pub enum Held {
-    At(Message),
-    Beyond,
-    Refused(Numbers),
+    pub answer: Result<Answer, Numbers>,
 }
 
 // How many messages are held.
-fn held_count(s: Session) -> u64
-    ensures { result ≡ s.last - s.released }
+#[tactic(auto, using(crate::proofs::Table::held_size))]
+pub fn held_count(s: &Session) -> u64
+    ensures count { result ≡ s.now.last - s.now.released }
+    ensures held { result ≡ length (held_of s.now) }
 {
-    let released = s.released;
-    let last = s.last;
-    if last < released {
-        return 0;
-    }
-    last - released
+    s.last.saturating_sub(s.released)
 }
 
-fn agrees_with_itself(s: Session) -> bool
-    ensures { result ≡ agrees s }
+#[tactic(auto, unfolding(crate::specs::Calls::agrees))]
+fn agrees_with_itself(s: &Session) -> bool
+    ensures { result ≡ agrees s.now }
 {
-    both(s.released <= s.last, held_count(s) <= 64)
+    s.released <= s.last && held_count(s) <= 64
 }
 
-fn judge_state(s: Session) -> Judgement
-    ensures { judged_by result ≡ judge_state s }
+#[tactic(auto, unfolding(crate::specs::Calls::judge_state))]
+fn judge_state(s: &Session) -> Result<(), Refusal>
+    ensures { judged_by result ≡ judge_state s.now }
 {
     unless(agrees_with_itself(s), Refusal::StateContradicts)
 }
 
-fn judge_accept(s: Session) -> Judgement
-    ensures { judged_by result ≡ judge_accept s }
+#[tactic(auto, unfolding(crate::specs::Calls::judge_accept))]
+fn judge_accept(s: &Session) -> Result<(), Refusal>
+    ensures { judged_by result ≡ judge_accept s.now }
 {
-    let spent = unless(s.last < 0xFFFFFFFFFFFFFFFF, Refusal::NumbersSpent);
-    let full = unless(held_count(s) < 64, Refusal::TableFull);
-    or_else(judge_state(s), or_else(spent, full))
+    judge_state(s)?;
+    unless(s.last < u64::MAX, Refusal::NumbersSpent)?;
+    unless(held_count(s) < 64, Refusal::TableFull)
 }
 
-fn judge_ack(s: Session, number: u64) -> Judgement
-    ensures { judged_by result ≡ judge_ack s number }
+#[tactic(auto, unfolding(crate::specs::Calls::judge_ack))]
+fn judge_ack(s: &Session, number: u64) -> Result<(), Refusal>
+    ensures { judged_by result ≡ judge_ack s.now number }
 {
-    or_else(judge_state(s), unless(number <= s.last, Refusal::AckAhead))
+    judge_state(s)?;
+    unless(number <= s.last, Refusal::AckAhead)
 }
 
-fn refuse(s: Session, why: Refusal) -> Outcome
-    ensures { result ≡ refusing s (numbers_of why) }
+// No number up to this one is held any more; one at or below an earlier one changes nothing.
+fn release(s: &mut Session, number: u64)
+    ensures { s.new ≡ acked s.old number }
 {
-    Outcome {
-        session: s,
-        answer: Answer::Refused(numbers_of(why)),
+    if number > s.released {
+        s.released = number;
     }
-}
-
-fn add(s: Session, number: u64, handle: u64) -> Session
-    ensures { result ≡ adding s number handle }
-{
-    let mut handles = s.handles;
-    let place = (number % 64) as usize;
-    handles[place] = handle;
-    Session {
-        handles,
-        released: s.released,
-        last: number,
-    }
-}
-
-fn release(s: Session, number: u64) -> Session
-    ensures { result ≡ releasing s number }
-{
-    let mut next = s;
-    next.released = number;
-    next
-}
-
-fn acked(s: Session, number: u64) -> Session
-    ensures { result ≡ acked s number }
-{
-    if number <= s.released {
-        return s;
-    }
-    release(s, number)
-}
-
-fn cleared(s: Session, full: bool) -> Session
-    ensures { result ≡ cleared s full }
-{
-    if full {
-        return release(s, s.last);
-    }
-    s
 }
 
 // A session of which no message was sent.
@@ -143,127 +99,106 @@ pub fn start() -> Session
     ensures { result ≡ fresh_session }
 {
     Session {
-        handles: [0u64; 64],
+        handles: [0; 64],
         released: 0,
         last: 0,
     }
 }
 
+// ---- the calls on a session that is lent and changed in place. A refusal leaves it as it was.
+
 // A message is sent: it gets the next number, and is held.
-pub fn accept(s: Session, handle: u64) -> Outcome
-    ensures { result ≡ accept_of s handle }
+#[tactic(auto, using(crate::proofs::Table::fine_accept), unfolding(crate::specs::Calls::accept_of))]
+pub fn accept_in(s: &mut Session, handle: u64) -> Result<Answer, Numbers>
+    ensures { outcome s.new result ≡ accept_of s.old handle }
 {
-    let v = judge_accept(s);
-    match v {
-        Judgement::Fine => {
-            let number = s.last + 1;
-            Outcome {
-                session: add(s, number, handle),
-                answer: Answer::Accepted(number),
-            }
-        }
-        Judgement::Refused(why) => refuse(s, why),
-    }
+    judge_accept(s)?;
+    let number = s.last + 1;
+    s.handles[(number % 64) as usize] = handle;
+    s.last = number;
+    Ok(Answer::Accepted(number))
 }
 
 // The peer has the messages up to a number: they are not held any more.
-pub fn ack(s: Session, number: u64) -> Outcome
-    ensures { result ≡ ack_of s number }
+#[tactic(auto, unfolding(crate::specs::Calls::ack_of))]
+pub fn ack_in(s: &mut Session, number: u64) -> Result<Answer, Numbers>
+    ensures { outcome s.new result ≡ ack_of s.old number }
 {
-    let v = judge_ack(s, number);
-    match v {
-        Judgement::Fine => Outcome {
-            session: acked(s, number),
-            answer: Answer::Done,
-        },
-        Judgement::Refused(why) => refuse(s, why),
-    }
+    judge_ack(s, number)?;
+    release(s, number);
+    Ok(Answer::Done)
 }
 
 // reconnect_ok with a msg_seq came: an ack, and what is then held is to be sent again.
-pub fn reconnect(s: Session, msg_seq: u64) -> Outcome
-    ensures { result ≡ reconnect_of s msg_seq }
+#[tactic(auto, unfolding(crate::specs::Calls::reconnect_of))]
+pub fn reconnect_in(s: &mut Session, msg_seq: u64) -> Result<Answer, Numbers>
+    ensures { outcome s.new result ≡ reconnect_of s.old msg_seq }
 {
-    let v = judge_ack(s, msg_seq);
-    match v {
-        Judgement::Fine => {
-            let next = acked(s, msg_seq);
-            Outcome {
-                session: next,
-                answer: Answer::Resend(held_count(next)),
-            }
-        }
-        Judgement::Refused(why) => refuse(s, why),
-    }
+    judge_ack(s, msg_seq)?;
+    release(s, msg_seq);
+    Ok(Answer::Resend(held_count(s)))
 }
 
 // A reset came: a full one drops what is held, another keeps it.
+#[tactic(auto, unfolding(crate::specs::Calls::reset_of))]
+pub fn reset_in(s: &mut Session, full: bool) -> Result<Answer, Numbers>
+    ensures { outcome s.new result ≡ reset_of s.old full }
+{
+    judge_state(s)?;
+    if full {
+        s.released = s.last;
+    }
+    Ok(Answer::Done)
+}
+
+// The message at the place `i` of those held, oldest first; none beyond them.
+#[tactic(auto, using(crate::proofs::Table::at_place, crate::proofs::Table::beyond_place), unfolding(crate::specs::Calls::held_at))]
+pub fn held_at(s: Session, i: u64) -> Result<Option<Message>, Numbers>
+    ensures { result ≡ held_at s i }
+{
+    judge_state(&s)?;
+    if held_count(&s) <= i {
+        return Ok(None);
+    }
+    let number = s.released + 1 + i;
+    let handle = s.handles[(number % 64) as usize];
+    Ok(Some(Message { number, handle }))
+}
+
+// ---- the same calls on a session by value
+
+// The session that a call leaves, and its answer.
+fn by_value<F: FnOnce(&mut Session) -> Result<Answer, Numbers>>(s: Session, call: F) -> Outcome
+    requires { F.IsAlwaysCallable call }
+    ensures { FnOnceReturnsAtMut F.FnOnce call s result.answer result.session }
+{
+    let mut session = s;
+    let answer = call(&mut session);
+    Outcome { session, answer }
+}
+
+pub fn accept(s: Session, handle: u64) -> Outcome
+    ensures { result ≡ accept_of s handle }
+{
+    by_value(s, |s| accept_in(s, handle))
+}
+
+pub fn ack(s: Session, number: u64) -> Outcome
+    ensures { result ≡ ack_of s number }
+{
+    by_value(s, |s| ack_in(s, number))
+}
+
+pub fn reconnect(s: Session, msg_seq: u64) -> Outcome
+    ensures { result ≡ reconnect_of s msg_seq }
+{
+    by_value(s, |s| reconnect_in(s, msg_seq))
+}
+
 pub fn reset(s: Session, full: bool) -> Outcome
     ensures { result ≡ reset_of s full }
 {
-    let v = judge_state(s);
-    match v {
-        Judgement::Fine => Outcome {
-            session: cleared(s, full),
-            answer: Answer::Done,
-        },
-        Judgement::Refused(why) => refuse(s, why),
-    }
-}
-
-// The message at the place `i` of those held.
-pub fn held_at(s: Session, i: u64) -> Held
-    ensures { result ≡ held_at s i }
-{
-    let v = judge_state(s);
-    match v {
-        Judgement::Fine => {
-            if held_count(s) <= i {
-                return Held::Beyond;
-            }
-            let number = s.released + 1 + i;
-            let handles = s.handles;
-            let place = (number % 64) as usize;
-            Held::At(Message {
-                number,
-                handle: handles[place],
-            })
-        }
-        Judgement::Refused(why) => Held::Refused(numbers_of(why)),
-    }
-}
-
-// The same calls on a session that is lent and changed in place.
-pub fn accept_in(s: &mut Session, handle: u64) -> Answer
-    ensures { outcome s.new result ≡ accept_of s.old handle }
-{
-    let done = accept(*s, handle);
-    *s = done.session;
-    done.answer
-}
-
-pub fn ack_in(s: &mut Session, number: u64) -> Answer
-    ensures { outcome s.new result ≡ ack_of s.old number }
-{
-    let done = ack(*s, number);
-    *s = done.session;
-    done.answer
-}
-
-pub fn reconnect_in(s: &mut Session, msg_seq: u64) -> Answer
-    ensures { outcome s.new result ≡ reconnect_of s.old msg_seq }
-{
-    let done = reconnect(*s, msg_seq);
-    *s = done.session;
-    done.answer
-}
-
-pub fn reset_in(s: &mut Session, full: bool) -> Answer
-    ensures { outcome s.new result ≡ reset_of s.old full }
-{
-    let done = reset(*s, full);
-    *s = done.session;
-    done.answer
+    by_value(s, |s| reset_in(s, full))
 }
 
 // What holds of every single call, as a promise. The body does nothing: the promise is a theorem.

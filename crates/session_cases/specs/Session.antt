@@ -1,18 +1,17 @@
 -- N records: a session's calls, one after the other, run as they are read.
-use Rattle.std.specs.Prelude.{◌≡◌, Bool, cond, ◌&&◌, List, [], ◌∷◌, ◌++◌, ℕ, zero, suc, ◌+◌, leb, eqb, length, get_or, replicate}
+use Rattle.std.specs.Prelude.{Result, Ok, Err, Option, Some, None, ◌≡◌, Bool, cond, ◌&&◌, List, [], ◌∷◌, ◌++◌, ℕ, zero, suc, ◌+◌, leb, eqb, length, get_or, replicate}
 use Rattle.buffer.specs.Le.{number_at}
+use Rattle.refusal.specs.declared.Numbers.{Numbers}
 use Rattle.session.specs.declared.Session.{Session}
 use Rattle.session.specs.declared.Answer.{Answer}
 use Rattle.session.specs.declared.Answer.TheVariants as answer
 use Rattle.session.specs.declared.Outcome.{Outcome}
-use Rattle.session.specs.declared.Held.{Held}
-use Rattle.session.specs.declared.Held.TheVariants as held
+use Rattle.session.specs.declared.Message.{Message}
 use Rattle.session.specs.Calls.{places, held_of, accept_of, ack_of, reconnect_of, reset_of, held_at}
 use Rattle.session.specs.Laws.{held_answers}
 use Rattle.text.specs.Line.{Piece, raw, codes, word, number, field, newline}
-use Rattle.text.specs.Page.{page}
+use Rattle.text.specs.Page.{Page}
 use Rattle.records.specs.Records.{Record, print, refused_pieces, bad_record, line_then, read_all}
-use Rattle.session_cases.specs.declared.Called.{Called}
 
 -- a session after so many messages, all accepted and acknowledged
 abbrev pub session_after : ℕ → Session
@@ -21,12 +20,12 @@ session_after last = record { handles = replicate places 0; released = last; las
 -- ---- lines
 
 -- a message's number and handle
-abbrev pub held_pieces : Held → List Piece
-held_pieces (held.At m) = number m.number ∷ number m.handle ∷ []
-held_pieces held.Beyond = []
-held_pieces (held.Refused w) = []
+abbrev pub held_pieces : Result (Option Message) Numbers → List Piece
+held_pieces (Ok (Some m)) = number m.number ∷ number m.handle ∷ []
+held_pieces (Ok None) = []
+held_pieces (Err w) = []
 
-unfoldable pub resent_pieces : List Held → List Piece
+unfoldable pub resent_pieces : List (Result (Option Message) Numbers) → List Piece
 resent_pieces [] = []
 resent_pieces (h ∷ hs) = held_pieces h ++ resent_pieces hs
 
@@ -34,18 +33,18 @@ resent_pieces (h ∷ hs) = held_pieces h ++ resent_pieces hs
 -- ack held 2, reset held 0: how many are held then
 -- resend 2 5 777 6 888
 -- refused 22 detail 0 0 0
-abbrev pub answer_line : List ℕ → Answer → Session → List Piece
-answer_line w (answer.Accepted n) s = field "number" n ++ (newline ∷ [])
-answer_line w answer.Done s = raw w ∷ number (length (held_of s)) ∷ newline ∷ []
-answer_line w (answer.Resend k) s = field "resend" k ++ resent_pieces (held_answers s 0 k) ++ (newline ∷ [])
-answer_line w (answer.Refused n) s = refused_pieces n ++ (newline ∷ [])
+abbrev pub answer_line : List ℕ → Result Answer Numbers → Session → List Piece
+answer_line w (Ok (answer.Accepted n)) s = field "number" n ++ (newline ∷ [])
+answer_line w (Ok answer.Done) s = raw w ∷ number (length (held_of s)) ∷ newline ∷ []
+answer_line w (Ok (answer.Resend k)) s = field "resend" k ++ resent_pieces (held_answers s 0 k) ++ (newline ∷ [])
+answer_line w (Err n) s = refused_pieces n ++ (newline ∷ [])
 
 -- held 5 777
 -- held none
-abbrev pub held_line : Held → List Piece
-held_line (held.At m) = word "held" ∷ number m.number ∷ number m.handle ∷ newline ∷ []
-held_line held.Beyond = word "held none\n" ∷ []
-held_line (held.Refused w) = refused_pieces w ++ (newline ∷ [])
+abbrev pub held_line : Result (Option Message) Numbers → List Piece
+held_line (Ok (Some m)) = word "held" ∷ number m.number ∷ number m.handle ∷ newline ∷ []
+held_line (Ok None) = word "held none\n" ∷ []
+held_line (Err w) = refused_pieces w ++ (newline ∷ [])
 
 -- ---- calls
 
@@ -68,13 +67,13 @@ line_of s k v =
     (record { session = s; line = held_line (held_at s v) }))))
 
 -- THE PROMISE OF A CALL AND ITS LINE, by what it came to, and by what it is
-pub record Answered (w : List ℕ) (o : Outcome) (before : List ℕ) (at : ℕ) (after : List ℕ) (r : Called) : Type 0 where
-  pub session : r.session ≡ o.session
-  pub printed : page after r.filled ≡ print (answered w o).line (page before at)
+pub record Answered (w : List ℕ) (o : Outcome) (before after : Page) (r : Session) : Type 0 where
+  pub session : r ≡ o.session
+  pub printed : after ≡ print (answered w o).line before
 
-pub record CallDid (s : Session) (k v : ℕ) (before : List ℕ) (at : ℕ) (after : List ℕ) (r : Called) : Type 0 where
-  pub session : r.session ≡ (line_of s k v).session
-  pub printed : page after r.filled ≡ print (line_of s k v).line (page before at)
+pub record CallDid (s : Session) (k v : ℕ) (before after : Page) (r : Session) : Type 0 where
+  pub session : r ≡ (line_of s k v).session
+  pub printed : after ≡ print (line_of s k v).line before
 
 -- ---- the record: last u64, number of calls u16, that many times (call u8, value u64)
 

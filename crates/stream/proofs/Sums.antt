@@ -83,6 +83,6 @@ own-up : (j : Judged) (t : Trace) (s : List ℕ) → Up t → Up (by_own j t s)
 own-up fine t s u = u
 own-up (refused n) t s u = tt
 
-pub all-add-up : AllAddUp
+pub all_add_up : AllAddUp
 unfolding AllAddUp trace_of
-all-add-up own stream s = own-up (judge_own own.supported own.required) (stream_trace own stream s) s (stream-up own stream s)
+all_add_up own stream s = own-up (judge_own own.supported own.required) (stream_trace own stream s) s (stream-up own stream s)

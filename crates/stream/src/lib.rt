@@ -9,7 +9,7 @@ use preamble::Header;
 use refusal::Numbers;
 
 // What a stream's bytes come to: the definition's entries and the receiver's reports are of this type.
-#[derive(Clone, Copy)]
+#[derive(Clone, Copy, PartialEq, Eq)]
 pub enum Event {
     Banner(Features, Revision),
     First(Header),
@@ -24,6 +24,7 @@ pub fn worked_streams()
 {}
 
 // Each report stands at the byte where the bytes before it and its own add up.
+#[tactic(auto, using(crate::proofs::Sums::all_add_up))]
 pub fn bytes_add_up()
     ensures { AllAddUp }
 {}

@@ -143,3 +143,7 @@ text_of_lem law xs lent text k h g e =
     let q : page text k ≡ page (text_of xs ++ drop (0 + n) lent) (0 + n) = e ∙ law.text xs (page lent 0) ∙ law.whole (text_of xs) lent 0 w in
     split text (text_of xs ++ drop (0 + n) lent) k (0 + n) q
     ∙ take_at (text_of xs) (drop (0 + n) lent) (0 + n) (omega arith)
+
+pub page_text : EveryLine → (xs : List Piece) (lent : List ℕ) (p : Page) {room : ℕ} → width xs ≤ room → room ≤ length lent → p ≡ puts xs (page lent 0) → take p.at p.bytes ≡ text_of xs
+unfolding page
+page_text law xs lent p h g e = text_of_lem law xs lent p.bytes p.at h g e

@@ -1,74 +1,115 @@
 // The text of lines: words, numbers and a line's end, written one behind the other into a lent buffer. What has no room is left out.
 #![tactic(auto)]
 
-ghost use Rattle.std.specs.Prelude.{◌≡◌, [], ◌∷◌, ◌-◌, min, length};
+ghost use Rattle.std.specs.Prelude.{◌≡◌, [], ◌∷◌, ◌-◌, length, take};
 ghost use Rattle.text.specs.Line.{raw, number, decimal, hex, newline};
 ghost use Rattle.text.specs.Page.{page, put, puts};
 ghost use Rattle.text.specs.Law.{EveryLine};
 
-// How many of n bytes there is room for from place at on.
-fn room_for(text: &[u8], at: usize, n: usize) -> usize
-    ensures { result ≡ min n (length text.now - at) }
-{
-    let all = text.len();
-    if all <= at {
-        return 0;
+use buffer::min;
+use std::marker::Model;
+
+// A lent buffer, and where the text in it ends.
+#[derive(Drop)]
+pub struct Page<'a> {
+    text: &'a mut [u8],
+    filled: usize,
+}
+
+impl<'a> Model for Page<'a> {
+    ghost use Rattle.std.specs.Prelude.{◌≤◌, length};
+    ghost use Rattle.text.specs.Page.{Page, page};
+
+    ghost Value = { Page };
+
+    ghost view = { λ p. page p.text.now p.filled };
+
+    ghost invariant = { λ p. p.filled ≤ length p.text.now };
+}
+
+impl<'a> Page<'a> {
+    pub fn new(text: &'a mut [u8]) -> Page<'a>
+        ensures { result ≡ page text.old 0 }
+    {
+        Page { text, filled: 0 }
     }
-    if n < all - at { n } else { all - at }
-}
 
-// The bytes of a word as they are. Answers, here and below, where the text now ends.
-pub fn put_word(text: &mut [u8], at: usize, letters: &[u8]) -> usize
-    ensures { page text.new result ≡ put (raw letters.now) (page text.old at) }
-{
-    let n = room_for(text, at, letters.len());
-    let mut i: usize = 0;
-    while i < n {
-        text[at + i] = letters[i];
-        i += 1;
+    // For how many bytes more there is room.
+    #[tactic(auto, unfolding(crate::specs::Page::page))]
+    pub fn room(&self) -> usize
+        ensures { result ≡ length self.now.bytes - self.now.at }
+    {
+        self.text.len() - self.filled
     }
-    at + n
-}
 
-// A number in decimal.
-pub fn put_decimal(text: &mut [u8], at: usize, n: u64) -> usize
-    ensures { page text.new result ≡ put (decimal n) (page text.old at) }
-{
-    let mut digits = [0u8; 20];
-    let k = io::decimal(n, &mut digits);
-    put_word(text, at, &digits[..k])
-}
+    // The text so far.
+    #[tactic(auto, unfolding(crate::specs::Page::page))]
+    pub fn written(&self) -> &[u8]
+        ensures { result.now ≡ take self.now.at self.now.bytes }
+    {
+        &self.text[..self.filled]
+    }
 
-// A space and a number in decimal.
-pub fn put_number(text: &mut [u8], at: usize, n: u64) -> usize
-    ensures { page text.new result ≡ put (number n) (page text.old at) }
-{
-    let end = put_word(text, at, b" ");
-    put_decimal(text, end, n)
-}
+    // Begins the text anew.
+    #[tactic(auto, unfolding(crate::specs::Page::page))]
+    pub fn clear(&mut self)
+        ensures { self.new ≡ page self.old.bytes 0 }
+    {
+        self.filled = 0;
+    }
 
-// A number in eight hexadecimal digits.
-pub fn put_hex(text: &mut [u8], at: usize, n: u32) -> usize
-    ensures { page text.new result ≡ put (hex n) (page text.old at) }
-{
-    let mut digits = [0u8; 16];
-    let k = io::hex(n as u64, 8, &mut digits);
-    put_word(text, at, &digits[..k])
-}
+    // The bytes of a word as they are.
+    pub fn word(&mut self, letters: &[u8])
+        ensures { self.new ≡ put (raw letters.now) self.old }
+    {
+        let n = min(letters.len(), self.text.len() - self.filled);
+        let end = self.filled + n;
+        self.text[self.filled..end].copy_from_slice(&letters[..n]);
+        self.filled = end;
+    }
 
-// A word, a space and a number.
-pub fn put_field(text: &mut [u8], at: usize, letters: &[u8], n: u64) -> usize
-    ensures { page text.new result ≡ puts (raw letters.now ∷ number n ∷ []) (page text.old at) }
-{
-    let end = put_word(text, at, letters);
-    put_number(text, end, n)
-}
+    // A number in decimal.
+    #[tactic(auto, using(crate::proofs::Laws::decimal_of), unfolding(crate::specs::Page::put))]
+    pub fn decimal(&mut self, n: u64)
+        ensures { self.new ≡ put (decimal n) self.old }
+    {
+        let mut digits = [0u8; 20];
+        let k = io::decimal(n, &mut digits);
+        self.word(&digits[..k]);
+    }
 
-// A line's end.
-pub fn put_end(text: &mut [u8], at: usize) -> usize
-    ensures { page text.new result ≡ put newline (page text.old at) }
-{
-    put_word(text, at, b"\n")
+    // A space and a number in decimal.
+    pub fn number(&mut self, n: u64)
+        ensures { self.new ≡ put (number n) self.old }
+    {
+        self.word(b" ");
+        self.decimal(n);
+    }
+
+    // A number in eight hexadecimal digits.
+    #[tactic(auto, using(crate::proofs::Laws::hex_of), unfolding(crate::specs::Page::put))]
+    pub fn hex(&mut self, n: u32)
+        ensures { self.new ≡ put (hex n) self.old }
+    {
+        let mut digits = [0u8; 16];
+        let k = io::hex(u64::from(n), 8, &mut digits);
+        self.word(&digits[..k]);
+    }
+
+    // A word, a space and a number.
+    pub fn field(&mut self, letters: &[u8], n: u64)
+        ensures { self.new ≡ puts (raw letters.now ∷ number n ∷ []) self.old }
+    {
+        self.word(letters);
+        self.number(n);
+    }
+
+    // A line's end.
+    pub fn end(&mut self)
+        ensures { self.new ≡ put newline self.old }
+    {
+        self.word(b"\n");
+    }
 }
 
 // What holds of every line, as a promise: its pieces, put one behind the other, are its text; with room all of it is there. The body

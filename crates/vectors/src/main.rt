@@ -3,7 +3,8 @@
 
 ghost use Rattle.std.specs.Prelude.{◌<◌};
 
-use refusal::{WriteResult, numbers_of};
+use aes::AesState;
+use refusal::{Numbers, Refusal};
 
 // Where it writes.
 const STDOUT_FILENO: i32 = 1;
@@ -20,39 +21,30 @@ fn put_byte(b: u8) {
 }
 
 fn put_all(s: &[u8]) {
-    let mut i: usize = 0;
-    while i < s.len() {
-        put_byte(s[i]);
-        i += 1;
+    for b in s {
+        put_byte(*b);
     }
     io::write_all(STDOUT_FILENO, b"\n");
 }
 
-fn put_column(c: [u8; 4]) {
-    put_byte(c[0]);
-    put_byte(c[1]);
-    put_byte(c[2]);
-    put_byte(c[3]);
-}
-
-fn put_block(key: [u8; 16], block: [[u8; 4]; 4]) {
+fn put_block(key: [u8; 16], block: AesState) {
     let w = aes::key_expansion(key);
-    let r = aes::encrypt(&w, block);
-    put_column(r[0]);
-    put_column(r[1]);
-    put_column(r[2]);
-    put_column(r[3]);
+    for column in aes::encrypt(&w, block) {
+        for b in column {
+            put_byte(b);
+        }
+    }
     io::write_all(STDOUT_FILENO, b"\n");
 }
 
-fn put_outcome(o: WriteResult) {
+fn put_outcome(o: Result<usize, Refusal>) {
     match o {
-        WriteResult::Wrote(n) => {
+        Ok(n) => {
             io::write_all(STDOUT_FILENO, b"wrote ");
             put_byte((n % 256) as u8);
         }
-        WriteResult::Refused(refusal) => {
-            let numbers = numbers_of(refusal);
+        Err(refusal) => {
+            let numbers = Numbers::from(refusal);
             io::write_all(STDOUT_FILENO, b"refused ");
             put_byte(numbers.number);
             io::write_all(STDOUT_FILENO, b" detail ");
@@ -88,13 +80,13 @@ fn blocks() {
 }
 
 fn zeros() {
-    let key = [0u8; 16];
-    let nonce = [0u8; 12];
-    let text = [0u8; 16];
-    let mut one = [0xaau8; 18];
+    let key = [0; 16];
+    let nonce = [0; 12];
+    let text = [0; 16];
+    let mut one = [0xaa; 18];
     put_outcome(gcm::seal(key, nonce, &text[..0], &mut one));
     put_all(&one);
-    let mut two = [0xaau8; 34];
+    let mut two = [0xaa; 34];
     put_outcome(gcm::seal(key, nonce, &text, &mut two));
     put_all(&two);
     put_outcome(gcm::open(key, nonce, &text[..15], &mut two));
@@ -111,13 +103,13 @@ fn there_and_back() {
     ];
     let text =
         b"\xd9\x31\x32\x25\xf8\x84\x06\xe5\xa5\x59\x09\xc5\xaf\xf5\x26\x9a\x86\xa7\xa9\x53\x15\x34\xf7\xda\x2e\x4c\x30\x3d\x8a\x31\x8a\x72\x1c\x3c\x0c\x95\x95\x68\x09\x53\x2f\xcf\x0e\x24\x49\xa6\xb5\x25\xb1\x6a\xed\xf5\xaa\x0d\xe6\x57\xba\x63\x7b\x39\x1a\xaf\xd2\x55";
-    let mut sealed = [0xaau8; 80];
+    let mut sealed = [0xaa; 80];
     put_outcome(gcm::seal(key, nonce, text, &mut sealed));
     put_all(&sealed);
-    let mut back = [0xaau8; 66];
+    let mut back = [0xaa; 66];
     put_outcome(gcm::open(key, nonce, &sealed, &mut back));
     put_all(&back);
-    let other = [0u8; 12];
+    let other = [0; 12];
     put_outcome(gcm::open(key, other, &sealed, &mut back));
     put_all(&back);
     put_outcome(gcm::seal(key, nonce, text, &mut back));

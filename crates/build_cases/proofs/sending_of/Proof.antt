@@ -14,4 +14,4 @@ sending_of_spec =
     (search rules)
     (search rules)
     (search rules)
-    (λ c. c.sending_after.ensures ∙ sending-made _ c.byte_at.ensures c.if-byte_at-eq1.false (c.key_at.ensures (omega arith)) (c.nonce_at.ensures (omega arith)) c.u64_at.ensures))
+    (λ c. c.sending_after.ensures ∙ sending-made _ c.byte_at.ensures c.if-byte_at-eq1.false (c.bytes_at.ensures (omega arith)) (c.bytes_at-2.ensures (omega arith)) c.u64_at.ensures))

@@ -8,12 +8,12 @@ returns c =
     let a = c.args in
     let h = c.requires in
     try_did a.s.now a.place a.state c.switch-o.result
-    (c.key_at-key.ensures (omega arith))
-    (c.nonce_at.ensures (omega arith))
-    (c.nonce_at-2.ensures (omega arith))
+    (c.bytes_at-key.ensures (omega arith))
+    (c.bytes_at.ensures (omega arith))
+    (c.bytes_at-2.ensures (omega arith))
     c.u64_at.ensures
     c.switch-o.ensures
     c.opened_by.ensures
     refl
-    c.print_judgement-end.ensures
+    c.print_judgement.ensures
     c.print_empty.ensures

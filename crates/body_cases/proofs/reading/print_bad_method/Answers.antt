@@ -8,4 +8,4 @@ use Rattle.text.specs.Line.{word, newline}
 use Rattle.body_cases.proofs.reading.print_bad_method.Goals as goal
 
 pub returns : goal.returns
-returns c = rw (c.put_end.ensures, c.put_list-e.ensures, c.put_list-d.ensures, c.put_error-c.ensures, c.put_field-b.ensures, c.put_tag-a.ensures) (two-lists (each_number (numbers_in c.args.s.now c.args.methods)) (word " modes") (line.number (length (numbers_in c.args.s.now c.args.modes))) (each_number (numbers_in c.args.s.now c.args.modes)) (newline ∷ []) _)
+returns c = rw (c.end.ensures, c.put_list-2.ensures, c.put_list.ensures, c.put_error.ensures, c.field.ensures, c.from.ensures, c.put_tag.ensures) (two-lists (each_number (numbers_in c.args.s.now c.args.methods)) (word " modes") (line.number (length (numbers_in c.args.s.now c.args.modes))) (each_number (numbers_in c.args.s.now c.args.modes)) (newline ∷ []) _)

@@ -6,4 +6,4 @@ use Rattle.text.specs.Line.{newline}
 use Rattle.body_cases.proofs.reading.print_stamp.Goals as goal
 
 pub returns : goal.returns
-returns c = rw (c.put_end.ensures, c.put_stamp-d.ensures, c.part.ensures, c.put_word-c.ensures, c.put_word-b.ensures, c.put_tag-a.ensures) (two-parts (each_byte (span_in c.args.s.now c.args.stamp)) [] (newline ∷ []) _)
+returns c = rw (c.end.ensures, c.put_stamp.ensures, c.part.ensures, c.word-2.ensures, c.word.ensures, c.put_tag.ensures) (two-parts (each_byte (span_in c.args.s.now c.args.stamp)) [] (newline ∷ []) _)

@@ -1,0 +1,8 @@
+use Rattle.bodies.specs.Write.{end, step}
+use Rattle.bodies.proofs.Drafted.{from_empty}
+use Rattle.bodies.proofs.row_stamp.Goals as goal
+
+pub returns : goal.returns
+returns c =
+    from_empty c.start_draft.ensures
+    (step c.append_bytes.ensures end)

@@ -1,0 +1,24 @@
+use Rattle.std.proofs.Common.{refl, arith}
+use Rattle.body_cases.proofs.Requests.{left_at, asked, stop, past, step, end, number-given, opaque-given, number_cut}
+use Rattle.body_cases.proofs.writing.ask_auth_done.Goals as goal
+
+pub returns-in_err-global_id : goal.returns-in_err-global_id
+returns-in_err-global_id c =
+    left_at c.from_residual.ensures.1
+    (stop (number_cut _ _ _ c.in_err-global_id.ensures))
+
+pub returns-in_err-mode : goal.returns-in_err-mode
+returns-in_err-mode c =
+    left_at c.from_residual-in_err-mode.ensures.1
+    (past (number-given c.in_ok-global_id.ensures) (stop (number_cut _ _ _ c.in_err-mode.ensures)))
+
+pub returns-in_err-bytes : goal.returns-in_err-bytes
+returns-in_err-bytes c =
+    left_at c.from_residual-in_err-bytes.ensures.1
+    (past (number-given c.in_ok-global_id.ensures) (past (number-given c.in_ok-mode.ensures) (stop c.in_err-bytes.ensures)))
+
+pub returns : goal.returns
+returns c =
+    asked
+    (step (number-given c.in_ok-global_id.ensures) (step (number-given c.in_ok-mode.ensures) (step (opaque-given 0 c.in_ok-bytes.ensures) end)))
+    (rw c.alone.ensures refl) (rw c.alone.ensures refl) (rw c.alone.ensures (omega arith)) (rw c.alone.ensures (omega arith))

@@ -1,6 +1,0 @@
-use Rattle.ends.proofs.Trips.{round_trip}
-use Rattle.ends.proofs.round_trip.Statement.{statement}
-use Rattle.ends.proofs.round_trip.Tie as tie
-
-pub round_trip_spec : {M : Type 1} → statement M
-round_trip_spec = tie.close (tie.spec (λ c. round_trip))

@@ -1,6 +1,0 @@
-use borrow.Author.Rules.{rules}
-use Rattle.handshake.proofs.client_step.Statement.{statement}
-use Rattle.handshake.proofs.client_step.Tie as tie
-
-pub client_step_spec : {M : Type 1} → statement M
-client_step_spec = tie.close (tie.spec (λ c κs. search rules) (λ c κs. search rules) (λ c. record { step = cc }))

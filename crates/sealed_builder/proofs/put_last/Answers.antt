@@ -1,0 +1,33 @@
+use Rattle.std.proofs.Common.{◌≡◌, ℕ, ◌+◌, ◌-◌, List, [], ◌∷◌, length, ap, ◌∙◌, arith, length-drop, length-take-le, rules}
+use Rattle.buffer.proofs.Parts.{rest, length_rest}
+use Rattle.banner.specs.declared.Revision.TheVariants.{Msgr21}
+use Rattle.body.specs.Body.{late_byte}
+use Rattle.secure.specs.Layout.{round_up, padded_from, last_text}
+use Rattle.sealed_builder.proofs.Texts.{padded-next}
+use Rattle.sealed_builder.proofs.put_last.Goals as goal
+
+pub put_padded-requires : goal.put_padded-requires
+put_padded-requires c =
+    let bytes : List ℕ = c.args.f.now.rest.now in
+    let n : ℕ = c.args.f.now.header.s2.len in
+    let e : round_up (length c.part.result.now) ≡ round_up n = ap (λ (l : List ℕ). round_up (length l)) c.part.ensures ∙ ap round_up (length-take-le n bytes (omega (arith, c.args.f.now.rest_whole))) in
+    omega (arith, e, c.requires)
+
+pub put_third-requires : goal.put_third-requires
+put_third-requires c =
+    let bytes : List ℕ = c.args.f.now.rest.now in
+    let n : ℕ = c.args.f.now.header.s2.len in
+    let l₁ : List ℕ = c.put_padded.new.out in
+    let d : length c.behind.result.now ≡ length bytes - n = ap length c.behind.ensures ∙ length-drop n bytes in
+    let r : length (rest l₁ (n + c.padding.result)) ≡ length l₁ - (n + c.padding.result) = length_rest l₁ (n + c.padding.result) in
+    let k : length l₁ ≡ length c.args.out.now = search rules in
+    (omega (arith, c.args.f.now.rest_whole), omega (arith, c.padding.ensures.0, c.requires))
+
+pub returns : goal.returns
+unfolding last_text
+returns c =
+    let g = c.args in
+    let bytes : List ℕ = g.f.now.rest.now in
+    padded-next g.f.now.abort g.f.now.header.s2.len (g.f.now.header.s2.len + c.padding.result) bytes c.part.result.now c.behind.result.now g.out.now c.put_padded.new.out c.put_third.new.out
+    (padded_from (g.f.now.header.s3.len ∷ g.f.now.header.s4.len ∷ []) (late_byte Msgr21 g.f.now.abort)) (omega (arith, c.args.f.now.rest_whole)) (ap (λ (k : ℕ). g.f.now.header.s2.len + k) c.padding.ensures.0) c.part.ensures c.behind.ensures
+    c.put_padded.ensures c.put_third.ensures

@@ -1,6 +1,0 @@
-use borrow.Author.Rules.{rules}
-use Rattle.session.proofs.refuse.Statement.{statement}
-use Rattle.session.proofs.refuse.Tie as tie
-
-pub refuse_spec : {M : Type 1} → statement M
-refuse_spec = tie.close (tie.spec (λ c κs. search rules) (λ c. cc))

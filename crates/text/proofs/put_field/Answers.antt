@@ -1,4 +1,0 @@
-use Rattle.text.proofs.put_field.Goals as goal
-
-pub returns : goal.returns
-returns c = cc
