@@ -12,7 +12,7 @@ use Rattle.refusal.specs.Refusals.{Judged, or_else, unless, contradiction}
 use Rattle.refusal.proofs.Booleans.{by_test, at_test, each_true}
 use Rattle.banner.specs.declared.Revision.TheVariants.{Msgr20, Msgr21}
 use Rattle.stream.specs.declared.Event.TheVariants as event
-use Rattle.std.specs.Prelude.{Some, None}
+use Rattle.std.specs.Prelude.{Some}
 use Rattle.receiver.specs.State as crc-states
 use Rattle.banner.specs.Banner.{is_msgr21}
 use Rattle.receiver.specs.Step as crc-step

@@ -3,7 +3,7 @@
 use Rattle.std.specs.Prelude.{◌≡◌, List, [], ◌∷◌, ◌++◌, Bool, true, cond, ℕ, ◌≤◌, eqb, get_or}
 use Rattle.stream.specs.declared.Event.TheVariants as event
 use Rattle.receiver.specs.Report.{Report}
-use Rattle.std.specs.Prelude.{Some, None}
+use Rattle.std.specs.Prelude.{Some}
 use Rattle.refusal.specs.Refusals.{contradiction}
 use Rattle.sealed_receiver.specs.declared.Stage.{Stage}
 use Rattle.sealed_receiver.specs.declared.Stage.TheVariants as stage

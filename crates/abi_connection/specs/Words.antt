@@ -7,7 +7,7 @@ use Rattle.banner.specs.declared.Features.{Features}
 use Rattle.banner.specs.Banner.{judge_own}
 use Rattle.stream.specs.declared.Event.TheVariants as event
 use Rattle.receiver.specs.Report.{Report}
-use Rattle.std.specs.Prelude.{Some, None}
+use Rattle.std.specs.Prelude.{Some}
 use Rattle.sealed_builder.specs.declared.Sending.{Sending}
 use Rattle.connection.specs.declared.Mode.{Mode}
 use Rattle.connection.specs.declared.Mode.TheVariants as mode

@@ -24,7 +24,7 @@ use Rattle.abi.specs.Words.{max_u8, low_u8, low_u16, low_u32, header_limits}
 use Rattle.abi.proofs.Limits.{facts, tested, bound, joined}
 use Rattle.abi.proofs.Headers.{small8, small16, small32, header_typed, header-back}
 use Rattle.abi.proofs.Back.{revision-back, mark-back, revision_known, mark_known, revision-number-back, mark-number-back, header_in_lem, refusal_in}
-use Rattle.abi_receiver.specs.Words.{AbiState, abi_state, known_of, state_of, state_numbers, abi_of, state_limits, fits, Typed, AbiOf, event_words, report_words, report_of, ReportTyped, ReportOf, ReadsBack}
+use Rattle.abi_receiver.specs.Words.{AbiState, abi_state, known_of, state_of, state_numbers, abi_of, state_limits, fits, Typed, AbiOf, event_words, report_words, report_of, ReportTyped, ReadsBack}
 
 -- ---- a state from its words
 
@@ -138,9 +138,6 @@ report-back t (Some (event.First k)) h = ap (λ (x : Header). Some (event.First 
 report-back t (Some (event.Frame k)) h = ap (λ (x : Header). Some (event.Frame x)) (header_in_lem k h)
 report-back t (Some (event.Dropped k)) h = ap (λ (x : Header). Some (event.Dropped x)) (header_in_lem k h)
 report-back t (Some (event.Refused n)) h = ap (λ (x : Numbers). Some (event.Refused x)) (refusal_in n h)
-
-pub report_of_lem : (t : ℕ) (r : Report) (q : List ℕ) → ReportTyped r → q ≡ report_words t r → ReportOf t r q
-report_of_lem t r q h e = record { words = e; back = ap report_of e ∙ report-back t r h }
 
 -- words that tell of a refusal are those of no other report: read as they stand, without their low bits
 abbrev pub refused_report : List ℕ → Report

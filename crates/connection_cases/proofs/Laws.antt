@@ -3,7 +3,6 @@ use mathlib.Core.Path.{◌≡◌, refl, ◌∙◌}
 use mathlib.Core.Bool.{Bool, true, false, ◌&&◌}
 use mathlib.Core.List.{List, [], ◌∷◌, ◌++◌, append-nil}
 use Prim.Native.Nat.{ℕ, suc, ◌+◌, ◌*◌, ◌≤◌, ◌<◌}
-use Rattle.std.proofs.Math.Nat.{mul-le-mul_right}
 use native.Mathlib.Omega.{arith}
 use borrow.Author.Tests.{leb-true, ltb-true}
 use lib.Dec.{leb}
@@ -48,9 +47,6 @@ module _ (l : Layout) (s : List ℕ) (n m i : ℕ) (h : n ≡ suc m) where
   good_stop e = rw (calls-next l.lends s n m i h, e)
 
 -- where a call stands
-pub place-fits : (from width i n : ℕ) → from ≤ 12497 → width ≤ 8 → i ≤ n → n ≤ 65535 → from + width * i ≤ 600000
-place-fits from width i n h w k m = let e : width * i ≤ 8 * i = mul-le-mul_right i w in omega arith
-
 pub place-on : (from width i : ℕ) → from + width * (i + 1) ≡ from + width * i + width
 place-on from width i = omega arith
 

@@ -43,7 +43,7 @@ pub struct Walk {
 pub enum Part {
     Count,
     // So many lengths of the table.
-    Table(u16),
+    Table(u64),
     // So many bytes of the bodies.
     Bodies(u64),
     Ended,
@@ -106,7 +106,7 @@ fn count_outcome(bytes: &[u8]) -> Result<Part, BadFile>
     if n == 0 {
         return Ok(Part::Ended);
     }
-    Ok(Part::Table(n))
+    Ok(Part::Table(u64::from(n)))
 }
 
 fn wide(n: u32) -> u64

@@ -9,7 +9,7 @@ use Rattle.std.specs.Prelude.{Result, Ok, Err}
 use Rattle.refusal.specs.Refusals.{Judged, fine, refused, judged_by, contradiction}
 use Rattle.stream.specs.declared.Event.TheVariants as event
 use Rattle.receiver.specs.declared.State as crc-state
-use Rattle.std.specs.Prelude.{Some, None}
+use Rattle.std.specs.Prelude.{Some}
 use Rattle.receiver.specs.Calls.{piece_at}
 use Rattle.sealed_receiver.specs.declared.State as secure-state
 use Rattle.refusal.proofs.Booleans.{by_test}

@@ -9,14 +9,14 @@ use Rattle.refusal.specs.declared.Refusal.TheVariants.{StateContradicts}
 use Rattle.refusal.specs.Refusals.{numbers_of, contradiction}
 use Rattle.refusal.proofs.Booleans.{by_test}
 use Rattle.banner.specs.declared.Features.{Features}
-use Rattle.std.specs.Prelude.{Ok, Err}
+use Rattle.std.specs.Prelude.{Ok}
 use Rattle.refusal.specs.Writes as writes
 use Rattle.banner.specs.declared.Revision.{Revision}
 use Rattle.builder.specs.Build.{frame_done, banner_done}
 use Rattle.stream.specs.declared.Event.TheVariants as event
 use Rattle.receiver.specs.declared.State as crc-state
 use Rattle.receiver.specs.Report.{Report}
-use Rattle.std.specs.Prelude.{Some, None}
+use Rattle.std.specs.Prelude.{Some}
 use Rattle.receiver.specs.Step.{started}
 use Rattle.receiver.specs.Every as receiver
 use Rattle.connection.specs.declared.Mode.{Mode}

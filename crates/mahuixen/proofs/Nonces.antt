@@ -15,7 +15,7 @@ use Rattle.refusal.proofs.Booleans.{by_test}
 use Rattle.refusal.proofs.Judgements.{by_judgement_lem}
 use Rattle.preamble.specs.declared.Header.{Header}
 use Rattle.aes.specs.Aes.{key_expansion}
-use Rattle.std.specs.Prelude.{Ok, Err}
+use Rattle.std.specs.Prelude.{Err}
 use Rattle.refusal.specs.Writes.{wrote}
 use Rattle.secure.specs.Layout.{all_nonces, nonces_of, sealed_parts, part_count, sealed_length}
 use Rattle.secure.proofs.Lengths.{positive}

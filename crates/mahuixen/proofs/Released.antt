@@ -14,7 +14,7 @@ use Rattle.banner.specs.Bits.{missing}
 use Rattle.banner.specs.Banner.{judge_own}
 use Rattle.stream.specs.declared.Event.TheVariants as event
 use Rattle.receiver.specs.Report.{Report}
-use Rattle.std.specs.Prelude.{Some, None}
+use Rattle.std.specs.Prelude.{Some}
 use Rattle.receiver.specs.Calls.{piece_at}
 use Rattle.session.specs.declared.Session.{Session}
 use Rattle.session.specs.Calls.{fresh_session}

@@ -11,7 +11,7 @@ use Rattle.builder.specs.Build.{banner_length}
 use Rattle.stream.specs.declared.Event.TheVariants as event
 use Rattle.stream.specs.Stream.{entry, trace_of}
 use Rattle.receiver.specs.declared.Received as crc
-use Rattle.std.specs.Prelude.{Some, None}
+use Rattle.std.specs.Prelude.{Some}
 use Rattle.receiver.specs.Step.{started}
 use Rattle.receiver.specs.Calls.{Call, Chained, taken_by, list_of}
 use Rattle.receiver.specs.Every.{AnyCall, Handed, all_taken, all_reported, unfinished_by}

@@ -3,7 +3,7 @@ use Rattle.std.specs.Prelude.{◌≡◌, ◌↔◌, List, [], ◌∷◌, ◌++�
 use Rattle.buffer.specs.Splice.{splice}
 use Rattle.refusal.specs.declared.Refusal.TheVariants.{StateContradicts, SwitchRefused, NoncesSpent}
 use Rattle.refusal.specs.Refusals.{fine, numbers_of}
-use Rattle.std.specs.Prelude.{Ok, Err}
+use Rattle.std.specs.Prelude.{Ok}
 use Rattle.aes.specs.Aes.{key_expansion}
 use Rattle.secure.specs.Layout.{Part, nonces_of, sealed_parts, frame_parts, part_count}
 use Rattle.sealed_builder.specs.declared.Sending.{Sending}

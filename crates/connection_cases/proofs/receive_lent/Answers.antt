@@ -1,4 +1,4 @@
-use Rattle.std.proofs.Common.{ap, sym, ◌∙◌, arith, List, ◌++◌, ℕ, drop, length-take-le}
+use Rattle.std.proofs.Common.{ap, sym, ◌∙◌, arith, List, ◌++◌, ℕ, drop}
 use Rattle.connection.specs.Step.{Answer}
 use Rattle.connection_cases.specs.Calls.{lent_answer}
 use Rattle.connection_cases.proofs.Laws.{lent-whole}
