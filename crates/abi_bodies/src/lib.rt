@@ -228,7 +228,7 @@ fn reconnect_at(ws: [u64; 8]) -> Reconnect
     }
 }
 
-// The request that words stand for, where the kind is one and each number is one of its field.
+// The request that words stand for, where the kind is one and each number is one of its field. C's numbers of kinds become cases here alone.
 fn asked(ws: [u64; 8]) -> Option<Request>
     ensures { result ≡ asked ws }
 {

@@ -19,6 +19,7 @@ fn stage_number(stage: Stage) -> u64
     }
 }
 
+// C's numbers become stages here alone.
 fn stage_of(n: u64) -> Stage
     ensures { result ≡ stage_of n }
 {

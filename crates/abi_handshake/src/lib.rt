@@ -23,6 +23,7 @@ fn state_number(s: State) -> u64
     s as u64
 }
 
+// C's numbers become states here alone.
 #[tactic(auto, unfolding(crate::specs::Words::state_of))]
 fn state_of(n: u64) -> State
     ensures { result ≡ state_of n }

@@ -22,6 +22,7 @@ use receiver::{Known, Stage, State};
 use refusal::{Numbers, Refusal, no_refusal};
 use stream::Event;
 
+// C's numbers become stages here alone.
 pub fn stage_of(n: u64) -> Stage
     ensures { result ≡ stage_of n }
 {

@@ -85,6 +85,7 @@ pub fn abi_session_start(numbers: &mut [u64; 2], handles: &mut [u64; 64])
     *handles = none;
 }
 
+// C's numbers become calls here alone.
 fn called(s: Session, call: u64, number: u64) -> Outcome
     ensures { result ≡ call_of s (call_by call number) }
 {

@@ -96,7 +96,7 @@ fn advance(input: Input, n: usize) -> Input
 
 // ---- records
 
-// Streams that are received: R, X and T.
+// Streams that are received: R, X and T. Kinds of records are letters of the input, here and below.
 fn run_stream(s: &[u8], space: &mut [u8], page: &mut Page) -> Option<usize>
     requires { length space.old ≡ 65536 }
     ensures { Did (stream_record s.now) s.now page.old page.new result }

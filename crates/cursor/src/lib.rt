@@ -1,4 +1,5 @@
-// The steps of `fields` from a cursor that may be at a fault: there a step answers that fault, and looks at nothing.
+// The steps of `fields` from a cursor that may be at a fault: there a step answers that fault, and looks at nothing. One function for each, since one over any step would
+// have to ask that the step can be called.
 #![tactic(auto, unfolding(fields::specs::Layout::step_of, fields::specs::Reading::take_of))]
 
 ghost use Rattle.std.specs.Prelude.{◌≡◌};

@@ -36,7 +36,7 @@ pub enum AuthVerdict {
 }
 
 impl AuthVerdict {
-    // By its number; any above 3 is the last one too.
+    // By its number, as C has it; any above 3 is the last one too.
     pub fn by_number(n: u64) -> AuthVerdict
         ensures { result ≡ auth_of n }
     {
@@ -145,7 +145,7 @@ fn advance(next: Option<State>, tag: u8) -> Step
     }
 }
 
-// A client in the state s gets a frame with a tag.
+// A client in the state s gets a frame with a tag. One function for each side, since each has a table of its own.
 #[tactic(auto, using(crate::proofs::Walks::client_unlisted))]
 pub fn client_step(s: State, tag: u8, v: Verdict) -> Step
     ensures { Stepped client_rows s tag v result }

@@ -19,7 +19,7 @@ use refusal::{Numbers, Refusal};
 use states::{agree, fresh, is_refused, needed_by, only_own, place_of, refused_state, size_of};
 use stream::Event;
 
-// What the next bytes of the stream are.
+// What the next bytes of the stream are. A refused stream is a stage too, as it is by number in C.
 #[derive(Clone, Copy, PartialEq, Eq)]
 pub enum Stage {
     Magic,
@@ -60,7 +60,7 @@ pub struct Known {
     pub peer: Features,
     pub revision: Revision,
     pub header: Header,
-    // Segment 1's checksum held, and the frame has not ended.
+    // Segment 1's checksum held, and the frame has not ended. A mark by itself, as in C, where 26 judges it.
     pub first: bool,
     pub refusal: Numbers,
 }
@@ -99,6 +99,7 @@ pub struct Moved {
     pub report: Option<Event>,
 }
 
+// Two cases with data of their own, so no Option or Result.
 #[derive(Clone, Copy)]
 pub enum Taken {
     // The whole piece was taken and does not end the stage, of which so many bytes have come in all: nothing else changes. `Moved` may say the same.

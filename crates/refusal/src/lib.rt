@@ -82,7 +82,7 @@ fn three(number: u8, m: Missing) -> Numbers
     }
 }
 
-// A refusal's number and details.
+// A refusal's number and details. The one list of them, so no code stands for a refusal elsewhere.
 pub fn numbers_of(refusal: Refusal) -> Numbers
     ensures { result ≡ numbers_of refusal }
 {

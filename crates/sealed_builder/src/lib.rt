@@ -34,7 +34,7 @@ pub struct Sending {
     pub key: [u8; 16],
     // The nonce of the next part.
     pub nonce: [u8; 12],
-    // How many parts were sealed; 0 also where all nonces are spent.
+    // How many parts were sealed; 0 also where all nonces are spent, which is marked. Both are words of C, and 26 judges them together.
     pub spent: u64,
     pub exhausted: bool,
     // A switch that was refused handed this back: nothing can be built with it.

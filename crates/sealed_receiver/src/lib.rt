@@ -17,7 +17,7 @@ use states::{
 };
 use stream::Event;
 
-// Which part the next bytes of the stream are of.
+// Which part the next bytes of the stream are of. A refused stream is a stage too, as it is by number in C.
 #[derive(Clone, Copy, PartialEq, Eq)]
 pub enum Stage {
     First,
@@ -41,7 +41,7 @@ pub struct Position {
 pub struct Receiving {
     pub key: [u8; 16],
     pub nonce: [u8; 12],
-    // How many parts were opened; 0 also where all nonces are used.
+    // How many parts were opened; 0 also where all nonces are used, which is marked. Both are words of C, and 26 judges them together.
     pub opened: u64,
     pub exhausted: bool,
 }

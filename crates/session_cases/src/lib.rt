@@ -99,6 +99,7 @@ fn print_outcome(page: &mut Page, letters: &[u8], o: Outcome) -> Session
     o.session
 }
 
+// Kinds of calls are bytes of the record.
 #[tactic(auto, unfolding(crate::specs::Session::line_of))]
 fn make_call(s: Session, kind: u8, value: u64, page: &mut Page) -> Session
     ensures { CallDid s kind value page.old page.new result }

@@ -8,7 +8,7 @@ use banner::{Features, Revision};
 use preamble::Header;
 use refusal::Numbers;
 
-// What a stream's bytes come to: the definition's entries and the receiver's reports are of this type.
+// What a stream's bytes come to: the definition's entries and the receiver's reports are of this type. A refusal is one of them, the last of a list, and no error.
 #[derive(Clone, Copy, PartialEq, Eq)]
 pub enum Event {
     Banner(Features, Revision),
