@@ -88,6 +88,17 @@ static mahuixen_state behind_a_frame(void)
     return state;
 }
 
+/* One that has a banner, a preamble and two bytes of segment 1. */
+static mahuixen_state within_a_frame(void)
+{
+    mahuixen_state state;
+    mahuixen_report report;
+    (void)mahuixen_start(&state, 1, 0);
+    (void)mahuixen_receive(&state, &report, sent[1], MAHUIXEN_BANNER_LENGTH, store, sizeof store);
+    (void)mahuixen_receive(&state, &report, sent[1] + MAHUIXEN_BANNER_LENGTH, 34, store, sizeof store);
+    return state;
+}
+
 static void links(void)
 {
     static mahuixen_sending sending;
@@ -175,7 +186,7 @@ static void start(void)
     (void)mahuixen_start(&state, 2, 0);
 }
 
-static mahuixen_state framed;
+static mahuixen_state framed, midway;
 
 static void switch_to_secure(void)
 {
@@ -185,6 +196,8 @@ static void switch_to_secure(void)
     (void)mahuixen_switch(&state, key, nonce, nonce, &sending);
     (void)mahuixen_switch(&state, key, nonce, nonce, &sending);
     state.mode = 2;
+    (void)mahuixen_switch(&state, key, nonce, nonce, &sending);
+    state = midway;
     (void)mahuixen_switch(&state, key, nonce, nonce, &sending);
 }
 
@@ -214,9 +227,13 @@ static void abort_frame(void)
     }
 }
 
+/* Segments that are no multiples of 16, so that each is padded. */
+static const mahuixen_header padded = {19, 4, {{31, 0}, {300, 0}, {44, 0}, {300, 0}}};
+
 static void build_sealed(void)
 {
     static mahuixen_sending sending;
+    (void)mahuixen_build_sealed(wire, sizeof wire, 0, &sending, &padded, source, total(&padded), &refusal);
     (void)mahuixen_build_sealed(wire, sizeof wire, 0, &sending, &longest, source, sizeof source, &refusal);
     (void)mahuixen_build_sealed(wire, sizeof wire, 0, &sending, &frames[1], source, total(&frames[1]), &refusal);
     (void)mahuixen_build_sealed(wire, 9, 0, &sending, &longest, source, sizeof source, &refusal);
@@ -225,6 +242,7 @@ static void build_sealed(void)
 static void abort_sealed(void)
 {
     static mahuixen_sending sending;
+    (void)mahuixen_abort_sealed(wire, sizeof wire, 0, &sending, &padded, source, total(&padded), &refusal);
     (void)mahuixen_abort_sealed(wire, sizeof wire, 0, &sending, &longest, source, sizeof source, &refusal);
     (void)mahuixen_abort_sealed(wire, sizeof wire, 0, &sending, &frames[1], source, total(&frames[1]), &refusal);
     (void)mahuixen_abort_sealed(wire, 9, 0, &sending, &longest, source, sizeof source, &refusal);
@@ -442,6 +460,7 @@ int main(void)
     links();
     write_each();
     framed = behind_a_frame();
+    midway = within_a_frame();
     for (size_t i = 0; i < sizeof calls / sizeof calls[0]; i++) {
         /* Once before it is measured: the first call of a function of the C library looks it up, on the stack. */
         calls[i].call();

@@ -1,12 +1,16 @@
 -- What `deliver` asks of a session and does to it, in words.
-use mathlib.Core.Path.{◌≡◌, refl, sym, ap, ◌∙◌}
+use mathlib.Core.Path.{◌≡◌, refl, sym, ap, subst, ◌∙◌}
 use mathlib.Core.List.{List, [], ◌∷◌}
+use mathlib.Core.Bool.{false}
 use Prim.Native.Nat.{ℕ}
 use native.Mathlib.Omega.{arith}
+use lib.Dec.{eqb}
 use lib.ListN.{length, get_or}
 use Rattle.refusal.specs.Refusals.{no_refusal}
+use Rattle.refusal.proofs.Booleans.{at_cond}
+use Rattle.preamble.specs.declared.Header.{Header}
 use Rattle.stream.specs.declared.Event.{Event}
-use Rattle.std.specs.Prelude.{Option, Ok}
+use Rattle.std.specs.Prelude.{Option, Some, Ok}
 use Rattle.session.specs.declared.Session.{Session}
 use Rattle.session.specs.declared.Answer.TheVariants as answer
 use Rattle.session.specs.Calls.{held_of, judge_state, judge_ack, acked, cleared, ack_of, reconnect_of, reset_of}
@@ -14,9 +18,24 @@ use Rattle.session.proofs.Releases.{kept, acked-keeps, cleared-keeps}
 use Rattle.delivery.specs.declared.Request.{Request}
 use Rattle.delivery.specs.declared.Request.TheVariants as request
 use Rattle.delivery.specs.declared.Applied.{Applied}
-use Rattle.delivery.specs.Requests.{request_by_report, done_to}
+use Rattle.delivery.specs.Requests.{request_by_frame, request_by_report, done_to}
+use Rattle.abi.specs.Words.{header_at}
+use Rattle.abi_receiver.specs.Words.{report_as, report_of}
 use Rattle.abi_session.specs.Words.{abi_session, session_of, session_numbers, answering}
 use Rattle.abi_delivery.specs.Words.{effect_words, AbiApplied, applied_with, abi_applied}
+
+-- ---- what words ask
+
+pub frame-requests : (q s : List ℕ) {h : Header} {a : Request} → get_or q 0 0 ≡ 2 → h ≡ header_at 5 q → a ≡ request_by_frame h s → a ≡ request_by_report (report_of q) s
+frame-requests q s e f g =
+    g ∙ ap (λ (x : Header). request_by_frame x s) f ∙ subst (λ (n : ℕ). request_by_frame (header_at 5 q) s ≡ request_by_report (report_as n q) s) (sym e) refl
+
+pub others-request : (q s : List ℕ) → eqb (get_or q 0 0) 2 ≡ false → request.Nothing ≡ request_by_report (report_of q) s
+others-request q s e =
+    let n = get_or q 0 0 in
+    let asksNothing : Event → Type 0 = λ w. request.Nothing ≡ request_by_report (Some w) s in
+    rw e (at_cond (λ r. request.Nothing ≡ request_by_report r s) (eqb n 0) refl
+    (at_cond asksNothing (eqb n 1) refl (at_cond asksNothing (eqb n 3) refl (at_cond asksNothing (eqb n 4) refl refl))))
 
 -- ---- what is done: no frame changes a handle
 

@@ -5,7 +5,7 @@
 mod lines;
 mod places;
 
-ghost use Rattle.std.specs.Prelude.{◌≡◌, List, ℕ, ◌+◌, ◌≤◌, length, drop};
+ghost use Rattle.std.specs.Prelude.{◌≡◌, List, ℕ, ◌+◌, ◌≤◌, length};
 ghost use Rattle.refusal.specs.Refusals.{judged_by};
 ghost use Rattle.records.specs.Records.{Did, print, prints};
 ghost use Rattle.build_cases.specs.Sealed.{sealed_line};
@@ -156,17 +156,6 @@ fn make_either(
         return try_switch(s, place, state, page);
     }
     make_call(state, call, rest, store, page)
-}
-
-// The place n bytes on, but not past the end.
-fn forward(s: &[u8], at: usize, n: usize) -> usize
-    ensures { drop result s.now ≡ drop n (drop at s.now) }
-{
-    let all = s.len();
-    if all <= at {
-        return all;
-    }
-    if n < all - at { at + n } else { all }
 }
 
 // The calls of a record, n from place `from` on, one after the other.

@@ -20,7 +20,9 @@ fn by_bytes<const N: u32>(tables: &[[u32; 256]; 4], word: u32) -> u32
     ensures { result ≡ steps N word }
 {
     let [a, b, c, d] = word.to_le_bytes();
-    tables[0][a as usize] ^ tables[1][b as usize] ^ tables[2][c as usize] ^ tables[3][d as usize]
+    // the highest byte first: so the compiler's code for four words is the fastest
+    let highest = tables[3][d as usize];
+    tables[0][a as usize] ^ tables[1][b as usize] ^ tables[2][c as usize] ^ highest
 }
 
 pub fn steps_32(word: u32) -> u32

@@ -225,7 +225,7 @@ fn put_at(out: &mut [u8], at: usize, src: &[u8])
 {
     let from = at.min(out.len());
     let n = src.len().min(out.len() - from);
-    out[from..from + n].copy_from_slice(&src[..n]);
+    buffer::put(&mut out[from..from + n], &src[..n]);
 }
 
 // Counts bytes and writes them.

@@ -7,7 +7,7 @@ ghost use Rattle.receiver.specs.Step.{state_at, block_with, store_with, Chunked,
 use crate::states::{place_of, size_of};
 use crate::transitions::end_stage;
 use crate::{Known, Moved, Place, Stage};
-use buffer::{min, part};
+use buffer::{min, part, put};
 
 // Puts a stage's next bytes at their place, behind the `at` that came.
 pub(crate) fn fill(place: Place, at: usize, block: &mut [u8], bytes: &[u8], store: &mut [u8])
@@ -15,8 +15,8 @@ pub(crate) fn fill(place: Place, at: usize, block: &mut [u8], bytes: &[u8], stor
     ensures { (block.new ≡ block_with place at block.old bytes.now) × (store.new ≡ store_with place at store.old bytes.now) }
 {
     match place {
-        Place::Block => block[at..at + bytes.len()].copy_from_slice(bytes),
-        Place::Store => store[at..at + bytes.len()].copy_from_slice(bytes),
+        Place::Block => put(&mut block[at..], bytes),
+        Place::Store => put(&mut store[at..], bytes),
         Place::Nowhere => {}
     }
 }

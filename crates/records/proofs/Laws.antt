@@ -6,11 +6,11 @@ use Prim.Native.Nat.{ℕ, zero, suc, ◌+◌, ◌%◌, ◌≤◌, ◌<◌}
 use native.Mathlib.Nat.{not-suc-le-zero, le_of_suc-le-suc}
 use native.Mathlib.Numerals.{add-one}
 use native.Mathlib.Omega.{arith}
-use borrow.Author.Tests.{leb-true}
+use borrow.Author.Tests.{leb-true, lt-ltb}
 use lib.Dec.{ltb, leb}
 use lib.ListN.{length, take, drop, get_or, set, length-append}
 use lib.Seq.{drop-cons, set_at, take-suc, take-suc-set}
-use Rattle.refusal.proofs.Booleans.{both_right}
+use Rattle.refusal.proofs.Booleans.{both_left, both_right}
 use Rattle.buffer.specs.Le.{le_of}
 use Rattle.crc32c.specs.Crc.{crc_of}
 use Rattle.refusal.specs.Writes.{WriteOutcome, Done, done}
@@ -19,7 +19,7 @@ use Rattle.fields.proofs.Skips.{length-words}
 use Rattle.text.specs.Line.{Piece}
 use Rattle.text.specs.Page.{Page}
 use Rattle.std.specs.Prelude.{Option, None, Some}
-use Rattle.records.specs.Records.{outcome_line, done_line, Record, Did, taken_of, sized, size_in, whole, is_whole, bad_record, line_then, read_all, print, prints, counted}
+use Rattle.records.specs.Records.{outcome_line, done_line, Record, Did, taken_of, taking, sized, size_in, whole, is_whole, bad_record, line_then, read_all, print, prints, counted}
 
 -- ---- buffers
 
@@ -40,6 +40,10 @@ counted-more l first i h =
 pub whole-within : (n : ℕ) (s : List ℕ) → is_whole n s ≡ true → n ≤ length s
 whole-within n s e = leb-true n (length s) (both_right (ltb 0 n) (leb n (length s)) e)
 
+-- a record of which there are bytes is taken
+pub taken-whole : (n : ℕ) → ltb 0 n ≡ true → Some n ≡ taking n
+taken-whole n e = rw e refl
+
 module _ {s : List ℕ} {before after : Page} {r : Option ℕ} where
   -- code that found a record bad, or whole
   pub did_bad : (n : ℕ) (lines : List (List Piece)) {x : Option ℕ} → x ≡ size_in n s → x ≡ None → Did bad_record s before after r → Did (whole n s lines) s before after r
@@ -50,7 +54,7 @@ module _ {s : List ℕ} {before after : Page} {r : Option ℕ} where
       go false e = d
       go true e = cc
 
-  pub did_whole : (n : ℕ) (lines : List (List Piece)) {m : ℕ} → Some m ≡ size_in n s → taken_of r ≡ m → after ≡ prints lines before → Did (whole n s lines) s before after r
+  pub did_whole : (n : ℕ) (lines : List (List Piece)) {m : ℕ} → Some m ≡ size_in n s → r ≡ Some m → after ≡ prints lines before → Did (whole n s lines) s before after r
   unfolding whole
   did_whole n lines {m} e t p = go (is_whole n s) refl e
     where
@@ -58,11 +62,12 @@ module _ {s : List ℕ} {before after : Page} {r : Option ℕ} where
       go true h e =
           let k : m ≡ n = cc in
           let w = whole-within n s h in
-          record { taken = t ∙ k; printed = p; within = omega arith }
+          let z : r ≡ Some n = t ∙ ap (λ (i : ℕ). Some i) k in
+          record { taken = z ∙ taken-whole n (both_left (ltb 0 n) (leb n (length s)) h); printed = p; within = rw z w }
       go false h e = cc
 
   -- of a call that writes: what it came to and its buffer's checksum are printed
-  pub did_done : (n : ℕ) (w : WriteOutcome) (buf : List ℕ) {d : Done} {m sum : ℕ} → Some m ≡ size_in n s → taken_of r ≡ m
+  pub did_done : (n : ℕ) (w : WriteOutcome) (buf : List ℕ) {d : Done} {m sum : ℕ} → Some m ≡ size_in n s → r ≡ Some m
       → done w buf ≡ d
       → sum ≡ crc_of 4294967295 buf
       → after ≡ print (outcome_line w sum) before
@@ -105,12 +110,12 @@ unfolding prints
 left-next {all} {d} {line} {p} {q} {r} l e = record { size = l.size; lines = ap (prints d.lines) e ∙ l.lines }
 
 module _ {all : Record} {s : List ℕ} {before after : Page} {r : Option ℕ} where
-  pub did_all : (n : ℕ) → Left all (read_all n) before after → taken_of r ≡ n → n ≤ length s → Did all s before after r
+  pub did_all : (n : ℕ) → Left all (read_all n) before after → r ≡ Some n → 0 < n → n ≤ length s → Did all s before after r
   unfolding prints
-  did_all n l t h = record { taken = t ∙ l.size; printed = l.lines; within = omega arith }
+  did_all n l t k h = record { taken = t ∙ taken-whole n (lt-ltb 0 n k) ∙ ap taking l.size; printed = l.lines; within = rw t h }
 
   pub did_broken : {q : Page} → Left all bad_record before q → Did bad_record s q after r → Did all s before after r
-  did_broken l d = record { taken = d.taken ∙ l.size; printed = d.printed ∙ l.lines; within = d.within }
+  did_broken l d = record { taken = d.taken ∙ ap taking l.size; printed = d.printed ∙ l.lines; within = d.within }
 
 -- ---- lists
 

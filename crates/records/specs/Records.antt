@@ -91,9 +91,13 @@ abbrev pub taken_of : Option ℕ → ℕ
 taken_of None = 0
 taken_of (Some n) = n
 
+-- what a step answers for so many bytes: a bad record, which has none, ends the run
+abbrev pub taking : ℕ → Option ℕ
+taking n = cond (ltb 0 n) (Some n) None
+
 -- THE PROMISE OF A STEP: the record's bytes are taken, and its lines printed
 pub record Did (d : Record) (s : List ℕ) (before after : Page) (r : Option ℕ) : Type 0 where
-  pub taken : taken_of r ≡ d.size
+  pub taken : r ≡ taking d.size
   pub printed : after ≡ prints d.lines before
   pub within : taken_of r ≤ length s
 

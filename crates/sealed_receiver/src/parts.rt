@@ -246,7 +246,10 @@ fn move_down(store: &mut [u8], to: usize, from: usize, n: usize)
     requires { (to ≤ from) × (from + n ≤ length store.old) }
     ensures { store.new ≡ splice store.old to (take n (drop from store.old)) }
 {
-    store.copy_within(from..from + n, to);
+    // byte by byte: `copy_within` would have the library call `memmove`, of which a caller's environment need have none
+    for i in 0..n {
+        store[to + i] = store[from + i];
+    }
 }
 
 // The segments of an opened last part one behind the other.

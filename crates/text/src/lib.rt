@@ -17,14 +17,11 @@ pub struct Page<'a> {
 }
 
 impl<'a> Model for Page<'a> {
-    ghost use Rattle.std.specs.Prelude.{◌≤◌, length};
     ghost use Rattle.text.specs.Page.{Page, page};
 
     ghost Value = { Page };
 
     ghost view = { λ p. page p.text.now p.filled };
-
-    ghost invariant = { λ p. p.filled ≤ length p.text.now };
 }
 
 impl<'a> Page<'a> {
@@ -34,12 +31,28 @@ impl<'a> Page<'a> {
         Page { text, filled: 0 }
     }
 
+    // Behind text that stands in the buffer already. Any place will do: at the buffer's end or behind it there is no room.
+    pub fn new_at(text: &'a mut [u8], at: usize) -> Page<'a>
+        ensures { result ≡ page text.old at }
+    {
+        Page { text, filled: at }
+    }
+
+    // Where the text ends.
+    #[tactic(auto, unfolding(crate::specs::Page::page))]
+    pub fn place(&self) -> usize
+        ensures { result ≡ self.now.at }
+    {
+        let Page { filled, .. } = self;
+        *filled
+    }
+
     // For how many bytes more there is room.
     #[tactic(auto, unfolding(crate::specs::Page::page))]
     pub fn room(&self) -> usize
         ensures { result ≡ length self.now.bytes - self.now.at }
     {
-        self.text.len() - self.filled
+        self.text.len().saturating_sub(self.filled)
     }
 
     // The text so far.
@@ -47,7 +60,7 @@ impl<'a> Page<'a> {
     pub fn written(&self) -> &[u8]
         ensures { result.now ≡ take self.now.at self.now.bytes }
     {
-        &self.text[..self.filled]
+        &self.text[..min(self.filled, self.text.len())]
     }
 
     // Begins the text anew.
@@ -62,10 +75,13 @@ impl<'a> Page<'a> {
     pub fn word(&mut self, letters: &[u8])
         ensures { self.new ≡ put (raw letters.now) self.old }
     {
-        let n = min(letters.len(), self.text.len() - self.filled);
-        let end = self.filled + n;
-        self.text[self.filled..end].copy_from_slice(&letters[..n]);
-        self.filled = end;
+        let all = self.text.len();
+        if self.filled < all {
+            let n = min(letters.len(), all - self.filled);
+            let end = self.filled + n;
+            self.text[self.filled..end].copy_from_slice(&letters[..n]);
+            self.filled = end;
+        }
     }
 
     // A number in decimal.

@@ -23,4 +23,4 @@ unfolding steps_from
 returns c =
     let e : c.loop-i.i ≡ c.args.n = omega arith in
     let z : c.args.n - c.args.n ≡ 0 = omega arith in
-    did_all _ (rw (e, z) at c.loop-i.invariant.left) refl (omega (arith, c.loop-i.invariant.within))
+    did_all _ (rw (e, z) at c.loop-i.invariant.left) refl (omega arith) (omega (arith, c.loop-i.invariant.within))

@@ -1,14 +1,15 @@
-use Rattle.std.proofs.Common.{arith}
-use Rattle.std.proofs.lemmas.Grind.{common_steps}
-use Rattle.std.proofs.Math.Seq.{sets-eq}
+use Rattle.std.proofs.Common.{refl, arith}
+use Rattle.buffer.proofs.Sets.{part-put}
 use Rattle.receiver.proofs.pieces.fill.Goals as goal
 
 pub returns-in-Block : goal.returns-in-Block
 returns-in-Block c =
-    let g = c.args in
-    rw (c.in-Block.is, sets-eq g.bytes.now g.block.now g.at (c.requires.0 c.in-Block.is)) (search (arith, common_steps))
+    let e = c.in-Block.is in
+    let z = c.args in
+    rw e (part-put z.block.now z.bytes.now c.put.new.out z.at c.put.ensures (c.requires.0 e), refl)
 
 pub returns-in-Store : goal.returns-in-Store
 returns-in-Store c =
-    let g = c.args in
-    rw (c.in-Store.is, sets-eq g.bytes.now g.store.now g.at (c.requires.1 c.in-Store.is)) (search (arith, common_steps))
+    let e = c.in-Store.is in
+    let z = c.args in
+    rw e (refl, part-put z.store.now z.bytes.now c.put-in-Store.new.out z.at c.put-in-Store.ensures (c.requires.1 e))
