@@ -459,7 +459,9 @@ pub fn write(
 {
     let mut scratch = [0u8; 1];
     let q = row(&mut scratch, r, first, second, bytes);
-    let len = decide(serves(tag, r), q, out.len())?;
+    let served = serves(tag, r);
+    let room = out.len();
+    let len = decide(served, q, room)?;
     row(out, r, first, second, bytes);
     Ok(len)
 }
