@@ -4,3 +4,4 @@ pub mod Allowed
 pub mod Headers
 pub mod Back
 pub mod Spelling
+pub mod Fine

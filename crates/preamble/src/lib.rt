@@ -159,6 +159,7 @@ pub fn judge_header(h: Header) -> Result<(), Refusal>
 }
 
 // The same as one test, for who does not ask which refusal it would be.
+#[tactic(auto, using(crate::proofs::Fine::ok_fine, crate::proofs::Fine::header_fine))]
 pub fn header_is_fine(h: Header) -> bool
     ensures { result ≡ is_fine (judge_header h) }
 {
