@@ -49,6 +49,10 @@ clipped stream t n k h e =
     by_less (length stream - t) n (λ l. take_all ((t + k) - t) (drop t stream) (omega arith) ∙ sym (take_all n (drop t stream) (omega arith)))
     (λ l. let a : (t + k) - t ≡ n = omega arith in rw a)
 
+-- a list that is gone through from its first element on
+pub gone_through : (l : List ℕ) (k i : ℕ) → k ≡ 0 → get_or (take (length l - k) (drop k l)) i 0 ≡ get_or l i 0
+gone_through l k i e = rw e (ap (λ (t : List ℕ). get_or t i 0) (take_all (length l - 0) l (omega arith)))
+
 pub taken-within : (stream store : List ℕ) (st : State) (t n : ℕ) (o : Received) (s : List ℕ) → t ≤ length stream → Answered st store (piece_at stream t n) o s → t + o.taken ≤ length stream
 taken-within stream store st t n o s h r =
     let l = answer-least st store (piece_at stream t n) in

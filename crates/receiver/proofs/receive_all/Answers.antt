@@ -1,7 +1,7 @@
-use Rattle.std.proofs.Common.{arith, ◌≡◌, ◌∙◌, length, get_or}
+use Rattle.std.proofs.Common.{arith, ◌≡◌, ◌∙◌, ◌<◌, ◌-◌, min, length, get_or}
 use Rattle.std.proofs.Math.Seq.{take-length}
 use Rattle.receiver.specs.Calls.{Demand3}
-use Rattle.receiver.proofs.CallLoop.{called-none, called-next, clipped}
+use Rattle.receiver.proofs.CallLoop.{called-none, called-next, clipped, gone_through}
 use Rattle.receiver.proofs.Chain.{demand3}
 use Rattle.receiver.proofs.receive_all.Goals as goal
 
@@ -11,14 +11,18 @@ loop-cut-init c = called-none c.args.stream.now c.args.cuts.now c.args.store.now
 pub overflow_add-taken : goal.overflow_add-taken
 overflow_add-taken c =
     let m = c.loop-cut in
-    let e = clipped c.args.stream.now m.taken (get_or c.args.cuts.now m.cut-index 0) c.min.result m.invariant.within c.min.ensures in
-    omega (arith, (called-next m.invariant c.loop-cut-test.true c.receive-o.auto.store (rw e at c.receive-o.ensures)).within)
+    let n : c.min.result ≡ min (get_or c.args.cuts.now m.cut-index 0) (length c.args.stream.now - m.taken) = grind (arith, gone_through) in
+    let i : m.cut-index < length c.args.cuts.now = omega arith in
+    let e = clipped c.args.stream.now m.taken (get_or c.args.cuts.now m.cut-index 0) c.min.result m.invariant.within n in
+    omega (arith, (called-next m.invariant i c.receive-o.auto.store (rw e at c.receive-o.ensures)).within)
 
 pub loop-cut-preserved : goal.loop-cut-preserved
 loop-cut-preserved c =
     let m = c.loop-cut in
-    let e = clipped c.args.stream.now m.taken (get_or c.args.cuts.now m.cut-index 0) c.min.result m.invariant.within c.min.ensures in
-    called-next m.invariant c.loop-cut-test.true c.receive-o.auto.store (rw e at c.receive-o.ensures)
+    let n : c.min.result ≡ min (get_or c.args.cuts.now m.cut-index 0) (length c.args.stream.now - m.taken) = grind (arith, gone_through) in
+    let i : m.cut-index < length c.args.cuts.now = omega arith in
+    let e = clipped c.args.stream.now m.taken (get_or c.args.cuts.now m.cut-index 0) c.min.result m.invariant.within n in
+    called-next m.invariant i c.receive-o.auto.store (rw e at c.receive-o.ensures)
 
 pub returns : goal.returns
 unfolding Demand3
