@@ -92,25 +92,25 @@ unfolding settled_body
 stopped s ks c n b e = rw (e, stuck ks s n)
 
 -- the steps of a row, as far as it goes: one fails, or a byte is left over, or the body stands
-pub data Steps (s : List ℕ) : ℕ → (ks : List Kind) → Makes ks → Result Body Refusal → Type 0 where
-  end : {at : ℕ} {b r : Result Body Refusal} → r ≡ settled_body s (good at) b → Steps s at [] b r
-  stop : {k : Kind} {at : ℕ} {ks : List Kind} {m : Makes (k ∷ ks)} (p : ℕ) → failed (fault p) ≡ take_of k s (good at) → Steps s at (k ∷ ks) m (malformed_body p)
-  step : {k : Kind} {at : ℕ} {ks : List Kind} {m : Makes (k ∷ ks)} {r : Result Body Refusal} (x : Said k) (n : ℕ)
-      → read (field_in k s x) (place_in k x) (good n) ≡ take_of k s (good at) → Steps s n ks (m x) r → Steps s at (k ∷ ks) m r
+pub data Steps (s : List ℕ) : Cursor → (ks : List Kind) → Makes ks → Result Body Refusal → Type 0 where
+  end : {c : Cursor} {b r : Result Body Refusal} → r ≡ settled_body s c b → Steps s c [] b r
+  stop : {k : Kind} {c : Cursor} {ks : List Kind} {m : Makes (k ∷ ks)} (p : ℕ) → failed (fault p) ≡ take_of k s c → Steps s c (k ∷ ks) m (malformed_body p)
+  step : {k : Kind} {c : Cursor} {ks : List Kind} {m : Makes (k ∷ ks)} {r : Result Body Refusal} (x : Said k) (n : ℕ)
+      → read (field_in k s x) (place_in k x) (good n) ≡ take_of k s c → Steps s (good n) ks (m x) r → Steps s c (k ∷ ks) m r
 
-steps : {s : List ℕ} {at : ℕ} {ks : List Kind} {m : Makes ks} {r : Result Body Refusal} → Steps s at ks m r → r ≡ from ks s at m
-unfolding from
+steps : {s : List ℕ} {c : Cursor} {ks : List Kind} {m : Makes ks} {r : Result Body Refusal} → Steps s c ks m r → r ≡ settled_body s (run ks s c) (made ks m s c)
 steps (end e) = e
-steps {s} {at} (stop {k = k} {ks = ks} p e) = sym (stopped s ks (step_of k s (good at)) p _ (took-failed k s at e))
-steps {s} {at} (step {k = k} {ks = ks} {m = m} x n e t) =
-    let h = took-read k s at e in
-    rw (← h.next, ← (said k s at x h.value h.place)) (steps t)
+steps {s} {c} (stop {k = k} {ks = ks} p e) = sym (stopped s ks (step_of k s c) p _ (took-failed k s c e))
+steps {s} {c} (step {k = k} {ks = ks} {m = m} x n e t) =
+    let h = took-read k s c e in
+    rw (← h.next, ← (said k s c.at x h.value h.place)) (steps t)
 
-pub by_steps : {s : List ℕ} {at : ℕ} {ks : List Kind} {m : Makes ks} {r a : Result Body Refusal} → from ks s 0 m ≡ a → at ≡ 0 → Steps s at ks m r → r ≡ a
-by_steps {s} {ks = ks} {m = m} i z t = steps t ∙ ap (λ (n : ℕ). from ks s n m) z ∙ i
+pub by_steps : {s : List ℕ} {c : Cursor} {ks : List Kind} {m : Makes ks} {r a : Result Body Refusal} → from ks s 0 m ≡ a → c ≡ good 0 → Steps s c ks m r → r ≡ a
+unfolding from
+by_steps {s} {ks = ks} {m = m} i z t = steps t ∙ ap (λ (d : Cursor). settled_body s (run ks s d) (made ks m s d)) z ∙ i
 
 -- where a `?` leaves
-pub left_at : {s : List ℕ} {at : ℕ} {ks : List Kind} {m : Makes ks} {r a : Result Body Refusal} {p : ℕ} → from ks s 0 m ≡ a → at ≡ 0 → IsErrAnd r (λ why. why ≡ BodyMalformed p) → Steps s at ks m (malformed_body p) → r ≡ a
+pub left_at : {s : List ℕ} {c : Cursor} {ks : List Kind} {m : Makes ks} {r a : Result Body Refusal} {p : ℕ} → from ks s 0 m ≡ a → c ≡ good 0 → IsErrAnd r (λ why. why ≡ BodyMalformed p) → Steps s c ks m (malformed_body p) → r ≡ a
 left_at {r = r} i z q t = let e = err_from_is_err_and r q in rw (e.1, e.2) (by_steps i z t)
 
 -- ---- what stands at the places of such a body is what its layout says

@@ -12,19 +12,19 @@ use Rattle.bodies.specs.Read.{run}
 -- ---- a step's answer
 
 -- a field that was read
-pub record Took (k : Kind) (s : List ℕ) (at : ℕ) (f : Field) (p : Place) (n : ℕ) : Type 0 where
-  pub next : good n ≡ step_of k s (good at)
-  pub value : f ≡ field_at k s at
-  pub place : p ≡ place_at k s at
+pub record Took (k : Kind) (s : List ℕ) (c : Cursor) (f : Field) (p : Place) (n : ℕ) : Type 0 where
+  pub next : good n ≡ step_of k s c
+  pub value : f ≡ field_at k s c.at
+  pub place : p ≡ place_at k s c.at
 
-pub took-read : (k : Kind) (s : List ℕ) (at : ℕ) {n : ℕ} {f : Field} {p : Place} → read f p (good n) ≡ take_of k s (good at) → Took k s at f p n
+pub took-read : (k : Kind) (s : List ℕ) (c : Cursor) {n : ℕ} {f : Field} {p : Place} → read f p (good n) ≡ take_of k s c → Took k s c f p n
 unfolding take_of
-took-read k s at e =
-    by_test (step_of k s (good at)).failed (λ t. wrong cc) (λ t. record { next = cc; value = cc; place = cc })
+took-read k s c e =
+    by_test (step_of k s c).failed (λ t. wrong cc) (λ t. record { next = cc; value = cc; place = cc })
 
-pub took-failed : (k : Kind) (s : List ℕ) (at : ℕ) {p : ℕ} → failed (fault p) ≡ take_of k s (good at) → step_of k s (good at) ≡ fault p
+pub took-failed : (k : Kind) (s : List ℕ) (c : Cursor) {p : ℕ} → failed (fault p) ≡ take_of k s c → step_of k s c ≡ fault p
 unfolding take_of
-took-failed k s at e = by_test (step_of k s (good at)).failed (λ t. cc) (λ t. wrong cc)
+took-failed k s c e = by_test (step_of k s c).failed (λ t. cc) (λ t. wrong cc)
 
 -- ---- a row behind a fault
 

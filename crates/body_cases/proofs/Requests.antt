@@ -31,13 +31,13 @@ use Rattle.body_cases.specs.Writing.{past_given, fields_given, all_given, kinds_
 
 module _ {s : List ℕ} {at e : ℕ} where
   pub number-given : {w n : ℕ} → read (number w n) nowhere (good e) ≡ take_of (kind.number w) s (good at) → Given (kind.number w) s (good at) (number w n) (good e)
-  number-given {w} t = let h = took-read (kind.number w) s at t in record { next = h.next; value = h.value }
+  number-given {w} t = let h = took-read (kind.number w) s (good at) t in record { next = h.next; value = h.value }
 
   pub error-given : {n : ℕ} → read (number 4 n) nowhere (good e) ≡ take_of (kind.number 4) s (good at) → Given kind.negative s (good at) (negative n) (good e)
-  error-given {n} t = let h = took-read (kind.number 4) s at t in let v = h.value in record { next = h.next; value = cc }
+  error-given {n} t = let h = took-read (kind.number 4) s (good at) t in let v = h.value in record { next = h.next; value = cc }
 
   pub stamp-given : {w : ℕ} {p : Span} → read (fixed w (span_in s p)) (bytes_at p) (good e) ≡ take_of (kind.fixed w) s (good at) → Given (kind.fixed w) s (good at) (fixed w (span_in s p)) (good e)
-  stamp-given {w} t = let h = took-read (kind.fixed w) s at t in record { next = h.next; value = h.value }
+  stamp-given {w} t = let h = took-read (kind.fixed w) s (good at) t in record { next = h.next; value = h.value }
 
   pub payload-given : {bs : List ℕ} → BytesAt s (good at) bs (good e) → Given kind.payload s (good at) (payload bs) (good e)
   payload-given t = record { next = t.next; value = ap payload t.value }
@@ -47,10 +47,10 @@ module _ {s : List ℕ} {at e : ℕ} where
 
 -- a step that fails, where the field is read as in a body
 pub number_cut : (w : ℕ) (s : List ℕ) (at : ℕ) {p : ℕ} → failed (fault p) ≡ take_of (kind.number w) s (good at) → fault p ≡ step_of (kind.number w) s (good at)
-number_cut w s at t = sym (took-failed (kind.number w) s at t)
+number_cut w s at t = sym (took-failed (kind.number w) s (good at) t)
 
 pub stamp_cut : (w : ℕ) (s : List ℕ) (at : ℕ) {p : ℕ} → failed (fault p) ≡ take_of (kind.fixed w) s (good at) → fault p ≡ step_of (kind.fixed w) s (good at)
-stamp_cut w s at t = sym (took-failed (kind.fixed w) s at t)
+stamp_cut w s at t = sym (took-failed (kind.fixed w) s (good at) t)
 
 -- ---- rows of steps
 
@@ -79,44 +79,44 @@ number_end w s at n e =
 
 module _ (s : List ℕ) (at : ℕ) where
   pub count_cut : {p : ℕ} → failed (fault p) ≡ take_of (kind.number 1) s (good at) → fault p ≡ past_given kind.numbers s (good at)
-  count_cut {p} t = rw (took-failed (kind.number 1) s at t, held (kind.fixed (4 * number_at 1 at s)) s p)
+  count_cut {p} t = rw (took-failed (kind.number 1) s (good at) t, held (kind.fixed (4 * number_at 1 at s)) s p)
 
   module _ (n begin : ℕ) (t : read (number 1 n) nowhere (good begin) ≡ take_of (kind.number 1) s (good at)) where
     count_is : n ≡ number_at 1 at s
-    count_is = let v = (took-read (kind.number 1) s at t).value in cc
+    count_is = let v = (took-read (kind.number 1) s (good at) t).value in cc
 
     pub numbers_cut : {p : ℕ} → failed (fault p) ≡ take_of (kind.fixed (4 * n)) s (good begin) → fault p ≡ past_given kind.numbers s (good at)
-    numbers_cut u = rw (← (took-read (kind.number 1) s at t).next, ← count_is, took-failed (kind.fixed (4 * n)) s begin u)
+    numbers_cut u = rw (← (took-read (kind.number 1) s (good at) t).next, ← count_is, took-failed (kind.fixed (4 * n)) s (good begin) u)
 
     module _ (q : Span) (e : ℕ) (u : read (fixed (4 * n) (span_in s q)) (bytes_at q) (good e) ≡ take_of (kind.fixed (4 * n)) s (good begin)) where
       pub numbers_over : 64 < n → fault e ≡ past_given kind.numbers s (good at)
-      numbers_over h = rw (← (took-read (kind.number 1) s at t).next, ← count_is, ← (took-read (kind.fixed (4 * n)) s begin u).next, lt-leb n 64 h)
+      numbers_over h = rw (← (took-read (kind.number 1) s (good at) t).next, ← count_is, ← (took-read (kind.fixed (4 * n)) s (good begin) u).next, lt-leb n 64 h)
 
       pub numbers-given : n ≤ 64 → Given kind.numbers s (good at) (numbers (words_of n (drop q.at s))) (good e)
       numbers-given h =
-          let b : begin ≡ at + 1 = number_end 1 s at begin (took-read (kind.number 1) s at t).next in
-          let p = (took-read (kind.fixed (4 * n)) s begin u).place in
+          let b : begin ≡ at + 1 = number_end 1 s at begin (took-read (kind.number 1) s (good at) t).next in
+          let p = (took-read (kind.fixed (4 * n)) s (good begin) u).place in
           let a : q.at ≡ begin = cc in
           let m : min (number_at 1 at s) 64 ≡ n = omega (arith, count_is) in
           record {
-            next = rw (← (took-read (kind.number 1) s at t).next, ← count_is, ← (took-read (kind.fixed (4 * n)) s begin u).next, le-leb n 64 h);
+            next = rw (← (took-read (kind.number 1) s (good at) t).next, ← count_is, ← (took-read (kind.fixed (4 * n)) s (good begin) u).next, le-leb n 64 h);
             value = rw (a, b, m);
           }
 
   pub bytes_cut : {p : ℕ} → failed (fault p) ≡ take_of kind.payload s (good at) → fault p ≡ past_given kind.payload s (good at)
-  bytes_cut t = rw (took-failed kind.payload s at t)
+  bytes_cut t = rw (took-failed kind.payload s (good at) t)
 
   module _ (q : Span) (e : ℕ) (u : read (payload (span_in s q)) (bytes_at q) (good e) ≡ take_of kind.payload s (good at)) where
     long_is : q.len ≡ number_at 4 at s
-    long_is = let p = (took-read kind.payload s at u).place in cc
+    long_is = let p = (took-read kind.payload s (good at) u).place in cc
 
     pub bytes_over : allowed q.len ≡ false → fault e ≡ past_given kind.payload s (good at)
-    bytes_over h = rw (← (took-read kind.payload s at u).next, ← long_is, h)
+    bytes_over h = rw (← (took-read kind.payload s (good at) u).next, ← long_is, h)
 
     pub bytes-given : allowed q.len ≡ true → BytesAt s (good at) (span_in s q) (good e)
     bytes-given h =
-        let v = (took-read kind.payload s at u).value in
-        record { next = rw (← (took-read kind.payload s at u).next, ← long_is, h); value = cc }
+        let v = (took-read kind.payload s (good at) u).value in
+        record { next = rw (← (took-read kind.payload s (good at) u).next, ← long_is, h); value = cc }
 
 pub data Row (s : List ℕ) : Cursor → List Kind → List Field → Cursor → Type 0 where
   end : {c : Cursor} → Row s c [] [] c

@@ -1,5 +1,5 @@
-// The steps of `fields` from a cursor that may be at a fault: there a step answers that fault, and looks at nothing. One function for each, since one over any step would
-// have to ask that the step can be called.
+// The steps of `fields` from a cursor alone, which may be at a fault: there a step answers that fault, and looks at nothing. One function for each, since one over any step
+// would have to ask that the step can be called.
 #![tactic(auto, unfolding(fields::specs::Layout::step_of, fields::specs::Reading::take_of))]
 
 ghost use Rattle.std.specs.Prelude.{◌≡◌};
@@ -7,10 +7,9 @@ ghost use Rattle.fields.specs.Layout as kind;
 ghost use Rattle.fields.specs.Field.{number, negative, payload, opaque, fixed};
 ghost use Rattle.fields.specs.Reading.{in_end, in_number, in_list, in_span, take_of};
 
-use fields::{Fault, NumberList, Span, Step};
+use fields::{NumberList, Span, Step};
 
-// A place in a segment, or the fault before it.
-pub type Cursor = Result<usize, Fault>;
+pub type Cursor = fields::Cursor;
 
 pub fn read_u8(s: &[u8], c: Cursor) -> Step<u8>
     ensures { in_number (number 1) result ≡ take_of (kind.number 1) s.now (in_end c) }

@@ -5,7 +5,7 @@ ghost use Rattle.std.specs.Prelude.{◌≡◌, Result, ℕ, IfOk, ◌+◌, ◌-�
 ghost use Rattle.buffer.specs.Le.{le, words};
 ghost use Rattle.preamble.specs.Judge.{segment_limit};
 ghost use Rattle.refusal.specs.declared.Refusal.TheVariants.{BodyMalformed};
-ghost use Rattle.fields.specs.Layout.{good, end_of};
+ghost use Rattle.fields.specs.Layout.{Cursor, good, end_of};
 ghost use Rattle.fields.specs.Layout as kind;
 ghost use Rattle.fields.specs.Field.{bits_of, WordsFit, number, negative, numbers, payload, opaque, fixed};
 ghost use Rattle.fields.specs.Reading.{numbers_in, in_end, in_number, in_list, in_span, take_of};
@@ -44,7 +44,34 @@ pub struct NumberList {
     pub count: u32,
 }
 
-// What a step answers that reads at the cursor, a place in a segment: the field and the cursor behind it, or its fault.
+// A place in a segment, or the fault before it.
+pub type Cursor = Result<usize, Fault>;
+
+// What a step reads from: a place, or a cursor, which stays at its fault.
+pub trait IntoCursor {
+    ghost cursor: { Self → Cursor };
+
+    fn into_cursor(self) -> Cursor
+        ensures { in_end result ≡ cursor self };
+}
+
+impl IntoCursor for usize {
+    ghost cursor = { good };
+
+    fn into_cursor(self) -> Cursor {
+        Ok(self)
+    }
+}
+
+impl IntoCursor for Cursor {
+    ghost cursor = { in_end };
+
+    fn into_cursor(self) -> Cursor {
+        self
+    }
+}
+
+// What a step answers that reads at the cursor: the field and the place behind it, or its fault.
 pub type Step<T> = Result<(T, usize), Fault>;
 
 // ---- where a field ends
@@ -110,74 +137,82 @@ fn skip_rest(s: &[u8], at: usize, closing: usize) -> Result<usize, Fault>
 // ---- reading: a step for each kind of field
 
 // The cursor at a segment's front.
-pub fn start() -> usize
-    ensures { result ≡ 0 }
+pub fn start() -> Cursor
+    ensures { in_end result ≡ good 0 }
 {
-    0
+    Ok(0)
 }
 
 #[tactic(auto, using(crate::proofs::Skips::byte_there), unfolding(crate::specs::Layout::step_of, crate::specs::Reading::take_of))]
-pub fn read_u8(s: &[u8], at: usize) -> Step<u8>
-    ensures { in_number (number 1) result ≡ take_of (kind.number 1) s.now (good at) }
+pub fn read_u8<C: IntoCursor>(s: &[u8], c: C) -> Step<u8>
+    ensures { in_number (number 1) result ≡ take_of (kind.number 1) s.now (C.cursor c) }
 {
+    let at = c.into_cursor()?;
     let end = skip(s, at, 1)?;
     Ok((byte_at(s, at), end))
 }
 
 // One function for each width: a generic one would need a trait with the width and the buffer's reader, and is longer.
-pub fn read_u32(s: &[u8], at: usize) -> Step<u32>
-    ensures { in_number (number 4) result ≡ take_of (kind.number 4) s.now (good at) }
+pub fn read_u32<C: IntoCursor>(s: &[u8], c: C) -> Step<u32>
+    ensures { in_number (number 4) result ≡ take_of (kind.number 4) s.now (C.cursor c) }
 {
+    let at = c.into_cursor()?;
     let end = skip(s, at, 4)?;
     Ok((u32_at(s, at), end))
 }
 
-pub fn read_u64(s: &[u8], at: usize) -> Step<u64>
-    ensures { in_number (number 8) result ≡ take_of (kind.number 8) s.now (good at) }
+pub fn read_u64<C: IntoCursor>(s: &[u8], c: C) -> Step<u64>
+    ensures { in_number (number 8) result ≡ take_of (kind.number 8) s.now (C.cursor c) }
 {
+    let at = c.into_cursor()?;
     let end = skip(s, at, 8)?;
     Ok((u64_at(s, at), end))
 }
 
 // A signed 32-bit number below zero, as its 32 bits: `error_of` gives the number.
-pub fn read_negative(s: &[u8], at: usize) -> Step<u32>
-    ensures { in_number negative result ≡ take_of kind.negative s.now (good at) }
+pub fn read_negative<C: IntoCursor>(s: &[u8], c: C) -> Step<u32>
+    ensures { in_number negative result ≡ take_of kind.negative s.now (C.cursor c) }
 {
+    let at = c.into_cursor()?;
     let end = skip_negative(s, at)?;
     Ok((u32_at(s, at), end))
 }
 
 // A 32-bit count, at most 32, and that many 32-bit numbers.
-pub fn read_list(s: &[u8], at: usize) -> Step<NumberList>
-    ensures { in_list s.now result ≡ take_of kind.numbers s.now (good at) }
+pub fn read_list<C: IntoCursor>(s: &[u8], c: C) -> Step<NumberList>
+    ensures { in_list s.now result ≡ take_of kind.numbers s.now (C.cursor c) }
 {
+    let at = c.into_cursor()?;
     let end = skip_list(s, at)?;
     let count = u32_at(s, at);
     Ok((NumberList { at: at + 4, count }, end))
 }
 
 // A 32-bit length and that many bytes.
-pub fn read_payload(s: &[u8], at: usize) -> Step<Span>
-    ensures { in_span payload s.now result ≡ take_of kind.payload s.now (good at) }
+pub fn read_payload<C: IntoCursor>(s: &[u8], c: C) -> Step<Span>
+    ensures { in_span payload s.now result ≡ take_of kind.payload s.now (C.cursor c) }
 {
+    let at = c.into_cursor()?;
     let end = skip_payload(s, at)?;
     let len = u32_at(s, at) as usize;
     Ok((Span { at: at + 4, len }, end))
 }
 
 // All bytes but so many closing ones: none from a place that is behind the segment's end.
-pub fn read_rest(s: &[u8], at: usize, closing: usize) -> Step<Span>
-    ensures { in_span (opaque closing) s.now result ≡ take_of (kind.opaque closing) s.now (good at) }
+pub fn read_rest<C: IntoCursor>(s: &[u8], c: C, closing: usize) -> Step<Span>
+    ensures { in_span (opaque closing) s.now result ≡ take_of (kind.opaque closing) s.now (C.cursor c) }
 {
+    let at = c.into_cursor()?;
     let end = skip_rest(s, at, closing)?;
     let len = end.saturating_sub(at);
     Ok((Span { at, len }, end))
 }
 
 // So many opaque bytes.
-pub fn read_bytes(s: &[u8], at: usize, w: usize) -> Step<Span>
-    ensures { in_span (fixed w) s.now result ≡ take_of (kind.fixed w) s.now (good at) }
+pub fn read_bytes<C: IntoCursor>(s: &[u8], c: C, w: usize) -> Step<Span>
+    ensures { in_span (fixed w) s.now result ≡ take_of (kind.fixed w) s.now (C.cursor c) }
 {
+    let at = c.into_cursor()?;
     let end = skip(s, at, w)?;
     Ok((Span { at, len: w }, end))
 }
