@@ -8,7 +8,7 @@ use Rattle.sealed_builder.specs.declared.Sending.{Sending}
 use Rattle.sealed_builder.specs.Build.{Done, done, refused_sending}
 use Rattle.text.specs.Line.{Piece}
 use Rattle.text.specs.Page.{Page}
-use Rattle.records.specs.Records.{outcome_line, is_whole, size_in, Did, bad_record, prints, allowed}
+use Rattle.records.specs.Records.{outcome_line, is_whole, size_in, taken_of, Did, bad_record, prints, allowed}
 use Rattle.records.proofs.Laws.{size-bad, size-good, sized-good, whole-within, did_bad, did_whole}
 use Rattle.build_cases.specs.declared.Builds.{Builds}
 use Rattle.build_cases.specs.declared.Part.{Part}
@@ -57,5 +57,5 @@ module _ (n : ℕ) (lines : List (List Piece)) (b before : Builds) {s : List ℕ
   pub part-bad : {x : Option ℕ} → x ≡ size_in n s → x ≡ None → Did bad_record s old new r.taken → r.builds ≡ before → DidPart (part_of n s lines b before) s old new r
   part-bad e h d q = record { step = did_bad n lines e h d; builds = rw (size-bad n s (sym h ∙ e)) q }
 
-  pub part-whole : {m : ℕ} → Some m ≡ size_in n s → r.taken ≡ Some m → new ≡ prints lines old → r.builds ≡ b → DidPart (part_of n s lines b before) s old new r
+  pub part-whole : {m : ℕ} → Some m ≡ size_in n s → taken_of r.taken ≡ m → new ≡ prints lines old → r.builds ≡ b → DidPart (part_of n s lines b before) s old new r
   part-whole e g p q = record { step = did_whole n lines e g p; builds = rw (size-good n s e) q }

@@ -1,8 +1,8 @@
 -- Laws of records: lines, buffers that count up, steps, records that are run as they are read, and lists of numbers.
-use mathlib.Core.Path.{◌≡◌, refl, sym, ap, ◌∙◌}
+use mathlib.Core.Path.{◌≡◌, refl, sym, ap, subst, ◌∙◌}
 use mathlib.Core.Bool.{Bool, true, false, cond}
 use mathlib.Core.List.{List, [], ◌∷◌, ◌++◌, append_assoc}
-use Prim.Native.Nat.{ℕ, zero, suc, ◌+◌, ◌%◌, ◌≤◌, ◌<◌}
+use Prim.Native.Nat.{ℕ, zero, suc, ◌+◌, ◌-◌, ◌%◌, ◌≤◌, ◌<◌}
 use native.Mathlib.Nat.{not-suc-le-zero, le_of_suc-le-suc}
 use native.Mathlib.Numerals.{add-one}
 use native.Mathlib.Omega.{arith}
@@ -10,16 +10,17 @@ use borrow.Author.Tests.{leb-true, lt-ltb}
 use lib.Dec.{ltb, leb}
 use lib.ListN.{length, take, drop, get_or, set, length-append}
 use lib.Seq.{drop-cons, set_at, take-suc, take-suc-set}
-use Rattle.refusal.proofs.Booleans.{both_left, both_right}
+use Rattle.refusal.proofs.Booleans.{at_cond, both_left, both_right}
 use Rattle.buffer.specs.Le.{le_of}
 use Rattle.crc32c.specs.Crc.{crc_of}
 use Rattle.refusal.specs.Writes.{WriteOutcome, Done, done}
 use Rattle.fields.specs.Field.{words_of}
 use Rattle.fields.proofs.Skips.{length-words}
 use Rattle.text.specs.Line.{Piece}
-use Rattle.text.specs.Page.{Page}
+use Rattle.text.specs.Page.{Page, page, IsWithin}
+use Rattle.text.proofs.Laws.{puts-within}
 use Rattle.std.specs.Prelude.{Option, None, Some}
-use Rattle.records.specs.Records.{outcome_line, done_line, Record, Did, taken_of, taking, sized, size_in, whole, is_whole, bad_record, line_then, read_all, print, prints, counted}
+use Rattle.records.specs.Records.{outcome_line, done_line, Record, Did, taken_of, taking, sized, size_in, whole, is_whole, bad_record, line_then, read_all, roomed, print, prints, counted}
 
 -- ---- buffers
 
@@ -44,6 +45,15 @@ whole-within n s e = leb-true n (length s) (both_right (ltb 0 n) (leb n (length 
 pub taken-whole : (n : ℕ) → ltb 0 n ≡ true → Some n ≡ taking n
 taken-whole n e = rw e refl
 
+-- a step that took n bytes, and at least one, answers them
+pub taken-some : (r : Option ℕ) (n : ℕ) → taken_of r ≡ n → 0 < n → r ≡ taking n
+taken-some None n e h = absurd (omega arith)
+taken-some (Some m) n e h = rw e (taken-whole n (lt-ltb 0 n h))
+
+pub taken-taking : (n : ℕ) → taken_of (taking n) ≡ n
+taken-taking zero = refl
+taken-taking (suc n) = rw (lt-ltb 0 (suc n) (omega arith)) refl
+
 module _ {s : List ℕ} {before after : Page} {r : Option ℕ} where
   -- code that found a record bad, or whole
   pub did_bad : (n : ℕ) (lines : List (List Piece)) {x : Option ℕ} → x ≡ size_in n s → x ≡ None → Did bad_record s before after r → Did (whole n s lines) s before after r
@@ -54,7 +64,7 @@ module _ {s : List ℕ} {before after : Page} {r : Option ℕ} where
       go false e = d
       go true e = cc
 
-  pub did_whole : (n : ℕ) (lines : List (List Piece)) {m : ℕ} → Some m ≡ size_in n s → r ≡ Some m → after ≡ prints lines before → Did (whole n s lines) s before after r
+  pub did_whole : (n : ℕ) (lines : List (List Piece)) {m : ℕ} → Some m ≡ size_in n s → taken_of r ≡ m → after ≡ prints lines before → Did (whole n s lines) s before after r
   unfolding whole
   did_whole n lines {m} e t p = go (is_whole n s) refl e
     where
@@ -62,12 +72,12 @@ module _ {s : List ℕ} {before after : Page} {r : Option ℕ} where
       go true h e =
           let k : m ≡ n = cc in
           let w = whole-within n s h in
-          let z : r ≡ Some n = t ∙ ap (λ (i : ℕ). Some i) k in
-          record { taken = z ∙ taken-whole n (both_left (ltb 0 n) (leb n (length s)) h); printed = p; within = rw z w }
+          let some = leb-true 1 n (both_left (ltb 0 n) (leb n (length s)) h) in
+          record { taken = taken-some r n (t ∙ k) some; printed = p; within = omega arith }
       go false h e = cc
 
   -- of a call that writes: what it came to and its buffer's checksum are printed
-  pub did_done : (n : ℕ) (w : WriteOutcome) (buf : List ℕ) {d : Done} {m sum : ℕ} → Some m ≡ size_in n s → r ≡ Some m
+  pub did_done : (n : ℕ) (w : WriteOutcome) (buf : List ℕ) {d : Done} {m sum : ℕ} → Some m ≡ size_in n s → taken_of r ≡ m
       → done w buf ≡ d
       → sum ≡ crc_of 4294967295 buf
       → after ≡ print (outcome_line w sum) before
@@ -110,12 +120,30 @@ unfolding prints
 left-next {all} {d} {line} {p} {q} {r} l e = record { size = l.size; lines = ap (prints d.lines) e ∙ l.lines }
 
 module _ {all : Record} {s : List ℕ} {before after : Page} {r : Option ℕ} where
-  pub did_all : (n : ℕ) → Left all (read_all n) before after → r ≡ Some n → 0 < n → n ≤ length s → Did all s before after r
+  pub did_all : (n : ℕ) → Left all (read_all n) before after → r ≡ taking n → n ≤ length s → Did all s before after r
   unfolding prints
-  did_all n l t k h = record { taken = t ∙ taken-whole n (lt-ltb 0 n k) ∙ ap taking l.size; printed = l.lines; within = rw t h }
+  did_all n l t h = record { taken = t ∙ ap taking l.size; printed = l.lines; within = rw (t, taken-taking n) h }
 
   pub did_broken : {q : Page} → Left all bad_record before q → Did bad_record s q after r → Did all s before after r
   did_broken l d = record { taken = d.taken ∙ ap taking l.size; printed = d.printed ∙ l.lines; within = d.within }
+
+-- a record's bytes are taken, be there any or none
+pub did-taken : {d : Record} {s : List ℕ} {before after : Page} {r : Option ℕ} → Did d s before after r → taken_of r ≡ d.size
+did-taken {d} h = ap taken_of h.taken ∙ taken-taking d.size
+
+-- ---- pages: a text that ends within its buffer still does
+
+roomed-within : (p : Page) → IsWithin p → IsWithin (roomed p)
+unfolding roomed page
+roomed-within p h = at_cond (λ (i : ℕ). i ≤ length p.bytes) (leb 32768 (length p.bytes - p.at)) h (omega arith)
+
+pub prints-within : (ls : List (List Piece)) (p : Page) → IsWithin p → IsWithin (prints ls p)
+unfolding prints
+prints-within [] p h = h
+prints-within (l ∷ ls) p h = prints-within ls (print l p) (puts-within l (roomed p) (roomed-within p h))
+
+pub did-within : {d : Record} {s : List ℕ} {before after : Page} {r : Option ℕ} → Did d s before after r → IsWithin before → IsWithin after
+did-within {d} {s} {before} h w = subst IsWithin (sym h.printed) (prints-within d.lines before w)
 
 -- ---- lists
 

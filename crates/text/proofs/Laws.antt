@@ -12,7 +12,7 @@ use lib.Seq.{sets, sets-eq, length-sets, take_at}
 use Rattle.io.specs.Digits.{last_digits, hex_digit_ascii, IsDigitCount}
 use Rattle.buffer.proofs.Sets.{sets-append, sets-out, sets-past}
 use Rattle.text.specs.Line.{Piece, raw, decimal, number, hex, decimal_by, bytes_of, text_of, width_of, width}
-use Rattle.text.specs.Page.{Page, page, write, put, puts}
+use Rattle.text.specs.Page.{Page, page, IsWithin, write, put, puts}
 use Rattle.text.specs.Law.{EveryLine}
 
 -- ---- pages
@@ -74,8 +74,13 @@ unfolding text_of
 text-within [] = omega arith
 text-within (x ∷ xs) = let h = piece-within x in let k = text-within xs in rw length-append (omega arith)
 
+-- no more is stored than there is room for
 pub every-line : EveryLine
-every-line = record { text = puts-text; whole = write-whole; within = text-within }
+unfolding write page
+every-line = record { text = puts-text; whole = write-whole; within = text-within; place-within = λ xs p h. rw length-sets (omega arith) }
+
+pub puts-within : (xs : List Piece) (p : Page) → IsWithin p → IsWithin (puts xs p)
+puts-within xs p h = rw (puts-text xs p) (every-line.place-within (text_of xs) p h)
 
 -- ---- digits
 

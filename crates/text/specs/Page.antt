@@ -1,5 +1,5 @@
 -- A lent buffer and the place where its text ends, and what is written there.
-use Rattle.std.specs.Prelude.{List, [], ◌∷◌, ℕ, ◌+◌, ◌-◌, min, length}
+use Rattle.std.specs.Prelude.{List, [], ◌∷◌, ℕ, ◌+◌, ◌-◌, ◌≤◌, min, length}
 use Rattle.std.proofs.lemmas.List.Edits.{sets}
 use Rattle.text.specs.Line.{Piece, bytes_of}
 
@@ -9,6 +9,10 @@ pub record Page : Type 0 where
 
 unfoldable pub page : List ℕ → ℕ → Page
 page l i = record { bytes = l; at = i }
+
+-- the text ends within the buffer
+abbrev pub IsWithin : Page → Type 0
+IsWithin p = p.at ≤ length p.bytes
 
 -- THE BYTES xs are stored from the place on, as far as there is room
 unfoldable pub write : List ℕ → Page → Page

@@ -128,8 +128,42 @@ impl<'a> Page<'a> {
     }
 }
 
-// What holds of every line, as a promise: its pieces, put one behind the other, are its text; with room all of it is there. The body
-// does nothing: the promise is a theorem.
+// What holds of every line, as a promise: its pieces, put one behind the other, are its text; with room all of it is there; a text that ends
+// within its buffer still does. The body does nothing: the promise is a theorem.
 pub fn every_line()
     ensures { EveryLine }
 {}
+
+#[cfg(test)]
+mod tests {
+    use super::*;
+
+    // A text that is begun at the front, or anew, ends within its buffer, whatever is written.
+    #[test]
+    fn a_text_within(rt: HostRuntime) {
+        every_line();
+        let mut text = [b'.'; 4];
+        let mut page = Page::new(&mut text);
+        page.word(b"abc");
+        assert_eq!(rt; (page.place(), page.room()), (3, 1));
+        page.word(b"def");
+        assert_eq!(rt; (page.place(), page.room()), (4, 0));
+        page.end();
+        assert_eq!(rt; (page.place(), page.room()), (4, 0));
+        assert!(rt; page.written() == b"abcd".as_slice());
+        page.clear();
+        page.number(7);
+        assert_eq!(rt; (page.place(), page.room()), (2, 2));
+        assert!(rt; page.written() == b" 7".as_slice());
+    }
+
+    // Behind its buffer's end a text stays as it is, and nothing is written.
+    #[test]
+    fn a_text_behind(rt: HostRuntime) {
+        let mut text = [b'.'; 4];
+        let mut page = Page::new_at(&mut text, 6);
+        page.word(b"abc");
+        assert_eq!(rt; (page.place(), page.room()), (6, 0));
+        assert!(rt; page.written() == b"....".as_slice());
+    }
+}

@@ -1,7 +1,7 @@
 use Rattle.std.proofs.Common.{◌≡◌, refl, suc, ◌+◌, ◌-◌, ◌*◌, arith}
 use Rattle.handshake_cases.specs.Steps.{side_of, steps_from}
 use Rattle.handshake_cases.proofs.Laws.{steps-broken, steps_on, good-within}
-use Rattle.records.proofs.Laws.{did_all, did_broken}
+use Rattle.records.proofs.Laws.{taken-some, did_all, did_broken}
 use Rattle.handshake_cases.proofs.make_steps.Goals as goal
 
 pub returns-then-not-step_good : goal.returns-then-not-step_good
@@ -23,4 +23,4 @@ unfolding steps_from
 returns c =
     let e : c.loop-i.i ≡ c.args.n = omega arith in
     let z : c.args.n - c.args.n ≡ 0 = omega arith in
-    did_all _ (rw (e, z) at c.loop-i.invariant.left) refl (omega arith) (omega (arith, c.loop-i.invariant.within))
+    did_all _ (rw (e, z) at c.loop-i.invariant.left) (taken-some _ _ refl (omega arith)) (omega (arith, c.loop-i.invariant.within))

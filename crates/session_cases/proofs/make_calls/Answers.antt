@@ -1,7 +1,7 @@
 use Rattle.std.proofs.Common.{◌≡◌, refl, suc, ◌+◌, ◌-◌, ◌*◌, arith}
 use Rattle.session_cases.specs.Session.{calls_from}
 use Rattle.session_cases.proofs.Laws.{calls-broken, calls-on, good-within}
-use Rattle.records.proofs.Laws.{did_all, did_broken}
+use Rattle.records.proofs.Laws.{taken-some, did_all, did_broken}
 use Rattle.session_cases.proofs.make_calls.Goals as goal
 
 pub returns-then-not-call_good : goal.returns-then-not-call_good
@@ -23,4 +23,4 @@ unfolding calls_from
 returns c =
     let e : c.loop-i.i ≡ c.args.n = omega arith in
     let z : c.args.n - c.args.n ≡ 0 = omega arith in
-    did_all _ (rw (e, z) at c.loop-i.invariant.left) refl (omega arith) (omega (arith, c.loop-i.invariant.within))
+    did_all _ (rw (e, z) at c.loop-i.invariant.left) (taken-some _ _ refl (omega arith)) (omega (arith, c.loop-i.invariant.within))
