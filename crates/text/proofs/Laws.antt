@@ -74,7 +74,7 @@ unfolding text_of
 text-within [] = omega arith
 text-within (x ∷ xs) = let h = piece-within x in let k = text-within xs in rw length-append (omega arith)
 
--- no more is stored than there is room for
+-- `place-within`: no more is stored than there is room for
 pub every-line : EveryLine
 unfolding write page
 every-line = record { text = puts-text; whole = write-whole; within = text-within; place-within = λ xs p h. rw length-sets (omega arith) }

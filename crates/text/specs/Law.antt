@@ -10,5 +10,5 @@ pub record EveryLine : Type 0 where
   pub whole : (xs l : List ℕ) (i : ℕ) → i + length xs ≤ length l → write xs (page l i) ≡ page (take i l ++ xs ++ drop (i + length xs) l) (i + length xs)
   -- no line is longer than its width
   pub within : (xs : List Piece) → length (text_of xs) ≤ width xs
-  -- a text that ends within its buffer still does, whatever is stored; one that is begun at the front or anew ends within it
+  -- a text that ends within its buffer still does, whatever is stored
   pub place-within : (xs : List ℕ) (p : Page) → IsWithin p → IsWithin (write xs p)

@@ -10,7 +10,7 @@ pub record Page : Type 0 where
 unfoldable pub page : List ℕ → ℕ → Page
 page l i = record { bytes = l; at = i }
 
--- the text ends within the buffer
+-- the text ends within the buffer, as one that is begun at place 0
 abbrev pub IsWithin : Page → Type 0
 IsWithin p = p.at ≤ length p.bytes
 
